@@ -1,4 +1,5 @@
 // Answers about a position.
+use crate::answer::in_a;
 use crate::opened::Opened;
 use crate::question::OfPosition;
 use dob_moves::{Status, apply, first_catch, moves_in, status};
@@ -9,7 +10,8 @@ use dob_value::{Fault, Value};
 use std::alloc::{AllocError, Global};
 use std::fmt::Write;
 
-/// What is asked about the position by the rules of the profile; ranks and values are those of profile A. An error is that of opening or sweeping its piece set, or no memory was left.
+/// What is asked about the position by the rules of the profile; ranks and values are those of profile A. An error is that of opening
+/// or sweeping its piece set, or no memory was left.
 pub(crate) fn about_position(
     alloc: Global,
     opened: &mut Opened,
@@ -22,12 +24,12 @@ pub(crate) fn about_position(
         OfPosition::After(number) => Ok(tell_after(alloc, number, profile, position)?),
         OfPosition::Catch => Ok(tell_catch(alloc, position)?),
         OfPosition::Value => {
-            let table = opened.table_of(alloc, position.piece_set())?;
+            let table = opened.table_of(alloc, in_a(position.piece_set()))?;
             Ok(tell_value(alloc, table.value_of(position))?)
         }
         OfPosition::Rank => Ok(rank(position).to_string(alloc)?),
         OfPosition::Class => {
-            let classes = opened.classes_of(alloc, position.piece_set())?;
+            let classes = opened.classes_of(alloc, in_a(position.piece_set()))?;
             Ok(classes.class_of(position).to_string(alloc)?)
         }
     }

@@ -1,8 +1,8 @@
 // Answers about a piece set. Where the set has no such rank or class, the answer is `none`.
 use crate::opened::Opened;
 use crate::question::{OfClasses, OfSet};
-use dob_pieces::{Memory, PieceSet};
-use dob_rank::{Classes, size, unrank};
+use dob_pieces::{Family, Memory};
+use dob_rank::{FamilyClasses, size, unrank};
 use dob_text::write_position;
 use dob_unmove::back;
 use dob_value::Fault;
@@ -14,19 +14,23 @@ pub(crate) fn about_set(
     alloc: Global,
     opened: &mut Opened,
     matter: OfSet,
-    set: PieceSet,
+    family: Family,
 ) -> Result<String, Fault> {
     match matter {
-        OfSet::Unrank(rank) => Ok(tell_unranked(alloc, set, rank)?),
+        OfSet::Unrank(rank) => Ok(tell_unranked(alloc, family, rank)?),
         OfSet::Classes(matter) => {
-            let classes = opened.classes_of(alloc, set)?;
+            let classes = opened.classes_of(alloc, family)?;
             Ok(about_classes(alloc, classes, matter)?)
         }
     }
 }
 
 /// What is asked about the classes.
-fn about_classes(alloc: Global, classes: &Classes, matter: OfClasses) -> Result<String, Memory> {
+fn about_classes(
+    alloc: Global,
+    classes: &FamilyClasses,
+    matter: OfClasses,
+) -> Result<String, Memory> {
     match matter {
         OfClasses::Size => Ok(tell_size(alloc, classes)?),
         OfClasses::ClassAt(class) => tell_class_at(alloc, classes, class),
@@ -36,22 +40,22 @@ fn about_classes(alloc: Global, classes: &Classes, matter: OfClasses) -> Result<
 }
 
 /// The text of the position of that rank.
-fn tell_unranked(alloc: Global, set: PieceSet, rank: u64) -> Result<String, Memory> {
-    if rank >= size(set) {
+fn tell_unranked(alloc: Global, family: Family, rank: u64) -> Result<String, Memory> {
+    if rank >= size(family.set) {
         return Ok(none(alloc)?);
     }
-    write_position(alloc, &unrank(set, rank))
+    write_position(alloc, &unrank(family.set, rank))
 }
 
 /// `positions N classes N`.
-fn tell_size(alloc: Global, classes: &Classes) -> Result<String, AllocError> {
-    let positions = size(classes.set);
+fn tell_size(alloc: Global, classes: &FamilyClasses) -> Result<String, AllocError> {
+    let positions = size(classes.family.set);
     let classes = classes.class_count();
     format!(in alloc; "positions {positions} classes {classes}")
 }
 
 /// The text of the class's representative.
-fn tell_class_at(alloc: Global, classes: &Classes, class: u64) -> Result<String, Memory> {
+fn tell_class_at(alloc: Global, classes: &FamilyClasses, class: u64) -> Result<String, Memory> {
     if class >= classes.class_count() {
         return Ok(none(alloc)?);
     }
@@ -59,7 +63,7 @@ fn tell_class_at(alloc: Global, classes: &Classes, class: u64) -> Result<String,
 }
 
 /// `back P1 P2 ..`, the classes from which moves lead into the class, ascending, each as often as moves do.
-fn tell_back(alloc: Global, classes: &Classes, class: u64) -> Result<String, Memory> {
+fn tell_back(alloc: Global, classes: &FamilyClasses, class: u64) -> Result<String, Memory> {
     if class >= classes.class_count() {
         return Ok(none(alloc)?);
     }
@@ -71,7 +75,12 @@ fn tell_back(alloc: Global, classes: &Classes, class: u64) -> Result<String, Mem
 }
 
 /// How many moves lead from the one class into the other.
-fn tell_edges(alloc: Global, classes: &Classes, from: u64, into: u64) -> Result<String, Memory> {
+fn tell_edges(
+    alloc: Global,
+    classes: &FamilyClasses,
+    from: u64,
+    into: u64,
+) -> Result<String, Memory> {
     let count = classes.class_count();
     if from >= count || into >= count {
         return Ok(none(alloc)?);

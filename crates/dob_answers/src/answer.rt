@@ -1,4 +1,7 @@
 // The answer to a line.
+ghost use Rattle.std.specs.Prelude.{◌≡◌};
+ghost use Rattle.dob_pieces.specs.declared.profile.Profile.TheVariants.{A};
+
 use crate::about_build::about_build;
 use crate::about_cell::about_cell;
 use crate::about_crew::about_crew;
@@ -8,7 +11,7 @@ use crate::about_token::about_token;
 use crate::about_world::about_world;
 use crate::opened::Opened;
 use crate::question::{OfValues, Question};
-use dob_pieces::{Memory, PieceSet};
+use dob_pieces::{Family, Memory, PieceSet, Profile};
 use dob_text::read_position_in;
 use dob_value::Fault;
 use std::alloc::Global;
@@ -38,11 +41,11 @@ pub(crate) fn reply<R: Threads + Wait + Sync>(
         }
         Some((_, Question::Set(matter, text))) => match PieceSet::read(text) {
             Err(fault) => fault_line(alloc, fault),
-            Ok(set) => told(alloc, about_set(alloc, opened, matter, set)),
+            Ok(set) => told(alloc, about_set(alloc, opened, matter, in_a(set))),
         },
         Some((_, Question::Values(matter, text))) => match PieceSet::read(text) {
             Err(fault) => fault_line(alloc, fault),
-            Ok(set) => about_values(rt, alloc, opened, matter, set),
+            Ok(set) => about_values(rt, alloc, opened, matter, in_a(set)),
         },
         Some((_, Question::Token(matter))) => Ok(about_token(alloc, matter)?),
     }
@@ -54,16 +57,16 @@ fn about_values<R: Threads + Wait + Sync>(
     alloc: Global,
     opened: &mut Opened,
     matter: OfValues<'_>,
-    set: PieceSet,
+    family: Family,
 ) -> Result<String, Memory> {
     match matter {
         OfValues::Cell(class, changes) => {
-            told(alloc, about_cell(alloc, opened, set, class, changes))
+            told(alloc, about_cell(alloc, opened, family, class, changes))
         }
-        OfValues::Build(limit) => told_build(alloc, about_build(alloc, set, limit)),
-        OfValues::Crew(sizes) => told_crew(alloc, about_crew(rt, alloc, set, sizes)),
+        OfValues::Build(limit) => told_build(alloc, about_build(alloc, family, limit)),
+        OfValues::Crew(sizes) => told_crew(alloc, about_crew(rt, alloc, family, sizes)),
         OfValues::World(sizes, matter) => {
-            told_world(alloc, about_world(alloc, set, sizes, matter))
+            told_world(alloc, about_world(alloc, family, sizes, matter))
         }
     }
 }
@@ -107,4 +110,15 @@ fn told_world(alloc: Global, answer: Result<String, dob_world::Fault>) -> Result
 /// A fault's line.
 fn fault_line<F: Display + Drop>(alloc: Global, fault: F) -> Result<String, Memory> {
     Ok(format!(in alloc; "dobutsu: {fault}")?)
+}
+
+// The family of the set in profile A.
+pub(crate) fn in_a(set: PieceSet) -> Family
+    ensures profile { result.profile ≡ A }
+    ensures set { result.set ≡ set }
+{
+    Family {
+        set,
+        profile: Profile::A,
+    }
 }

@@ -1,16 +1,16 @@
-// What is kept of the piece sets that were asked about last, so that questions of one set which follow one another
+// What is kept of the families that were asked about last, so that questions of one family which follow one another
 // open its classes once and sweep them once.
 ghost use Rattle.std.specs.Prelude.{◌≡◌, IfOk};
 
-use dob_pieces::PieceSet;
-use dob_rank::Classes;
+use dob_pieces::{Family, Memory};
+use dob_rank::FamilyClasses;
 use dob_value::{Table, sweep_table};
 use std::alloc::Global;
 
-/// The classes of one set and the values of one set, each of the set for which they were last asked.
+/// The classes of one family and the values of one family, each of the family for which they were last asked.
 #[derive(Drop)]
 pub(crate) struct Opened {
-    classes: Option<Classes>,
+    classes: Option<FamilyClasses>,
     table: Option<Table>,
 }
 
@@ -23,36 +23,36 @@ impl Opened {
         }
     }
 
-    /// The classes of the set, opened where those that are kept are another set's.
+    /// The classes of the family, opened where those that are kept are another family's.
     ///
-    /// Errors: as those of `Classes::open`.
+    /// Errors: as those of `FamilyClasses::open`.
     pub(crate) fn classes_of(
         &mut self,
         alloc: Global,
-        set: PieceSet,
-    ) -> Result<&Classes, dob_rank::Fault>
-        ensures { IfOk result (λ classes. classes.now.set ≡ set) }
+        family: Family,
+    ) -> Result<&FamilyClasses, Memory>
+        ensures { IfOk result (λ classes. classes.now.family ≡ family) }
     {
         let classes = match self.classes.take() {
-            Some(classes) if classes.set == set => classes,
-            _ => Classes::open(alloc, set)?,
+            Some(classes) if classes.family == family => classes,
+            _ => FamilyClasses::open(alloc, family)?,
         };
         Ok(self.classes.insert(classes))
     }
 
-    /// The values of the set, swept where those that are kept are another set's.
+    /// The values of the family, swept where those that are kept are another family's.
     ///
     /// Errors: as those of `sweep_table`.
     pub(crate) fn table_of(
         &mut self,
         alloc: Global,
-        set: PieceSet,
+        family: Family,
     ) -> Result<&Table, dob_value::Fault>
-        ensures { IfOk result (λ table. table.now.set ≡ set) }
+        ensures { IfOk result (λ table. table.now.family ≡ family) }
     {
         let table = match self.table.take() {
-            Some(table) if table.set() == set => table,
-            _ => sweep_table(alloc, set)?,
+            Some(table) if table.family() == family => table,
+            _ => sweep_table(alloc, family)?,
         };
         Ok(self.table.insert(table))
     }

@@ -15,17 +15,20 @@ mod timer;
 mod watch;
 
 use anyhow::{Result, bail};
-use dob_pieces::PieceSet;
+use dob_pieces::{Family, PieceSet, Profile};
 use dob_rank::is_too_large;
 use dob_run::CAPACITY;
 use std::rt::{Clock, Files};
 use std::sync::Wait;
 use std::thread::Threads;
 
-const LIONS_ALONE: PieceSet = PieceSet {
-    chicks: 0,
-    elephants: 0,
-    giraffes: 0,
+const LIONS_ALONE: Family = Family {
+    set: PieceSet {
+        chicks: 0,
+        elephants: 0,
+        giraffes: 0,
+    },
+    profile: Profile::A,
 };
 
 const USAGE: &str = "usage: dob_bench [CEG [FILE | --plain] | build CEG NODES [CAPACITY]]";
@@ -92,10 +95,13 @@ fn number(text: &str) -> Result<usize> {
     Ok(number)
 }
 
-// The piece set of that text, if its classes can be opened.
-fn small_set(text: &str) -> Result<PieceSet> {
+// The family of the piece set of that text in profile A, if its classes can be opened.
+fn small_set(text: &str) -> Result<Family> {
     match PieceSet::read(text) {
-        Ok(set) if !is_too_large(set) => Ok(set),
+        Ok(set) if !is_too_large(set) => Ok(Family {
+            set,
+            profile: Profile::A,
+        }),
         _ => bail!("no piece set, as 111\n{USAGE}"),
     }
 }

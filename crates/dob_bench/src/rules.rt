@@ -4,14 +4,14 @@ use crate::timer::Rounds;
 use anyhow::Result;
 use dob_moves::{Status, count_moves, moves, moves_into, status};
 use dob_pieces::{Memory, Position};
-use dob_rank::Classes;
+use dob_rank::FamilyClasses;
 use std::alloc::Global;
 use std::rt::Clock;
 
 /// Measures the rules over the representatives of the classes.
 pub(crate) fn run<R: Print + Clock + AllocGlobal>(
     rt: &R,
-    classes: &Classes,
+    classes: &FamilyClasses,
     timed: bool,
 ) -> Result<()> {
     let positions = representatives(rt.alloc(), classes)?;
@@ -22,7 +22,10 @@ pub(crate) fn run<R: Print + Clock + AllocGlobal>(
 }
 
 /// The representatives, in the order of their classes.
-pub(crate) fn representatives(alloc: Global, classes: &Classes) -> Result<Vec<Position>, Memory> {
+pub(crate) fn representatives(
+    alloc: Global,
+    classes: &FamilyClasses,
+) -> Result<Vec<Position>, Memory> {
     let mut positions = Vec::new(alloc);
     for class in 0..classes.class_count() {
         positions.push(classes.class_at(class))?;

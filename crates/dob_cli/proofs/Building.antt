@@ -10,6 +10,9 @@ use Rattle.std.proofs.lemmas.List.Sums.{count_by-le-length, count_by_more_no, co
 use Rattle.std.proofs.lemmas.Option.{get_or_from_slice_get}
 use Rattle.dob_pieces.specs.declared.piece_set.PieceSet.{PieceSet}
 use Rattle.dob_pieces.specs.Sets.{set_text}
+use Rattle.dob_pieces.specs.declared.profile.Family.{Family}
+use Rattle.dob_pieces.specs.declared.profile.Profile.TheVariants.{A}
+use Rattle.dob_rank.specs.Families.{family_of}
 use Rattle.dob_rank.specs.Limits.{IsSmall}
 use Rattle.dob_value.specs.declared.value.Value.{Value}
 use Rattle.dob_value.specs.Entries.{is_draw}
@@ -90,13 +93,14 @@ lines_told values tally classes count is = four_lines classes tally.wins tally.l
 -- ---- the table
 
 -- the table that was built of the set with this text is the text's
-pub table_for : (text : List ℕ) (set : PieceSet) (nodes size capacity : ℕ) (built : Built) → text ≡ set_text set → IsBuilt set nodes size built
+pub table_for : (text : List ℕ) (set : PieceSet) (nodes size capacity : ℕ) (built : Built) → text ≡ set_text set → IsBuilt (family_of set A) nodes size built
     → IsSmall set × AreWithin nodes size capacity → IsTableFor text nodes built.table
 table_for text set nodes size capacity built named is limits = record {
-  named = named ∙ ap set_text (sym is.set_is);
-  small = subst IsSmall (sym is.set_is) limits.0;
+  named = named ∙ ap (λ (family : Family). set_text family.set) (sym is.family_is);
+  rules = ap (λ (family : Family). family.profile) is.family_is;
+  small = subst (λ (family : Family). IsSmall family.set) (sym is.family_is) limits.0;
   few = limits.1.0;
-  right = subst (λ s. IsValueTable s built.table.values) (sym is.set_is) is.values;
+  right = subst (λ s. IsValueTable s built.table.values) (sym is.family_is) is.values;
 }
 
 -- ---- the file

@@ -1,11 +1,16 @@
 -- By the file of a value table the value that is looked up is the position's by definition, and the faults of looking are what is owed.
-use Rattle.std.proofs.Common.{◌≡◌, ◌⊎◌, ◌<◌, ◌≤◌, ◌||◌, ℕ, List, false, inl, inr, subst, sym}
+use Rattle.std.proofs.Common.{◌≡◌, ◌⊎◌, ◌<◌, ◌≤◌, ◌||◌, ℕ, List, false, inl, inr, subst, sym, ap, ◌∙◌}
 use Rattle.dob_pieces.specs.declared.piece_set.PieceSet.{PieceSet}
 use Rattle.dob_pieces.specs.declared.setup.Setup.{Setup}
-use Rattle.dob_rank.specs.Marks.{classes_of, marked}
+use Rattle.dob_pieces.specs.declared.profile.Family.{Family}
+use Rattle.dob_pieces.specs.declared.profile.Profile.{Profile}
+use Rattle.dob_pieces.specs.declared.profile.Profile.TheVariants.{A}
+use Rattle.dob_rank.specs.Families.{family_of, IsInClassIn, is_marked, classes_in}
+use Rattle.dob_rank.specs.Marks.{classes_of}
+use Rattle.dob_rank.proofs.FamilyNumbers.{classes_in-whole}
 use Rattle.dob_rank.specs.Numbers.{size_of}
 use Rattle.dob_rank.proofs.Words.{marks_below-le}
-use Rattle.dob_rank.specs.Order.{IsInClass}
+use Rattle.dob_value.specs.Values.{HasValue}
 use Rattle.dob_value.specs.declared.value.Value.{Value}
 use Rattle.dob_value.specs.Follows.{ClassTable, HasInTable}
 use Rattle.dob_dbfile.specs.Devices.{Stream, whole}
@@ -34,17 +39,20 @@ line_right Has words lines file told =
     let position : Setup = told.position in
     let looked : IsLookedUp (whole (bytes_of table)) position told.value = told.found (bytes_of table) file.2 in
     let class : ℕ = looked.1 in
-    let same : looked.0 ≡ table.set = table_set table looked.0 looked.2.named in
-    let number : IsInClass table.set position class = subst (λ (set : PieceSet). IsInClass set position class) same looked.2.number in
-    let below : class < classes_of table.set = subst (λ (set : PieceSet). class < classes_of set) same looked.2.below in
-    let has : HasInTable table.set table.values position told.value =
-    record { class = class; number = number; entry = table_record table class told.value file.1.table below looked.3 } in (
+    let rules : table.family.profile ≡ A = file.3 in
+    let same : looked.0 ≡ table.family.set = table_set table looked.0 looked.2.named in
+    let one : family_of looked.0 A ≡ table.family = ap (λ (set : PieceSet). family_of set A) same ∙ ap (family_of table.family.set) (sym rules) in
+    let number : IsInClassIn table.family position class = subst (λ (family : Family). IsInClassIn family position class) one looked.2.number in
+    let in_all : class < classes_in table.family = subst (λ (family : Family). class < classes_in family) one looked.2.below in
+    let below : class < classes_of table.family.set = subst (λ n. class < n) (classes_in-whole table.family rules) in_all in
+    let has : HasInTable table.family table.values position told.value =
+    record { class = class; number = number; entry = table_record table class told.value rules file.1.table below looked.3 } in (
       told.value,
       record {
         position = position;
         legal = told.named.0;
         spelled = told.named.1;
-        right = file.1.values_are position told.value number.position has;
+        right = subst (λ (profile : Profile). HasValue profile position told.value) rules (file.1.values_are position told.value number.position has);
       },
       told.same,
     )
@@ -87,6 +95,6 @@ front_holds stream position fault (inl none) = inl none
 front_holds stream position fault (inr wrong) = inr (inl wrong)
 
 -- no more classes than positions
-pub few_classes : (set : PieceSet) → classes_of set ≤ size_of set
-unfolding classes_of
-few_classes set = marks_below-le (marked set) (size_of set)
+pub few_classes : (family : Family) → classes_in family ≤ size_of family.set
+unfolding classes_in
+few_classes family = marks_below-le (is_marked family) (size_of family.set)

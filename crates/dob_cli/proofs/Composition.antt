@@ -49,7 +49,7 @@ no_fault_told fault status err (inr told) done = not_done Memory (sym told.0 ∙
 file_kept : (c : ShelfChange) (set : List ℕ) (nodes : ℕ) (file : List ℕ) (e : Ending) → IsTrue c.before.tells → AnswersBuild c set nodes file e
     → e.status ≡ 0 → HasValueFile (c.after.has file)
 file_kept c set nodes file e tells (inl t) done =
-    (t.right.0.table, t.right.0.built.right, (t.right.0.kept tells (bytes_of t.right.0.table)).1 refl)
+    (t.right.0.table, t.right.0.built.right, (t.right.0.kept tells (bytes_of t.right.0.table)).1 refl, t.right.0.built.rules)
 file_kept c set nodes file e tells (inr (inl t)) done = absurd (no_fault_told t.fault e.status e.err t.told done)
 file_kept c set nodes file e tells (inr (inr t)) done = absurd (no_fault_told Io e.status e.err t.told done)
 

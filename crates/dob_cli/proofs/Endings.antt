@@ -1,5 +1,6 @@
 -- How the program ends: from what it tells of lines or a fault to what it owes.
 use Rattle.std.proofs.Common.{◌≡◌, ℕ, inl, inr, List, refl}
+use Rattle.dob_pieces.specs.declared.profile.Profile.TheVariants.{A}
 use Rattle.dob_pieces.specs.declared.setup.Setup.{Setup}
 use Rattle.dob_pieces.specs.declared.piece_set.PieceSet.{PieceSet}
 use Rattle.dob_pieces.specs.Setups.{IsLegal}
@@ -18,7 +19,7 @@ use Rattle.dob_cli.specs.Program.{IsFaultOf}
 
 -- a fault of finding a value is one of the text's
 pub value_fault_holds : (text : List ℕ) (p : Setup) (f : value.Fault) → IsLegal p → Spells text p
-    → (f ≡ value_fault.SetTooLarge → HasManyPieces p) → (f ≡ value_fault.TooDeep → SomeTooDeep (HasSamePieces p))
+    → (f ≡ value_fault.SetTooLarge → HasManyPieces p) → (f ≡ value_fault.TooDeep → SomeTooDeep A (HasSamePieces A p))
     → IsFaultOf text (fault_of_value f)
 value_fault_holds text p value_fault.SetTooLarge legal spelled large deep = (p, legal, spelled, large refl)
 value_fault_holds text p value_fault.TooDeep legal spelled large deep = (p, legal, spelled, deep refl)

@@ -1,10 +1,13 @@
 -- The faults of a table are those of the file that it was read from, and by the file of a value table the value told is right.
 use Rattle.std.proofs.Common.{◌≡◌, ℕ, false, List, inl, inr, subst}
 use Rattle.dob_pieces.specs.declared.setup.Setup.{Setup}
+use Rattle.dob_pieces.specs.declared.profile.Profile.{Profile}
+use Rattle.dob_value.specs.Values.{HasValue}
 use Rattle.dob_value.specs.Follows.{ClassTable, IsValueTable}
 use Rattle.dob_dbfile.proofs.Written.{same_files}
 use Rattle.dob_probe.specs.declared.fault.Fault as probing
 use Rattle.dob_probe.specs.declared.fault.Fault.TheVariants as table_fault
+use Rattle.dob_probe.specs.Choices.{AreValuedMoves}
 use Rattle.dob_probe.proofs.ByValue.{valued_rightly}
 use Rattle.dob_probe.specs.Faults.{IsFaultOfCheck, IsFaultOfLine, IsFaultOfMoves}
 use Rattle.dob_cli.specs.declared.fault.Fault.{Fault}
@@ -62,14 +65,16 @@ opening_fault_holds Has words position Memory named holds = tt
 -- by the file of a value table the line tells the value that the position has by definition
 line_right : (Has : List ℕ → Type 0) (words lines : List ℕ) → HasValueFile Has → IsProbeLine Has words lines → IsValueLineOf words lines
 line_right Has words lines file told =
-    let same : file.0 ≡ told.table = same_files file.0 told.table file.1.table told.file.whole (told.file.same _ file.2) in
-    let right : IsValueTable told.table.set told.table.values = subst (λ (t : ClassTable). IsValueTable t.set t.values) same file.1 in (
+    let same : file.0 ≡ told.table =
+    same_files file.0 told.table file.3 told.file.rules file.1.table told.file.whole (told.file.same _ file.2) in
+    let right : IsValueTable told.table.family told.table.values = subst (λ (t : ClassTable). IsValueTable t.family t.values) same file.1 in (
       told.value,
       record {
         position = told.position;
         legal = told.named.0;
         spelled = told.named.1;
-        right = right.values_are told.position told.value told.given.number.position told.given;
+        right = subst (λ (profile : Profile). HasValue profile told.position told.value) told.file.rules
+            (right.values_are told.position told.value told.given.number.position told.given);
       },
       told.same,
     )
@@ -77,13 +82,15 @@ line_right Has words lines file told =
 -- and the moves have the values told by definition
 choices_right : (Has : List ℕ → Type 0) (words lines : List ℕ) → HasValueFile Has → AreChoiceLines Has words lines → AreRightChoiceLines words lines
 choices_right Has words lines file told =
-    let same : file.0 ≡ told.table = same_files file.0 told.table file.1.table told.file.whole (told.file.same _ file.2) in
-    let right : IsValueTable told.table.set told.table.values = subst (λ (t : ClassTable). IsValueTable t.set t.values) same file.1 in
+    let same : file.0 ≡ told.table =
+    same_files file.0 told.table file.3 told.file.rules file.1.table told.file.whole (told.file.same _ file.2) in
+    let right : IsValueTable told.table.family told.table.values = subst (λ (t : ClassTable). IsValueTable t.family t.values) same file.1 in
     record {
       position = told.position;
       named = told.named;
       choices = told.choices;
-      valued = valued_rightly told.table right told.position told.member told.choices told.valued;
+      valued = subst (λ (profile : Profile). AreValuedMoves profile (HasValue profile) told.position told.choices) told.file.rules
+          (valued_rightly told.table right told.position told.member told.choices told.valued);
       same = told.same;
     }
 

@@ -1,9 +1,10 @@
 -- What the program owes where it is asked for the moves of a position with their values by a database file.
 use Rattle.std.specs.Prelude.{◌≡◌, ℕ, false, List, [], ◌∷◌, ◌++◌, codes, flat_map}
+use Rattle.dob_pieces.specs.declared.profile.Profile.TheVariants.{A}
 use Rattle.dob_pieces.specs.declared.setup.Setup.{Setup}
 use Rattle.dob_pieces.specs.Bytes.{line_feed, space}
 use Rattle.dob_text.specs.MoveText.{move_text}
-use Rattle.dob_rank.specs.Order.{IsPositionOf}
+use Rattle.dob_rank.specs.Families.{IsPositionIn}
 use Rattle.dob_value.specs.Follows.{ClassTable}
 use Rattle.dob_value.specs.Values.{HasValue}
 use Rattle.dob_probe.specs.declared.choices.ValuedMove.{ValuedMove}
@@ -29,9 +30,9 @@ pub record AreChoiceLines (Has : List ℕ → Type 0) (words lines : List ℕ) :
   pub file : IsFileOf Has table
   pub position : Setup
   pub named : IsTextOf words position
-  pub member : IsPositionOf table.set position
+  pub member : IsPositionIn table.family position
   pub choices : List ValuedMove
-  pub valued : AreValuedMoves (GivenBy table) position choices
+  pub valued : AreValuedMoves table.family.profile (GivenBy table) position choices
   pub same : lines ≡ choice_lines choices
 
 -- the lines tell the moves of the text's position with the values that they have by definition, best first
@@ -39,7 +40,7 @@ pub record AreRightChoiceLines (words lines : List ℕ) : Type 0 where
   pub position : Setup
   pub named : IsTextOf words position
   pub choices : List ValuedMove
-  pub valued : AreValuedMoves HasValue position choices
+  pub valued : AreValuedMoves A (HasValue A) position choices
   pub same : lines ≡ choice_lines choices
 
 -- what the program does where it is asked for the moves of the position that a text names

@@ -1,6 +1,7 @@
 -- What the program owes where it is asked for the value of a position.
 use Rattle.std.specs.Prelude.{◌≡◌, ℕ, List, [], ◌∷◌, ◌++◌, codes}
 use Rattle.std.specs.Fmt.{decimal}
+use Rattle.dob_pieces.specs.declared.profile.Profile.TheVariants.{A}
 use Rattle.dob_pieces.specs.declared.setup.Setup.{Setup}
 use Rattle.dob_pieces.specs.Setups.{IsLegal}
 use Rattle.dob_text.specs.PositionText.{Spells}
@@ -27,7 +28,7 @@ pub record IsValueOf (text : List ℕ) (value : Value) : Type 0 where
   pub position : Setup
   pub legal : IsLegal position
   pub spelled : Spells text position
-  pub right : HasValue position value
+  pub right : HasValue A position value
 
 -- the bytes are the line of the value that the text's position has
 abbrev pub IsValueLineOf : List ℕ → List ℕ → Type 0
@@ -38,7 +39,7 @@ abbrev pub IsFaultOf : List ℕ → Fault → Type 0
 IsFaultOf text (Text fault) = HasTextFault text fault
 IsFaultOf text SetText = ⊥
 IsFaultOf text SetTooLarge = (position : Setup) × IsLegal position × Spells text position × HasManyPieces position
-IsFaultOf text TooDeep = (position : Setup) × IsLegal position × Spells text position × SomeTooDeep (HasSamePieces position)
+IsFaultOf text TooDeep = (position : Setup) × IsLegal position × Spells text position × SomeTooDeep A (HasSamePieces A position)
 IsFaultOf text (Run fault) = ⊥
 IsFaultOf text (File fault) = ⊥
 IsFaultOf text (Table fault) = ⊥

@@ -30,7 +30,7 @@ pub record AreDrawnBy (Has : List ℕ → Type 0) (position : Setup) (lines : Li
   pub value : Value
   pub given : GivenBy table position value
   pub moves : List Move
-  pub line : IsLine (GivenBy table) position moves
+  pub line : IsLine table.family.profile (GivenBy table) position moves
   pub same : lines ≡ played_drawing position value moves
 
 -- the lines draw the position, by the file of that name where one is named

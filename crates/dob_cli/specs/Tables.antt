@@ -1,12 +1,13 @@
 -- What the program owes where it is asked for something of a database file.
 use Rattle.std.specs.Prelude.{◌≡◌, ◌⊎◌, ℕ, Bool, false, if◌then◌else◌, not, List, [], ◌∷◌, ◌++◌, codes}
+use Rattle.dob_pieces.specs.declared.profile.Profile.TheVariants.{A}
 use Rattle.dob_pieces.specs.declared.setup.Setup.{Setup}
 use Rattle.dob_pieces.specs.Setups.{IsLegal}
 use Rattle.dob_text.specs.PositionText.{Spells}
 use Rattle.dob_text.specs.Faults as text
 use Rattle.dob_text.specs.MoveText.{move_text, numbered_text}
 use Rattle.dob_moves.specs.declared.game_move.Move.{Move}
-use Rattle.dob_rank.specs.Order.{IsPositionOf}
+use Rattle.dob_rank.specs.Families.{IsPositionIn}
 use Rattle.dob_value.specs.declared.value.Value.{Value}
 use Rattle.dob_value.specs.declared.value.Value.TheVariants.{Draw}
 use Rattle.dob_value.specs.Follows.{ClassTable, IsTable, IsValueTable}
@@ -27,14 +28,15 @@ use Rattle.dob_cli.specs.Endings.{AnswersOver, Ending}
 
 -- ---- the file; Has says which bytes it has, where that is known
 
--- it is a table, and the file is its
+-- it is a table of profile A, and the file is its
 pub record IsFileOf (Has : List ℕ → Type 0) (table : ClassTable) : Type 0 where
-  pub whole : IsTable table.set table.values
+  pub whole : IsTable table.family table.values
+  pub rules : table.family.profile ≡ A
   pub same : (bytes : List ℕ) → Has bytes → bytes ≡ bytes_of table
 
 -- the file is that of a value table
 abbrev pub HasValueFile : (List ℕ → Type 0) → Type 0
-HasValueFile Has = (table : ClassTable) × IsValueTable table.set table.values × Has (bytes_of table)
+HasValueFile Has = (table : ClassTable) × IsValueTable table.family table.values × Has (bytes_of table) × (table.family.profile ≡ A)
 
 -- the fault is the first that the file has, or memory failed
 abbrev pub HasFileFault : (List ℕ → Type 0) → file.Fault → Type 0
@@ -85,14 +87,14 @@ pub record AreMovesLines (Has : List ℕ → Type 0) (is_numbered : Bool) (words
   pub value : Value
   pub given : GivenBy table position value
   pub moves : List Move
-  pub line : IsLine (GivenBy table) position moves
+  pub line : IsLine table.family.profile (GivenBy table) position moves
   pub same : lines ≡ moves_lines is_numbered value moves
 
 -- the lines say that the file's table is the value table
 pub record IsCheckLine (Has : List ℕ → Type 0) (lines : List ℕ) : Type 0 where
   pub table : ClassTable
   pub file : IsFileOf Has table
-  pub right : IsValueTable table.set table.values
+  pub right : IsValueTable table.family table.values
   pub same : lines ≡ codes "consistent" ++ line_feed ∷ []
 
 -- ---- faults
@@ -111,7 +113,7 @@ IsOpeningFault Has _ = ⊥
 -- a fault of asking a file for a position: the file's, or the table's; or memory failed, or the file couldn't be opened
 abbrev pub IsProbingFault : (List ℕ → Type 0) → Setup → Fault → Type 0
 IsProbingFault Has position (File fault) = HasFileFault Has fault
-IsProbingFault Has position (Table table_fault.OtherSet) = (table : ClassTable) × IsFileOf Has table × ¬ IsPositionOf table.set position
+IsProbingFault Has position (Table table_fault.OtherSet) = (table : ClassTable) × IsFileOf Has table × ¬ IsPositionIn table.family position
 IsProbingFault Has position (Table (table_fault.Inconsistent class)) =
     (table : ClassTable) × IsFileOf Has table × BreaksAt table position class
 IsProbingFault Has position (Table table_fault.Memory) = Unit {0}

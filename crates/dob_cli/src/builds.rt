@@ -1,5 +1,6 @@
 // Building a database file.
 ghost use Rattle.std.specs.Prelude.{◌≡◌, IfOk, IfErr, OnOk, IsTrue, string_bytes};
+ghost use Rattle.dob_pieces.specs.declared.profile.Profile.TheVariants.{A};
 ghost use Rattle.dob_dbfile.specs.Format.{bytes_of};
 ghost use Rattle.dob_cli.specs.Shelves.{FailsWhere, HasJust, SameOthers, shelf_change};
 ghost use Rattle.dob_cli.specs.Faults.{is_io_error};
@@ -9,7 +10,7 @@ use crate::fault::Fault;
 use crate::shelf::Shelf;
 use crate::tally::tally_of;
 use dob_dbfile::{Failed, write_table};
-use dob_pieces::PieceSet;
+use dob_pieces::{Family, PieceSet, Profile};
 use dob_run::{BATCH, CAPACITY, Free, run_nodes};
 use dob_value::Table;
 use std::alloc::{AllocError, Global};
@@ -35,7 +36,16 @@ pub(crate) fn answer_build<R: Threads + Wait + Sync, S: Shelf>(
     ensures failed { FailsWhere (shelf_change (S.state shelf.old) (S.state shelf.new)) (is_io_error result) }
 {
     let set = PieceSet::read(text)?;
-    let built = run_nodes(rt, alloc, set, nodes as usize, BATCH, CAPACITY, &Free)?;
+    let profile = Profile::A;
+    let built = run_nodes(
+        rt,
+        alloc,
+        Family { set, profile },
+        nodes as usize,
+        BATCH,
+        CAPACITY,
+        &Free,
+    )?;
     let lines = lines_of(alloc, &built.table)?;
     keep_table(alloc, shelf, file, &built.table)?;
     Ok(lines)
@@ -48,6 +58,7 @@ fn keep_table<S: Shelf>(
     file: &str,
     table: &Table,
 ) -> Result<(), Fault>
+    requires { table.now.family.profile ≡ A }
     ensures kept { OnOk result (IsTrue (S.state shelf.old).tells → HasJust file.now (bytes_of table.now) (S.state shelf.new).has) }
     ensures err { IfErr result (IsKeepingFault (shelf_change (S.state shelf.old) (S.state shelf.new)) file.now table.now) }
     ensures others { SameOthers file.now (S.state shelf.old).has (S.state shelf.new).has }

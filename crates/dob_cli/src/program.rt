@@ -23,6 +23,7 @@ use crate::shows::answer_show;
 use crate::stats::answer_stats;
 use crate::tables::{answer_check, answer_line, answer_probe};
 use dob_dbfile::{Lent, Sink, put_all, write_all};
+use dob_pieces::Profile;
 use dob_text::read_position;
 use dob_value::{Value, sweep_value};
 use std::alloc::{AllocError, Global};
@@ -151,7 +152,7 @@ fn answer_value(alloc: Global, text: &str) -> Result<String, Fault>
     ensures err { IfErr result (IsFaultOf text.now) }
 {
     let position = read_position(text)?;
-    let value = sweep_value(alloc, &position)?;
+    let value = sweep_value(alloc, Profile::A, &position)?;
     Ok(line_of(alloc, value)?)
 }
 

@@ -8,6 +8,7 @@ use Rattle.std.specs.List.{All}
 use Rattle.byteorder.specs.Endian.{little_bytes, little_number}
 use Rattle.sha2.specs.Sha256.{sha256}
 use Rattle.dob_pieces.specs.declared.piece_set.PieceSet.{PieceSet}
+use Rattle.dob_pieces.specs.declared.profile.Profile.TheVariants.{A}
 use Rattle.dob_rank.specs.Marks.{classes_of}
 use Rattle.dob_value.specs.declared.value.Value.{Value}
 use Rattle.dob_value.specs.Codes.{code_of_value, value_of_code}
@@ -116,11 +117,12 @@ records_are_entries table class value is below has =
     entry_at table.values class value digest is.entries below has.entry (ap (take 2) rest ∙ has.same)
 
 -- and its header names its set alone
-pub table_set : (table : ClassTable) (set : PieceSet) → IsOfSet set (whole (bytes_of table)) → set ≡ table.set
-table_set table set is = same_set set table.set (take 20 (bytes_of table)) is.1.0.0 (names_set table)
+pub table_set : (table : ClassTable) (set : PieceSet) → IsOfSet set (whole (bytes_of table)) → set ≡ table.family.set
+table_set table set is = same_set set table.family.set (take 20 (bytes_of table)) is.1.0.0 (names_set table)
 
 -- the record of one of the set's classes
-pub table_record : (table : ClassTable) (class : ℕ) (value : Value) → IsTable table.set table.values → class < classes_of table.set
+pub table_record : (table : ClassTable) (class : ℕ) (value : Value) → table.family.profile ≡ A → IsTable table.family table.values
+    → class < classes_of table.family.set
     → HasRecord (whole (bytes_of table)) class value → slice_get table.values class ≡ Some value
-table_record table class value is below has =
-    records_are_entries table class value is (let counted = table_classes table is in omega (arith, counted, below)) has
+table_record table class value rules is below has =
+    records_are_entries table class value is (let counted = table_classes table rules is in omega (arith, counted, below)) has

@@ -5,6 +5,8 @@ use Rattle.std.proofs.lemmas.Bool.{cases_lt}
 use Rattle.std.proofs.lemmas.List.{take-append-drop, drop-drop, length-map}
 use Rattle.sha2.specs.Sha256.{sha256}
 use Rattle.dob_pieces.specs.declared.piece_set.PieceSet.{PieceSet}
+use Rattle.dob_pieces.specs.declared.profile.Profile.TheVariants.{A}
+use Rattle.dob_rank.specs.Families.{family_of}
 use Rattle.dob_rank.specs.Marks.{classes_of}
 use Rattle.dob_value.specs.Codes.{value_of_code, values_of_codes}
 use Rattle.dob_value.specs.Follows.{ClassTable, class_table}
@@ -111,9 +113,9 @@ header_parts set front counts =
 
 -- a file that is right is that of its table
 pub right_file : (stream : Stream) (set : PieceSet) (codes : List ℕ) → HasHeader stream → CountsClasses set (header stream) → length codes ≡ classes_of set
-    → EndsWith (header stream) codes (after 20 stream) → stream ≡ whole (bytes_of (class_table set (values_of_codes codes)))
+    → EndsWith (header stream) codes (after 20 stream) → stream ≡ whole (bytes_of (class_table (family_of set A) (values_of_codes codes)))
 right_file stream set codes there counts counted ends =
-    let table : ClassTable = class_table set (values_of_codes codes) in
+    let table : ClassTable = class_table (family_of set A) (values_of_codes codes) in
     let rest : List ℕ = drop 20 stream.bytes in
     let same_count : classes_of set ≡ length (values_of_codes codes) = sym (length-map codes value_of_code ∙ counted) in
     let front : header stream ≡ title ++ set_bytes set ++ count_bytes (length table.values) =

@@ -30,11 +30,11 @@ records values = flat_map (λ value. little_bytes 2 (code_of_value value)) value
 
 -- what stands before the records
 abbrev pub header_of : ClassTable → List ℕ
-header_of table = title ++ set_bytes table.set ++ count_bytes (length table.values)
+header_of table = title ++ set_bytes table.family.set ++ count_bytes (length table.values)
 
 -- all that stands before the digest
 unfoldable pub contents : ClassTable → List ℕ
-contents table = title ++ set_bytes table.set ++ count_bytes (length table.values) ++ records table.values
+contents table = title ++ set_bytes table.family.set ++ count_bytes (length table.values) ++ records table.values
 
 -- the file of a table: its contents, and their digest
 abbrev pub bytes_of : ClassTable → List ℕ

@@ -38,5 +38,5 @@ HasRecordFault stream class _ = ⊥
 
 -- in the file of a table the record of a class is that of its value
 abbrev pub RecordsAreEntries : Type 0
-RecordsAreEntries = (table : ClassTable) (class : ℕ) (value : Value) → IsTable table.set table.values → class < length table.values
+RecordsAreEntries = (table : ClassTable) (class : ℕ) (value : Value) → IsTable table.family table.values → class < length table.values
     → HasRecord (whole (bytes_of table)) class value → slice_get table.values class ≡ Some value

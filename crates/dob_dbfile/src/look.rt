@@ -1,5 +1,6 @@
 // Reading by place: the classes that a file's header names, and the value of one class's record.
 ghost use Rattle.std.specs.Prelude.{◌≡◌, ◌⊎◌, ◌<◌, ◌||◌, ◌^◌, false, IfErr, IfOk};
+ghost use Rattle.dob_pieces.specs.declared.profile.Profile.TheVariants.{A};
 ghost use Rattle.dob_value.specs.Follows.{IsEntry};
 ghost use Rattle.dob_dbfile.specs.Devices.{Stream};
 ghost use Rattle.dob_dbfile.specs.Faults.{IsOfSet, NamesClasses, is_io_error};
@@ -10,18 +11,19 @@ use crate::fault::Fault;
 use crate::header::HEADER_LEN;
 use crate::read::{classes_named, fill};
 use crate::records::{RECORD_LEN, value_in};
-use dob_rank::Classes;
+use dob_rank::FamilyClasses;
 use dob_value::Value;
 use std::alloc::Global;
 
-/// The classes of the set that the file's header names. No more than the header is read.
+/// The classes in profile A of the set that the file's header names. No more than the header is read.
 ///
 /// Errors, the first of these that holds: `Truncated`, fewer than 20 bytes, or `Io` where the source fails before them;
 /// `Magic`, `SetByte`, `SetTooLarge`, `ClassCount`, what the header says. `Memory` where none of them
 /// holds. The source has lost what was read.
-pub fn read_classes<R: Source>(alloc: Global, source: &mut R) -> Result<Classes, Fault>
+pub fn read_classes<R: Source>(alloc: Global, source: &mut R) -> Result<FamilyClasses, Fault>
     requires { R.has_failed source.old ≡ false }
-    ensures named { (stream : Stream) → R.gives source.old stream → IfOk result (λ classes. IsOfSet classes.set stream) }
+    ensures named { (stream : Stream) → R.gives source.old stream → IfOk result (λ classes. IsOfSet classes.family.set stream) }
+    ensures rules { IfOk result (λ classes. classes.family.profile ≡ A) }
     ensures fault { (stream : Stream) → R.gives source.old stream
         → IfErr result (λ given. (given ≡ Fault.Memory) ⊎ HasFrontFault stream given) }
     ensures memory { (stream : Stream) → R.gives source.old stream → IfErr result (λ given. given ≡ Fault.Memory → NamesClasses stream) }

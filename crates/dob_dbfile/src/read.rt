@@ -2,6 +2,7 @@
 ghost use Rattle.std.specs.Prelude.{◌≡◌, ◌≢◌, ◌⊎◌, ◌↔◌, ℕ, List, ◌+◌, ◌*◌, ◌%◌, ◌^◌, ◌<◌, ◌≤◌, ◌||◌, [], false, length, All, IfOk};
 ghost use Rattle.std.specs.Prelude.{IfErr, IsTrue, OnOk, MatchResult};
 ghost use Rattle.dob_pieces.specs.declared.piece_set.PieceSet.{PieceSet as AnySet};
+ghost use Rattle.dob_pieces.specs.declared.profile.Profile.TheVariants.{A};
 ghost use Rattle.dob_value.specs.Follows.{ClassTable, IsTable};
 ghost use Rattle.dob_dbfile.specs.declared.fault.Fault.{Fault as AnyFault};
 ghost use Rattle.sha2.specs.Hashers.{Holds256};
@@ -16,8 +17,8 @@ use crate::fault::Fault;
 use crate::header::{HEADER_LEN, is_count, is_title, set_named};
 use crate::records::{PIECE_LEN, PIECE_RECORDS, RECORD_LEN, push_codes};
 use crate::transfer::read_full;
-use dob_pieces::{Memory, PieceSet};
-use dob_rank::{Classes, SegmentLength, Segments, count_classes};
+use dob_pieces::{Family, Memory, PieceSet, Profile};
+use dob_rank::{FamilyClasses, SegmentLength, Segments, count_classes};
 use dob_value::Table;
 use sha2::{Digest, Sha256};
 use std::alloc::Global;
@@ -25,7 +26,7 @@ use std::alloc::Global;
 /// How many bytes the digest has.
 const DIGEST_LEN: usize = 32;
 
-/// Reads the table of a file: of just the bytes that `write_table` writes of it, up to the source's end.
+/// Reads the table of a file, which is one of profile A: of just the bytes that `write_table` writes of it, up to the source's end.
 ///
 /// Errors, the first of these that holds: `Truncated`, fewer than 20 bytes; `Magic`, `SetByte`, `SetTooLarge`,
 /// `ClassCount`, what the header says; `Truncated`, fewer bytes than the set's records and digest have; `Trailing`, a byte
@@ -42,12 +43,14 @@ pub fn read_table<R: Source>(alloc: Global, source: &mut R) -> Result<Table, Fau
     ensures exact { (stream : Stream) (fault : AnyFault) → R.gives source.old stream → HasReadFault stream fault
         → MatchResult result (λ _. ⊥) (λ given. (given ≡ Fault.Memory) ⊎ (given ≡ fault)) }
     // The file of a table is read as that table, unless memory is refused.
-    ensures whole { (table : ClassTable) → IsSmall table.set → IsTable table.set table.values → R.gives source.old (whole (bytes_of table))
+    ensures whole { (table : ClassTable) → table.family.profile ≡ A → IsSmall table.family.set → IsTable table.family table.values
+        → R.gives source.old (whole (bytes_of table))
         → MatchResult result (λ found. found ≡ table) (λ given. given ≡ Fault.Memory) }
     // Memory is wanted only once the header names a set with its number of classes.
     ensures memory { (stream : Stream) → R.gives source.old stream → IfErr result (λ given. given ≡ Fault.Memory → NamesClasses stream) }
     // What is read is a table, also where nothing is known of the source.
-    ensures table { IfOk result (λ table. IsTable table.set table.values) }
+    ensures table { IfOk result (λ table. IsTable table.family table.values) }
+    ensures rules { IfOk result (λ table. table.family.profile ≡ A) }
     ensures failed { R.has_failed source.new ≡ is_io_error result }
 {
     read_file(alloc, source)
@@ -57,8 +60,9 @@ pub fn read_table<R: Source>(alloc: Global, source: &mut R) -> Result<Table, Fau
 fn read_file<R: Source>(alloc: Global, source: &mut R) -> Result<Table, Fault>
     requires { R.has_failed source.old ≡ false }
     ensures read { (stream : Stream) → R.gives source.old stream
-        → IfOk result (λ table. (stream ≡ whole (bytes_of table)) × HasDigest table.set stream) }
-    ensures table { IfOk result (λ table. IsTable table.set table.values) }
+        → IfOk result (λ table. (stream ≡ whole (bytes_of table)) × HasDigest table.family.set stream) }
+    ensures table { IfOk result (λ table. IsTable table.family table.values) }
+    ensures rules { IfOk result (λ table. table.family.profile ≡ A) }
     ensures fault { (stream : Stream) → R.gives source.old stream
         → IfErr result (λ given. (given ≡ Fault.Memory) ⊎ HasReadFault stream given) }
     ensures memory { (stream : Stream) → R.gives source.old stream → IfErr result (λ given. given ≡ Fault.Memory → NamesClasses stream) }
@@ -88,15 +92,17 @@ pub(crate) fn fill<R: Source>(source: &mut R, room: &mut [u8], before: usize) ->
     }
 }
 
-/// The classes of the set that the header names. They are opened only once the header has their number.
-pub(crate) fn classes_named(alloc: Global, header: &[u8]) -> Result<Classes, Fault>
+/// The classes in profile A of the set that the header names. They are opened only once the header has their number.
+pub(crate) fn classes_named(alloc: Global, header: &[u8]) -> Result<FamilyClasses, Fault>
     requires { length header.now ≡ 20 }
-    ensures named { IfOk result (λ classes. CountsClasses classes.set header.now) }
+    ensures named { IfOk result (λ classes. CountsClasses classes.family.set header.now) }
+    ensures rules { IfOk result (λ classes. classes.family.profile ≡ A) }
     ensures fault { IfErr result (λ fault. (fault ≡ Fault.Memory) ⊎ HasHeaderFault header.now fault) }
     ensures memory { IfErr result (λ fault. fault ≡ Fault.Memory → (set : AnySet) × CountsClasses set header.now) }
 {
     let set = set_counted(header)?;
-    Ok(Classes::open(alloc, set)?)
+    let profile = Profile::A;
+    Ok(FamilyClasses::open(alloc, Family { set, profile })?)
 }
 
 // The set that the header names with its number of classes.

@@ -2,6 +2,7 @@
 ghost use Rattle.std.specs.Prelude.{◌≡◌, ◌++◌, ◌+◌, ◌*◌, ◌≤◌, ◌<◌, ◌^◌, ℕ, List, false, length, vec_capacity, IfErr, OnOk};
 ghost use Rattle.sha2.specs.Hashers.{Holds256};
 ghost use Rattle.sha2.specs.Sha256.{sha256};
+ghost use Rattle.dob_pieces.specs.declared.profile.Profile.TheVariants.{A};
 ghost use Rattle.dob_value.specs.Follows.{IsTable};
 ghost use Rattle.dob_dbfile.specs.Format.{bytes_of, header_of, records};
 ghost use Rattle.dob_dbfile.specs.Faults.{is_io_error};
@@ -17,18 +18,19 @@ use dob_value::Table;
 use sha2::{Digest, Sha256};
 use std::alloc::Global;
 
-/// Writes the table as a file, in pieces of a few kilobytes, and flushes the sink once at the end.
+/// Writes a table of profile A as a file, in pieces of a few kilobytes, and flushes the sink once at the end.
 ///
 /// Errors: `Memory`, before anything is written; `Io` where the sink fails in this call, which then has received just
 /// the first bytes of the file, as many as the fault says, and all of them where it failed to flush.
 pub fn write_table<W: Sink>(alloc: Global, table: &Table, sink: &mut W) -> Result<(), Fault>
-    requires { (W.state sink.old).has_failed ≡ false }
+    requires rules { table.now.family.profile ≡ A }
+    requires sound { (W.state sink.old).has_failed ≡ false }
     ensures written { OnOk result (Puts (change (W.state sink.old) (W.state sink.new)) (bytes_of table.now)) }
     ensures stopped { IfErr result (StopsAt (change (W.state sink.old) (W.state sink.new)) (bytes_of table.now)) }
     ensures failed { (W.state sink.new).has_failed ≡ is_io_error result }
 {
     let mut piece = Vec::with_capacity(alloc, PIECE_LEN)?;
-    push_header(&mut piece, table.set(), table.class_count())?;
+    push_header(&mut piece, table.family().set, table.class_count())?;
     match put_file(table, sink, &mut piece) {
         Ok(()) => Ok(()),
         Err(FailedAfter { bytes: count }) => Err(Fault::Io(count as u64)),
@@ -57,7 +59,7 @@ fn write_records<W: Sink>(
     hasher: &mut Sha256,
     piece: &mut Vec<u8>,
 ) -> Result<(), FailedAfter>
-    requires table { IsTable table.now.set table.now.values }
+    requires table { IsTable table.now.family table.now.values }
     requires counted { count ≡ length table.now.values }
     requires few { count < 2 ^ 31 }
     requires room { 4096 ≤ vec_capacity piece.old }

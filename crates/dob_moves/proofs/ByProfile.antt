@@ -20,7 +20,7 @@ pub may : (profile : Profile) (p : Setup) (m : Move) (q : Setup) → GoesIn prof
 may A p m q g = all_may m
 may B p m q g = g.1
 
-goes_in : (profile : Profile) (p : Setup) (m : Move) (q : Setup) → Goes p m q → may_go profile m ≡ true → GoesIn profile p m q
+pub goes_in : (profile : Profile) (p : Setup) (m : Move) (q : Setup) → Goes p m q → may_go profile m ≡ true → GoesIn profile p m q
 goes_in A p m q g h = g
 goes_in B p m q g h = (g, h)
 

@@ -25,10 +25,10 @@ use Rattle.dob_moves.proofs.Outcomes.{Goes-is, length-stepped, length-dropped, I
 -- ---- boards by a profile
 
 -- what stands on each of the twelve squares may stand there
-abbrev Stand : Profile → List Cell → Type 0
+abbrev pub Stand : Profile → List Cell → Type 0
 Stand profile board = (k : ℕ) → k < 12 → may_stand profile k (slice_index_or board k None) ≡ true
 
-stand-set : (profile : Profile) (board : List Cell) (i : ℕ) (cell : Cell) → i < length board → may_stand profile i cell ≡ true
+pub stand-set : (profile : Profile) (board : List Cell) (i : ℕ) (cell : Cell) → i < length board → may_stand profile i cell ≡ true
     → Stand profile board → Stand profile (set board i cell)
 stand-set profile board i cell within here stand k lt =
     elim (cases_eq k i) [
@@ -38,7 +38,7 @@ stand-set profile board i cell within here stand k lt =
       | inr other ↦ ap (may_stand profile k) (get_or-set_other board i k cell None other) ∙ stand k lt
     ]
 
-none_stands : (profile : Profile) (k : ℕ) → may_stand profile k None ≡ true
+pub none_stands : (profile : Profile) (k : ℕ) → may_stand profile k None ≡ true
 none_stands A k = refl
 none_stands B k = refl
 

@@ -28,7 +28,7 @@ mirrored_low : (k : ℕ) → k < 3 → mirrored_square k < 3
 mirrored_low k h = omega arith
 
 -- and always on the same row
-row-mirrored : (k : ℕ) → row (mirrored_square k) ≡ row k
+pub row-mirrored : (k : ℕ) → row (mirrored_square k) ≡ row k
 row-mirrored k = omega arith
 
 -- other squares have other images

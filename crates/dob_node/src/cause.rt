@@ -27,7 +27,7 @@ pub enum Cause {
 /// Why one node alone gives no table.
 #[derive(Clone, Copy, Debug, PartialEq, Eq)]
 pub enum Fault {
-    /// E8: the piece set is larger than those that have classes.
+    /// E8: the family is larger than those that have classes.
     SetTooLarge,
     /// E12: the value of a class would have a distance above the greatest that is kept.
     TooDeep,

@@ -2,8 +2,8 @@
 ghost use Rattle.std.specs.Prelude.{◌≡◌, ◌⊎◌, ◌↔◌, ◌<◌, ◌≤◌, ℕ, length, get_or, Contains, AllPairs, IsTrue, IfOk, IfErr, OnOk, Err};
 ghost use Rattle.dob_pieces.specs.declared.setup.Setup.{Setup};
 ghost use Rattle.dob_moves.specs.Moves.{place};
-ghost use Rattle.dob_moves.specs.Statuses.{AreMoves, CanCatch};
-ghost use Rattle.dob_rank.specs.Order.{IsPositionOf};
+ghost use Rattle.dob_moves.specs.Statuses.{AreMovesIn, CanCatch};
+ghost use Rattle.dob_rank.specs.Families.{IsPositionIn};
 ghost use Rattle.dob_value.specs.Values.{HasValue};
 ghost use Rattle.dob_value.specs.Follows.{IsConsistent, IsEntry, IsTable};
 ghost use Rattle.dob_probe.specs.Choices.{AreValuedMoves, ComesBefore, IsBetter, seen_from_before};
@@ -11,9 +11,9 @@ ghost use Rattle.dob_probe.specs.Faults.{IsFaultOfMoves};
 ghost use Rattle.dob_probe.specs.Lines.{GivenBy};
 
 use crate::fault::Fault;
-use crate::probes::is_of_set;
+use crate::probes::is_in_family;
 use crate::successors::value_to;
-use dob_moves::{Move, first_catch, moves};
+use dob_moves::{Move, first_catch, moves_in};
 use dob_pieces::{Memory, Position};
 use dob_value::{Table, Value};
 use std::alloc::Global;
@@ -36,14 +36,14 @@ pub fn valued_moves(
     table: &Table,
     position: &Position,
 ) -> Result<Vec<ValuedMove>, Fault>
-    ensures moves { IfOk result (λ list. AreValuedMoves (GivenBy table.now) position.now.setup list.items) }
+    ensures moves { IfOk result (λ list. AreValuedMoves table.now.family.profile (GivenBy table.now) position.now.setup list.items) }
     ensures fault { IfErr result (IsFaultOfMoves table.now position.now.setup) }
-    ensures member { OnOk result (IsPositionOf table.now.set position.now.setup) }
-    ensures other { (IsPositionOf table.now.set position.now.setup → ⊥) → result ≡ Err Fault.OtherSet }
-    ensures right { IsConsistent table.now.set table.now.values →
-        IfOk result (λ list. AreValuedMoves HasValue position.now.setup list.items) }
+    ensures member { OnOk result (IsPositionIn table.now.family position.now.setup) }
+    ensures other { (IsPositionIn table.now.family position.now.setup → ⊥) → result ≡ Err Fault.OtherSet }
+    ensures right { IsConsistent table.now.family table.now.values →
+        IfOk result (λ list. AreValuedMoves table.now.family.profile (HasValue table.now.family.profile) position.now.setup list.items) }
 {
-    if !is_of_set(position, table.set()) {
+    if !is_in_family(position, table.family()) {
         return Err(Fault::OtherSet);
     }
     Ok(moves_of_set(alloc, table, position)?)
@@ -57,9 +57,9 @@ fn moves_of_set(
     table: &Table,
     position: &Position,
 ) -> Result<Vec<ValuedMove>, Memory>
-    requires whole { IsTable table.now.set table.now.values }
-    requires member { IsPositionOf table.now.set position.now.setup }
-    ensures { IfOk result (λ list. AreValuedMoves (GivenBy table.now) position.now.setup list.items) }
+    requires whole { IsTable table.now.family table.now.values }
+    requires member { IsPositionIn table.now.family position.now.setup }
+    ensures { IfOk result (λ list. AreValuedMoves table.now.family.profile (GivenBy table.now) position.now.setup list.items) }
 {
     if let Some(choice) = first_catch(position) {
         let mut list = Vec::new(alloc);
@@ -67,7 +67,7 @@ fn moves_of_set(
         list.push(ValuedMove { choice, value })?;
         return Ok(list);
     }
-    let choices = moves(alloc, position)?;
+    let choices = moves_in(alloc, table.family().profile, position)?;
     moves_by_value(alloc, table, position, &choices)
 }
 
@@ -80,11 +80,11 @@ fn moves_by_value(
     position: &Position,
     choices: &[Move],
 ) -> Result<Vec<ValuedMove>, Memory>
-    requires whole { IsTable table.now.set table.now.values }
-    requires member { IsPositionOf table.now.set position.now.setup }
-    requires choices { AreMoves position.now.setup choices.now }
+    requires whole { IsTable table.now.family table.now.values }
+    requires member { IsPositionIn table.now.family position.now.setup }
+    requires choices { AreMovesIn table.now.family.profile position.now.setup choices.now }
     requires free { ¬ CanCatch position.now.setup }
-    ensures { IfOk result (λ list. AreValuedMoves (GivenBy table.now) position.now.setup list.items) }
+    ensures { IfOk result (λ list. AreValuedMoves table.now.family.profile (GivenBy table.now) position.now.setup list.items) }
 {
     let mut list = Vec::new(alloc);
     for choice in choices {

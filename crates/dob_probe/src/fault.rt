@@ -7,7 +7,7 @@ use std::alloc::{AllocError, AllocFailed};
 use std::error::Error;
 use std::fmt;
 
-/// E7: the position's piece set isn't the table's.
+/// E7: the position's family isn't the table's.
 #[derive(Clone, Copy, Debug, PartialEq, Eq)]
 pub struct OtherSet;
 
@@ -26,7 +26,7 @@ impl Error for OtherSet {}
 /// Why a table gives no line, or isn't passed.
 #[derive(Clone, Copy, Debug, PartialEq, Eq)]
 pub enum Fault {
-    /// E7: the position's piece set isn't the table's.
+    /// E7: the position's family isn't the table's.
     OtherSet,
     /// E21: what the table says of the class of this number doesn't go with what it says of others.
     Inconsistent(u64),

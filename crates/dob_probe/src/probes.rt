@@ -1,12 +1,12 @@
 // The value of a position from a table.
 ghost use Rattle.std.specs.Prelude.{◌≡◌, ◌↔◌, IsTrue, IsErr, IfOk};
-ghost use Rattle.dob_rank.specs.Order.{IsPositionOf};
+ghost use Rattle.dob_rank.specs.Families.{IsPositionIn};
 ghost use Rattle.dob_value.specs.Values.{HasValue};
 ghost use Rattle.dob_value.specs.Follows.{IsConsistent, IsEntry};
 ghost use Rattle.dob_probe.specs.Lines.{GivenBy};
 
 use crate::fault::OtherSet;
-use dob_pieces::{PieceSet, Position};
+use dob_pieces::{Family, Position};
 use dob_value::{Table, Value};
 
 /// The value that the table gives the position's class. By a table that `check` passes it is the position's value.
@@ -15,18 +15,18 @@ use dob_value::{Table, Value};
 pub fn probe(table: &Table, position: &Position) -> Result<Value, OtherSet>
     ensures value { IfOk result (λ value. GivenBy table.now position.now.setup value) }
     ensures entry { IfOk result IsEntry }
-    ensures right { IsConsistent table.now.set table.now.values → IfOk result (λ value. HasValue position.now.setup value) }
-    ensures other { IsErr result ↔ (¬ IsPositionOf table.now.set position.now.setup) }
+    ensures right { IsConsistent table.now.family table.now.values → IfOk result (λ value. HasValue table.now.family.profile position.now.setup value) }
+    ensures other { IsErr result ↔ (¬ IsPositionIn table.now.family position.now.setup) }
 {
-    if !is_of_set(position, table.set()) {
+    if !is_in_family(position, table.family()) {
         return Err(OtherSet);
     }
     Ok(table.value_of(position))
 }
 
-// Whether the position has just the pieces of the set.
-pub(crate) fn is_of_set(position: &Position, set: PieceSet) -> bool
-    ensures { IsTrue result ↔ IsPositionOf set position.now.setup }
+// Whether the position has just the pieces of the family's set, and its profile allows it.
+pub(crate) fn is_in_family(position: &Position, family: Family) -> bool
+    ensures { IsTrue result ↔ IsPositionIn family position.now.setup }
 {
-    position.piece_set() == set
+    position.piece_set() == family.set && position.is_allowed(family.profile)
 }

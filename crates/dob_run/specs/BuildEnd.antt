@@ -1,8 +1,8 @@
 -- A crew whose runners have all stopped, and what is made of it.
 use Rattle.std.specs.Prelude.{◌≡◌, ◌≢◌, ⊤, ℕ, ◌<◌, ◌⊎◌, List, Option, None, Some, length, slice_get}
-use Rattle.dob_pieces.specs.declared.piece_set.PieceSet.{PieceSet}
+use Rattle.dob_pieces.specs.declared.profile.Family.{Family}
 use Rattle.dob_rank.specs.Limits.{IsSmall}
-use Rattle.dob_rank.specs.Marks.{classes_of}
+use Rattle.dob_rank.specs.Families.{classes_in}
 use Rattle.dob_value.specs.declared.value.Value.{Value}
 use Rattle.dob_value.specs.Follows.{IsEntry, AreGiven}
 use Rattle.dob_share.specs.Owners.{owner_of}
@@ -15,16 +15,16 @@ use Rattle.dob_run.specs.declared.fault.Fault.{Fault}
 use Rattle.dob_run.specs.declared.fault.Fault.TheVariants.{SetTooLarge, Nodes, Sizes, Stopped, Memory}
 use Rattle.dob_run.specs.declared.runner.Runner.{Runner}
 
--- The runner works for that piece set with batches of at most that size, and its seat knows that the run ended or failed.
-pub record IsStoppedRunner (set : PieceSet) (size : ℕ) (runner : Runner) : Type 0 where
-  pub set_is : runner.set ≡ set
+-- The runner works for that family with batches of at most that size, and its seat knows that the run ended or failed.
+pub record IsStoppedRunner (family : Family) (size : ℕ) (runner : Runner) : Type 0 where
+  pub family_is : runner.family ≡ family
   pub size_is : runner.size ≡ size
   pub halted : runner.endpoint.seat.halt ≢ Running
 
--- so has each of them, and the piece set is one that has classes
-pub record HaveStopped (set : PieceSet) (size : ℕ) (runners : List Runner) : Type 0 where
-  pub small : IsSmall set
-  pub each : (k : ℕ) (runner : Runner) → slice_get runners k ≡ Some runner → IsStoppedRunner set size runner
+-- so has each of them, and the family is one that has classes
+pub record HaveStopped (family : Family) (size : ℕ) (runners : List Runner) : Type 0 where
+  pub small : IsSmall family.set
+  pub each : (k : ℕ) (runner : Runner) → slice_get runners k ≡ Some runner → IsStoppedRunner family size runner
 
 abbrev pub failed_of : Runner → Option Cause
 failed_of runner = runner.failed
@@ -53,15 +53,15 @@ IsFailureOf runners SetTooLarge = ⊥
 IsFailureOf runners Nodes = ⊥
 IsFailureOf runners Sizes = ⊥
 
--- Node k, one of n, has each class of the piece set that is its own, and shows for it such a value as a table can have.
-pub record IsOwner (set : PieceSet) (n k : ℕ) (node : Node) : Type 0 where
-  pub own : (class : ℕ) → class < classes_of set → owner_of n class ≡ k → IsOwn node.share class
-  pub entries : (class : ℕ) (value : Value) → class < classes_of set → owner_of n class ≡ k → HasValueNow node.share class value →
+-- Node k, one of n, has each class of the family that is its own, and shows for it such a value as a table can have.
+pub record IsOwner (family : Family) (n k : ℕ) (node : Node) : Type 0 where
+  pub own : (class : ℕ) → class < classes_in family → owner_of n class ≡ k → IsOwn node.share class
+  pub entries : (class : ℕ) (value : Value) → class < classes_in family → owner_of n class ≡ k → HasValueNow node.share class value →
       IsEntry value
 
 -- so do they all
-abbrev pub AreOwners : PieceSet → ℕ → List Node → Type 0
-AreOwners set n nodes = (k : ℕ) (node : Node) → slice_get nodes k ≡ Some node → IsOwner set n k node
+abbrev pub AreOwners : Family → ℕ → List Node → Type 0
+AreOwners family n nodes = (k : ℕ) (node : Node) → slice_get nodes k ≡ Some node → IsOwner family n k node
 
 -- the value is one that the class's owner, of n nodes, shows for it
 abbrev pub IsShown : ℕ → List Node → ℕ → Value → Type 0

@@ -1,6 +1,6 @@
 -- What each fault of a run by threads is called, and why no crew is opened or one leaves nothing.
 use Rattle.std.specs.Prelude.{ℕ, ◌<◌, List}
-use Rattle.dob_pieces.specs.declared.piece_set.PieceSet.{PieceSet}
+use Rattle.dob_pieces.specs.declared.profile.Family.{Family}
 use Rattle.dob_pieces.specs.Faults.{memory_text}
 use Rattle.dob_rank.specs.Faults as rank_texts
 use Rattle.dob_rank.specs.Limits.{IsSmall}
@@ -41,18 +41,18 @@ HasCrewFault n batch capacity SetTooLarge = ⊥
 HasCrewFault n batch capacity (Stopped node why) = ⊥
 HasCrewFault n batch capacity Memory = AreWithin n batch capacity
 
--- why no crew of the piece set is run: the set is too large, or where it isn't no crew is opened
-abbrev pub HasStartFault : PieceSet → ℕ → ℕ → ℕ → Fault → Type 0
-HasStartFault set n batch capacity SetTooLarge = ¬ IsSmall set
-HasStartFault set n batch capacity Nodes = IsSmall set × HasCrewFault n batch capacity Nodes
-HasStartFault set n batch capacity Sizes = IsSmall set × HasCrewFault n batch capacity Sizes
-HasStartFault set n batch capacity (Stopped node why) = ⊥
-HasStartFault set n batch capacity Memory = IsSmall set × HasCrewFault n batch capacity Memory
+-- why no crew of the family is run: the family is too large, or where it isn't no crew is opened
+abbrev pub HasStartFault : Family → ℕ → ℕ → ℕ → Fault → Type 0
+HasStartFault family n batch capacity SetTooLarge = ¬ IsSmall family.set
+HasStartFault family n batch capacity Nodes = IsSmall family.set × HasCrewFault n batch capacity Nodes
+HasStartFault family n batch capacity Sizes = IsSmall family.set × HasCrewFault n batch capacity Sizes
+HasStartFault family n batch capacity (Stopped node why) = ⊥
+HasStartFault family n batch capacity Memory = IsSmall family.set × HasCrewFault n batch capacity Memory
 
 -- why a crew leaves nothing: none is run, or one of its nodes has stopped
-abbrev pub HasBuildFault : PieceSet → ℕ → ℕ → ℕ → Fault → Type 0
-HasBuildFault set n batch capacity SetTooLarge = HasStartFault set n batch capacity SetTooLarge
-HasBuildFault set n batch capacity Nodes = HasStartFault set n batch capacity Nodes
-HasBuildFault set n batch capacity Sizes = HasStartFault set n batch capacity Sizes
-HasBuildFault set n batch capacity (Stopped node why) = IsSmall set × AreWithin n batch capacity × (node < n)
-HasBuildFault set n batch capacity Memory = HasStartFault set n batch capacity Memory
+abbrev pub HasBuildFault : Family → ℕ → ℕ → ℕ → Fault → Type 0
+HasBuildFault family n batch capacity SetTooLarge = HasStartFault family n batch capacity SetTooLarge
+HasBuildFault family n batch capacity Nodes = HasStartFault family n batch capacity Nodes
+HasBuildFault family n batch capacity Sizes = HasStartFault family n batch capacity Sizes
+HasBuildFault family n batch capacity (Stopped node why) = IsSmall family.set × AreWithin n batch capacity × (node < n)
+HasBuildFault family n batch capacity Memory = HasStartFault family n batch capacity Memory

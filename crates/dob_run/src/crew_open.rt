@@ -20,8 +20,8 @@ use crate::limits::size_passed;
 use crate::runner::Runner;
 use dob_board::{Board, NodeSeat};
 use dob_node::{Node, Opening, opening};
-use dob_pieces::{Memory, PieceSet};
-use dob_rank::{Classes, SegmentLength, Segments};
+use dob_pieces::{Family, Memory};
+use dob_rank::{FamilyClasses, SegmentLength, Segments};
 use std::alloc::Global;
 
 /// A board, and the runner of each of `n` nodes that own the classes, in order, before their first turn. They cut batches of
@@ -31,12 +31,12 @@ use std::alloc::Global;
 /// to 1024; `Memory`.
 pub fn crew(
     alloc: Global,
-    classes: &Classes,
+    classes: &FamilyClasses,
     n: usize,
     batch: usize,
     capacity: usize,
 ) -> Result<(Board, Vec<Runner>), Fault>
-    ensures opened { IfOk result (λ opened. IsNewCrew classes.now.set n batch capacity opened.0 opened.1.items) }
+    ensures opened { IfOk result (λ opened. IsNewCrew classes.now.family n batch capacity opened.0 opened.1.items) }
     ensures within { OnOk result (AreWithin n batch capacity) }
     ensures fault { IfErr result (HasCrewFault n batch capacity) }
 {
@@ -52,55 +52,55 @@ pub fn crew(
 // A crew as above, of sizes within their limits.
 fn open_crew(
     alloc: Global,
-    classes: &Classes,
+    classes: &FamilyClasses,
     n: usize,
     batch: usize,
     capacity: usize,
 ) -> Result<(Board, Vec<Runner>), Memory>
     requires { AreWithin n batch capacity }
-    ensures { IfOk result (λ opened. IsNewCrew classes.now.set n batch capacity opened.0 opened.1.items) }
+    ensures { IfOk result (λ opened. IsNewCrew classes.now.family n batch capacity opened.0 opened.1.items) }
 {
     let openings = opening(alloc, classes, SegmentLength::longest())?;
-    crew_of(alloc, classes.set, openings, n, batch, capacity)
+    crew_of(alloc, classes.family, openings, n, batch, capacity)
 }
 
-/// A crew as above, by what was found of each class of the piece set, which is given up.
+/// A crew as above, by what was found of each class of the family, which is given up.
 ///
 /// Error: `Memory`.
 pub(crate) fn crew_of(
     alloc: Global,
-    set: PieceSet,
+    family: Family,
     openings: Segments<Opening>,
     n: usize,
     batch: usize,
     capacity: usize,
 ) -> Result<(Board, Vec<Runner>), Memory>
-    requires openings { AreOpenings set openings }
+    requires openings { AreOpenings family openings }
     requires within { AreWithin n batch capacity }
-    ensures { IfOk result (λ opened. IsNewCrew set n batch capacity opened.0 opened.1.items) }
+    ensures { IfOk result (λ opened. IsNewCrew family n batch capacity opened.0 opened.1.items) }
 {
     let (board, endpoints) = open_endpoints(alloc, n, capacity)?;
-    let runners = runners_of(alloc, set, &openings, endpoints, batch)?;
+    let runners = runners_of(alloc, family, &openings, endpoints, batch)?;
     Ok((board, runners))
 }
 
 // The runner of each endpoint.
 fn runners_of(
     alloc: Global,
-    set: PieceSet,
+    family: Family,
     openings: &Segments<Opening>,
     endpoints: Vec<Endpoint>,
     size: usize,
 ) -> Result<Vec<Runner>, Memory>
-    requires openings { AreOpenings set openings.now }
+    requires openings { AreOpenings family openings.now }
     requires some { 0 < size }
     requires at_most { size ≤ 4096 }
     requires new { (capacity : ℕ) × AreNewEndpoints capacity endpoints.items }
-    ensures { IfOk result (λ runners. AllZip (IsRunnerOf set size) endpoints.items runners.items) }
+    ensures { IfOk result (λ runners. AllZip (IsRunnerOf family size) endpoints.items runners.items) }
 {
     let mut runners = Vec::with_capacity(alloc, endpoints.len())?;
     for endpoint in endpoints {
-        let runner = open_runner(alloc, set, openings, endpoint, size)?;
+        let runner = open_runner(alloc, family, openings, endpoint, size)?;
         runners.push(runner)?;
     }
     Ok(runners)
@@ -109,25 +109,25 @@ fn runners_of(
 // The runner of an endpoint, with a node that is opened for its seat.
 fn open_runner(
     alloc: Global,
-    set: PieceSet,
+    family: Family,
     openings: &Segments<Opening>,
     endpoint: Endpoint,
     size: usize,
 ) -> Result<Runner, Memory>
-    requires openings { AreOpenings set openings.now }
+    requires openings { AreOpenings family openings.now }
     requires some { 0 < size }
     requires at_most { size ≤ 4096 }
     requires new { (capacity : ℕ) × IsNewEndpoint capacity endpoint }
-    ensures { IfOk result (IsRunnerOf set size endpoint) }
+    ensures { IfOk result (IsRunnerOf family size endpoint) }
 {
     let node = Node::open(
         alloc,
         openings,
-        set,
+        family,
         endpoint.seat.node,
         endpoint.seat.nodes,
     )?;
-    Ok(Runner::new(node, endpoint, set, size))
+    Ok(Runner::new(node, endpoint, family, size))
 }
 
 /// A board of `n` nodes, 1 to 16, and the endpoint of each of them, in order, with inboxes that hold at most `capacity`

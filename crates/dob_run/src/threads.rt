@@ -15,8 +15,8 @@ use crate::scans::scan;
 use crate::turn_loop::Until;
 use dob_board::Board;
 use dob_node::Cause;
-use dob_pieces::{Memory, PieceSet};
-use dob_rank::{Classes, SegmentLength};
+use dob_pieces::{Family, Memory};
+use dob_rank::{FamilyClasses, SegmentLength};
 use std::alloc::Global;
 use std::snapshot::Snapshot;
 use std::sync::Wait;
@@ -43,7 +43,7 @@ pub(crate) enum Started<G: Gate> {
     GaveUp(Runner),
 }
 
-/// Opens a crew of `n` nodes of the piece set, with batches of at most `batch` items and inboxes that hold at most `capacity`
+/// Opens a crew of `n` nodes of the family, with batches of at most `batch` items and inboxes that hold at most `capacity`
 /// batches, and lets its runners make their turns as below. Threads find what is known of each class; that is given up before
 /// the first turn. The board, and what became of each runner. Its promises hold if it returns.
 ///
@@ -51,21 +51,21 @@ pub(crate) enum Started<G: Gate> {
 pub(crate) fn run_crew<R: Threads + Wait + Sync, G: Gate + Sync>(
     rt: &R,
     alloc: Global,
-    set: PieceSet,
+    family: Family,
     n: usize,
     batch: usize,
     capacity: usize,
     gate: &G,
     until: &Until,
-) -> Result<(Classes, Board, Vec<Runner>), Fault>
-    ensures set { IfOk result (λ ran. ran.0.set ≡ set) }
-    ensures ran { IfOk result (λ ran. HasRun (says_no (G.says gate.now)) until.now set n batch capacity ran.1 ran.2.items) }
+) -> Result<(FamilyClasses, Board, Vec<Runner>), Fault>
+    ensures family { IfOk result (λ ran. ran.0.family ≡ family) }
+    ensures ran { IfOk result (λ ran. HasRun (says_no (G.says gate.now)) until.now family n batch capacity ran.1 ran.2.items) }
     ensures let_on { IfOk result (λ ran. AreLetOn (G.says gate.now) until.now ran.2.items) }
-    ensures fault { IfErr result (HasStartFault set n batch capacity) }
+    ensures fault { IfErr result (HasStartFault family n batch capacity) }
 {
-    let classes = classes_within(alloc, set, n, batch, capacity)?;
+    let classes = classes_within(alloc, family, n, batch, capacity)?;
     let openings = scan(rt, alloc, &classes, SegmentLength::longest())?;
-    let (board, runners) = crew_of(alloc, set, openings, n, batch, capacity)?;
+    let (board, runners) = crew_of(alloc, family, openings, n, batch, capacity)?;
     let ended = run_each(rt, alloc, runners, &classes, gate, until)?;
     Ok((classes, board, ended))
 }
@@ -76,11 +76,11 @@ fn run_each<R: Threads + Wait + Sync, G: Gate + Sync>(
     rt: &R,
     alloc: Global,
     runners: Vec<Runner>,
-    classes: &Classes,
+    classes: &FamilyClasses,
     gate: &G,
     until: &Until,
 ) -> Result<Vec<Runner>, Memory>
-    requires { AllSuit classes.now.set runners.items }
+    requires { AllSuit classes.now.family runners.items }
     ensures { IfOk result (λ ended. AllZip (EndsBy (G.says gate.now) until.now) runners.items ended.items) }
 {
     let unstarted = AtomicUsize::new(usize::MAX);
@@ -89,7 +89,7 @@ fn run_each<R: Threads + Wait + Sync, G: Gate + Sync>(
         thread::scope_env(),
         rt,
         |scope| -> Result<Vec<Runner>, Memory>
-            requires { AllSuit classes.now.set runners.items }
+            requires { AllSuit classes.now.family runners.items }
             ensures { IfOk result (λ ended. AllZip (EndsBy (G.says gate.entry.now) until.entry.now) runners.items ended.items) }
         {
             let started = start_all(rt, alloc, scope, runners, classes, gate, until, unstarted)?;
@@ -104,12 +104,12 @@ fn start_all<'s, E, R: Threads + Wait + Sync, G: Gate + Sync>(
     alloc: Global,
     scope: &Scope<'s, E>,
     runners: Vec<Runner>,
-    classes: &'s Classes,
+    classes: &'s FamilyClasses,
     gate: &'s G,
     until: &'s Until,
     unstarted: &'s AtomicUsize,
 ) -> Result<Vec<Started<G>>, Memory>
-    requires { AllSuit classes.now.set runners.items }
+    requires { AllSuit classes.now.family runners.items }
     ensures { IfOk result (λ started. AllZip (IsStartOf G.says gate.now until.now) runners.items started.items) }
 {
     let mut started = Vec::with_capacity(alloc, runners.len())?;
@@ -125,12 +125,12 @@ fn start<'s, E, R: Threads + Wait + Sync, G: Gate + Sync>(
     rt: &'s R,
     scope: &Scope<'s, E>,
     runner: Runner,
-    classes: &'s Classes,
+    classes: &'s FamilyClasses,
     gate: &'s G,
     until: &'s Until,
     unstarted: &'s AtomicUsize,
 ) -> Started<G>
-    requires { Suits classes.now.set runner }
+    requires { Suits classes.now.family runner }
     ensures { IsStartOf G.says gate.now until.now runner result }
 {
     let node = runner.endpoint.seat.node;
@@ -140,7 +140,7 @@ fn start<'s, E, R: Threads + Wait + Sync, G: Gate + Sync>(
         gate: Snapshot::of(gate),
     };
     let run = move || -> Runner
-        requires { Suits classes.now.set runner }
+        requires { Suits classes.now.family runner }
         ensures { EndsBy (G.says gate.entry.now) until.entry.now runner result }
     { go_unless(unstarted, rt, runner, classes, gate, until) };
     match scope.spawn_with(promise, run) {
@@ -162,11 +162,11 @@ fn go_unless<R: Wait, G: Gate>(
     unstarted: &AtomicUsize,
     rt: &R,
     mut runner: Runner,
-    classes: &Classes,
+    classes: &FamilyClasses,
     gate: &G,
     until: &Until,
 ) -> Runner
-    requires { Suits classes.now.set runner }
+    requires { Suits classes.now.family runner }
     ensures { EndsBy (G.says gate.now) until.now runner result }
 {
     if unstarted.load(Ordering::SeqCst) == runner.endpoint.seat.node {

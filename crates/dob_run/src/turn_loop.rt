@@ -7,7 +7,7 @@ ghost use Rattle.dob_run.specs.TurnRounds.{AddsFew};
 use crate::gate::Gate;
 use crate::runner::Runner;
 use dob_node::Cause;
-use dob_rank::Classes;
+use dob_rank::FamilyClasses;
 use std::sync::Wait;
 
 /// How long a runner makes turns: so many, without the halt word and the token, or until its seat has seen that the run ended
@@ -25,11 +25,11 @@ impl Runner {
     pub(crate) fn go_until<R: Wait, G: Gate>(
         &mut self,
         rt: &R,
-        classes: &Classes,
+        classes: &FamilyClasses,
         gate: &G,
         until: &Until,
     )
-        requires { Suits classes.now.set self.old }
+        requires { Suits classes.now.family self.old }
         ensures { EndsBy (G.says gate.now) until.now self.old self.new }
     {
         match until {
@@ -40,9 +40,9 @@ impl Runner {
 
     // Makes whole turns until its seat has seen that the run ended or failed: the gate let it go on at least once, where the run
     // went on and it didn't fail. Its promises hold if it returns.
-    fn make_turns<R: Wait, G: Gate>(&mut self, rt: &R, classes: &Classes, gate: &G)
+    fn make_turns<R: Wait, G: Gate>(&mut self, rt: &R, classes: &FamilyClasses, gate: &G)
         requires unfailed { self.old.failed ≡ None }
-        requires set { classes.now.set ≡ self.old.set }
+        requires family { classes.now.family ≡ self.old.family }
         ensures keeps { KeepsRunner self.old self.new }
         ensures stopped { self.new.endpoint.seat.halt ≢ Running }
         ensures let_on { self.old.endpoint.seat.halt ≡ Running → self.new.failed ≡ None → G.says gate.now self.new.endpoint.seat.node true }
@@ -59,9 +59,9 @@ impl Runner {
 
     // Makes so many turns of work for its node, or ends at the first that fails. If none did, at most one batch a turn went over
     // each link. Its promises hold if it returns.
-    fn go<R: Wait, G: Gate>(&mut self, rt: &R, classes: &Classes, gate: &G, turns: u64)
+    fn go<R: Wait, G: Gate>(&mut self, rt: &R, classes: &FamilyClasses, gate: &G, turns: u64)
         requires unfailed { self.old.failed ≡ None }
-        requires set { classes.now.set ≡ self.old.set }
+        requires family { classes.now.family ≡ self.old.family }
         ensures keeps { KeepsRunner self.old self.new }
         ensures few { self.new.failed ≡ None → AddsFew turns self.old.endpoint self.new.endpoint }
         ensures reasoned { IsReasoned (says_no (G.says gate.now)) self.new }
@@ -78,11 +78,11 @@ impl Runner {
     fn turn_alone<R: Wait, G: Gate>(
         &mut self,
         rt: &R,
-        classes: &Classes,
+        classes: &FamilyClasses,
         gate: &G,
     ) -> Result<bool, Cause>
         requires unfailed { self.old.failed ≡ None }
-        requires set { classes.now.set ≡ self.old.set }
+        requires family { classes.now.family ≡ self.old.family }
         ensures goes { MatchResult result (λ _. GoesOn self.old self.new) (HasFailed self.old self.new) }
         ensures few { OnOk result (AddsFew 1 self.old.endpoint self.new.endpoint) }
         ensures asked { IsAsked (G.says gate.now) self.old.endpoint.seat.node result }

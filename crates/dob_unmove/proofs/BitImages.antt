@@ -25,7 +25,7 @@ of_but_not : (setup : Setup) (f g : Cell → Bool) (a b : ℕ) → AreSquares se
     → AreSquares setup (but_not f g) (bit_and a (bit_not w16 b))
 of_but_not setup f g a b is are = IsMask-without (λ s. f (at setup s)) (λ s. g (at setup s)) a b is are
 
--- a set by a test that says the same of every cell
+-- a family by a test that says the same of every cell
 by_test : (setup : Setup) (f g : Cell → Bool) (a : ℕ) → f None ≡ g None → OfEachKind (λ cell. f cell ≡ g cell) Mover
     → OfEachKind (λ cell. f cell ≡ g cell) Enemy
     → AreSquares setup f a → AreSquares setup g a

@@ -8,6 +8,7 @@ use Rattle.std.proofs.lemmas.List.Elements.{Contains-append_left, Contains-appen
 use Rattle.std.proofs.lemmas.List.Elements.{All-nil}
 use Rattle.std.proofs.lemmas.List.Kept.{AllPairs-cons}
 use Rattle.std.proofs.lemmas.List.Sums.{sum_by_push}
+use Rattle.dob_pieces.specs.declared.profile.Profile.TheVariants.{A}
 use Rattle.dob_pieces.specs.declared.setup.Setup.{Setup}
 use Rattle.dob_pieces.specs.Setups.{turned, mirrored}
 use Rattle.dob_pieces.proofs.Lists.{cons_cases}
@@ -218,7 +219,7 @@ module _ (Represents : Setup → ℕ → Type 0) (n : IsNumbering Represents) wh
 
     -- the walk over a position that is its own mirror image counts the moves into its class
     edges_alone : (q : Setup) (new : List ℕ) → length q.board ≡ 12 → mirrored q ≡ q → Gathers Represents (turned q) (undoes (turned q)) [] new
-        → HasEdges p q (number_of new)
+        → HasEdges A p q (number_of new)
     edges_alone q new twelve own g =
         let c = counted_leading q twelve [] new g in
         record {
@@ -233,7 +234,7 @@ module _ (Represents : Setup → ℕ → Type 0) (n : IsNumbering Represents) wh
 
     -- and else the walks over both
     edges_both : (q : Setup) (mid new : List ℕ) → length q.board ≡ 12 → mirrored q ≢ q → Gathers Represents (turned q) (undoes (turned q)) [] mid
-        → Gathers Represents (turned (mirrored q)) (undoes (turned (mirrored q))) mid new → HasEdges p q (number_of new)
+        → Gathers Represents (turned (mirrored q)) (undoes (turned (mirrored q))) mid new → HasEdges A p q (number_of new)
     edges_both q mid new twelve other g h =
         let c = counted_leading q twelve [] mid g in
         let d = counted_leading (mirrored q) (length-mirrored q) mid new h in
@@ -261,14 +262,14 @@ module _ (Represents : Setup → ℕ → Type 0) (n : IsNumbering Represents) wh
   nothing_known = All-nil (λ class. (p : Setup) × Represents p class)
 
   pub counts_alone : (q : Setup) (new : List ℕ) → length q.board ≡ 12 → mirrored q ≡ q → Gathers Represents (turned q) (undoes (turned q)) [] new
-      → CountEdges Represents q new
+      → CountEdges A Represents q new
   counts_alone q new twelve own g = record {
     known = gathered_known (turned q) (undoes (turned q)) [] new g nothing_known;
     edges = λ p class stands. edges_alone p class stands q new twelve own g;
   }
 
   pub counts_both : (q : Setup) (mid new : List ℕ) → length q.board ≡ 12 → mirrored q ≢ q → Gathers Represents (turned q) (undoes (turned q)) [] mid
-      → Gathers Represents (turned (mirrored q)) (undoes (turned (mirrored q))) mid new → CountEdges Represents q new
+      → Gathers Represents (turned (mirrored q)) (undoes (turned (mirrored q))) mid new → CountEdges A Represents q new
   counts_both q mid new twelve other g h = record {
     known =
         gathered_known (turned (mirrored q)) (undoes (turned (mirrored q))) mid new h (gathered_known (turned q) (undoes (turned q)) [] mid g nothing_known);

@@ -4,7 +4,7 @@ use Rattle.std.proofs.Common.{refl, sym, ap, ◌∙◌, subst, inl, inr, arith}
 use Rattle.std.specs.Int.{trailing_zeros, w16}
 use Rattle.std.specs.Option.{is_some}
 use Rattle.std.proofs.lemmas.Bool.{and_parts, cases_Bool, not-true}
-use Rattle.dob_pieces.specs.declared.piece_set.PieceSet.{PieceSet}
+use Rattle.dob_pieces.specs.declared.profile.Family.{Family}
 use Rattle.dob_pieces.specs.declared.kind.Kind.{Kind}
 use Rattle.dob_pieces.specs.declared.kind.Kind.TheVariants.{Lion, Giraffe, Elephant, Chick, Hen}
 use Rattle.dob_pieces.specs.declared.kind.Side.TheVariants.{Mover, Enemy}
@@ -14,7 +14,7 @@ use Rattle.dob_pieces.specs.Setups.{Cell, at, piece_of, IsLegal}
 use Rattle.dob_pieces.specs.Masks.{is_own, is_empty, is_piece}
 use Rattle.dob_pieces.proofs.Attacks.{lion_at}
 use Rattle.dob_pieces.proofs.Boards.{within-from_piece}
-use Rattle.dob_rank.specs.Order.{RepresentsIn}
+use Rattle.dob_rank.specs.Families.{RepresentsClassIn}
 use Rattle.dob_unmove.specs.declared.attackers.Threat.{Threat}
 use Rattle.dob_unmove.specs.declared.undo.Undo.{Undo}
 use Rattle.dob_unmove.specs.declared.undo.Undo.TheVariants.{Unstep, Unput}
@@ -36,15 +36,15 @@ use Rattle.dob_unmove.proofs.Gathered.{IsDead, AreDead, gathers_cons, gathers_ap
 abbrev own_lion : Cell
 own_lion = Some (piece_of Mover Lion)
 
-module _ (set : PieceSet) (after : Setup) (ways : Ways) (w : CanWalk set after ways) where
+module _ (family : Family) (after : Setup) (ways : Ways) (w : CanWalk family after ways) where
   abbrev threat : Threat
   threat = ways.threat
 
   legal : IsTurned IsLegal after
-  legal = legal_turned set after w.of_set
+  legal = legal_turned family after w.of_set
 
   abbrev Dead : Undo → Type 0
-  Dead u = IsDead (RepresentsIn set) after u
+  Dead u = IsDead (RepresentsClassIn family) after u
 
   dead_stood : (u : Undo) → CanUndo after u → stood_before threat u ≡ true → Dead u
   dead_stood u can stood = λ found. was_not_open after threat legal w.ways_are.threat_is u can stood found.1.1
@@ -58,7 +58,7 @@ module _ (set : PieceSet) (after : Setup) (ways : Ways) (w : CanWalk set after w
 
   dead_away : (u : Undo) (s : ℕ) → CanUndo after u → at (earlier after u) s ≡ own_lion → is_home threat.lion s ≡ false → Dead u
   dead_away u s can there away = λ found.
-      true≢false (sym (representative_home set (earlier after u) found.0 s threat.lion found.1.0 there (enemy_there u can)) ∙ away)
+      true≢false (sym (representative_home family (earlier after u) found.0 s threat.lion found.1.0 there (enemy_there u can)) ∙ away)
 
   -- where no lion moved it stood where it stands
   arrives_no_lion : (kind : Kind) (to : ℕ) (cell : Cell) → cell ≡ Some (piece_of Mover (arrives_at kind to)) → is_piece Mover Lion cell ≡ false → kind ≢ Lion
@@ -109,7 +109,7 @@ module _ (set : PieceSet) (after : Setup) (ways : Ways) (w : CanWalk set after w
   last_fails true true c d e f off = cc
   last_fails false b c d e f off = cc
 
-  pub ends_dead : AreDead (RepresentsIn set) after (may_end after threat w.ways_are.stays) (undoes_at after)
+  pub ends_dead : AreDead (RepresentsClassIn family) after (may_end after threat w.ways_are.stays) (undoes_at after)
   ends_dead k lt off u inside =
       let can = at_sound after k u inside in
       let on : ends_on u ≡ k = undoes_end after k u inside in
@@ -150,7 +150,7 @@ module _ (set : PieceSet) (after : Setup) (ways : Ways) (w : CanWalk set after w
       (at_from after threat legal w.ways_are.threat_is kind from to caught can ∙ ap (λ (k : Kind). Some (piece_of Mover k)) lion.0) lion.1
 
   pub comes_dead : (kind : Kind) (to : ℕ) → stands (at after to) (arrives_at kind to) ≡ true
-      → AreDead (RepresentsIn set) after (may_come after threat.lion kind to) (unsteps_from after kind to)
+      → AreDead (RepresentsClassIn family) after (may_come after threat.lion kind to) (unsteps_from after kind to)
   comes_dead kind to there k lt off u inside =
       let f = from_step after kind to k u inside in
       let parts = and_parts (not (is_some (at after k))) (leads kind k to) f.test in

@@ -3,11 +3,12 @@ use Rattle.std.proofs.Common.{◌≡◌, ◌≢◌, ℕ, true, false, List, [], 
 use Rattle.std.specs.Option.{MatchOption, is_some}
 use Rattle.std.specs.List.Sorted.{IsPermutation, IsNonDecreasingBy}
 use Rattle.std.proofs.lemmas.List.Sorted.{sum_by-IsPermutation, All-permutation}
+use Rattle.dob_pieces.specs.declared.profile.Profile.TheVariants.{A}
 use Rattle.dob_pieces.specs.declared.setup.Setup.{Setup}
 use Rattle.dob_pieces.specs.Setups.{IsLegal, turned, mirrored}
 use Rattle.dob_moves.specs.declared.position_status.Status.TheVariants.{Open}
 use Rattle.dob_moves.specs.Statuses.{HasStatus}
-use Rattle.dob_rank.specs.declared.classes.Classes.{Classes}
+use Rattle.dob_rank.specs.declared.family_classes.FamilyClasses.{FamilyClasses}
 use Rattle.dob_unmove.specs.Unmoves.{IsNumbering, HasEdges, CountEdges, ArePredecessors, IsOpenPosition}
 use Rattle.dob_unmove.specs.Gathers.{Finds, Adds, Gathers}
 use Rattle.dob_unmove.specs.declared.undo.Undo.{Undo}
@@ -42,12 +43,12 @@ other_image Represents q image None w e h none own = h (w.0, subst (λ (x : Setu
 other_image Represents q image (Some class) w e h none own = cc
 
 -- sorting keeps the counts
-pub sorted_counts : (Represents : Setup → ℕ → Type 0) (q : Setup) (xs ys : List ℕ) → CountEdges Represents q xs → IsPermutation xs ys
-    → IsNonDecreasingBy (λ (x : ℕ). x) ys → ArePredecessors Represents q ys
+pub sorted_counts : (Represents : Setup → ℕ → Type 0) (q : Setup) (xs ys : List ℕ) → CountEdges A Represents q xs → IsPermutation xs ys
+    → IsNonDecreasingBy (λ (x : ℕ). x) ys → ArePredecessors A Represents q ys
 sorted_counts Represents q xs ys c moved rises = record {
   counts = record {
     known = All-permutation (λ (class : ℕ). (p : Setup) × Represents p class) xs ys moved c.known;
-    edges = λ p class represents. subst (HasEdges p q) (sym (sum_by-IsPermutation _ xs ys moved)) (c.edges p class represents);
+    edges = λ p class represents. subst (HasEdges A p q) (sym (sum_by-IsPermutation _ xs ys moved)) (c.edges p class represents);
   };
   ascending = λ i j d lt within. rises i j d (omega arith) within;
 }
@@ -55,18 +56,18 @@ sorted_counts Represents q xs ys c moved rises = record {
 -- ---- the walks
 
 -- what one way adds to the gathered classes
-abbrev pub Gathering : (Classes → Setup → ℕ → Type 0) → Setup → Gathered → Undo → Gathered → Type 0
+abbrev pub Gathering : (FamilyClasses → Setup → ℕ → Type 0) → Setup → Gathered → Undo → Gathered → Type 0
 Gathering Represents t old undo new =
     (new.classes ≡ old.classes) × Adds (Represents old.classes.now) t undo old.found.items new.found.items
 
-gathered_by : (Represents : Classes → Setup → ℕ → Type 0) (t : Setup) (us : List Undo) (old new : Gathered)
+gathered_by : (Represents : FamilyClasses → Setup → ℕ → Type 0) (t : Setup) (us : List Undo) (old new : Gathered)
     → TakesAll (Gathering Represents t) old us new
     → (new.classes ≡ old.classes) × Gathers (Represents old.classes.now) t us old.found.items new.found.items
 gathered_by Represents t us old new h =
     all_gathered (λ (s : Gathered). s.classes) (λ (s : Gathered). s.found.items) (λ c. Represents c.now) t us old new h
 
 -- a walk that begins with no numbers
-fresh_walk : (Represents : Classes → Setup → ℕ → Type 0) (q t : Setup) (old new : Gathered)
+fresh_walk : (Represents : FamilyClasses → Setup → ℕ → Type 0) (q t : Setup) (old new : Gathered)
     → t ≡ turned q → old.found.items ≡ [] → TakesAll (Gathering Represents t) old (undoes t) new
     → Gathers (Represents old.classes.now) (turned q) (undoes (turned q)) [] new.found.items
 fresh_walk Represents q t old new e none h =
@@ -74,19 +75,19 @@ fresh_walk Represents q t old new e none h =
     let there = subst (λ (x : Setup). Gathers (Represents old.classes.now) x (undoes x) old.found.items new.found.items) e g in
     subst (λ (xs : List ℕ). Gathers (Represents old.classes.now) (turned q) (undoes (turned q)) xs new.found.items) none there
 
-pub walked_alone : (Represents : Classes → Setup → ℕ → Type 0) (q t : Setup) (old new : Gathered)
+pub walked_alone : (Represents : FamilyClasses → Setup → ℕ → Type 0) (q t : Setup) (old new : Gathered)
     → IsNumbering (Represents old.classes.now) → IsLegal q → mirrored q ≡ q
     → t ≡ turned q → old.found.items ≡ [] → TakesAll (Gathering Represents t) old (undoes t) new
-    → CountEdges (Represents old.classes.now) q new.found.items
+    → CountEdges A (Represents old.classes.now) q new.found.items
 walked_alone Represents q t old new n legal own e none h =
     counts_alone (Represents old.classes.now) n q new.found.items legal.squares own (fresh_walk Represents q t old new e none h)
 
 -- two walks, of which the second goes on with the classes and the numbers of the first
-pub walked_both : (Represents : Classes → Setup → ℕ → Type 0) (q image t s : Setup) (old mid next new : Gathered)
+pub walked_both : (Represents : FamilyClasses → Setup → ℕ → Type 0) (q image t s : Setup) (old mid next new : Gathered)
     → IsNumbering (Represents old.classes.now) → IsLegal q → mirrored q ≢ q → image ≡ mirrored q
     → t ≡ turned q → s ≡ turned image → old.found.items ≡ [] → TakesAll (Gathering Represents t) old (undoes t) mid
     → next.classes ≡ mid.classes → next.found.items ≡ mid.found.items → TakesAll (Gathering Represents s) next (undoes s) new
-    → CountEdges (Represents old.classes.now) q new.found.items
+    → CountEdges A (Represents old.classes.now) q new.found.items
 walked_both Represents q image t s old mid next new n legal other im e f none h same_classes same_found k =
     let once = fresh_walk Represents q t old mid e none h in
     let kept = same_classes ∙ (gathered_by Represents t (undoes t) old mid h).0 in
@@ -100,14 +101,14 @@ walked_both Represents q image t s old mid next new n legal other im e f none h 
 -- ---- what was found
 
 pub alone_found : (Represents : Setup → ℕ → Type 0) → IsNumbering Represents → (q t : Setup) (old new : List ℕ) → IsLegal q → mirrored q ≡ q
-    → t ≡ turned q → old ≡ [] → Gathers Represents t (undoes t) old new → CountEdges Represents q new
+    → t ≡ turned q → old ≡ [] → Gathers Represents t (undoes t) old new → CountEdges A Represents q new
 alone_found Represents n q t old new legal own e none g =
     counts_alone Represents n q new legal.squares own
     (subst (λ (x : Setup). Gathers Represents x (undoes x) [] new) e (subst (λ (xs : List ℕ). Gathers Represents t (undoes t) xs new) none g))
 
 pub both_found : (Represents : Setup → ℕ → Type 0) → IsNumbering Represents → (q t s : Setup) (old mid new : List ℕ) → IsLegal q → mirrored q ≢ q
     → t ≡ turned q → s ≡ mirrored (turned q) → old ≡ [] → Gathers Represents t (undoes t) old mid → Gathers Represents s (undoes s) mid new
-    → CountEdges Represents q new
+    → CountEdges A Represents q new
 both_found Represents n q t s old mid new legal other e f none g h =
     counts_both Represents n q mid new legal.squares other
     (subst (λ (x : Setup). Gathers Represents x (undoes x) [] mid) e (subst (λ (xs : List ℕ). Gathers Represents t (undoes t) xs mid) none g))

@@ -84,7 +84,7 @@ module _ (q : Setup) (twelve : length q.board ≡ 12) (kind : Kind) (from to : �
   unfolding earlier
   at_from = get_or-set_same (set (turned q).board to (enemy_cell caught)) from (Some (piece_of Mover kind)) None (rw length-set from_on_board)
 
-  at_to : at (earlier (turned q) (Unstep kind from to caught)) to ≡ enemy_cell caught
+  pub at_to : at (earlier (turned q) (Unstep kind from to caught)) to ≡ enemy_cell caught
   unfolding earlier
   at_to =
       get_or-set_other (set (turned q).board to (enemy_cell caught)) from to (Some (piece_of Mover kind)) None apart

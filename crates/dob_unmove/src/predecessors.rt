@@ -1,41 +1,43 @@
 // The classes from which a class is reached: the walk over the ways back that masks leave.
 ghost use Rattle.std.specs.Prelude.{◌≡◌, ◌↔◌, true, false, ◌<◌, ℕ, ◌∷◌, [], Some, IsTrue, IfOk, OnOk, MatchOption};
+ghost use Rattle.dob_pieces.specs.declared.profile.Profile.TheVariants.{A};
 ghost use Rattle.dob_pieces.specs.declared.setup.Setup.{Setup};
 ghost use Rattle.dob_pieces.specs.Pieces.{kind_on_board};
 ghost use Rattle.dob_pieces.specs.Setups.{at, piece_of, turned, mirrored, HasLionOffFarRow};
 ghost use Rattle.dob_pieces.specs.declared.kind.Kind.{Kind};
 ghost use Rattle.dob_pieces.specs.declared.kind.Side.TheVariants.{Mover};
-ghost use Rattle.dob_rank.specs.Bitboards.{IsShown};
-ghost use Rattle.dob_rank.specs.Marks.{classes_of};
+ghost use Rattle.dob_rank.specs.Bitboards.{IsShownIn};
+ghost use Rattle.dob_rank.specs.Families.{classes_in};
 ghost use Rattle.dob_unmove.specs.declared.undo.Undo.{Undo};
 ghost use Rattle.dob_unmove.specs.Undoes.{arrives_at as arrival, CanUndo, earlier};
 ghost use Rattle.dob_unmove.specs.Unmoves.{CountEdges, ArePredecessors};
 ghost use Rattle.dob_unmove.specs.Edges.{predecessors};
-ghost use Rattle.dob_unmove.specs.Classes.{RepresentsIn};
+ghost use Rattle.dob_unmove.specs.Classes.{RepresentsClassIn};
 ghost use Rattle.dob_unmove.specs.Gathers.{Finds, Gathers};
 ghost use Rattle.dob_unmove.specs.Threats.{elsewhere, stood_before};
 ghost use Rattle.dob_unmove.specs.Walks.{stands, uncatch, unsteps_from, unsteps, unputs, undoes_at, undoes};
 ghost use Rattle.dob_unmove.specs.Ways.{HasLionHome, may_come, AreWays, CanWalk};
 
 use crate::bits_before::bits_before;
+use crate::earlier::may_give_back;
 use crate::images::mirrored_bits;
 use crate::plain::class_if_representative;
 use crate::undo::Undo;
 use crate::ways::Ways;
 use dob_pieces::{HandKind, Kind, Memory, Position, Setup, Square, lowest_square, without_square};
-use dob_rank::{Bitboards, Classes};
+use dob_rank::{Bitboards, FamilyClasses};
 use std::alloc::Global;
 
 /// Appends the classes of the open representatives that stood before the setup. In it the side that made the last move is the
 /// mover.
 fn gather_all(
-    classes: &Classes,
+    classes: &FamilyClasses,
     after: &Setup,
     ways: &Ways,
     found: &mut Vec<u64>,
 ) -> Result<(), Memory>
-    requires { CanWalk classes.now.set after.now ways.now }
-    ensures { OnOk result (Gathers (RepresentsIn classes.now.set) after.now (undoes after.now) found.old.items found.new.items) }
+    requires { CanWalk classes.now.family after.now ways.now }
+    ensures { OnOk result (Gathers (RepresentsClassIn classes.now.family) after.now (undoes after.now) found.old.items found.new.items) }
 {
     let mut left = ways.ends;
     while left != 0 {
@@ -48,16 +50,16 @@ fn gather_all(
 
 /// Those from which the last move ended on the square.
 fn gather_at(
-    classes: &Classes,
+    classes: &FamilyClasses,
     after: &Setup,
     ways: &Ways,
     to: Square,
     found: &mut Vec<u64>,
 ) -> Result<(), Memory>
-    requires walk { CanWalk classes.now.set after.now ways.now }
+    requires walk { CanWalk classes.now.family after.now ways.now }
     requires calm { elsewhere ways.now.threat.attackers to ≡ false }
     requires home { HasLionHome after.now ways.now.threat.lion to }
-    ensures { OnOk result (Gathers (RepresentsIn classes.now.set) after.now (undoes_at after.now to) found.old.items found.new.items) }
+    ensures { OnOk result (Gathers (RepresentsClassIn classes.now.family) after.now (undoes_at after.now to) found.old.items found.new.items) }
 {
     match ways.own_kind(to) {
         Some(kind) => gather_kind(classes, after, ways, kind, to, found),
@@ -67,18 +69,18 @@ fn gather_at(
 
 /// Those from which the mover's piece of that kind came to the square on which it stands.
 fn gather_kind(
-    classes: &Classes,
+    classes: &FamilyClasses,
     after: &Setup,
     ways: &Ways,
     kind: Kind,
     to: Square,
     found: &mut Vec<u64>,
 ) -> Result<(), Memory>
-    requires walk { CanWalk classes.now.set after.now ways.now }
+    requires walk { CanWalk classes.now.family after.now ways.now }
     requires calm { elsewhere ways.now.threat.attackers to ≡ false }
     requires home { HasLionHome after.now ways.now.threat.lion to }
     requires stands { at after.now to ≡ Some (piece_of Mover kind) }
-    ensures { OnOk result (Gathers (RepresentsIn classes.now.set) after.now (undoes_at after.now to) found.old.items found.new.items) }
+    ensures { OnOk result (Gathers (RepresentsClassIn classes.now.family) after.now (undoes_at after.now to) found.old.items found.new.items) }
 {
     match kind {
         Kind::Lion => gather_steps(classes, after, ways, Kind::Lion, to, found),
@@ -98,17 +100,17 @@ fn gather_kind(
 /// Those from which the chick came that stands on the square. On its far row it was dropped there, since a step would have
 /// made it a hen.
 fn gather_chick(
-    classes: &Classes,
+    classes: &FamilyClasses,
     after: &Setup,
     ways: &Ways,
     to: Square,
     found: &mut Vec<u64>,
 ) -> Result<(), Memory>
-    requires walk { CanWalk classes.now.set after.now ways.now }
+    requires walk { CanWalk classes.now.family after.now ways.now }
     requires calm { elsewhere ways.now.threat.attackers to ≡ false }
     requires home { HasLionHome after.now ways.now.threat.lion to }
     requires stands { at after.now to ≡ Some (piece_of Mover Kind.Chick) }
-    ensures { OnOk result (Gathers (RepresentsIn classes.now.set) after.now (undoes_at after.now to) found.old.items found.new.items) }
+    ensures { OnOk result (Gathers (RepresentsClassIn classes.now.family) after.now (undoes_at after.now to) found.old.items found.new.items) }
 {
     if to.row() != 3 {
         gather_steps(classes, after, ways, Kind::Chick, to, found)?;
@@ -118,17 +120,17 @@ fn gather_chick(
 
 /// Those from which the hen came that stands on the square: on its far row as a chick too.
 fn gather_hen(
-    classes: &Classes,
+    classes: &FamilyClasses,
     after: &Setup,
     ways: &Ways,
     to: Square,
     found: &mut Vec<u64>,
 ) -> Result<(), Memory>
-    requires walk { CanWalk classes.now.set after.now ways.now }
+    requires walk { CanWalk classes.now.family after.now ways.now }
     requires calm { elsewhere ways.now.threat.attackers to ≡ false }
     requires home { HasLionHome after.now ways.now.threat.lion to }
     requires stands { at after.now to ≡ Some (piece_of Mover Kind.Hen) }
-    ensures { OnOk result (Gathers (RepresentsIn classes.now.set) after.now (undoes_at after.now to) found.old.items found.new.items) }
+    ensures { OnOk result (Gathers (RepresentsClassIn classes.now.family) after.now (undoes_at after.now to) found.old.items found.new.items) }
 {
     if to.row() == 3 {
         gather_steps(classes, after, ways, Kind::Chick, to, found)?;
@@ -138,18 +140,18 @@ fn gather_hen(
 
 /// Those from which a piece of that kind stepped to the square, on which it stands as what it became.
 fn gather_steps(
-    classes: &Classes,
+    classes: &FamilyClasses,
     after: &Setup,
     ways: &Ways,
     kind: Kind,
     to: Square,
     found: &mut Vec<u64>,
 ) -> Result<(), Memory>
-    requires walk { CanWalk classes.now.set after.now ways.now }
+    requires walk { CanWalk classes.now.family after.now ways.now }
     requires calm { elsewhere ways.now.threat.attackers to ≡ false }
     requires home { HasLionHome after.now ways.now.threat.lion to }
     requires stands { stands (at after.now to) (arrival kind to) ≡ true }
-    ensures { OnOk result (Gathers (RepresentsIn classes.now.set) after.now (unsteps after.now kind to) found.old.items found.new.items) }
+    ensures { OnOk result (Gathers (RepresentsClassIn classes.now.family) after.now (unsteps after.now kind to) found.old.items found.new.items) }
 {
     let mut left = ways.sources(kind, to);
     while left != 0 {
@@ -163,7 +165,7 @@ fn gather_steps(
 /// Those from which a piece of that kind stepped from the one square to the other.
 #[tactic(auto, using(crate::proofs::Gathered::gathers))]
 fn gather_steps_from(
-    classes: &Classes,
+    classes: &FamilyClasses,
     after: &Setup,
     ways: &Ways,
     kind: Kind,
@@ -171,12 +173,12 @@ fn gather_steps_from(
     to: Square,
     found: &mut Vec<u64>,
 ) -> Result<(), Memory>
-    requires walk { CanWalk classes.now.set after.now ways.now }
+    requires walk { CanWalk classes.now.family after.now ways.now }
     requires calm { elsewhere ways.now.threat.attackers to ≡ false }
     requires home { HasLionHome after.now ways.now.threat.lion to }
     requires stands { stands (at after.now to) (arrival kind to) ≡ true }
     requires comes { may_come after.now ways.now.threat.lion kind to from ≡ true }
-    ensures { OnOk result (Gathers (RepresentsIn classes.now.set) after.now (unsteps_from after.now kind to from) found.old.items found.new.items) }
+    ensures { OnOk result (Gathers (RepresentsClassIn classes.now.family) after.now (unsteps_from after.now kind to from) found.old.items found.new.items) }
 {
     let undo = Undo::Unstep {
         kind,
@@ -194,7 +196,7 @@ fn gather_steps_from(
 /// Those from which that step caught a piece of that kind, if the hand has it.
 #[tactic(auto, using(crate::proofs::Gathered::gathers))]
 fn gather_catch(
-    classes: &Classes,
+    classes: &FamilyClasses,
     after: &Setup,
     ways: &Ways,
     kind: Kind,
@@ -203,12 +205,12 @@ fn gather_catch(
     caught: Kind,
     found: &mut Vec<u64>,
 ) -> Result<(), Memory>
-    requires walk { CanWalk classes.now.set after.now ways.now }
+    requires walk { CanWalk classes.now.family after.now ways.now }
     requires step { CanUndo after.now (Undo.Unstep kind from to None) }
     requires calm { stood_before ways.now.threat (Undo.Unstep kind from to None) ≡ false }
     requires home { HasLionHome after.now ways.now.threat.lion to }
     requires comes { may_come after.now ways.now.threat.lion kind to from ≡ true }
-    ensures { OnOk result (Gathers (RepresentsIn classes.now.set) after.now (uncatch after.now kind from to caught) found.old.items found.new.items) }
+    ensures { OnOk result (Gathers (RepresentsClassIn classes.now.family) after.now (uncatch after.now kind from to caught) found.old.items found.new.items) }
 {
     if !ways.holds_caught(after, caught) {
         return Ok(());
@@ -224,35 +226,35 @@ fn gather_catch(
 
 /// The one from which the piece of that kind that stands on the square was dropped there.
 fn gather_put(
-    classes: &Classes,
+    classes: &FamilyClasses,
     after: &Setup,
     ways: &Ways,
     kind: HandKind,
     to: Square,
     found: &mut Vec<u64>,
 ) -> Result<(), Memory>
-    requires walk { CanWalk classes.now.set after.now ways.now }
+    requires walk { CanWalk classes.now.family after.now ways.now }
     requires calm { elsewhere ways.now.threat.attackers to ≡ false }
     requires home { HasLionHome after.now ways.now.threat.lion to }
     requires stands { at after.now to ≡ Some (piece_of Mover (kind_on_board kind)) }
-    ensures { OnOk result (Gathers (RepresentsIn classes.now.set) after.now (unputs after.now kind to) found.old.items found.new.items) }
+    ensures { OnOk result (Gathers (RepresentsClassIn classes.now.family) after.now (unputs after.now kind to) found.old.items found.new.items) }
 {
     gather_one(classes, after, ways, Undo::Unput { kind, to }, found)
 }
 
 /// The one from which the last move was made in that way, if it was the earlier one of its class.
 fn gather_one(
-    classes: &Classes,
+    classes: &FamilyClasses,
     after: &Setup,
     ways: &Ways,
     undo: Undo,
     found: &mut Vec<u64>,
 ) -> Result<(), Memory>
-    requires walk { CanWalk classes.now.set after.now ways.now }
+    requires walk { CanWalk classes.now.family after.now ways.now }
     requires can { CanUndo after.now undo }
     requires calm { stood_before ways.now.threat undo ≡ false }
     requires home { HasLionOffFarRow (earlier after.now undo) }
-    ensures { OnOk result (Gathers (RepresentsIn classes.now.set) after.now (undo ∷ []) found.old.items found.new.items) }
+    ensures { OnOk result (Gathers (RepresentsClassIn classes.now.family) after.now (undo ∷ []) found.old.items found.new.items) }
 {
     if let Some(class) = class_before(classes, after, ways, undo) {
         found.push(class)?;
@@ -260,29 +262,34 @@ fn gather_one(
     Ok(())
 }
 
-/// The class whose representative stood there before a move that left an open position, if a representative did.
-fn class_before(classes: &Classes, after: &Setup, ways: &Ways, undo: Undo) -> Option<u64>
-    requires walk { CanWalk classes.now.set after.now ways.now }
+/// The class whose representative stood there before a move that left an open position, if a representative did. In profile B
+/// no chick is given back on row 1, where none stood.
+fn class_before(classes: &FamilyClasses, after: &Setup, ways: &Ways, undo: Undo) -> Option<u64>
+    requires walk { CanWalk classes.now.family after.now ways.now }
     requires can { CanUndo after.now undo }
     requires calm { stood_before ways.now.threat undo ≡ false }
     requires home { HasLionOffFarRow (earlier after.now undo) }
-    ensures { Finds (RepresentsIn classes.now.set) (earlier after.now undo) result }
+    ensures { Finds (RepresentsClassIn classes.now.family) (earlier after.now undo) result }
 {
-    class_if_shown(classes, &bits_before(ways.bits, undo))
+    if may_give_back(classes.family.profile, &undo) {
+        class_if_shown(classes, &bits_before(ways.bits, undo))
+    } else {
+        None
+    }
 }
 
-/// The class whose representative is the position of the set that the sets show; `None` where it is none.
-fn class_if_shown(classes: &Classes, bits: &Bitboards) -> Option<u64>
-    requires { (setup : Setup) × IsShown classes.now.set setup bits.now }
-    ensures { (setup : Setup) → IsShown classes.now.set setup bits.now
-        → MatchOption result (¬ ((class : ℕ) × RepresentsIn classes.now.set setup class)) (RepresentsIn classes.now.set setup) }
+/// The class whose representative is the position of the family that the sets show; `None` where it is none.
+fn class_if_shown(classes: &FamilyClasses, bits: &Bitboards) -> Option<u64>
+    requires { (setup : Setup) × IsShownIn classes.now.family setup bits.now }
+    ensures { (setup : Setup) → IsShownIn classes.now.family setup bits.now
+        → MatchOption result (¬ ((class : ℕ) × RepresentsClassIn classes.now.family setup class)) (RepresentsClassIn classes.now.family setup) }
 {
     classes.class_of_shown(bits)
 }
 
 /// Whether the representative is its own mirror image. What is known of the turned setup says mostly that it isn't.
-fn is_own_image(classes: &Classes, representative: &Position, ways: &Ways) -> bool
-    requires representative { (class : ℕ) × RepresentsIn classes.now.set representative.now.setup class }
+fn is_own_image(classes: &FamilyClasses, representative: &Position, ways: &Ways) -> bool
+    requires representative { (class : ℕ) × RepresentsClassIn classes.now.family representative.now.setup class }
     requires ways { AreWays (turned representative.now.setup) ways.now }
     ensures { IsTrue result ↔ (mirrored representative.now.setup ≡ representative.now.setup) }
 {
@@ -295,9 +302,13 @@ fn is_own_image(classes: &Classes, representative: &Position, ways: &Ways) -> bo
 /// The classes from which moves lead to the representative of a class or to its mirror image, in the order of the walk, in
 /// the room of that list. What the walks need of the setups are the sets of squares; the boards of the turned setup and of its
 /// image only say of what the sets are, and are not made when the program runs.
-fn gather(room: Vec<u64>, classes: &Classes, representative: &Position) -> Result<Vec<u64>, Memory>
-    requires { (class : ℕ) × RepresentsIn classes.now.set representative.now.setup class }
-    ensures { IfOk result (λ list. CountEdges (RepresentsIn classes.now.set) representative.now.setup list.items) }
+fn gather(
+    room: Vec<u64>,
+    classes: &FamilyClasses,
+    representative: &Position,
+) -> Result<Vec<u64>, Memory>
+    requires { (class : ℕ) × RepresentsClassIn classes.now.family representative.now.setup class }
+    ensures { IfOk result (λ list. CountEdges A (RepresentsClassIn classes.now.family) representative.now.setup list.items) }
 {
     let mut found = room;
     found.clear();
@@ -315,20 +326,20 @@ fn gather(room: Vec<u64>, classes: &Classes, representative: &Position) -> Resul
 
 /// The classes from which moves lead into the class, ascending, each as often as moves of its representative lead
 /// there. Err where no memory was left for the list.
-pub fn back(alloc: Global, classes: &Classes, class: u64) -> Result<Vec<u64>, Memory>
-    requires { class < classes_of classes.now.set }
-    ensures counts { IfOk result (λ list. (q : Setup) → RepresentsIn classes.now.set q class → ArePredecessors (RepresentsIn classes.now.set) q list.items) }
-    ensures list { IfOk result (λ list. list.items ≡ predecessors classes.now.set class) }
+pub fn back(alloc: Global, classes: &FamilyClasses, class: u64) -> Result<Vec<u64>, Memory>
+    requires { class < classes_in classes.now.family }
+    ensures counts { IfOk result (λ list. (q : Setup) → RepresentsClassIn classes.now.family q class → ArePredecessors classes.now.family.profile (RepresentsClassIn classes.now.family) q list.items) }
+    ensures list { IfOk result (λ list. list.items ≡ predecessors classes.now.family class) }
 {
     back_into(Vec::new(alloc), classes, class)
 }
 
 /// The same in the room of a list that the caller keeps for many classes; what it held is gone. Err where no memory was
 /// left for it to grow, and then the list is gone too.
-pub fn back_into(room: Vec<u64>, classes: &Classes, class: u64) -> Result<Vec<u64>, Memory>
-    requires { class < classes_of classes.now.set }
-    ensures counts { IfOk result (λ list. (q : Setup) → RepresentsIn classes.now.set q class → ArePredecessors (RepresentsIn classes.now.set) q list.items) }
-    ensures list { IfOk result (λ list. list.items ≡ predecessors classes.now.set class) }
+pub fn back_into(room: Vec<u64>, classes: &FamilyClasses, class: u64) -> Result<Vec<u64>, Memory>
+    requires { class < classes_in classes.now.family }
+    ensures counts { IfOk result (λ list. (q : Setup) → RepresentsClassIn classes.now.family q class → ArePredecessors classes.now.family.profile (RepresentsClassIn classes.now.family) q list.items) }
+    ensures list { IfOk result (λ list. list.items ≡ predecessors classes.now.family class) }
 {
     let mut numbers = gather(room, classes, &classes.class_at(class))?;
     numbers.sort_unstable();

@@ -11,9 +11,9 @@ use std::fmt;
 /// Why no value is given.
 #[derive(Clone, Copy, Debug, PartialEq, Eq)]
 pub enum Fault {
-    /// E8: the piece set is larger than those that are swept.
+    /// E8: the family is larger than those that are swept.
     SetTooLarge,
-    /// E12: some position of the piece set is won or lost in more plies than an entry can hold.
+    /// E12: some position of the family is won or lost in more plies than an entry can hold.
     TooDeep,
     /// E23: a growth was refused, since no memory was left for it.
     Memory,

@@ -19,9 +19,9 @@ use Rattle.dob_world.specs.Start.{IsStart}
 
 -- Why there is no world of that setting: the first of these that isn't so, or memory is refused where all are.
 abbrev pub HasSettingFault : Setting → Fault → Type 0
-HasSettingFault k SetTooLarge = ¬ IsSmall k.set
-HasSettingFault k Nodes = IsSmall k.set × (¬ IsSize k.n)
-HasSettingFault k Sizes = IsSmall k.set × IsSize k.n × (¬ AreSizes k.batch k.capacity)
+HasSettingFault k SetTooLarge = ¬ IsSmall k.family.set
+HasSettingFault k Nodes = IsSmall k.family.set × (¬ IsSize k.n)
+HasSettingFault k Sizes = IsSmall k.family.set × IsSize k.n × (¬ AreSizes k.batch k.capacity)
 HasSettingFault k (Stopped node why) = ⊥
 HasSettingFault k Memory = IsSetting k
 

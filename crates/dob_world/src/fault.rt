@@ -11,7 +11,7 @@ use std::fmt;
 /// Why a world isn't opened, or makes no further step.
 #[derive(Clone, Copy, Debug, PartialEq, Eq)]
 pub enum Fault {
-    /// E8: the piece set is larger than those that have classes.
+    /// E8: the family is larger than those that have classes.
     SetTooLarge,
     /// E9: the number of nodes isn't 1 to 16.
     Nodes,

@@ -81,7 +81,7 @@ pub(crate) fn post(node: &mut Node, lane: &mut Lane, to: usize, size: usize) -> 
 pub(crate) fn receive(node: &mut Node, lane: &mut Lane) -> Result<bool, Cause>
     requires sound { IsSound node.old }
     requires going { node.old.failed ≡ None }
-    requires batches { All (IsBatchFor node.old.set node.old.n node.old.id) lane.old.link.waiting }
+    requires batches { All (IsBatchFor node.old.family node.old.n node.old.id) lane.old.link.waiting }
     ensures none { (result ≡ Ok false) ↔ (lane.old.link.waiting ≡ []) }
     ensures nothing { result ≡ Ok false → (node.new ≡ node.old) × (lane.new ≡ lane.old) }
     ensures received { result ≡ Ok true → HasReceived node.old lane.old node.new lane.new }

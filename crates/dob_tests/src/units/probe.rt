@@ -3,7 +3,7 @@
 ghost use Rattle.std.specs.Prelude.{◌<◌};
 
 use crate::positions::position as position_of;
-use dob_pieces::{PieceSet, Position};
+use dob_pieces::{Family, PieceSet, Position, Profile};
 use dob_probe::{Fault, OtherSet, check, line, probe, statistics, valued_moves};
 use dob_rank::{size, unrank};
 use dob_text::write_move;
@@ -12,22 +12,28 @@ use std::alloc::Global;
 use std::process::Abort;
 use std::test::Fail;
 
-const NO_PIECES: PieceSet = PieceSet {
-    chicks: 0,
-    elephants: 0,
-    giraffes: 0,
+const NO_PIECES: Family = Family {
+    set: PieceSet {
+        chicks: 0,
+        elephants: 0,
+        giraffes: 0,
+    },
+    profile: Profile::A,
 };
 
-const ONE_CHICK: PieceSet = PieceSet {
-    chicks: 1,
-    elephants: 0,
-    giraffes: 0,
+const ONE_CHICK: Family = Family {
+    set: PieceSet {
+        chicks: 1,
+        elephants: 0,
+        giraffes: 0,
+    },
+    profile: Profile::A,
 };
 
-// The set's position of that rank.
-fn position(rt: &impl Abort, set: PieceSet, rank: u64) -> Position {
-    assert!(rt; rank < size(set));
-    unrank(set, rank)
+// The family's position of that rank.
+fn position(rt: &impl Abort, family: Family, rank: u64) -> Position {
+    assert!(rt; rank < size(family.set));
+    unrank(family.set, rank)
 }
 
 #[test]
@@ -35,7 +41,7 @@ fn values_of_all_positions(rt: HostRuntime) -> Result<(), Fail> {
     let table = sweep_table(rt.alloc(), NO_PIECES)?;
     for rank in 0..99 {
         let position = position(&rt, NO_PIECES, rank);
-        let value = sweep_value(rt.alloc(), &position)?;
+        let value = sweep_value(rt.alloc(), Profile::A, &position)?;
         assert!(rt; probe(&table, &position) == Ok(value), "of rank {rank}");
     }
     Ok(())
@@ -52,8 +58,8 @@ fn other_sets_are_refused(rt: HostRuntime) -> Result<(), Fail> {
 
 #[test]
 fn value_tables_are_passed(rt: HostRuntime) -> Result<(), Fail> {
-    for set in [NO_PIECES, ONE_CHICK] {
-        let table = sweep_table(rt.alloc(), set)?;
+    for family in [NO_PIECES, ONE_CHICK] {
+        let table = sweep_table(rt.alloc(), family)?;
         assert!(rt; check(&rt, rt.alloc(), &table).is_ok());
     }
     Ok(())

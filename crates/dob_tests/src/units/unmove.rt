@@ -1,5 +1,5 @@
 // Predecessors against lists of another program, and against the moves of whole small sets.
-ghost use Rattle.dob_moves.specs.Statuses.{AreMoves};
+ghost use Rattle.dob_moves.specs.Statuses.{AreMovesIn};
 
 mod plain_rules;
 mod plain_walk;
@@ -7,7 +7,7 @@ mod plain_walk;
 use crate::sets::classes_of;
 use dob_moves::{Move, apply, moves};
 use dob_pieces::{Hand, Hands, Kind, Memory, Piece, Position, Side, Square};
-use dob_rank::Classes;
+use dob_rank::FamilyClasses;
 use dob_unmove::{back, back_into};
 use std::alloc::Global;
 use std::process::Abort;
@@ -37,7 +37,13 @@ fn piece(letter: u8) -> Option<Piece> {
 }
 
 // The class of the position of four rows, from row 4 down to row 1, with what each side has in hand.
-fn class_of(rt: &impl Abort, classes: &Classes, rows: &[u8; 15], mover: Hand, enemy: Hand) -> u64 {
+fn class_of(
+    rt: &impl Abort,
+    classes: &FamilyClasses,
+    rows: &[u8; 15],
+    mover: Hand,
+    enemy: Hand,
+) -> u64 {
     let mut board = [None; Square::COUNT];
     for index in 0..Square::COUNT {
         board[index] = piece(rows[4 * (3 - index / 3) + index % 3]);
@@ -46,12 +52,12 @@ fn class_of(rt: &impl Abort, classes: &Classes, rows: &[u8; 15], mover: Hand, en
     class_in(rt, classes, &position)
 }
 
-// The class of a position of the set.
-fn class_in(rt: &impl Abort, classes: &Classes, position: &Position) -> u64 {
+// The class of a position of the family.
+fn class_in(rt: &impl Abort, classes: &FamilyClasses, position: &Position) -> u64 {
     let own = position.piece_set();
-    let set = classes.set;
-    let same = own.chicks == set.chicks && own.elephants == set.elephants;
-    assert!(rt; same && own.giraffes == set.giraffes);
+    let family = classes.family;
+    let same = own.chicks == family.set.chicks && own.elephants == family.set.elephants;
+    assert!(rt; same && own.giraffes == family.set.giraffes && position.is_allowed(family.profile));
     classes.class_of(position)
 }
 
@@ -162,12 +168,12 @@ fn caught_piece_was_a_chick_or_a_hen(rt: HostRuntime) -> Result<(), Memory> {
 fn push_made(
     rt: &impl Abort,
     pairs: &mut Vec<(u64, u64)>,
-    classes: &Classes,
+    classes: &FamilyClasses,
     class: u64,
     position: &Position,
     choices: &[Move],
 ) -> Result<(), Memory>
-    requires { AreMoves position.now.setup choices.now }
+    requires { AreMovesIn classes.now.family.profile position.now.setup choices.now }
 {
     for choice in choices {
         let after = class_in(rt, classes, &apply(position, *choice));
@@ -180,7 +186,7 @@ fn push_made(
 fn pairs_made(
     rt: &impl Abort,
     alloc: Global,
-    classes: &Classes,
+    classes: &FamilyClasses,
 ) -> Result<Vec<(u64, u64)>, Memory> {
     let mut pairs = Vec::new(alloc);
     for class in 0..classes.class_count() {
@@ -193,7 +199,7 @@ fn pairs_made(
 }
 
 // For each class, in order, the class and each of its predecessors.
-fn pairs_taken_back(alloc: Global, classes: &Classes) -> Result<Vec<(u64, u64)>, Memory> {
+fn pairs_taken_back(alloc: Global, classes: &FamilyClasses) -> Result<Vec<(u64, u64)>, Memory> {
     let mut pairs = Vec::new(alloc);
     let mut found = Vec::new(alloc);
     for class in 0..classes.class_count() {

@@ -1,10 +1,14 @@
 -- The build is of the text's piece set, and what is kept is its table's file. Before the file is made nothing has changed.
-use Rattle.std.proofs.Common.{rules}
+use Rattle.std.proofs.Common.{ap, rules}
 use Rattle.std.proofs.lemmas.Result.{err_from_is_err_and}
+use Rattle.dob_pieces.specs.declared.profile.Family.{Family}
 use Rattle.dob_cli.specs.Shelves.{shelf_change}
 use Rattle.dob_cli.proofs.Building.{keeping_holds, table_for}
 use Rattle.dob_cli.proofs.Shelves.{unchanged}
 use Rattle.dob_cli.proofs.builds.answer_build.Goals as goal
+
+pub keep_table-requires : goal.keep_table-requires
+keep_table-requires g c = ap (λ (family : Family). family.profile) c.in_ok-built.ensures.built.family_is
 
 pub returns-in_err-built-clause-err : goal.returns-in_err-built-clause-err
 returns-in_err-built-clause-err g c =

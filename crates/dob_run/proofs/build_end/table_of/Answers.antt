@@ -9,4 +9,4 @@ from_fn-requires-clause-asked c = λ class low.
 
 pub from_fn-requires-clause-entries : goal.from_fn-requires-clause-entries
 from_fn-requires-clause-entries c = λ class value low shown.
-    shown_entry c.args.classes.set c.args.nodes.now class value c.requires.some c.requires.owners low shown
+    shown_entry c.args.classes.family c.args.nodes.now class value c.requires.some c.requires.owners low shown

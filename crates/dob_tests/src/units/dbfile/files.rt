@@ -1,5 +1,8 @@
 // Files of the set of lions alone: what is in them, and what is read of files that are spoilt.
-use crate::sets::{is_same_table, set_of};
+ghost use Rattle.std.specs.Prelude.{◌≡◌};
+ghost use Rattle.dob_pieces.specs.declared.profile.Profile.TheVariants.{A};
+
+use crate::sets::{family_of, is_same_table};
 use dob_dbfile::{Fault, MemSink, MemSource, Sink, Source, read_table, read_value, write_table};
 use dob_value::{Table, Value, sweep_table};
 use sha2::{Digest, Sha256};
@@ -17,8 +20,10 @@ const DIGEST: [u8; 32] = [
     0x18, 0x13, 0x33, 0xf8, 0x61, 0x22, 0xef, 0x38, 0x42, 0x78, 0xd1, 0x0c, 0x81, 0x88, 0x30, 0x74,
 ];
 
-pub(super) fn table(rt: &(impl Abort + AllocGlobal)) -> Table {
-    sweep_table(rt.alloc(), set_of(rt, "000")).expect(rt, "a table")
+pub(super) fn table(rt: &(impl Abort + AllocGlobal)) -> Table
+    ensures { result.family.profile ≡ A }
+{
+    sweep_table(rt.alloc(), family_of(rt, "000")).expect(rt, "a table")
 }
 
 pub(crate) fn file(rt: &(impl Abort + AllocGlobal)) -> Vec<u8> {

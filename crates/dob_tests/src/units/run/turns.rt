@@ -8,7 +8,7 @@ use super::{is_done, is_table_of_lions, lions};
 use dob_board::{Board, Halt};
 use dob_node::Cause;
 use dob_pieces::Memory;
-use dob_rank::Classes;
+use dob_rank::FamilyClasses;
 use dob_run::{Built, Free, Gate, Runner, crew, finish};
 use std::alloc::Global;
 use std::process::Abort;
@@ -17,13 +17,13 @@ use std::sync::atomic::{AtomicUsize, Ordering};
 use std::test::Fail;
 
 // The classes of lions alone, and a crew of two nodes that own them, with batches of one item and inboxes for one batch.
-fn two_runners(rt: &(impl Wait + Abort), alloc: Global) -> (Classes, Board, Runner, Runner)
-    ensures small { IsSmall result.0.set }
-    ensures first { result.0.set ≡ result.2.set }
-    ensures second { result.0.set ≡ result.3.set }
-    ensures crew { IsNewCrew result.0.set 2 1 1 result.1 (result.2 ∷ result.3 ∷ []) }
+fn two_runners(rt: &(impl Wait + Abort), alloc: Global) -> (FamilyClasses, Board, Runner, Runner)
+    ensures small { IsSmall result.0.family.set }
+    ensures first { result.0.family ≡ result.2.family }
+    ensures second { result.0.family ≡ result.3.family }
+    ensures crew { IsNewCrew result.0.family 2 1 1 result.1 (result.2 ∷ result.3 ∷ []) }
 {
-    let classes = Classes::open(alloc, lions(rt)).expect(rt, "classes");
+    let classes = FamilyClasses::open(alloc, lions(rt)).expect(rt, "classes");
     let (board, mut runners) = crew(alloc, &classes, 2, 1, 1).expect(rt, "a crew");
     let second = runners.pop().expect(rt, "the second runner");
     let first = runners.pop().expect(rt, "the first runner");
@@ -45,12 +45,12 @@ fn both(alloc: Global, first: Runner, second: Runner) -> Result<Vec<Runner>, Mem
 fn turn_once<G: Gate>(
     rt: &(impl Wait + Abort),
     runner: &mut Runner,
-    classes: &Classes,
+    classes: &FamilyClasses,
     gate: &G,
 ) -> Result<Halt, Cause>
-    requires { classes.now.set ≡ runner.old.set }
+    requires { classes.now.family ≡ runner.old.family }
     ensures keeps { KeepsRunner runner.old runner.new }
-    ensures set { classes.now.set ≡ runner.new.set }
+    ensures family { classes.now.family ≡ runner.new.family }
     ensures going { OnOk result (runner.new.failed ≡ None) }
 {
     assert!(rt; !runner.stopped());
@@ -63,13 +63,13 @@ fn turn_to_the_end(
     rt: &(impl Wait + Abort),
     first: &mut Runner,
     second: &mut Runner,
-    classes: &Classes,
+    classes: &FamilyClasses,
 ) -> Result<Halt, Cause>
-    requires first { classes.now.set ≡ first.old.set }
-    requires second { classes.now.set ≡ second.old.set }
+    requires first { classes.now.family ≡ first.old.family }
+    requires second { classes.now.family ≡ second.old.family }
     ensures first { KeepsRunner first.old first.new }
     ensures second { KeepsRunner second.old second.new }
-    ensures set { classes.now.set ≡ second.new.set }
+    ensures family { classes.now.family ≡ second.new.family }
     ensures going { OnOk result (first.new.failed ≡ None) }
 {
     for _ in 0..20_000 {
@@ -129,12 +129,12 @@ impl Counting {
 fn answers<G: Gate>(
     rt: &(impl Wait + Abort),
     runner: &mut Runner,
-    classes: &Classes,
+    classes: &FamilyClasses,
     gate: &G,
     expected: Result<Halt, Cause>,
 )
-    requires { classes.now.set ≡ runner.old.set }
-    ensures { classes.now.set ≡ runner.new.set }
+    requires { classes.now.family ≡ runner.old.family }
+    ensures { classes.now.family ≡ runner.new.family }
 {
     assert!(rt; turn_once(rt, runner, classes, gate) == expected);
 }
@@ -144,11 +144,11 @@ fn sees_the_hold(
     rt: &(impl Wait + Abort),
     first: &mut Runner,
     second: &mut Runner,
-    classes: &Classes,
+    classes: &FamilyClasses,
     gate: &Counting,
 )
-    requires first { classes.now.set ≡ first.old.set }
-    requires second { classes.now.set ≡ second.old.set }
+    requires first { classes.now.family ≡ first.old.family }
+    requires second { classes.now.family ≡ second.old.family }
 {
     answers(rt, first, classes, gate, Ok(Halt::Running));
     answers(rt, second, classes, gate, Ok(Halt::Running));

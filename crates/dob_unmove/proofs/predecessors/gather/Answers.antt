@@ -3,7 +3,7 @@ use Rattle.std.proofs.Common.{true≢false, sym, ap, ◌∙◌, subst}
 use Rattle.dob_pieces.specs.declared.setup.Setup.{Setup}
 use Rattle.dob_rank.specs.Bitboards.{AreBitboards}
 use Rattle.dob_pieces.specs.Setups.{mirrored}
-use Rattle.dob_unmove.specs.Classes.{RepresentsIn}
+use Rattle.dob_unmove.specs.Classes.{RepresentsClassIn}
 use Rattle.dob_unmove.proofs.Classes.{IsNumbering-classes}
 use Rattle.dob_unmove.proofs.Gathering.{alone_found, both_found}
 use Rattle.dob_unmove.proofs.Kept.{turned_legal, turned_position}
@@ -31,15 +31,15 @@ by-image_ways-requires-clause-bits c =
 pub gather_all-requires-2 : goal.gather_all-requires-2
 gather_all-requires-2 c = record {
   of_set =
-      turned_position c.args.classes.now.set c.args.representative.now.setup c.mirrored-image.result c.requires.1.0.0
+      turned_position c.args.classes.now.family c.args.representative.now.setup c.mirrored-image.result c.requires.1.0.0
       (c.mirrored-image.ensures ∙ ap mirrored c.turned-after.ensures);
   ways_are = c.by-image_ways.ensures;
 }
 
 pub returns-then-is_own_image : goal.returns-then-is_own_image
 returns-then-is_own_image c =
-    let Represents = RepresentsIn c.args.classes.now.set in
-    let n = IsNumbering-classes c.args.classes.now.set in
+    let Represents = RepresentsClassIn c.args.classes.now.family in
+    let n = IsNumbering-classes c.args.classes.now.family in
     let q = c.args.representative.now.setup in
     alone_found Represents n q c.turned-after.result _ c.gather_all.new.found.items c.args.representative.now.legal
     (c.is_own_image.ensures.0 c.if-is_own_image.true) c.turned-after.ensures
@@ -47,8 +47,8 @@ returns-then-is_own_image c =
 
 pub returns : goal.returns
 returns c =
-    let Represents = RepresentsIn c.args.classes.now.set in
-    let n = IsNumbering-classes c.args.classes.now.set in
+    let Represents = RepresentsClassIn c.args.classes.now.family in
+    let n = IsNumbering-classes c.args.classes.now.family in
     let q = c.args.representative.now.setup in
     both_found Represents n q c.turned-after.result c.mirrored-image.result _ c.gather_all.new.found.items c.gather_all-2.new.found.items c.args.representative.now.legal
     (λ own. true≢false (sym (c.is_own_image.ensures.1 own) ∙ c.if-is_own_image.false))

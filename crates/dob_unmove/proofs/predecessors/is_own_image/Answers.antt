@@ -4,26 +4,26 @@ use Rattle.std.specs.Option.{is_some}
 use Rattle.std.proofs.lemmas.Bool.{cases_Bool}
 use Rattle.dob_pieces.specs.Setups.{turned}
 use Rattle.dob_pieces.proofs.Symmetries.{turned-mirrored}
-use Rattle.dob_unmove.specs.Classes.{RepresentsIn}
+use Rattle.dob_unmove.specs.Classes.{RepresentsClassIn}
 use Rattle.dob_unmove.proofs.Classes.{IsNumbering-classes}
 use Rattle.dob_unmove.proofs.Gathering.{own_image, other_image}
 use Rattle.dob_unmove.proofs.Kept.{position_mirrored}
 use Rattle.dob_unmove.proofs.predecessors.is_own_image.Goals as goal
 
 pub class_if_representative-requires : goal.class_if_representative-requires
-class_if_representative-requires c = position_mirrored c.args.classes.now.set c.args.representative.now.setup c.mirrored.result.setup c.requires.representative.1.0.0 c.mirrored.ensures
+class_if_representative-requires c = position_mirrored c.args.classes.now.family c.args.representative.now.setup c.mirrored.result.setup c.requires.representative.1.0.0 c.mirrored.ensures
 
 pub returns-then-has_lions_on_b : goal.returns-then-has_lions_on_b
 returns-then-has_lions_on_b c =
-    let set = c.args.classes.now.set in
+    let family = c.args.classes.now.family in
     let q = c.args.representative.now.setup in (
-      λ some. own_image (RepresentsIn set) q c.mirrored.result.setup c.class_if_representative.result
-          (IsNumbering-classes set) c.requires.representative c.mirrored.ensures c.class_if_representative.ensures (sym c.is_some.ensures ∙ some),
+      λ some. own_image (RepresentsClassIn family) q c.mirrored.result.setup c.class_if_representative.result
+          (IsNumbering-classes family) c.requires.representative c.mirrored.ensures c.class_if_representative.ensures (sym c.is_some.ensures ∙ some),
       λ own. elim (cases_Bool (is_some c.class_if_representative.result)) [
         | inl some ↦ c.is_some.ensures ∙ some
         | inr none ↦
             absurd
-            (other_image (RepresentsIn set) q c.mirrored.result.setup c.class_if_representative.result c.requires.representative c.mirrored.ensures c.class_if_representative.ensures
+            (other_image (RepresentsClassIn family) q c.mirrored.result.setup c.class_if_representative.result c.requires.representative c.mirrored.ensures c.class_if_representative.ensures
             none own)
       ],
     )
