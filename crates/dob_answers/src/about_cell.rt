@@ -3,13 +3,13 @@
 // class keeps its value, `WAS>NOW` where it is settled, `E12` or `E13` where the change is refused, and `none` where
 // that is no change.
 ghost use Rattle.std.specs.Prelude.{◌≤◌};
-ghost use Rattle.dob_rank.specs.Families.{classes_in};
+ghost use Rattle.dob_rank.specs.Families.{classes_of};
 
 use crate::opened::Opened;
 use crate::value_names::{Named, read_value};
 use dob_node::opening_in;
 use dob_pieces::{Family, Memory};
-use dob_rank::{FamilyClasses, SegmentLength, Segments};
+use dob_rank::{Classes, SegmentLength, Segments};
 use dob_share::{Item, Opening, Share, owner};
 use dob_value::{Fault, Value};
 use std::alloc::{AllocError, Global};
@@ -40,12 +40,8 @@ pub(crate) fn about_cell(
 }
 
 /// The statuses and numbers of moves of that many first classes.
-fn openings_of(
-    alloc: Global,
-    classes: &FamilyClasses,
-    count: u64,
-) -> Result<Segments<Opening>, Memory>
-    requires { count ≤ classes_in classes.now.family }
+fn openings_of(alloc: Global, classes: &Classes, count: u64) -> Result<Segments<Opening>, Memory>
+    requires { count ≤ classes_of classes.now.family }
 {
     let mut openings = Segments::new(alloc, SegmentLength::longest());
     for class in 0..count {

@@ -2,7 +2,7 @@
 use crate::answer::in_a;
 use crate::opened::Opened;
 use crate::question::OfPosition;
-use dob_moves::{Status, apply, first_catch, moves_in, status};
+use dob_moves::{Status, apply, first_catch, moves, status};
 use dob_pieces::{Memory, Position, Profile};
 use dob_rank::rank;
 use dob_text::{write_move, write_position};
@@ -27,7 +27,7 @@ pub(crate) fn about_position(
             let table = opened.table_of(alloc, in_a(position.piece_set()))?;
             Ok(tell_value(alloc, table.value_of(position))?)
         }
-        OfPosition::Rank => Ok(rank(position).to_string(alloc)?),
+        OfPosition::Rank => Ok(rank(Profile::A, position).to_string(alloc)?),
         OfPosition::Class => {
             let classes = opened.classes_of(alloc, in_a(position.piece_set()))?;
             Ok(classes.class_of(position).to_string(alloc)?)
@@ -37,14 +37,14 @@ pub(crate) fn about_position(
 
 /// `status S moves M1 M2 ..`, in move order.
 fn tell_moves(alloc: Global, profile: Profile, position: &Position) -> Result<String, Memory> {
-    let name = match status(position) {
+    let name = match status(Profile::A, position) {
         Status::Caught => "caught",
         Status::Tried => "tried",
         Status::Stuck => "stuck",
         Status::Open => "open",
     };
     let mut text = format!(in alloc; "status {name} moves")?;
-    let choices = moves_in(alloc, profile, position)?;
+    let choices = moves(alloc, profile, position)?;
     for choice in &choices {
         let word = write_move(alloc, *choice, false)?;
         write!(text, " {word}")?;
@@ -59,7 +59,7 @@ fn tell_after(
     profile: Profile,
     position: &Position,
 ) -> Result<String, Memory> {
-    let choices = moves_in(alloc, profile, position)?;
+    let choices = moves(alloc, profile, position)?;
     if number >= choices.len() {
         return Ok("none".to_string(alloc)?);
     }

@@ -2,7 +2,7 @@
 use crate::opened::Opened;
 use crate::question::{OfClasses, OfSet};
 use dob_pieces::{Family, Memory};
-use dob_rank::{FamilyClasses, size, unrank};
+use dob_rank::{Classes, size, unrank};
 use dob_text::write_position;
 use dob_unmove::back;
 use dob_value::Fault;
@@ -26,11 +26,7 @@ pub(crate) fn about_set(
 }
 
 /// What is asked about the classes.
-fn about_classes(
-    alloc: Global,
-    classes: &FamilyClasses,
-    matter: OfClasses,
-) -> Result<String, Memory> {
+fn about_classes(alloc: Global, classes: &Classes, matter: OfClasses) -> Result<String, Memory> {
     match matter {
         OfClasses::Size => Ok(tell_size(alloc, classes)?),
         OfClasses::ClassAt(class) => tell_class_at(alloc, classes, class),
@@ -41,21 +37,21 @@ fn about_classes(
 
 /// The text of the position of that rank.
 fn tell_unranked(alloc: Global, family: Family, rank: u64) -> Result<String, Memory> {
-    if rank >= size(family.set) {
+    if rank >= size(family) {
         return Ok(none(alloc)?);
     }
-    write_position(alloc, &unrank(family.set, rank))
+    write_position(alloc, &unrank(family, rank))
 }
 
 /// `positions N classes N`.
-fn tell_size(alloc: Global, classes: &FamilyClasses) -> Result<String, AllocError> {
-    let positions = size(classes.family.set);
+fn tell_size(alloc: Global, classes: &Classes) -> Result<String, AllocError> {
+    let positions = size(classes.family);
     let classes = classes.class_count();
     format!(in alloc; "positions {positions} classes {classes}")
 }
 
 /// The text of the class's representative.
-fn tell_class_at(alloc: Global, classes: &FamilyClasses, class: u64) -> Result<String, Memory> {
+fn tell_class_at(alloc: Global, classes: &Classes, class: u64) -> Result<String, Memory> {
     if class >= classes.class_count() {
         return Ok(none(alloc)?);
     }
@@ -63,7 +59,7 @@ fn tell_class_at(alloc: Global, classes: &FamilyClasses, class: u64) -> Result<S
 }
 
 /// `back P1 P2 ..`, the classes from which moves lead into the class, ascending, each as often as moves do.
-fn tell_back(alloc: Global, classes: &FamilyClasses, class: u64) -> Result<String, Memory> {
+fn tell_back(alloc: Global, classes: &Classes, class: u64) -> Result<String, Memory> {
     if class >= classes.class_count() {
         return Ok(none(alloc)?);
     }
@@ -75,12 +71,7 @@ fn tell_back(alloc: Global, classes: &FamilyClasses, class: u64) -> Result<Strin
 }
 
 /// How many moves lead from the one class into the other.
-fn tell_edges(
-    alloc: Global,
-    classes: &FamilyClasses,
-    from: u64,
-    into: u64,
-) -> Result<String, Memory> {
+fn tell_edges(alloc: Global, classes: &Classes, from: u64, into: u64) -> Result<String, Memory> {
     let count = classes.class_count();
     if from >= count || into >= count {
         return Ok(none(alloc)?);

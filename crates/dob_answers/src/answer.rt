@@ -12,7 +12,7 @@ use crate::about_world::about_world;
 use crate::opened::Opened;
 use crate::question::{OfValues, Question};
 use dob_pieces::{Family, Memory, PieceSet, Profile};
-use dob_text::read_position_in;
+use dob_text::read_position;
 use dob_value::Fault;
 use std::alloc::Global;
 use std::fmt::Display;
@@ -29,7 +29,7 @@ pub(crate) fn reply<R: Threads + Wait + Sync>(
     match Question::read(line) {
         None => Ok("unknown question".to_string(alloc)?),
         Some((profile, Question::Position(matter, text))) => {
-            match read_position_in(profile, text) {
+            match read_position(profile, text) {
                 Err(fault) => fault_line(alloc, fault),
                 Ok(position) => {
                     told(

@@ -3,14 +3,14 @@
 ghost use Rattle.std.specs.Prelude.{◌≡◌, IfOk};
 
 use dob_pieces::{Family, Memory};
-use dob_rank::FamilyClasses;
+use dob_rank::Classes;
 use dob_value::{Table, sweep_table};
 use std::alloc::Global;
 
 /// The classes of one family and the values of one family, each of the family for which they were last asked.
 #[derive(Drop)]
 pub(crate) struct Opened {
-    classes: Option<FamilyClasses>,
+    classes: Option<Classes>,
     table: Option<Table>,
 }
 
@@ -25,17 +25,13 @@ impl Opened {
 
     /// The classes of the family, opened where those that are kept are another family's.
     ///
-    /// Errors: as those of `FamilyClasses::open`.
-    pub(crate) fn classes_of(
-        &mut self,
-        alloc: Global,
-        family: Family,
-    ) -> Result<&FamilyClasses, Memory>
+    /// Errors: as those of `Classes::open`.
+    pub(crate) fn classes_of(&mut self, alloc: Global, family: Family) -> Result<&Classes, Memory>
         ensures { IfOk result (λ classes. classes.now.family ≡ family) }
     {
         let classes = match self.classes.take() {
             Some(classes) if classes.family == family => classes,
-            _ => FamilyClasses::open(alloc, family)?,
+            _ => Classes::open(alloc, family)?,
         };
         Ok(self.classes.insert(classes))
     }

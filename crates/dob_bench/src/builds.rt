@@ -6,7 +6,7 @@ use crate::timer::Timer;
 use anyhow::{Result, bail};
 use dob_node::{alone, opening};
 use dob_pieces::Memory;
-use dob_rank::{FamilyClasses, SegmentLength};
+use dob_rank::{Classes, SegmentLength};
 use dob_share::{Item, Share};
 use dob_unmove::back_into;
 use dob_value::{Table, Value};
@@ -20,7 +20,7 @@ const MOST_SETTLED: u64 = 1 << 62;
 /// Measures a build over the classes.
 pub(crate) fn run<R: Print + Clock + AllocGlobal + Files>(
     rt: &R,
-    classes: &FamilyClasses,
+    classes: &Classes,
     timed: bool,
 ) -> Result<()> {
     list_openings(rt, classes, timed)?;
@@ -31,7 +31,7 @@ pub(crate) fn run<R: Print + Clock + AllocGlobal + Files>(
 // The opening of each class.
 fn list_openings<R: Print + Clock + AllocGlobal>(
     rt: &R,
-    classes: &FamilyClasses,
+    classes: &Classes,
     timed: bool,
 ) -> Result<()> {
     let timer = Timer::start(rt, timed)?;
@@ -46,7 +46,7 @@ fn list_openings<R: Print + Clock + AllocGlobal>(
 // The table of the family, by one node.
 fn build<R: Print + Clock + AllocGlobal + Files>(
     rt: &R,
-    classes: &FamilyClasses,
+    classes: &Classes,
     timed: bool,
 ) -> Result<Table> {
     let timer = Timer::start(rt, timed)?;
@@ -84,7 +84,7 @@ pub(crate) fn tell_memory<R: Print + AllocGlobal + Files>(rt: &R) -> Result<()> 
 // The items of a build, applied to cells of which nothing is known.
 fn apply_items<R: Print + Clock + AllocGlobal>(
     rt: &R,
-    classes: &FamilyClasses,
+    classes: &Classes,
     table: &Table,
     timed: bool,
 ) -> Result<()> {
@@ -101,7 +101,7 @@ fn apply_items<R: Print + Clock + AllocGlobal>(
 }
 
 // The cells of one owner of all classes, of which nothing is known but the openings.
-fn open_share(alloc: Global, classes: &FamilyClasses) -> Result<Share> {
+fn open_share(alloc: Global, classes: &Classes) -> Result<Share> {
     let openings = opening(alloc, classes, SegmentLength::longest())?;
     let share = Share::open(alloc, &openings, 0, 1)?;
     Ok(share)
@@ -121,7 +121,7 @@ fn apply_all(share: &mut Share, items: &[Item]) -> u64 {
 }
 
 /// The items of the table's wins and losses, those of the least distance first.
-fn items_of(alloc: Global, classes: &FamilyClasses, table: &Table) -> Result<Vec<Item>, Memory> {
+fn items_of(alloc: Global, classes: &Classes, table: &Table) -> Result<Vec<Item>, Memory> {
     // A loss that is longer than all wins is one ply longer than one of them.
     let longest = counts::count_outcomes(table).longest_win.saturating_add(1);
     let mut items = Vec::new(alloc);

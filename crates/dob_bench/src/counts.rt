@@ -1,7 +1,7 @@
 // What is counted over a whole piece set.
 use dob_pieces::{Family, Memory};
 use dob_probe::{Fault, line, probe};
-use dob_rank::{FamilyClasses, rank, size, unrank};
+use dob_rank::{Classes, rank, size, unrank};
 use dob_unmove::{back, back_into};
 use dob_value::{Table, Value};
 use std::alloc::Global;
@@ -9,8 +9,8 @@ use std::alloc::Global;
 /// How many ranks are those of the positions that they give: all.
 pub(crate) fn ranks_found(family: Family) -> u64 {
     let mut found = 0;
-    for number in 0..size(family.set) {
-        if rank(&unrank(family.set, number)) == number {
+    for number in 0..size(family) {
+        if rank(family.profile, &unrank(family, number)) == number {
             found += 1;
         }
     }
@@ -18,7 +18,7 @@ pub(crate) fn ranks_found(family: Family) -> u64 {
 }
 
 /// How many classes are those of their representatives: all.
-pub(crate) fn classes_found(classes: &FamilyClasses) -> u64 {
+pub(crate) fn classes_found(classes: &Classes) -> u64 {
     let mut found = 0;
     for number in 0..classes.class_count() {
         if classes.class_of(&classes.class_at(number)) == number {
@@ -78,7 +78,7 @@ pub(crate) struct Edges {
 }
 
 /// The edges that the lists of predecessors show.
-pub(crate) fn count_edges(alloc: Global, classes: &FamilyClasses) -> Result<Edges, Memory> {
+pub(crate) fn count_edges(alloc: Global, classes: &Classes) -> Result<Edges, Memory> {
     let mut in_all: u64 = 0;
     let mut most = 0;
     let mut most_equal = 0;
@@ -97,7 +97,7 @@ pub(crate) fn count_edges(alloc: Global, classes: &FamilyClasses) -> Result<Edge
 }
 
 /// How many edges there are by the lists of predecessors, each made in the place of the one before.
-pub(crate) fn edges_into_one_list(alloc: Global, classes: &FamilyClasses) -> Result<u64, Memory> {
+pub(crate) fn edges_into_one_list(alloc: Global, classes: &Classes) -> Result<u64, Memory> {
     let mut count: u64 = 0;
     let mut found = Vec::new(alloc);
     for class in 0..classes.class_count() {

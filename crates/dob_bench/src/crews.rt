@@ -9,7 +9,7 @@ use crate::timer::{Timer, tell_seconds};
 use crate::watch::Watch;
 use anyhow::Result;
 use dob_pieces::{Family, Memory};
-use dob_rank::{FamilyClasses, SegmentLength};
+use dob_rank::{Classes, SegmentLength};
 use dob_run::{BATCH, Built, run_nodes, scan};
 use dob_unmove::back_into;
 use dob_value::{Table, Value};
@@ -73,7 +73,7 @@ fn measure_parts<R: Print + Clock + AllocGlobal + Threads + Sync>(
 // All predecessors, and how often their time goes into so many seconds.
 fn tell_ratio<R: Print + Clock + AllocGlobal>(
     rt: &R,
-    classes: &FamilyClasses,
+    classes: &Classes,
     seconds: f64,
 ) -> Result<()> {
     let start = Instant::now(rt)?;
@@ -117,7 +117,7 @@ fn tell_links<R: Print>(rt: &R, built: &Built) -> Result<()> {
 // The openings of the classes, by threads.
 fn list_openings<R: Print + Clock + AllocGlobal + Threads + Sync>(
     rt: &R,
-    classes: &FamilyClasses,
+    classes: &Classes,
 ) -> Result<()> {
     let timer = Timer::start(rt, true)?;
     let count = scan(rt, rt.alloc(), classes, SegmentLength::longest())?.len();
@@ -131,7 +131,7 @@ fn list_openings<R: Print + Clock + AllocGlobal + Threads + Sync>(
 // The items that tell of the table's wins and losses.
 fn tell_needed<R: Print + AllocGlobal>(
     rt: &R,
-    classes: &FamilyClasses,
+    classes: &Classes,
     table: &Table,
     nodes: usize,
 ) -> Result<()> {
@@ -150,7 +150,7 @@ struct Needed {
 /// The moves into the classes of the table, which so many nodes own.
 fn needed_items(
     alloc: Global,
-    classes: &FamilyClasses,
+    classes: &Classes,
     table: &Table,
     nodes: u64,
 ) -> Result<Needed, Memory> {

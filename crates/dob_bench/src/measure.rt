@@ -7,7 +7,7 @@ use anyhow::Result;
 use dob_dbfile::{MemSink, MemSource, read_table, write_table};
 use dob_pieces::Family;
 use dob_probe::check;
-use dob_rank::{FamilyClasses, size};
+use dob_rank::{Classes, size};
 use dob_value::{Table, sweep_table};
 use std::rt::{Clock, Files};
 use std::thread::Threads;
@@ -44,7 +44,7 @@ fn measure_classes<R: Print + Clock + AllocGlobal + Files>(
 // The predecessors of each class, in lists of their own and in one list.
 fn list_edges<R: Print + Clock + AllocGlobal>(
     rt: &R,
-    classes: &FamilyClasses,
+    classes: &Classes,
     timed: bool,
 ) -> Result<()> {
     list_predecessors(rt, classes, timed)?;
@@ -67,10 +67,10 @@ pub(crate) fn open<R: Print + Clock + AllocGlobal>(
     rt: &R,
     family: Family,
     timed: bool,
-) -> Result<FamilyClasses> {
+) -> Result<Classes> {
     let timer = Timer::start(rt, timed)?;
-    let classes = FamilyClasses::open(rt.alloc(), family)?;
-    let (positions, count) = (size(family.set), classes.class_count());
+    let classes = Classes::open(rt.alloc(), family)?;
+    let (positions, count) = (size(family), classes.class_count());
     timer.tell(
         rt,
         format_args!("opened {count} classes of {positions} positions"),
@@ -90,7 +90,7 @@ fn find_ranks<R: Print + Clock>(rt: &R, family: Family, timed: bool) -> Result<(
 }
 
 // From each class to its representative and back.
-fn find_classes<R: Print + Clock>(rt: &R, classes: &FamilyClasses, timed: bool) -> Result<()> {
+fn find_classes<R: Print + Clock>(rt: &R, classes: &Classes, timed: bool) -> Result<()> {
     let rounds = Rounds::of(rt, timed, || Ok(counts::classes_found(classes)))?;
     rounds.tell(
         rt,
@@ -102,7 +102,7 @@ fn find_classes<R: Print + Clock>(rt: &R, classes: &FamilyClasses, timed: bool) 
 // The predecessors of each class, in a list of its own.
 fn list_predecessors<R: Print + Clock + AllocGlobal>(
     rt: &R,
-    classes: &FamilyClasses,
+    classes: &Classes,
     timed: bool,
 ) -> Result<()> {
     let rounds = Rounds::of(rt, timed, || Ok(counts::count_edges(rt.alloc(), classes)?))?;
@@ -123,7 +123,7 @@ fn list_predecessors<R: Print + Clock + AllocGlobal>(
 /// The predecessors of each class in one list that is kept, as a build asks for them.
 pub(crate) fn list_into_one<R: Print + Clock + AllocGlobal>(
     rt: &R,
-    classes: &FamilyClasses,
+    classes: &Classes,
     timed: bool,
 ) -> Result<()> {
     let rounds = Rounds::of(rt, timed, || {

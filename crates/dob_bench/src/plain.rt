@@ -4,21 +4,21 @@ use crate::{measure, rules};
 use anyhow::Result;
 use dob_moves::{Status, plain as plain_rules};
 use dob_pieces::{Family, Memory, Position};
-use dob_rank::FamilyClasses;
+use dob_rank::Classes;
 use dob_unmove::plain as plain_back;
 use std::alloc::Global;
 use std::rt::Clock;
 
 /// Measures both over the classes of the set.
 pub(crate) fn run<R: Print + Clock + AllocGlobal>(rt: &R, family: Family) -> Result<()> {
-    let classes = FamilyClasses::open(rt.alloc(), family)?;
+    let classes = Classes::open(rt.alloc(), family)?;
     compare_rules(rt, &classes)?;
     measure::list_into_one(rt, &classes, true)?;
     list_plain_edges(rt, &classes)
 }
 
 // The statuses and the moves of the representatives.
-fn compare_rules<R: Print + Clock + AllocGlobal>(rt: &R, classes: &FamilyClasses) -> Result<()> {
+fn compare_rules<R: Print + Clock + AllocGlobal>(rt: &R, classes: &Classes) -> Result<()> {
     let positions = rules::representatives(rt.alloc(), classes)?;
     rules::find_open(rt, &positions, true)?;
     find_plain_open(rt, &positions)?;
@@ -47,7 +47,7 @@ fn list_plain_moves<R: Print + Clock + AllocGlobal>(rt: &R, positions: &[Positio
 }
 
 // Once, since it takes so long.
-fn list_plain_edges<R: Print + Clock + AllocGlobal>(rt: &R, classes: &FamilyClasses) -> Result<()> {
+fn list_plain_edges<R: Print + Clock + AllocGlobal>(rt: &R, classes: &Classes) -> Result<()> {
     let timer = Timer::start(rt, true)?;
     let edges = count_plain_edges(rt.alloc(), classes)?;
     timer.tell(
@@ -79,7 +79,7 @@ fn count_plain_moves(alloc: Global, positions: &[Position]) -> Result<u64, Memor
 }
 
 // How many edges lead into the classes.
-fn count_plain_edges(alloc: Global, classes: &FamilyClasses) -> Result<u64, Memory> {
+fn count_plain_edges(alloc: Global, classes: &Classes) -> Result<u64, Memory> {
     let mut count: u64 = 0;
     let mut found = Vec::new(alloc);
     for class in 0..classes.class_count() {

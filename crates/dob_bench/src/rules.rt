@@ -3,15 +3,15 @@
 use crate::timer::Rounds;
 use anyhow::Result;
 use dob_moves::{Status, count_moves, moves, moves_into, status};
-use dob_pieces::{Memory, Position};
-use dob_rank::FamilyClasses;
+use dob_pieces::{Memory, Position, Profile};
+use dob_rank::Classes;
 use std::alloc::Global;
 use std::rt::Clock;
 
 /// Measures the rules over the representatives of the classes.
 pub(crate) fn run<R: Print + Clock + AllocGlobal>(
     rt: &R,
-    classes: &FamilyClasses,
+    classes: &Classes,
     timed: bool,
 ) -> Result<()> {
     let positions = representatives(rt.alloc(), classes)?;
@@ -22,10 +22,7 @@ pub(crate) fn run<R: Print + Clock + AllocGlobal>(
 }
 
 /// The representatives, in the order of their classes.
-pub(crate) fn representatives(
-    alloc: Global,
-    classes: &FamilyClasses,
-) -> Result<Vec<Position>, Memory> {
+pub(crate) fn representatives(alloc: Global, classes: &Classes) -> Result<Vec<Position>, Memory> {
     let mut positions = Vec::new(alloc);
     for class in 0..classes.class_count() {
         positions.push(classes.class_at(class))?;
@@ -94,7 +91,7 @@ pub(crate) fn list<R: Print + Clock + AllocGlobal>(
 fn open_positions(positions: &[Position]) -> u64 {
     let mut found: u64 = 0;
     for position in positions {
-        if status(position) == Status::Open {
+        if status(Profile::A, position) == Status::Open {
             found = found.saturating_add(1);
         }
     }
@@ -105,7 +102,7 @@ fn open_positions(positions: &[Position]) -> u64 {
 fn moves_counted(positions: &[Position]) -> u64 {
     let mut count: u64 = 0;
     for position in positions {
-        count = count.saturating_add(count_moves(position) as u64);
+        count = count.saturating_add(count_moves(Profile::A, position) as u64);
     }
     count
 }
@@ -115,7 +112,7 @@ fn moves_into_one_list(alloc: Global, positions: &[Position]) -> Result<u64, Mem
     let mut count: u64 = 0;
     let mut listed = Vec::new(alloc);
     for position in positions {
-        moves_into(&mut listed, position)?;
+        moves_into(Profile::A, &mut listed, position)?;
         count = count.saturating_add(listed.len() as u64);
     }
     Ok(count)
@@ -134,7 +131,7 @@ fn moves_listed(alloc: Global, positions: &[Position]) -> Result<Moves, Memory> 
     let mut in_all: u64 = 0;
     let mut most = 0;
     for position in positions {
-        let count = moves(alloc, position)?.len() as u64;
+        let count = moves(alloc, Profile::A, position)?.len() as u64;
         in_all = in_all.saturating_add(count);
         most = most.max(count);
     }

@@ -5,10 +5,9 @@ use Rattle.dob_pieces.specs.declared.setup.Setup.{Setup}
 use Rattle.dob_pieces.specs.declared.profile.Family.{Family}
 use Rattle.dob_pieces.specs.declared.profile.Profile.{Profile}
 use Rattle.dob_pieces.specs.declared.profile.Profile.TheVariants.{A}
-use Rattle.dob_rank.specs.Families.{family_of, IsInClassIn, is_marked, classes_in}
-use Rattle.dob_rank.specs.Marks.{classes_of}
-use Rattle.dob_rank.proofs.FamilyNumbers.{classes_in-whole}
-use Rattle.dob_rank.specs.Numbers.{size_of}
+use Rattle.dob_rank.specs.Families.{family_of, IsInClass, is_marked, classes_of}
+use Rattle.dob_rank.proofs.FamilyNumbers.{classes_of-whole}
+use Rattle.dob_rank.specs.Numbers.{size_of_set}
 use Rattle.dob_rank.proofs.Words.{marks_below-le}
 use Rattle.dob_value.specs.Values.{HasValue}
 use Rattle.dob_value.specs.declared.value.Value.{Value}
@@ -42,9 +41,9 @@ line_right Has words lines file told =
     let rules : table.family.profile ≡ A = file.3 in
     let same : looked.0 ≡ table.family.set = table_set table looked.0 looked.2.named in
     let one : family_of looked.0 A ≡ table.family = ap (λ (set : PieceSet). family_of set A) same ∙ ap (family_of table.family.set) (sym rules) in
-    let number : IsInClassIn table.family position class = subst (λ (family : Family). IsInClassIn family position class) one looked.2.number in
-    let in_all : class < classes_in table.family = subst (λ (family : Family). class < classes_in family) one looked.2.below in
-    let below : class < classes_of table.family.set = subst (λ n. class < n) (classes_in-whole table.family rules) in_all in
+    let number : IsInClass table.family position class = subst (λ (family : Family). IsInClass family position class) one looked.2.number in
+    let in_all : class < classes_of table.family = subst (λ (family : Family). class < classes_of family) one looked.2.below in
+    let below : class < classes_of (family_of table.family.set A) = subst (λ n. class < n) (classes_of-whole table.family rules) in_all in
     let has : HasInTable table.family table.values position told.value =
     record { class = class; number = number; entry = table_record table class told.value rules file.1.table below looked.3 } in (
       told.value,
@@ -95,6 +94,6 @@ front_holds stream position fault (inl none) = inl none
 front_holds stream position fault (inr wrong) = inr (inl wrong)
 
 -- no more classes than positions
-pub few_classes : (family : Family) → classes_in family ≤ size_of family.set
-unfolding classes_in
-few_classes family = marks_below-le (is_marked family) (size_of family.set)
+pub few_classes : (family : Family) → classes_of family ≤ size_of_set family.set
+unfolding classes_of
+few_classes family = marks_below-le (is_marked family) (size_of_set family.set)

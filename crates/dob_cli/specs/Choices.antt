@@ -4,7 +4,7 @@ use Rattle.dob_pieces.specs.declared.profile.Profile.TheVariants.{A}
 use Rattle.dob_pieces.specs.declared.setup.Setup.{Setup}
 use Rattle.dob_pieces.specs.Bytes.{line_feed, space}
 use Rattle.dob_text.specs.MoveText.{move_text}
-use Rattle.dob_rank.specs.Families.{IsPositionIn}
+use Rattle.dob_rank.specs.Families.{IsPositionOf}
 use Rattle.dob_value.specs.Follows.{ClassTable}
 use Rattle.dob_value.specs.Values.{HasValue}
 use Rattle.dob_probe.specs.declared.choices.ValuedMove.{ValuedMove}
@@ -30,7 +30,7 @@ pub record AreChoiceLines (Has : List ℕ → Type 0) (words lines : List ℕ) :
   pub file : IsFileOf Has table
   pub position : Setup
   pub named : IsTextOf words position
-  pub member : IsPositionIn table.family position
+  pub member : IsPositionOf table.family position
   pub choices : List ValuedMove
   pub valued : AreValuedMoves table.family.profile (GivenBy table) position choices
   pub same : lines ≡ choice_lines choices

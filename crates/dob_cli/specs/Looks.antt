@@ -4,7 +4,7 @@ use Rattle.dob_pieces.specs.declared.piece_set.PieceSet.{PieceSet}
 use Rattle.dob_pieces.specs.declared.profile.Profile.TheVariants.{A}
 use Rattle.dob_pieces.specs.declared.setup.Setup.{Setup}
 use Rattle.dob_text.specs.Faults as text
-use Rattle.dob_rank.specs.Families.{family_of, IsInClassIn, IsPositionIn, classes_in}
+use Rattle.dob_rank.specs.Families.{family_of, IsInClass, IsPositionOf, classes_of}
 use Rattle.dob_value.specs.declared.value.Value.{Value}
 use Rattle.dob_dbfile.specs.declared.fault.Fault as file
 use Rattle.dob_dbfile.specs.declared.fault.Fault.TheVariants as file_fault
@@ -22,8 +22,8 @@ use Rattle.dob_cli.specs.Tables.{IsShut, IsTextOf}
 -- the position is one of the set that the stream's header names, in profile A, in that class
 pub record IsAskedFor (stream : Stream) (position : Setup) (set : PieceSet) (class : ℕ) : Type 0 where
   pub named : IsOfSet set stream
-  pub number : IsInClassIn (family_of set A) position class
-  pub below : class < classes_in (family_of set A)
+  pub number : IsInClass (family_of set A) position class
+  pub below : class < classes_of (family_of set A)
 
 -- the record of the position's class says that value
 abbrev pub IsLookedUp : Stream → Setup → Value → Type 0
@@ -37,7 +37,7 @@ HasLookFault stream position fault =
 
 -- the header names a set that the position isn't of
 abbrev pub IsOfOtherSet : Stream → Setup → Type 0
-IsOfOtherSet stream position = (set : PieceSet) × IsOfSet set stream × ¬ IsPositionIn (family_of set A) position
+IsOfOtherSet stream position = (set : PieceSet) × IsOfSet set stream × ¬ IsPositionOf (family_of set A) position
 
 -- a fault of looking for a position in a source that may give these streams: the file's, or that the position isn't of its set
 abbrev pub IsFaultOfLook : (Stream → Type 0) → Setup → Fault → Type 0
@@ -66,7 +66,7 @@ IsLookingFault Has position fault = IsFaultOfLook (GivesWhole Has) position faul
 
 -- a fault of looking for the position of a text: the text's; or memory failed; the file is asked only where the text is a position's
 abbrev pub IsLookFault : (List ℕ → Type 0) → List ℕ → Fault → Type 0
-IsLookFault Has words (Text fault) = text.HasTextFault words fault
+IsLookFault Has words (Text fault) = text.HasTextFault A words fault
 IsLookFault Has words Memory = Unit {0}
 IsLookFault Has words fault = (position : Setup) × IsTextOf words position × IsLookingFault Has position fault
 

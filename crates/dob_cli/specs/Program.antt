@@ -36,7 +36,7 @@ IsValueLineOf text line = (value : Value) × IsValueOf text value × (line ≡ v
 
 -- The fault is given only where it is one of the text's, or memory failed.
 abbrev pub IsFaultOf : List ℕ → Fault → Type 0
-IsFaultOf text (Text fault) = HasTextFault text fault
+IsFaultOf text (Text fault) = HasTextFault A text fault
 IsFaultOf text SetText = ⊥
 IsFaultOf text SetTooLarge = (position : Setup) × IsLegal position × Spells text position × HasManyPieces position
 IsFaultOf text TooDeep = (position : Setup) × IsLegal position × Spells text position × SomeTooDeep A (HasSamePieces A position)

@@ -1,9 +1,12 @@
 -- What the program owes where it is asked for the sizes of a piece set.
 use Rattle.std.specs.Prelude.{◌≡◌, ◌≢◌, ℕ, List, [], ◌∷◌, ◌++◌, codes}
+use Rattle.dob_pieces.specs.declared.profile.Profile.TheVariants.{A}
+use Rattle.dob_rank.specs.Families.{family_of}
 use Rattle.std.specs.Fmt.{decimal}
 use Rattle.dob_pieces.specs.declared.piece_set.PieceSet.{PieceSet}
 use Rattle.dob_pieces.specs.Sets.{set_text}
-use Rattle.dob_rank.specs.Order.{HasSize, HasClasses}
+use Rattle.dob_rank.specs.Families.{HasSize}
+use Rattle.dob_rank.specs.Families.{HasClasses}
 use Rattle.dob_cli.specs.declared.counts.Counts.{Counts}
 use Rattle.dob_cli.specs.declared.fault.Fault.{Fault}
 use Rattle.dob_cli.specs.declared.fault.Fault.TheVariants.{SetText, Memory}
@@ -13,8 +16,8 @@ use Rattle.dob_cli.specs.Shelves.{ShelfChange}
 
 -- these are the set's numbers of positions and classes
 pub record HasCounts (set : PieceSet) (counts : Counts) : Type 0 where
-  pub positions : HasSize set counts.positions
-  pub classes : HasClasses set counts.classes
+  pub positions : HasSize (family_of set A) counts.positions
+  pub classes : HasClasses (family_of set A) counts.classes
 
 -- the text is that of a piece set with these numbers
 abbrev pub AreCountsOf : List ℕ → Counts → Type 0

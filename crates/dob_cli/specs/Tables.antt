@@ -7,7 +7,7 @@ use Rattle.dob_text.specs.PositionText.{Spells}
 use Rattle.dob_text.specs.Faults as text
 use Rattle.dob_text.specs.MoveText.{move_text, numbered_text}
 use Rattle.dob_moves.specs.declared.game_move.Move.{Move}
-use Rattle.dob_rank.specs.Families.{IsPositionIn}
+use Rattle.dob_rank.specs.Families.{IsPositionOf}
 use Rattle.dob_value.specs.declared.value.Value.{Value}
 use Rattle.dob_value.specs.declared.value.Value.TheVariants.{Draw}
 use Rattle.dob_value.specs.Follows.{ClassTable, IsTable, IsValueTable}
@@ -113,7 +113,7 @@ IsOpeningFault Has _ = ⊥
 -- a fault of asking a file for a position: the file's, or the table's; or memory failed, or the file couldn't be opened
 abbrev pub IsProbingFault : (List ℕ → Type 0) → Setup → Fault → Type 0
 IsProbingFault Has position (File fault) = HasFileFault Has fault
-IsProbingFault Has position (Table table_fault.OtherSet) = (table : ClassTable) × IsFileOf Has table × ¬ IsPositionIn table.family position
+IsProbingFault Has position (Table table_fault.OtherSet) = (table : ClassTable) × IsFileOf Has table × ¬ IsPositionOf table.family position
 IsProbingFault Has position (Table (table_fault.Inconsistent class)) =
     (table : ClassTable) × IsFileOf Has table × BreaksAt table position class
 IsProbingFault Has position (Table table_fault.Memory) = Unit {0}
@@ -124,7 +124,7 @@ IsProbingFault Has position _ = ⊥
 -- A fault of asking for the position of a text: the text's, or memory failed for the words; the file is asked only where the
 -- text is a position's.
 abbrev pub IsPositionFault : (List ℕ → Type 0) → List ℕ → Fault → Type 0
-IsPositionFault Has words (Text fault) = text.HasTextFault words fault
+IsPositionFault Has words (Text fault) = text.HasTextFault A words fault
 IsPositionFault Has words Memory = Unit {0}
 IsPositionFault Has words fault = (position : Setup) × IsTextOf words position × IsProbingFault Has position fault
 

@@ -3,7 +3,7 @@ ghost use Rattle.std.specs.Prelude.{◌≡◌, IfOk, IfErr, string_bytes};
 ghost use Rattle.dob_cli.specs.Sizes.{AreCountLinesOf, HasCounts, IsCountFaultOf, count_lines};
 
 use crate::fault::Fault;
-use dob_pieces::PieceSet;
+use dob_pieces::{Family, PieceSet, Profile};
 use dob_rank::{count_classes, size};
 use std::alloc::{AllocError, Global};
 
@@ -37,7 +37,13 @@ fn counts_of(set: PieceSet) -> Counts
     ensures { HasCounts set result }
 {
     Counts {
-        positions: size(set),
-        classes: count_classes(set),
+        positions: size(Family {
+            set,
+            profile: Profile::A,
+        }),
+        classes: count_classes(Family {
+            set,
+            profile: Profile::A,
+        }),
     }
 }

@@ -1,6 +1,6 @@
 // The value of a position by the one record of a database file, whatever the file's size.
 ghost use Rattle.std.specs.Prelude.{◌≡◌, ◌⊎◌, ◌↔◌, false, IfOk, IfErr, IsTrue, string_bytes};
-ghost use Rattle.dob_rank.specs.Families.{IsPositionIn};
+ghost use Rattle.dob_rank.specs.Families.{IsPositionOf};
 ghost use Rattle.dob_dbfile.specs.Devices.{Stream};
 ghost use Rattle.dob_cli.specs.Faults.{is_io_error};
 ghost use Rattle.dob_cli.specs.Looks.{IsFaultOfLook, IsLookedUp, IsLookFault, IsLookLine};
@@ -10,7 +10,7 @@ use crate::fault::Fault;
 use crate::program::line_of;
 use crate::shelf::Shelf;
 use dob_dbfile::{PlacedSource, read_classes, read_value};
-use dob_pieces::{Family, Position};
+use dob_pieces::{Family, Position, Profile};
 use dob_probe::OtherSet;
 use dob_rank::size;
 use dob_text::read_position;
@@ -29,7 +29,7 @@ pub(crate) fn answer_look<S: Shelf>(
     ensures files { SameFiles (S.state shelf.old).has (S.state shelf.new).has }
     ensures failed { FailsWhere (shelf_change (S.state shelf.old) (S.state shelf.new)) (is_io_error result) }
 {
-    let position = read_position(text)?;
+    let position = read_position(Profile::A, text)?;
     let mut source = shelf.find(file)?;
     let found = look(alloc, &mut source, &position);
     shelf.close(source);
@@ -49,14 +49,14 @@ fn look<R: PlacedSource>(alloc: Global, source: &mut R, position: &Position) -> 
         return Err(Fault::from(OtherSet));
     }
     // That there are no more classes than positions bounds the record's place.
-    let _positions = size(classes.family.set);
+    let _positions = size(classes.family);
     let value = read_value(source, classes.class_of(position))?;
     Ok(value)
 }
 
 // Whether the position has just the pieces of the family's set, and its profile allows it.
 fn is_in_family(position: &Position, family: Family) -> bool
-    ensures { IsTrue result ↔ IsPositionIn family position.now.setup }
+    ensures { IsTrue result ↔ IsPositionOf family position.now.setup }
 {
     position.piece_set() == family.set && position.is_allowed(family.profile)
 }

@@ -151,7 +151,7 @@ fn answer_value(alloc: Global, text: &str) -> Result<String, Fault>
     ensures ok { IfOk result (λ line. IsValueLineOf text.now (string_bytes line)) }
     ensures err { IfErr result (IsFaultOf text.now) }
 {
-    let position = read_position(text)?;
+    let position = read_position(Profile::A, text)?;
     let value = sweep_value(alloc, Profile::A, &position)?;
     Ok(line_of(alloc, value)?)
 }

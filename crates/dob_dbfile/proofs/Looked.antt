@@ -1,5 +1,6 @@
 -- What was read by place, and the record of a class in the file of a table.
 use Rattle.std.proofs.Common.{◌≡◌, ◌∙◌, ◌⊎◌, ℕ, zero, suc, ◌+◌, ◌*◌, ◌≤◌, ◌<◌, List, [], ◌∷◌, ◌++◌, take, drop, length, arith, inl, inr, refl, sym, subst, ap}
+use Rattle.dob_rank.specs.Families.{family_of}
 use Rattle.std.proofs.Common.{Some, slice_get, slice_index, length-drop, take_all}
 use Rattle.std.specs.Prelude.{unwrap_or}
 use Rattle.std.proofs.lemmas.List.{drop-drop}
@@ -9,7 +10,7 @@ use Rattle.byteorder.specs.Endian.{little_bytes, little_number}
 use Rattle.sha2.specs.Sha256.{sha256}
 use Rattle.dob_pieces.specs.declared.piece_set.PieceSet.{PieceSet}
 use Rattle.dob_pieces.specs.declared.profile.Profile.TheVariants.{A}
-use Rattle.dob_rank.specs.Marks.{classes_of}
+use Rattle.dob_rank.specs.Families.{classes_of}
 use Rattle.dob_value.specs.declared.value.Value.{Value}
 use Rattle.dob_value.specs.Codes.{code_of_value, value_of_code}
 use Rattle.dob_value.specs.Follows.{ClassTable, IsEntry, IsTable}
@@ -122,7 +123,7 @@ table_set table set is = same_set set table.family.set (take 20 (bytes_of table)
 
 -- the record of one of the set's classes
 pub table_record : (table : ClassTable) (class : ℕ) (value : Value) → table.family.profile ≡ A → IsTable table.family table.values
-    → class < classes_of table.family.set
+    → class < classes_of (family_of table.family.set A)
     → HasRecord (whole (bytes_of table)) class value → slice_get table.values class ≡ Some value
 table_record table class value rules is below has =
     records_are_entries table class value is (let counted = table_classes table rules is in omega (arith, counted, below)) has

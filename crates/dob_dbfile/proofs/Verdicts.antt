@@ -7,7 +7,7 @@ use Rattle.sha2.specs.Sha256.{sha256}
 use Rattle.dob_pieces.specs.declared.piece_set.PieceSet.{PieceSet}
 use Rattle.dob_pieces.specs.declared.profile.Profile.TheVariants.{A}
 use Rattle.dob_rank.specs.Families.{family_of}
-use Rattle.dob_rank.specs.Marks.{classes_of}
+use Rattle.dob_rank.specs.Families.{classes_of}
 use Rattle.dob_value.specs.Codes.{value_of_code, values_of_codes}
 use Rattle.dob_value.specs.Follows.{ClassTable, class_table}
 use Rattle.dob_dbfile.specs.declared.fault.Fault.{Fault}
@@ -55,24 +55,24 @@ header_fault stream (fault.Io count) there (inr wrong) = absurd wrong
 rest_len : (stream : Stream) → HasHeader stream → 20 + length (drop 20 stream.bytes) ≡ length stream.bytes
 rest_len stream there = let le : 20 ≤ length stream.bytes = there in omega (arith, length-drop 20 stream.bytes)
 
-cut_short : (stream : Stream) (set : PieceSet) → IsOfSet set stream → length (drop 20 stream.bytes) < 2 * classes_of set + 32 → IsCutShort stream
+cut_short : (stream : Stream) (set : PieceSet) → IsOfSet set stream → length (drop 20 stream.bytes) < 2 * classes_of (family_of set A) + 32 → IsCutShort stream
 cut_short stream set is short =
     let len = rest_len stream is.0 in
     inr (set, is, λ enough. let le : file_len set ≤ length stream.bytes = enough.1 in omega (arith, len, short))
 
-no_longer : (stream : Stream) (set : PieceSet) → IsOfSet set stream → length (drop 20 stream.bytes) ≡ 2 * classes_of set + 32 → IsNoLonger set stream
+no_longer : (stream : Stream) (set : PieceSet) → IsOfSet set stream → length (drop 20 stream.bytes) ≡ 2 * classes_of (family_of set A) + 32 → IsNoLonger set stream
 no_longer stream set is exact = let len = rest_len stream is.0 in ((is, omega (arith, len, exact)), omega (arith, len, exact))
 
 -- the digest and what stands before it, by what comes after the header
-digest_at : (stream : Stream) (set : PieceSet) → drop (2 * classes_of set) (drop 20 stream.bytes) ≡ drop (contents_len set) stream.bytes
-digest_at stream set = drop-drop (2 * classes_of set) 20 stream.bytes
+digest_at : (stream : Stream) (set : PieceSet) → drop (2 * classes_of (family_of set A)) (drop 20 stream.bytes) ≡ drop (contents_len set) stream.bytes
+digest_at stream set = drop-drop (2 * classes_of (family_of set A)) 20 stream.bytes
 
-before_digest : (stream : Stream) (set : PieceSet) → header stream ++ take (2 * classes_of set) (drop 20 stream.bytes) ≡ take (contents_len set) stream.bytes
-before_digest stream set = sym (take-add 20 (2 * classes_of set) stream.bytes)
+before_digest : (stream : Stream) (set : PieceSet) → header stream ++ take (2 * classes_of (family_of set A)) (drop 20 stream.bytes) ≡ take (contents_len set) stream.bytes
+before_digest stream set = sym (take-add 20 (2 * classes_of (family_of set A)) stream.bytes)
 
 -- what is wrong after a header that is right
 pub rest_fault : (stream : Stream) (set : PieceSet) (given : Fault) → IsOfSet set stream
-    → HasRestFault (header stream) (classes_of set) (after 20 stream) given → IsFault stream given
+    → HasRestFault (header stream) (classes_of (family_of set A)) (after 20 stream) given → IsFault stream given
 rest_fault stream set fault.Trailing is wrong =
     let len = rest_len stream is.0 in
     inr (set, (is, omega (arith, len, wrong)), λ upto. let le : length stream.bytes ≤ file_len set = upto.1 in omega (arith, len, wrong))
@@ -88,7 +88,7 @@ rest_fault stream set (fault.Io count) is wrong =
     inr (
       omega (arith, len, wrong.2),
       wrong.1,
-      elim (cases_lt (length (drop 20 stream.bytes)) (2 * classes_of set + 32)) [
+      elim (cases_lt (length (drop 20 stream.bytes)) (2 * classes_of (family_of set A) + 32)) [
         | inl short ↦ inl (cut_short stream set is short)
         | inr enough ↦ inr (set, no_longer stream set is (omega (arith, wrong.0, enough)))
       ],
@@ -101,23 +101,23 @@ rest_fault stream set fault.SetByte is wrong = absurd wrong
 rest_fault stream set fault.ClassCount is wrong = absurd wrong
 
 -- the three parts of a header
-header_parts : (set : PieceSet) (front : List ℕ) → CountsClasses set front → front ≡ title ++ set_bytes set ++ count_bytes (classes_of set)
+header_parts : (set : PieceSet) (front : List ℕ) → CountsClasses set front → front ≡ title ++ set_bytes set ++ count_bytes (classes_of (family_of set A))
 header_parts set front counts =
     let named = counts.0.0 in
     sym (take-append-drop 8 front)
     ∙ ap (λ (rest : List ℕ). take 8 front ++ rest) (sym (take-append-drop 4 (drop 8 front)))
     ∙ ap (λ (rest : List ℕ). take 8 front ++ (take 4 (drop 8 front) ++ rest)) (drop-drop 4 8 front ∙ counts.1)
-    ∙ ap (λ (part : List ℕ). take 8 front ++ (part ++ count_bytes (classes_of set))) named.1
-    ∙ ap (λ (part : List ℕ). part ++ (set_bytes set ++ count_bytes (classes_of set))) named.0
-    ∙ sym (append_assoc title (set_bytes set) (count_bytes (classes_of set)))
+    ∙ ap (λ (part : List ℕ). take 8 front ++ (part ++ count_bytes (classes_of (family_of set A)))) named.1
+    ∙ ap (λ (part : List ℕ). part ++ (set_bytes set ++ count_bytes (classes_of (family_of set A)))) named.0
+    ∙ sym (append_assoc title (set_bytes set) (count_bytes (classes_of (family_of set A))))
 
 -- a file that is right is that of its table
-pub right_file : (stream : Stream) (set : PieceSet) (codes : List ℕ) → HasHeader stream → CountsClasses set (header stream) → length codes ≡ classes_of set
+pub right_file : (stream : Stream) (set : PieceSet) (codes : List ℕ) → HasHeader stream → CountsClasses set (header stream) → length codes ≡ classes_of (family_of set A)
     → EndsWith (header stream) codes (after 20 stream) → stream ≡ whole (bytes_of (class_table (family_of set A) (values_of_codes codes)))
 right_file stream set codes there counts counted ends =
     let table : ClassTable = class_table (family_of set A) (values_of_codes codes) in
     let rest : List ℕ = drop 20 stream.bytes in
-    let same_count : classes_of set ≡ length (values_of_codes codes) = sym (length-map codes value_of_code ∙ counted) in
+    let same_count : classes_of (family_of set A) ≡ length (values_of_codes codes) = sym (length-map codes value_of_code ∙ counted) in
     let front : header stream ≡ title ++ set_bytes set ++ count_bytes (length table.values) =
     header_parts set (header stream) counts ∙ ap (λ (n : ℕ). title ++ set_bytes set ++ count_bytes n) same_count in
     let body : header stream ++ take (2 * length codes) rest ≡ contents table =
@@ -135,11 +135,11 @@ right_file stream set codes there counts counted ends =
     ∙ ap (λ (b : List ℕ). whole b) bytes
 
 -- and passes all tests
-pub right_digest : (stream : Stream) (set : PieceSet) (codes : List ℕ) → HasHeader stream → CountsClasses set (header stream) → length codes ≡ classes_of set
+pub right_digest : (stream : Stream) (set : PieceSet) (codes : List ℕ) → HasHeader stream → CountsClasses set (header stream) → length codes ≡ classes_of (family_of set A)
     → EndsWith (header stream) codes (after 20 stream) → HasDigest set stream
 right_digest stream set codes there counts counted ends =
-    let whole_len : length (drop 20 stream.bytes) ≡ 2 * classes_of set + 32 =
+    let whole_len : length (drop 20 stream.bytes) ≡ 2 * classes_of (family_of set A) + 32 =
     ends.whole ∙ ap (λ (n : ℕ). 2 * n + 32) counted in
-    let found : drop (2 * classes_of set) (drop 20 stream.bytes) ≡ sha256 (header stream ++ take (2 * classes_of set) (drop 20 stream.bytes)) =
+    let found : drop (2 * classes_of (family_of set A)) (drop 20 stream.bytes) ≡ sha256 (header stream ++ take (2 * classes_of (family_of set A)) (drop 20 stream.bytes)) =
     subst (λ (n : ℕ). drop (2 * n) (drop 20 stream.bytes) ≡ sha256 (header stream ++ take (2 * n) (drop 20 stream.bytes))) counted ends.digest in
     ((no_longer stream set (there, counts) whole_len, ends.ends), sym (digest_at stream set) ∙ found ∙ ap sha256 (before_digest stream set))

@@ -8,10 +8,9 @@ use Rattle.sha2.proofs.Facts256.{length-sha256}
 use Rattle.dob_pieces.specs.declared.piece_set.PieceSet.{PieceSet}
 use Rattle.dob_pieces.specs.declared.profile.Family.{Family}
 use Rattle.dob_pieces.specs.declared.profile.Profile.TheVariants.{A}
-use Rattle.dob_rank.specs.Families.{family_of, IsRepresentativeIn, HasClassesIn, classes_in}
-use Rattle.dob_rank.specs.Marks.{classes_of}
-use Rattle.dob_rank.proofs.FamilyNumbers.{classes_in-whole}
-use Rattle.dob_rank.proofs.Present.{HasClassesIn-classes_in}
+use Rattle.dob_rank.specs.Families.{family_of, IsRepresentative, HasClasses, classes_of}
+use Rattle.dob_rank.proofs.FamilyNumbers.{classes_of-whole}
+use Rattle.dob_rank.proofs.Present.{HasClasses-classes_of}
 use Rattle.dob_value.specs.declared.value.Value.{Value}
 use Rattle.dob_value.specs.Codes.{value_of_code, values_of_codes}
 use Rattle.dob_value.specs.Follows.{ClassTable, IsTable, class_table}
@@ -27,20 +26,20 @@ use Rattle.dob_dbfile.proofs.Decoded.{same_records, length-records}
 use Rattle.dob_dbfile.proofs.Places.{same_set, no_fault}
 
 -- a code for each class makes a table of profile A
-pub table_of_codes : (set : PieceSet) (codes : List ℕ) → length codes ≡ classes_of set → All (λ code. code < 65536) codes
+pub table_of_codes : (set : PieceSet) (codes : List ℕ) → length codes ≡ classes_of (family_of set A) → All (λ code. code < 65536) codes
     → IsTable (family_of set A) (values_of_codes codes)
 table_of_codes set codes counted fit =
     let family : Family = family_of set A in
     record {
-      classes = subst (HasClassesIn family) (classes_in-whole family refl ∙ sym (length-map codes value_of_code ∙ counted)) (HasClassesIn-classes_in family);
+      classes = subst (HasClasses family) (classes_of-whole family refl ∙ sym (length-map codes value_of_code ∙ counted)) (HasClasses-classes_of family);
       entries = entries_of_codes codes fit;
     }
 
 -- how many classes a table of profile A has
-pub table_classes : (table : ClassTable) → table.family.profile ≡ A → IsTable table.family table.values → length table.values ≡ classes_of table.family.set
+pub table_classes : (table : ClassTable) → table.family.profile ≡ A → IsTable table.family table.values → length table.values ≡ classes_of (family_of table.family.set A)
 table_classes table rules is =
-    one_count (IsRepresentativeIn table.family) (length table.values) (classes_in table.family) is.classes (HasClassesIn-classes_in table.family)
-    ∙ classes_in-whole table.family rules
+    one_count (IsRepresentative table.family) (length table.values) (classes_of table.family) is.classes (HasClasses-classes_of table.family)
+    ∙ classes_of-whole table.family rules
 
 contents-front : (table : ClassTable) → take 20 (bytes_of table) ≡ header_of table
 unfolding contents
@@ -55,14 +54,14 @@ unfolding contents
 length-contents table = let body = length-records table.values in omega (arith, body)
 
 -- it names the set and counts its classes
-counts_front : (set : PieceSet) (count : ℕ) → IsSmall set → count ≡ classes_of set → CountsClasses set (title ++ set_bytes set ++ count_bytes count)
+counts_front : (set : PieceSet) (count : ℕ) → IsSmall set → count ≡ classes_of (family_of set A) → CountsClasses set (title ++ set_bytes set ++ count_bytes count)
 counts_front set count few counted = (((refl, refl), few), ap count_bytes counted)
 
 -- the file of a table of a small set passes all tests
 pub file_passes : (table : ClassTable) → table.family.profile ≡ A → IsSmall table.family.set → IsTable table.family table.values
     → HasDigest table.family.set (whole (bytes_of table))
 file_passes table rules few is =
-    let counted : length table.values ≡ classes_of table.family.set = table_classes table rules is in
+    let counted : length table.values ≡ classes_of (family_of table.family.set A) = table_classes table rules is in
     let digest : List ℕ = sha256 (contents table) in
     let body : length (contents table) ≡ contents_len table.family.set = length-contents table ∙ ap (λ (n : ℕ). 20 + 2 * n) counted in
     let last : length digest ≡ 32 = length-sha256 (contents table) in

@@ -1,9 +1,11 @@
 -- What is tested of a file that is read, in this order, and which fault it is where one of the tests is the first to fail.
 use Rattle.std.specs.Prelude.{◌≡◌, ℕ, ◌+◌, ◌*◌, ◌≤◌, ◌⊎◌, Bool, true, false, List, length, take, drop, Result, Ok, Err}
+use Rattle.dob_pieces.specs.declared.profile.Profile.TheVariants.{A}
+use Rattle.dob_rank.specs.Families.{family_of}
 use Rattle.sha2.specs.Sha256.{sha256}
 use Rattle.dob_pieces.specs.declared.piece_set.PieceSet.{PieceSet}
 use Rattle.dob_rank.specs.Limits.{IsSmall}
-use Rattle.dob_rank.specs.Marks.{classes_of}
+use Rattle.dob_rank.specs.Families.{classes_of}
 use Rattle.dob_dbfile.specs.declared.fault.Fault.{Fault}
 use Rattle.dob_dbfile.specs.declared.fault.Fault.TheVariants.{SetTooLarge, Truncated, Magic, SetByte, ClassCount, Trailing, Digest, Memory, Io}
 use Rattle.dob_dbfile.specs.Devices.{Stream}
@@ -30,7 +32,7 @@ abbrev pub NamesSmallSet : PieceSet → List ℕ → Type 0
 NamesSmallSet set header = NamesSet set header × IsSmall set
 
 abbrev pub CountsClasses : PieceSet → List ℕ → Type 0
-CountsClasses set header = NamesSmallSet set header × (drop 12 header ≡ count_bytes (classes_of set))
+CountsClasses set header = NamesSmallSet set header × (drop 12 header ≡ count_bytes (classes_of (family_of set A)))
 
 -- the first test that the header fails
 abbrev pub HasHeaderFault : List ℕ → Fault → Type 0
@@ -48,7 +50,7 @@ header stream = take 20 stream.bytes
 
 -- how many bytes stand before the digest of a set's file, and how many there are with it
 abbrev pub contents_len : PieceSet → ℕ
-contents_len set = 20 + 2 * classes_of set
+contents_len set = 20 + 2 * classes_of (family_of set A)
 
 abbrev pub file_len : PieceSet → ℕ
 file_len set = contents_len set + 32

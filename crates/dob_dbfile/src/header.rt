@@ -1,7 +1,7 @@
 // The first twenty bytes of a file: what it is, its piece set, and how many classes there are.
 ghost use Rattle.std.specs.Prelude.{◌≡◌, ◌≢◌, ◌+◌, ◌<◌, ◌≤◌, ◌++◌, ◌↔◌, ◌^◌, length, take, drop, IsTrue, OnOk, MatchOption, IfOk, IfErr, vec_capacity};
 ghost use Rattle.dob_pieces.specs.declared.piece_set.PieceSet.{PieceSet as AnySet};
-ghost use Rattle.dob_rank.specs.Marks.{classes_of};
+ghost use Rattle.dob_rank.specs.Families.{classes_of};
 ghost use Rattle.dob_dbfile.specs.Format.{title, set_bytes, count_bytes};
 
 use byteorder::{ByteOrder, LittleEndian};

@@ -11,7 +11,7 @@ use crate::fault::Fault;
 use crate::header::HEADER_LEN;
 use crate::read::{classes_named, fill};
 use crate::records::{RECORD_LEN, value_in};
-use dob_rank::FamilyClasses;
+use dob_rank::Classes;
 use dob_value::Value;
 use std::alloc::Global;
 
@@ -20,7 +20,7 @@ use std::alloc::Global;
 /// Errors, the first of these that holds: `Truncated`, fewer than 20 bytes, or `Io` where the source fails before them;
 /// `Magic`, `SetByte`, `SetTooLarge`, `ClassCount`, what the header says. `Memory` where none of them
 /// holds. The source has lost what was read.
-pub fn read_classes<R: Source>(alloc: Global, source: &mut R) -> Result<FamilyClasses, Fault>
+pub fn read_classes<R: Source>(alloc: Global, source: &mut R) -> Result<Classes, Fault>
     requires { R.has_failed source.old ≡ false }
     ensures named { (stream : Stream) → R.gives source.old stream → IfOk result (λ classes. IsOfSet classes.family.set stream) }
     ensures rules { IfOk result (λ classes. classes.family.profile ≡ A) }

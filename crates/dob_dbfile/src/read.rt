@@ -18,7 +18,7 @@ use crate::header::{HEADER_LEN, is_count, is_title, set_named};
 use crate::records::{PIECE_LEN, PIECE_RECORDS, RECORD_LEN, push_codes};
 use crate::transfer::read_full;
 use dob_pieces::{Family, Memory, PieceSet, Profile};
-use dob_rank::{FamilyClasses, SegmentLength, Segments, count_classes};
+use dob_rank::{Classes, SegmentLength, Segments, count_classes};
 use dob_value::Table;
 use sha2::{Digest, Sha256};
 use std::alloc::Global;
@@ -93,7 +93,7 @@ pub(crate) fn fill<R: Source>(source: &mut R, room: &mut [u8], before: usize) ->
 }
 
 /// The classes in profile A of the set that the header names. They are opened only once the header has their number.
-pub(crate) fn classes_named(alloc: Global, header: &[u8]) -> Result<FamilyClasses, Fault>
+pub(crate) fn classes_named(alloc: Global, header: &[u8]) -> Result<Classes, Fault>
     requires { length header.now ≡ 20 }
     ensures named { IfOk result (λ classes. CountsClasses classes.family.set header.now) }
     ensures rules { IfOk result (λ classes. classes.family.profile ≡ A) }
@@ -102,7 +102,7 @@ pub(crate) fn classes_named(alloc: Global, header: &[u8]) -> Result<FamilyClasse
 {
     let set = set_counted(header)?;
     let profile = Profile::A;
-    Ok(FamilyClasses::open(alloc, Family { set, profile })?)
+    Ok(Classes::open(alloc, Family { set, profile })?)
 }
 
 // The set that the header names with its number of classes.
@@ -117,7 +117,13 @@ fn set_counted(header: &[u8]) -> Result<PieceSet, Fault>
     let Some(set) = set_named(&header[8..12]) else {
         return Err(Fault::SetByte);
     };
-    if is_count(&header[12..], count_classes(set)) {
+    if is_count(
+        &header[12..],
+        count_classes(Family {
+            set,
+            profile: Profile::A,
+        }),
+    ) {
         Ok(set)
     } else {
         Err(Fault::ClassCount)

@@ -17,30 +17,30 @@ use Rattle.dob_pieces.proofs.Symmetries.{turned-turned}
 use Rattle.dob_moves.specs.declared.game_move.Move.{Move}
 use Rattle.dob_moves.specs.declared.game_move.Move.TheVariants.{Step, Put}
 use Rattle.dob_moves.specs.declared.position_status.Status.{Status}
-use Rattle.dob_moves.specs.Moves.{Goes, GoesIn, CanGoIn, may_go, may_put}
+use Rattle.dob_moves.specs.Moves.{HasOutcome, Goes, CanGo, may_go, may_put}
 use Rattle.dob_moves.specs.Mirrors.{mirrored_move}
 use Rattle.dob_moves.specs.Outcomes.{moved, dropped}
-use Rattle.dob_moves.specs.Statuses.{HasStatus, HasStatusIn, HasTried}
+use Rattle.dob_moves.specs.Statuses.{HasStatus, HasTried}
 use Rattle.dob_moves.proofs.ByProfile.{goes, may, goes_in, can_go}
-use Rattle.dob_moves.proofs.Mirrors.{row-mirrored, Goes-mirrored, HasStatus-mirrored}
-use Rattle.dob_moves.proofs.Outcomes.{length-dropped, Goes-is, Goes-moved, IsLegal-Goes, total-Goes}
+use Rattle.dob_moves.proofs.Mirrors.{row-mirrored, HasOutcome-mirrored, HasStatus-mirrored_in_A}
+use Rattle.dob_moves.proofs.Outcomes.{length-dropped, HasOutcome-is, HasOutcome-moved, IsLegal-HasOutcome, total-HasOutcome}
 use Rattle.dob_moves.proofs.Shared.{share_status}
 
-pub GoesIn-is : (profile : Profile) (p : Setup) (m : Move) (q : Setup) → GoesIn profile p m q → q ≡ turned (moved p m)
-GoesIn-is profile p m q g = Goes-is p m q (goes profile p m q g)
+pub Goes-is : (profile : Profile) (p : Setup) (m : Move) (q : Setup) → Goes profile p m q → q ≡ turned (moved p m)
+Goes-is profile p m q g = HasOutcome-is p m q (goes profile p m q g)
 
-pub GoesIn-moved : (profile : Profile) (p : Setup) (m : Move) → CanGoIn profile p m → GoesIn profile p m (turned (moved p m))
-GoesIn-moved profile p m can = goes_in profile p m (turned (moved p m)) (Goes-moved p m (can_go profile p m can)) (may profile p m can.0 can.1)
+pub Goes-moved : (profile : Profile) (p : Setup) (m : Move) → CanGo profile p m → Goes profile p m (turned (moved p m))
+Goes-moved profile p m can = goes_in profile p m (turned (moved p m)) (HasOutcome-moved p m (can_go profile p m can)) (may profile p m can.0 can.1)
 
-pub IsLegal-GoesIn : (profile : Profile) (p : Setup) (m : Move) (q : Setup) → GoesIn profile p m q → IsLegal p → ¬ HasTried p → IsLegal q
-IsLegal-GoesIn profile p m q g legal no_try = IsLegal-Goes p m q (goes profile p m q g) legal no_try
+pub IsLegal-Goes : (profile : Profile) (p : Setup) (m : Move) (q : Setup) → Goes profile p m q → IsLegal p → ¬ HasTried p → IsLegal q
+IsLegal-Goes profile p m q g legal no_try = IsLegal-HasOutcome p m q (goes profile p m q g) legal no_try
 
-pub total-GoesIn : (profile : Profile) (p : Setup) (m : Move) (q : Setup) → GoesIn profile p m q → length p.board ≡ 12 → (k : HandKind) →
+pub total-Goes : (profile : Profile) (p : Setup) (m : Move) (q : Setup) → Goes profile p m q → length p.board ≡ 12 → (k : HandKind) →
     total k q ≡ total k p
-total-GoesIn profile p m q g twelve k = total-Goes p m q (goes profile p m q g) twelve k
+total-Goes profile p m q g twelve k = total-HasOutcome p m q (goes profile p m q g) twelve k
 
 -- what a move by the profile leads to it leads to by the profile
-pub goes_there : (profile : Profile) (p : Setup) (m : Move) (q : Setup) → CanGoIn profile p m → Goes p m q → GoesIn profile p m q
+pub goes_there : (profile : Profile) (p : Setup) (m : Move) (q : Setup) → CanGo profile p m → HasOutcome p m q → Goes profile p m q
 goes_there profile p m q can g = goes_in profile p m q g (may profile p m can.0 can.1)
 
 put_stands : (profile : Profile) (p : Setup) (put : HandKind) (to : ℕ) → to < length p.board → length (dropped p put to).board ≡ 12 → to < 12 →
@@ -51,20 +51,20 @@ put_stands profile p put to within len on allowed =
     ∙ stands-from_allowed profile (dropped p put to) to len allowed on
 
 -- a move to a setup that the profile allows is one by the profile
-pub goes_to_allowed : (profile : Profile) (p : Setup) (m : Move) (q : Setup) → length p.board ≡ 12 → Goes p m q → IsAllowed profile q →
-    GoesIn profile p m q
+pub goes_to_allowed : (profile : Profile) (p : Setup) (m : Move) (q : Setup) → length p.board ≡ 12 → HasOutcome p m q → IsAllowed profile q →
+    Goes profile p m q
 goes_to_allowed profile p (Step kind from to catch grows) q twelve g allowed = goes_in profile p (Step kind from to catch grows) q g refl
 goes_to_allowed profile p (Put put to) q twelve g allowed =
     let after = dropped p put to in
     let len : length after.board ≡ 12 = length-dropped p put to twelve g.in_hand g.on_board g.free in
-    let there : IsAllowed profile (turned after) = subst (λ (r : Setup). IsAllowed profile r) (Goes-is p (Put put to) q g) allowed in
+    let there : IsAllowed profile (turned after) = subst (λ (r : Setup). IsAllowed profile r) (HasOutcome-is p (Put put to) q g) allowed in
     let back : IsAllowed profile after =
     subst (λ (r : Setup). IsAllowed profile r) (turned-turned after len) (IsAllowed-turned profile (turned after) (length-turned after) there) in
     let on = g.on_board in
     goes_in profile p (Put put to) q g (put_stands profile p put to (omega (arith, twelve, on)) len on back)
 
 -- a status by the profile is the status
-pub status_there : (profile : Profile) (p : Setup) (status : Status) → IsLegal p → HasStatusIn profile p status → HasStatus p status
+pub status_there : (profile : Profile) (p : Setup) (status : Status) → IsLegal p → HasStatus profile p status → HasStatus A p status
 status_there profile p status legal has = (share_status profile p status legal).1 has
 
 -- ---- mirror images
@@ -77,14 +77,14 @@ may_go-mirrored : (profile : Profile) (m : Move) → may_go profile (mirrored_mo
 may_go-mirrored profile (Step kind from to catch grows) = refl
 may_go-mirrored profile (Put kind to) = may_put-mirrored profile kind to
 
-pub GoesIn-mirrored : (profile : Profile) (p : Setup) (m : Move) (q : Setup) → length p.board ≡ 12 → GoesIn profile p m q →
-    GoesIn profile (mirrored p) (mirrored_move m) (mirrored q)
-GoesIn-mirrored profile p m q twelve g =
-    goes_in profile (mirrored p) (mirrored_move m) (mirrored q) (Goes-mirrored p m q twelve (goes profile p m q g))
+pub Goes-mirrored : (profile : Profile) (p : Setup) (m : Move) (q : Setup) → length p.board ≡ 12 → Goes profile p m q →
+    Goes profile (mirrored p) (mirrored_move m) (mirrored q)
+Goes-mirrored profile p m q twelve g =
+    goes_in profile (mirrored p) (mirrored_move m) (mirrored q) (HasOutcome-mirrored p m q twelve (goes profile p m q g))
     (may_go-mirrored profile m ∙ may profile p m q g)
 
-pub HasStatusIn-mirrored : (profile : Profile) (p : Setup) (status : Status) → IsLegal p → HasStatusIn profile p status →
-    HasStatusIn profile (mirrored p) status
-HasStatusIn-mirrored profile p status legal has =
+pub HasStatus-mirrored : (profile : Profile) (p : Setup) (status : Status) → IsLegal p → HasStatus profile p status →
+    HasStatus profile (mirrored p) status
+HasStatus-mirrored profile p status legal has =
     (share_status profile (mirrored p) status (IsLegal-mirrored p legal)).0
-    (HasStatus-mirrored p status legal.squares ((share_status profile p status legal).1 has))
+    (HasStatus-mirrored_in_A p status legal.squares ((share_status profile p status legal).1 has))

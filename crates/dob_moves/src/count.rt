@@ -1,9 +1,10 @@
 // The number of a position's moves, counted without a list of them.
 ghost use Rattle.std.specs.Prelude.{◌≡◌, ◌≤◌, ◌*◌, length};
+ghost use Rattle.dob_pieces.specs.declared.profile.Profile.TheVariants.{A};
 ghost use Rattle.dob_pieces.specs.Masks.{AreMasks};
 ghost use Rattle.dob_moves.specs.Walks.{steps_by, steps_from, all_steps, drops_of, all_drops};
-ghost use Rattle.dob_moves.specs.MoveLists.{moves_of, moves_of_in};
-ghost use Rattle.dob_moves.specs.Statuses.{HasStatus, HasStatusIn};
+ghost use Rattle.dob_moves.specs.MoveLists.{moves_of};
+ghost use Rattle.dob_moves.specs.Statuses.{HasStatus};
 ghost use Rattle.dob_moves.specs.declared.first_moves.Aim.TheVariants.{Elsewhere};
 
 use crate::droppable::squares_for;
@@ -79,8 +80,8 @@ fn count_drops(profile: Profile, setup: &Setup, masks: &Masks) -> u8
 /// The number of moves of a position of that status.
 fn count_at(profile: Profile, position: &Position, masks: &Masks, status: Status) -> u8
     requires masks { AreMasks position.now.setup masks.now }
-    requires status { HasStatusIn profile position.now.setup status }
-    ensures { result ≡ length (moves_of_in profile position.now.setup) }
+    requires status { HasStatus profile position.now.setup status }
+    ensures { result ≡ length (moves_of profile position.now.setup) }
 {
     match status {
         Status::Open => {
@@ -90,28 +91,20 @@ fn count_at(profile: Profile, position: &Position, masks: &Masks, status: Status
     }
 }
 
-/// The status of the position, and the number of its moves by the rules of the profile, as many as `moves_in` lists: 0 where
+/// The status of the position, and the number of its moves by the rules of the profile, as many as `moves` lists: 0 where
 /// it isn't open.
-pub fn status_and_count_in(profile: Profile, position: &Position) -> (Status, u8)
-    ensures status { HasStatusIn profile position.now.setup result.0 }
-    ensures count { result.1 ≡ length (moves_of_in profile position.now.setup) }
+pub fn status_and_count(profile: Profile, position: &Position) -> (Status, u8)
+    ensures status { HasStatus profile position.now.setup result.0 }
+    ensures count { result.1 ≡ length (moves_of profile position.now.setup) }
 {
     let masks = Masks::of(&position.setup);
     let status = status_by(position, &masks);
     (status, count_at(profile, position, &masks, status))
 }
 
-/// The same by the rules of profile A.
-pub fn status_and_count(position: &Position) -> (Status, u8)
-    ensures status { HasStatus position.now.setup result.0 }
-    ensures count { result.1 ≡ length (moves_of position.now.setup) }
-{
-    status_and_count_in(Profile::A, position)
-}
-
 /// The number of moves of the position by the rules of profile A, as many as `moves` lists: 0 where it isn't open.
 pub fn count_moves(position: &Position) -> u8
-    ensures { result ≡ length (moves_of position.now.setup) }
+    ensures { result ≡ length (moves_of A position.now.setup) }
 {
     status_and_count(position).1
 }

@@ -1,5 +1,6 @@
 // The status of a position, and the first step that catches the enemy lion, looked at from the lions' squares.
 ghost use Rattle.std.specs.Prelude.{◌↔◌, ◌≡◌, IsTrue, MatchOption};
+ghost use Rattle.dob_pieces.specs.declared.profile.Profile.TheVariants.{A};
 ghost use Rattle.dob_pieces.specs.Masks.{AreMasks};
 ghost use Rattle.dob_pieces.specs.Setups.{at, piece_of};
 ghost use Rattle.dob_moves.specs.Moves.{CanGo, grows_at};
@@ -62,14 +63,14 @@ fn can_catch(position: &Position, masks: &Masks, lion: Square) -> bool
 /// Whether the mover's lion has a step, other than onto the enemy lion. Most positions that have a move have one.
 fn lion_can_step(position: &Position, masks: &Masks) -> bool
     requires { AreMasks position.now.setup masks.now }
-    ensures { IsTrue result → (move : Moved) × CanGo position.now.setup move }
+    ensures { IsTrue result → (move : Moved) × CanGo A position.now.setup move }
 {
     Kind::Lion.targets(own_lion(position, masks)) & masks.ends != 0
 }
 
 /// Whether a step, other than onto the enemy lion, or a drop of the mover is found.
 pub(crate) fn finds_move(position: &Position) -> bool
-    ensures { IsTrue result ↔ ((move : Moved) × CanGo position.now.setup move) }
+    ensures { IsTrue result ↔ ((move : Moved) × CanGo A position.now.setup move) }
 {
     first_step(&position.setup, Aim::Elsewhere).is_some() || first_drop(&position.setup).is_some()
 }
@@ -77,14 +78,14 @@ pub(crate) fn finds_move(position: &Position) -> bool
 /// Whether the mover has a move while its steps onto the enemy lion aren't counted.
 fn can_move(position: &Position, masks: &Masks) -> bool
     requires { AreMasks position.now.setup masks.now }
-    ensures { IsTrue result ↔ ((move : Moved) × CanGo position.now.setup move) }
+    ensures { IsTrue result ↔ ((move : Moved) × CanGo A position.now.setup move) }
 {
     lion_can_step(position, masks) || finds_move(position)
 }
 
 /// The status of the position: a catch is looked for first, then a try, then a move.
 pub fn status(position: &Position) -> Status
-    ensures { HasStatus position.now.setup result }
+    ensures { HasStatus A position.now.setup result }
 {
     status_by(position, &Masks::of(&position.setup))
 }
@@ -93,7 +94,7 @@ pub fn status(position: &Position) -> Status
 #[tactic(auto, using(crate::proofs::Masked::tried_by))]
 pub(crate) fn status_by(position: &Position, masks: &Masks) -> Status
     requires { AreMasks position.now.setup masks.now }
-    ensures { HasStatus position.now.setup result }
+    ensures { HasStatus A position.now.setup result }
 {
     let lion = enemy_lion(position, masks);
     if can_catch(position, masks, lion) {

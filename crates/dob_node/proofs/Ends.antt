@@ -5,11 +5,11 @@ use Rattle.std.proofs.lemmas.List.{take_all}
 use Rattle.dob_pieces.specs.declared.profile.Family.{Family}
 use Rattle.dob_moves.specs.declared.position_status.Status.{Status}
 use Rattle.dob_moves.specs.declared.position_status.Status.TheVariants.{Caught, Tried, Stuck, Open}
-use Rattle.dob_moves.specs.Statuses.{HasStatusIn}
-use Rattle.dob_rank.specs.Families.{classes_in}
-use Rattle.dob_rank.specs.Families.{class_setup_in}
-use Rattle.dob_rank.proofs.Present.{HasClassesIn-classes_in}
-use Rattle.dob_rank.proofs.FamilyRepresentatives.{class_setup_only_in}
+use Rattle.dob_moves.specs.Statuses.{HasStatus}
+use Rattle.dob_rank.specs.Families.{classes_of}
+use Rattle.dob_rank.specs.Families.{class_setup}
+use Rattle.dob_rank.proofs.Present.{HasClasses-classes_of}
+use Rattle.dob_rank.proofs.FamilyRepresentatives.{class_setup_only}
 use Rattle.dob_value.specs.declared.value.Value.{Value}
 use Rattle.dob_value.specs.declared.value.Value.TheVariants.{Draw}
 use Rattle.dob_value.specs.Follows.{IsEntry}
@@ -31,13 +31,13 @@ use Rattle.dob_node.proofs.Kept.{last_now-entry}
 use Rattle.dob_node.proofs.ValuesFollow.{value_follows}
 use Rattle.dob_node.proofs.Totals.{some_known}
 
-some_opening : (family : Family) (openings : List Opening) (class : ℕ) → AreOpenings family openings → class < classes_in family →
-    (given : Opening) × IsOpening family.profile (class_setup_in family class) given
+some_opening : (family : Family) (openings : List Opening) (class : ℕ) → AreOpenings family openings → class < classes_of family →
+    (given : Opening) × IsOpening family.profile (class_setup family class) given
 some_opening family openings class are below = at openings (subst (λ n. class < n) (sym are.whole) below) are.each
   where
     at : (openings : List Opening) → class < length openings →
-        ((class : ℕ) (given : Opening) → slice_get openings class ≡ Some given → IsOpening family.profile (class_setup_in family class) given) →
-        (given : Opening) × IsOpening family.profile (class_setup_in family class) given
+        ((class : ℕ) (given : Opening) → slice_get openings class ≡ Some given → IsOpening family.profile (class_setup family class) given) →
+        (given : Opening) × IsOpening family.profile (class_setup family class) given
     at [] within each = absurd (omega arith)
     at (o ∷ openings) within each =
         (get_or (o ∷ openings) class o, each class (get_or (o ∷ openings) class o) (slice_get-get_or (o ∷ openings) class o within))
@@ -45,7 +45,7 @@ some_opening family openings class are below = at openings (subst (λ n. class <
 module _ (family : Family) (n : ℕ) (histories : ℕ → List Settlement) (applied : ℕ → ℕ → List Item) (cell : ℕ → Cell) (value : ℕ → Value)
     (openings : List Opening) (some : 0 < n) (are : AreOpenings family openings) (lawful : AreLawfulNodes family n histories applied cell value)
     (all : (i j : ℕ) → i < n → j < n → applied i j ≡ items_from (predecessors family) n j (histories i)) where
-  open_follows : (class : ℕ) → class < classes_in family → (status : Status) → HasStatusIn family.profile (class_setup_in family class) status →
+  open_follows : (class : ℕ) → class < classes_of family → (status : Status) → HasStatus family.profile (class_setup family class) status →
       FollowsAtStatus status (known_of family n histories applied class) (value_of (histories (owner_of n class)) class)
   open_follows class below Caught is = sym (lawful.values class below) ∙ lawful.over class Caught below is (λ same. cc)
   open_follows class below Tried is = sym (lawful.values class below) ∙ lawful.over class Tried below is (λ same. cc)
@@ -64,19 +64,19 @@ module _ (family : Family) (n : ℕ) (histories : ℕ → List Settlement) (appl
     values = λ p class represents.
         let below = representative_below family p class represents in
         let given = some_opening family openings class are below in
-        let same = class_setup_only_in family p class (classes_in family) (HasClassesIn-classes_in family) below represents.0 represents.1 in (
+        let same = class_setup_only family p class (classes_of family) (HasClasses-classes_of family) below represents.0 represents.1 in (
           given.0.status,
-          subst (λ s. HasStatusIn family.profile s given.0.status) (sym same) given.1.status,
+          subst (λ s. HasStatus family.profile s given.0.status) (sym same) given.1.status,
           open_follows class below given.0.status given.1.status,
         );
   }
 
-  gathered : (values : List Value) → length values ≡ classes_in family →
-      ((class : ℕ) → class < classes_in family → slice_get values class ≡ Some (value class)) → AreGathered family n histories values
+  gathered : (values : List Value) → length values ≡ classes_of family →
+      ((class : ℕ) → class < classes_of family → slice_get values class ≡ Some (value class)) → AreGathered family n histories values
   gathered values whole each = record {
     whole = whole;
     entries = λ k d below.
-        let low : k < classes_in family = subst (λ m. k < m) whole below in
+        let low : k < classes_of family = subst (λ m. k < m) whole below in
         let there = slice_get-get_or values k d below in
         let is : get_or values k d ≡ value_of (histories (owner_of n k)) k =
         same_Some (get_or values k d) (value k) (sym there ∙ each k low) ∙ lawful.values k low in

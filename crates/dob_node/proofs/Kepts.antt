@@ -9,7 +9,7 @@ use Rattle.std.proofs.lemmas.List.Elements.{All-append, All-nil, All-cons}
 use Rattle.dob_pieces.specs.declared.profile.Family.{Family}
 use Rattle.dob_moves.specs.declared.position_status.Status.{Status}
 use Rattle.dob_moves.specs.declared.position_status.Status.TheVariants.{Caught, Tried, Stuck, Open}
-use Rattle.dob_rank.specs.Families.{classes_in}
+use Rattle.dob_rank.specs.Families.{classes_of}
 use Rattle.dob_value.specs.declared.value.Value.{Value}
 use Rattle.dob_value.specs.declared.value.Value.TheVariants.{Win, Loss, Draw}
 use Rattle.dob_value.specs.Follows.{IsEntry}
@@ -105,7 +105,7 @@ module _ (family : Family) (n id : ℕ) (share after : Share) (history : History
   own : IsOwn share item.to
   own = fits_own share item fits
 
-  mine : (owner_of n item.to ≡ id) × (item.to < classes_in family)
+  mine : (owner_of n item.to ≡ id) × (item.to < classes_of family)
   mine = (kept.owned item.to).0 own
 
   parities_there : HasParities (cell_at after item.to)
@@ -133,8 +133,8 @@ module _ (family : Family) (n id : ℕ) (share after : Share) (history : History
 
     pub place_is : s.class / history.n < 2 ^ 32
     place_is =
-        let low : item.to < classes_in family = mine.1 in
-        let few : classes_in family ≤ 2 ^ 32 = kept.few in
+        let low : item.to < classes_of family = mine.1 in
+        let few : classes_of family ≤ 2 ^ 32 = kept.few in
         let less : s.class / history.n ≤ s.class = div-le_self s.class history.n in
         let is : s.class ≡ item.to = settled.2 in
         let both : s.class < 2 ^ 32 = omega arith in
@@ -158,10 +158,10 @@ module _ (family : Family) (n id : ℕ) (share after : Share) (history : History
       omega arith
 
   settled_classes : (given : Option Settlement) → HasSettled share after item.to given →
-      All (λ (s : Settlement). s.class < classes_in family) (listed given)
-  settled_classes None settled = All-nil (λ (s : Settlement). s.class < classes_in family)
-  settled_classes (Some s) settled = All-cons (λ (s : Settlement). s.class < classes_in family) s []
-      (subst (λ (k : ℕ). k < classes_in family) (sym settled.2) mine.1) (All-nil (λ (s : Settlement). s.class < classes_in family))
+      All (λ (s : Settlement). s.class < classes_of family) (listed given)
+  settled_classes None settled = All-nil (λ (s : Settlement). s.class < classes_of family)
+  settled_classes (Some s) settled = All-cons (λ (s : Settlement). s.class < classes_of family) s []
+      (subst (λ (k : ℕ). k < classes_of family) (sym settled.2) mine.1) (All-nil (λ (s : Settlement). s.class < classes_of family))
 
   pub kept_still : (given : Option Settlement) → HasSettled share after item.to given → (grown : HistoryView) →
       grown ≡ record history { settlements = history.settlements ++ listed given; room = grown.room } → AreKept family n id after grown
@@ -175,6 +175,6 @@ module _ (family : Family) (n id : ℕ) (share after : Share) (history : History
       λ it. same.owned class ((kept.owned class).1 it),
     );
     counted = settled_count given settled;
-    classes = All-append (λ (s : Settlement). s.class < classes_in family) history.settlements (listed given) kept.classes (settled_classes given settled);
+    classes = All-append (λ (s : Settlement). s.class < classes_of family) history.settlements (listed given) kept.classes (settled_classes given settled);
     parities = parities_all;
   })

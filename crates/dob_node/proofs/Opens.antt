@@ -8,8 +8,8 @@ use Rattle.std.proofs.lemmas.Nat.{mod-mul-add, div-mul-add}
 use Rattle.dob_pieces.specs.declared.profile.Family.{Family}
 use Rattle.dob_moves.specs.declared.position_status.Status.{Status}
 use Rattle.dob_moves.specs.declared.position_status.Status.TheVariants.{Caught, Tried, Stuck, Open}
-use Rattle.dob_rank.specs.Families.{classes_in}
-use Rattle.dob_rank.proofs.ClassBounds.{classes_in-below}
+use Rattle.dob_rank.specs.Families.{classes_of}
+use Rattle.dob_rank.proofs.ClassBounds.{classes_of-below}
 use Rattle.dob_value.specs.declared.value.Value.{Value}
 use Rattle.dob_share.specs.declared.news.Settlement.{Settlement}
 use Rattle.dob_share.specs.declared.opening.Opening.{Opening}
@@ -101,7 +101,7 @@ places_are share openings n id who less owned place = (
 
 -- no family has more classes than a place of four bytes can tell apart
 pub few_listed : (family : Family) (openings : List Opening) → AreOpenings family openings → length openings ≤ 2 ^ 32
-few_listed family openings are = omega (arith, are.whole, classes_in-below family)
+few_listed family openings are = omega (arith, are.whole, classes_of-below family)
 
 -- ---- what is kept
 
@@ -125,7 +125,7 @@ opened_kept family openings n id share history are less few who owned cells sett
     λ mine. (owned class).1 (mine.0, subst (λ (count : ℕ). class < count) (sym are.whole) mine.1),
   );
   counted = settled ∙ settled_length (status_in openings) n id (places_of share);
-  classes = settled_low (status_in openings) n id (classes_in family) (places_of share)
+  classes = settled_low (status_in openings) n id (classes_of family) (places_of share)
       (λ place low. subst (λ (count : ℕ). place * n + id < count) are.whole ((places_are share openings n id who less owned place).0 low));
   parities = λ class own. parities_same (cell_at share class) (fresh (opening_of openings class).moves) (cells class own)
       (fresh_parities (opening_of openings class).moves);

@@ -5,7 +5,7 @@ use Rattle.std.proofs.lemmas.Nat.{mod-mul-add, div-mul-add}
 use Rattle.std.proofs.lemmas.Option.{slice_get_within}
 use Rattle.dob_pieces.specs.declared.profile.Family.{Family}
 use Rattle.dob_pieces.proofs.Elements.{at_end}
-use Rattle.dob_rank.specs.Families.{classes_in}
+use Rattle.dob_rank.specs.Families.{classes_of}
 use Rattle.dob_value.specs.declared.value.Value.{Value}
 use Rattle.dob_share.specs.declared.share.Share.{Share}
 use Rattle.dob_share.specs.Owners.{class_of_place}
@@ -36,8 +36,8 @@ module _ (family : Family) (n id : ℕ) (share : Share) (history : HistoryView) 
 
   pub class_at_low : place * n + id < 2 ^ 32
   class_at_low =
-      let below : place * n + id < classes_in family = ((kept.owned (place * n + id)).0 own_at).1 in
-      let few : classes_in family ≤ 2 ^ 32 = kept.few in
+      let below : place * n + id < classes_of family = ((kept.owned (place * n + id)).0 own_at).1 in
+      let few : classes_of family ≤ 2 ^ 32 = kept.few in
       omega arith
 
 -- the values of the classes at the places so far

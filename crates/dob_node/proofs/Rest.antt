@@ -10,20 +10,20 @@ use Rattle.dob_pieces.proofs.Symmetries.{mirrored-mirrored}
 use Rattle.dob_moves.specs.declared.game_move.Move.{Move}
 use Rattle.dob_moves.specs.declared.position_status.Status.{Status}
 use Rattle.dob_moves.specs.declared.position_status.Status.TheVariants.{Caught, Tried, Stuck, Open}
-use Rattle.dob_moves.specs.Moves.{GoesIn}
-use Rattle.dob_moves.specs.Statuses.{HasStatusIn}
-use Rattle.dob_rank.specs.Families.{IsPositionIn, HasClassesIn}
-use Rattle.dob_rank.specs.Families.{classes_in}
-use Rattle.dob_rank.proofs.Present.{HasClassesIn-classes_in}
+use Rattle.dob_moves.specs.Moves.{Goes}
+use Rattle.dob_moves.specs.Statuses.{HasStatus}
+use Rattle.dob_rank.specs.Families.{IsPositionOf, HasClasses}
+use Rattle.dob_rank.specs.Families.{classes_of}
+use Rattle.dob_rank.proofs.Present.{HasClasses-classes_of}
 use Rattle.dob_value.specs.declared.value.Value.{Value}
 use Rattle.dob_value.specs.declared.value.Value.TheVariants.{Win, Loss, Draw}
 use Rattle.dob_value.specs.Follows.{HasInTable, HasSuccessor, FollowsFromSuccessors, FollowsAt, IsConsistent}
-use Rattle.dob_value.specs.ClassRows.{class_setup_in}
+use Rattle.dob_value.specs.ClassRows.{class_setup}
 use Rattle.dob_value.proofs.Successors.{moves_keep_the_family}
-use Rattle.dob_value.proofs.ClassNumbers.{has_entry, one_entry, representative_is_in}
-use Rattle.dob_value.proofs.Rows.{class_setup_is_in}
+use Rattle.dob_value.proofs.ClassNumbers.{has_entry, one_entry, representative_is}
+use Rattle.dob_value.proofs.Rows.{class_setup_is}
 use Rattle.dob_value.proofs.Consistency.{consistent_is_right}
-use Rattle.dob_unmove.specs.Classes.{RepresentsClassIn}
+use Rattle.dob_unmove.specs.Classes.{RepresentsClass}
 use Rattle.dob_unmove.specs.Edges.{predecessors}
 use Rattle.dob_unmove.proofs.Edges.{ArePredecessors-predecessors}
 use Rattle.dob_unmove.specs.Unmoves.{ArePredecessors, IsEither, LeadsInto}
@@ -49,7 +49,7 @@ below_owner n class some = omega arith
 
 -- each class has its predecessors as targets
 abbrev pub AreTargets : Family → (ℕ → List ℕ) → Type 0
-AreTargets family targets = (q : Setup) (class : ℕ) → RepresentsClassIn family q class → ArePredecessors family.profile (RepresentsClassIn family) q (targets class)
+AreTargets family targets = (q : Setup) (class : ℕ) → RepresentsClass family q class → ArePredecessors family.profile (RepresentsClass family) q (targets class)
 
 module _ (family : Family) (targets : ℕ → List ℕ) (n : ℕ) (histories : ℕ → List Settlement) (expanded : ℕ → ℕ)
     (sent applied : ℕ → ℕ → List Item) (values : List Value) (some : 0 < n) (are_targets : AreTargets family targets)
@@ -61,7 +61,7 @@ module _ (family : Family) (targets : ℕ → List ℕ) (n : ℕ) (histories : �
   value q = value_of (histories (owner_of n q)) q
 
   abbrev knows : ℕ → List Value
-  knows p = all_known targets (classes_in family) n histories (λ i. applied i (owner_of n p)) p
+  knows p = all_known targets (classes_of family) n histories (λ i. applied i (owner_of n p)) p
 
   -- what one copy knows
   abbrev copy_of : ℕ → ℕ → ℕ → Value
@@ -81,21 +81,21 @@ module _ (family : Family) (targets : ℕ → List ℕ) (n : ℕ) (histories : �
       ap (λ items. known (histories i) items p q copy) all
       ∙ all_applied targets n j (histories i) p q copy refl below
 
-  classes : HasClassesIn family (length values)
-  classes = subst (HasClassesIn family) (sym gathered.whole) (HasClassesIn-classes_in family)
+  classes : HasClasses family (length values)
+  classes = subst (HasClasses family) (sym gathered.whole) (HasClasses-classes_of family)
 
-  value_there : (q : ℕ) (u : Value) → slice_get values q ≡ Some u → (q < classes_in family) × (u ≡ value q)
+  value_there : (q : ℕ) (u : Value) → slice_get values q ≡ Some u → (q < classes_of family) × (u ≡ value q)
   value_there q u entry =
       let within : q < length values = slice_get_within values q u entry in
-      let below : q < classes_in family = subst (λ m. q < m) gathered.whole within in
+      let below : q < classes_of family = subst (λ m. q < m) gathered.whole within in
       (below, same_Some u (value q) (sym entry ∙ gathered.each q below))
 
   -- a class with an edge is that of a successor
-  successor : (p : Setup) (a : ℕ) → RepresentsClassIn family p a → (q : ℕ) (u : Value) → q < classes_in family → 0 < copies targets a q → u ≡ value q →
+  successor : (p : Setup) (a : ℕ) → RepresentsClass family p a → (q : ℕ) (u : Value) → q < classes_of family → 0 < copies targets a q → u ≡ value q →
       HasSuccessor family.profile Has p u
   successor p a represents q u below above same =
-      let rep = class_setup_in family q in
-      let is : RepresentsClassIn family rep q = class_setup_is_in family q (classes_in family) (HasClassesIn-classes_in family) below in
+      let rep = class_setup family q in
+      let is : RepresentsClass family rep q = class_setup_is family q (classes_of family) (HasClasses-classes_of family) below in
       let edge = (are_targets rep q is).counts.edges p a represents in
       let move = some_of edge.moves (copies targets a q) edge.counted above in
       let leads = edge.sound move.0 move.1 in
@@ -110,17 +110,17 @@ module _ (family : Family) (targets : ℕ → List ℕ) (n : ℕ) (histories : �
         },
       )
     where
-      turn : (rep o : Setup) → IsPositionIn family rep → IsEither rep o → (rep ≡ o) ⊎ (rep ≡ mirrored o)
+      turn : (rep o : Setup) → IsPositionOf family rep → IsEither rep o → (rep ≡ o) ⊎ (rep ≡ mirrored o)
       turn rep o is either = elim either [
         | inl same ↦ inl (sym same)
         | inr image ↦ inr (sym (mirrored-mirrored rep is.of_set.legal.squares) ∙ ap mirrored (sym image))
       ]
 
   -- what a copy knows is the value of a successor
-  heard : (p : Setup) (a : ℕ) → RepresentsClassIn family p a → (u : Value) → Contains (knows a) u → HasSuccessor family.profile Has p u
+  heard : (p : Setup) (a : ℕ) → RepresentsClass family p a → (u : Value) → Contains (knows a) u → HasSuccessor family.profile Has p u
   unfolding all_known
   heard p a represents u there =
-      let at = from_each_below (λ (q : ℕ). each_below (λ (copy : ℕ). copy_of a q copy ∷ []) (copies targets a q)) (classes_in family) u there in
+      let at = from_each_below (λ (q : ℕ). each_below (λ (copy : ℕ). copy_of a q copy ∷ []) (copies targets a q)) (classes_of family) u there in
       let q = at.0 in
       let row = from_each_below (λ (copy : ℕ). copy_of a q copy ∷ []) (copies targets a q) u at.2 in
       let is : copy_of a q row.0 ≡ u = only_one (copy_of a q row.0) u row.2 in
@@ -128,7 +128,7 @@ module _ (family : Family) (targets : ℕ → List ℕ) (n : ℕ) (histories : �
       successor p a represents q u at.1 (omega arith) (sym is ∙ copy_knows a q row.0 below)
 
   -- and the value of each successor is known to a copy
-  emitted : (p : Setup) (a : ℕ) → RepresentsClassIn family p a → HasStatusIn family.profile p Open → (move : Move) (o : Setup) → GoesIn family.profile p move o → (u : Value) → Has o u →
+  emitted : (p : Setup) (a : ℕ) → RepresentsClass family p a → HasStatus family.profile p Open → (move : Move) (o : Setup) → Goes family.profile p move o → (u : Value) → Has o u →
       Contains (knows a) u
   unfolding all_known
   emitted p a represents goes_on move o goes u has =
@@ -136,21 +136,21 @@ module _ (family : Family) (targets : ℕ → List ℕ) (n : ℕ) (histories : �
       let there = value_there q u has.entry in
       let rep = has.number.representative in
       let position = moves_keep_the_family family p move o represents.0.0 goes_on goes in
-      let is_rep = representative_is_in family o rep position has.number.stands in
+      let is_rep = representative_is family o rep position has.number.stands in
       let edge = (are_targets rep q (is_rep, has.number.before)).counts.edges p a represents in
       let leads : LeadsInto family.profile p rep move = (goes_on, (o, goes, turn rep o is_rep.0 position has.number.stands.0)) in
       let above : 0 < copies targets a q = none_of edge.moves (copies targets a q) move edge.counted (edge.whole move leads) in
-      in_each_below (λ (q : ℕ). each_below (λ (copy : ℕ). copy_of a q copy ∷ []) (copies targets a q)) (classes_in family) q u there.0
+      in_each_below (λ (q : ℕ). each_below (λ (copy : ℕ). copy_of a q copy ∷ []) (copies targets a q)) (classes_of family) q u there.0
       (in_each_below (λ (copy : ℕ). copy_of a q copy ∷ []) (copies targets a q) 0 u above
       (the_one (copy_of a q 0) u (copy_knows a q 0 above ∙ sym there.1)))
     where
-      turn : (rep o : Setup) → IsPositionIn family rep → IsPositionIn family o → (rep ≡ o) ⊎ (rep ≡ mirrored o) → IsEither rep o
+      turn : (rep o : Setup) → IsPositionOf family rep → IsPositionOf family o → (rep ≡ o) ⊎ (rep ≡ mirrored o) → IsEither rep o
       turn rep o is position either = elim either [
         | inl same ↦ inl (sym same)
         | inr image ↦ inr (sym (mirrored-mirrored o position.of_set.legal.squares) ∙ ap mirrored (sym image))
       ]
 
-  follows_known : (p : Setup) (a : ℕ) → RepresentsClassIn family p a → HasStatusIn family.profile p Open → (v : Value) → FollowsFromKnown (knows a) v →
+  follows_known : (p : Setup) (a : ℕ) → RepresentsClass family p a → HasStatus family.profile p Open → (v : Value) → FollowsFromKnown (knows a) v →
       FollowsFromSuccessors family.profile Has p v
   follows_known p a represents goes_on (Win plies) follows = (
     follows.0,
@@ -176,7 +176,7 @@ module _ (family : Family) (targets : ℕ → List ℕ) (n : ℕ) (histories : �
         (win.0, one_entry family values next.1 u (Win win.0) (moves_keep_the_family family p next.0 next.1 represents.0.0 goes_on next.2) next.3 win.1)),
   )
 
-  at_status : (p : Setup) (a : ℕ) → RepresentsClassIn family p a → (status : Status) → HasStatusIn family.profile p status → (v : Value) →
+  at_status : (p : Setup) (a : ℕ) → RepresentsClass family p a → (status : Status) → HasStatus family.profile p status → (v : Value) →
       FollowsAtStatus status (knows a) v → FollowsAt family.profile Has p status v
   at_status p a represents Caught is v follows = follows
   at_status p a represents Tried is v follows = follows

@@ -8,7 +8,7 @@ use Rattle.dob_pieces.specs.Lists.{each_below}
 use Rattle.dob_pieces.proofs.Lists.{head_in}
 use Rattle.dob_moves.specs.declared.position_status.Status.{Status}
 use Rattle.dob_moves.specs.declared.position_status.Status.TheVariants.{Caught, Tried, Stuck, Open}
-use Rattle.dob_rank.specs.Families.{classes_in}
+use Rattle.dob_rank.specs.Families.{classes_of}
 use Rattle.dob_value.specs.declared.value.Value.{Value}
 use Rattle.dob_value.specs.declared.value.Value.TheVariants.{Win, Loss, Draw}
 use Rattle.dob_value.specs.Bounds.{plies_of}
@@ -117,11 +117,11 @@ opened_first status n id (suc places) =
 
 -- Histories whose settlements all rest on nothing have falls, where no cell knows anything.
 pub falls_start : (family : Family) (n : ℕ) (histories : ℕ → List Settlement) (cell : ℕ → Cell) →
-    ((i : ℕ) → i < n → IsChained (classes_in family) n i (histories i)) → ((i : ℕ) → i < n → All (λ (s : Settlement). IsFirst s.now) (histories i)) →
-    ((class : ℕ) → class < classes_in family → IsCellWithin (classes_in family) (cell class)) → HaveFalls family n histories cell
+    ((i : ℕ) → i < n → IsChained (classes_of family) n i (histories i)) → ((i : ℕ) → i < n → All (λ (s : Settlement). IsFirst s.now) (histories i)) →
+    ((class : ℕ) → class < classes_of family → IsCellWithin (classes_of family) (cell class)) → HaveFalls family n histories cell
 falls_start family n histories cell chained first cells = record {
   each = λ s at. ([], alone s at);
-  settled = λ s at. fall_within (classes_in family) n histories chained s [] (low_class (classes_in family) n histories chained s at) (alone s at);
+  settled = λ s at. fall_within (classes_of family) n histories chained s [] (low_class (classes_of family) n histories chained s at) (alone s at);
   cells = cells;
 }
   where
@@ -138,7 +138,7 @@ module _ (family : Family) (n : ℕ) (histories : ℕ → List Settlement) (appl
     (some : 0 < n) (lawful : AreLawfulNodes family n histories applied cell value) (have : HaveFalls family n histories cell) (i j : ℕ) (low_i : i < n)
     (low_j : j < n) (item : Item) (is_next : IsNextItem family n histories applied i j item) where
   abbrev classes : ℕ
-  classes = classes_in family
+  classes = classes_of family
 
   abbrev to : ℕ
   to = item.to

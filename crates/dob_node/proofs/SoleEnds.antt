@@ -2,7 +2,7 @@
 use Rattle.std.proofs.Common.{◌≡◌, ℕ, zero, suc, ◌<◌, ◌⊎◌, inl, inr, sym, ap, ◌∙◌, subst, arith, List, ◌++◌, lit<, ◌==◌, ◌%◌}
 use Rattle.std.proofs.lemmas.List.{take_all, append-nil}
 use Rattle.dob_pieces.specs.declared.profile.Family.{Family}
-use Rattle.dob_rank.specs.Families.{classes_in}
+use Rattle.dob_rank.specs.Families.{classes_of}
 use Rattle.dob_value.specs.declared.value.Value.{Value}
 use Rattle.dob_value.specs.declared.value.Value.TheVariants.{Draw}
 use Rattle.dob_value.specs.Follows.{IsEntry, AreGiven, IsValueTable}
@@ -23,17 +23,17 @@ use Rattle.dob_node.proofs.Ends.{lawful_is_right}
 
 -- ---- values
 
-module _ (node : Node) (steps : ℕ) (made : HasMade steps node) (class : ℕ) (low : class < classes_in node.family) where
+module _ (node : Node) (steps : ℕ) (made : HasMade steps node) (class : ℕ) (low : class < classes_of node.family) where
   abbrev pub history : List Settlement
   history = node.history.settlements
 
-  lawful : AreLawfulNodes node.family 1 (sole_history history) (sole_applied made.0) (cells_below (classes_in node.family) node.share) (value_of history)
+  lawful : AreLawfulNodes node.family 1 (sole_history history) (sole_applied made.0) (cells_below (classes_of node.family) node.share) (value_of history)
   lawful = made.1.lawful
 
   -- a class shows the value of the history
   pub shows : (v : Value) → HasValueNow node.share class v → v ≡ value_of history class
-  shows v is = value_shown node.family 1 (sole_history history) (sole_applied made.0) (cells_below (classes_in node.family) node.share) (value_of history) lawful class low
-      (cell_at node.share class) (cell_below (classes_in node.family) node.share class low) (status_at node.share class) v (made.1.statuses class low) is
+  shows v is = value_shown node.family 1 (sole_history history) (sole_applied made.0) (cells_below (classes_of node.family) node.share) (value_of history) lawful class low
+      (cell_at node.share class) (cell_below (classes_of node.family) node.share class low) (status_at node.share class) v (made.1.statuses class low) is
 
   -- which a table can have
   pub shows_entry : (v : Value) → HasValueNow node.share class v → IsEntry v
@@ -63,9 +63,9 @@ openings_of family (suc steps) node come = openings_of family steps come.0 come.
 
 -- idle, it has the value table
 pub sole_right : (node : Node) (steps count : ℕ) (values : List Value) → HasMade steps node → IsDone node →
-    AreValuesBelow (value_of node.history.settlements) count values → count ≡ classes_in node.family → IsValueTable node.family values
+    AreValuesBelow (value_of node.history.settlements) count values → count ≡ classes_of node.family → IsValueTable node.family values
 sole_right node steps count values made idle listed number =
-    lawful_is_right node.family 1 (sole_history node.history.settlements) (sole_applied made.0) (cells_below (classes_in node.family) node.share)
+    lawful_is_right node.family 1 (sole_history node.history.settlements) (sole_applied made.0) (cells_below (classes_of node.family) node.share)
     (value_of node.history.settlements) begun.0 values (lit< tt) begun.1 made.1.lawful all
     (listed.whole ∙ number) (λ class low. listed.each class (subst (λ (k : ℕ). class < k) (sym number) low))
   where
@@ -83,9 +83,9 @@ sole_right node steps count values made idle listed number =
 
 -- the table of the values that it shows is the value table
 pub sole_given : (node : Node) (steps : ℕ) (family : Family) (values : List Value) → HasMade steps node → IsDone node → family ≡ node.family →
-    AreGiven (HasValueNow node.share) (classes_in family) values → IsValueTable node.family values
+    AreGiven (HasValueNow node.share) (classes_of family) values → IsValueTable node.family values
 sole_given node steps family values made idle same given =
-    let number = ap (λ (s : Family). classes_in s) same in
-    sole_right node steps (classes_in family) values made idle
-    (values_given (HasValueNow node.share) (value_of node.history.settlements) (classes_in family) values given
+    let number = ap (λ (s : Family). classes_of s) same in
+    sole_right node steps (classes_of family) values made idle
+    (values_given (HasValueNow node.share) (value_of node.history.settlements) (classes_of family) values given
     (λ class v low has. shows node steps made class (subst (λ (k : ℕ). class < k) number low) v has)) number

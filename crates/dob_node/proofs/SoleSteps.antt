@@ -3,9 +3,9 @@ use Rattle.std.proofs.Common.{◌≡◌, ℕ, ◌+◌, ◌<◌, ◌≤◌, inl, 
 use Rattle.std.proofs.Common.{List, [], ◌∷◌, ◌++◌, length, take, drop, slice_get, Some}
 use Rattle.std.proofs.lemmas.List.{length-append}
 use Rattle.dob_pieces.specs.declared.profile.Family.{Family}
-use Rattle.dob_moves.specs.Statuses.{HasStatusIn}
-use Rattle.dob_rank.specs.Families.{classes_in}
-use Rattle.dob_rank.specs.Families.{class_setup_in}
+use Rattle.dob_moves.specs.Statuses.{HasStatus}
+use Rattle.dob_rank.specs.Families.{classes_of}
+use Rattle.dob_rank.specs.Families.{class_setup}
 use Rattle.dob_unmove.specs.Edges.{predecessors}
 use Rattle.dob_share.specs.declared.news.Settlement.{Settlement}
 use Rattle.dob_share.specs.declared.news.Item.{Item}
@@ -85,27 +85,27 @@ module _ (old new : Node) (applied : List Item) (sole : IsSole old applied) (sou
   kept_now = kept_sole old.family new.n new.id new.share new.history (step.same.2 ∙ sole.alone.0) (step.same.1 ∙ sole.alone.1)
       (subst (λ st. AreKept st new.n new.id new.share new.history) family_is sound.kept)
 
-  lawful_there : AreLawfulNodes old.family 1 (sole_history new.history.settlements) (sole_applied after) (cells_below (classes_in old.family) new.share)
+  lawful_there : AreLawfulNodes old.family 1 (sole_history new.history.settlements) (sole_applied after) (cells_below (classes_of old.family) new.share)
       (value_of new.history.settlements)
   lawful_there = still_lawful old.family old.share new.share old.history new.history applied step.item later kept kept_now step.taken sole.lawful next
 
-  falls_there : HaveFalls old.family 1 (sole_history new.history.settlements) (cells_below (classes_in old.family) new.share)
+  falls_there : HaveFalls old.family 1 (sole_history new.history.settlements) (cells_below (classes_of old.family) new.share)
   falls_there = still_falls old.family old.share new.share old.history new.history applied step.item later kept kept_now step.taken sole.lawful next sole.falls
 
   pub sole_after : IsSole new after
   sole_after = record {
     sound = sound;
     alone = (step.same.2 ∙ sole.alone.0, step.same.1 ∙ sole.alone.1);
-    statuses = λ class low. subst (λ status. HasStatusIn new.family.profile (class_setup_in new.family class) status) (sym (step.taken.statuses class))
-        (subst (λ st. HasStatusIn st.profile (class_setup_in st class) (status_at old.share class)) (sym family_is)
-        (sole.statuses class (subst (λ st. class < classes_in st) family_is low)));
+    statuses = λ class low. subst (λ status. HasStatus new.family.profile (class_setup new.family class) status) (sym (step.taken.statuses class))
+        (subst (λ st. HasStatus st.profile (class_setup st class) (status_at old.share class)) (sym family_is)
+        (sole.statuses class (subst (λ st. class < classes_of st) family_is low)));
     emitted = subst (λ st. sole_items st (take new.expanded new.history.settlements) ≡ after ++ new.own.items) (sym family_is)
         (subst (λ k. sole_items old.family (take k new.history.settlements) ≡ after ++ new.own.items) (sym step.same.3)
         (same_emitted old.family old.history.settlements new.history.settlements (listed step.taken.settled.0) old.expanded step.item applied old.own.items new.own.items
         sole.sound.emitted (ap (λ (v : HistoryView). v.settlements) step.taken.settled.2) step.first sole.emitted));
-    lawful = subst (λ st. AreLawfulNodes st 1 (sole_history new.history.settlements) (sole_applied after) (cells_below (classes_in st) new.share)
+    lawful = subst (λ st. AreLawfulNodes st 1 (sole_history new.history.settlements) (sole_applied after) (cells_below (classes_of st) new.share)
         (value_of new.history.settlements)) (sym family_is) lawful_there;
-    falls = subst (λ st. HaveFalls st 1 (sole_history new.history.settlements) (cells_below (classes_in st) new.share)) (sym family_is) falls_there;
+    falls = subst (λ st. HaveFalls st 1 (sole_history new.history.settlements) (cells_below (classes_of st) new.share)) (sym family_is) falls_there;
   }
 
 pub made_applied : (old new : Node) → IsSound new → HasApplied old new → (steps : ℕ) → HasMade steps old → HasMade (steps + 1) new
@@ -132,21 +132,21 @@ module _ (old new : Node) (applied : List Item) (sole : IsSole old applied) (sou
   sole_expanded = record {
     sound = sound;
     alone = (step.same.2 ∙ sole.alone.0, step.same.1 ∙ sole.alone.1);
-    statuses = λ class low. subst (λ share. HasStatusIn new.family.profile (class_setup_in new.family class) (status_at share class)) (sym step.same.3)
-        (subst (λ st. HasStatusIn st.profile (class_setup_in st class) (status_at old.share class)) (sym set_same)
-        (sole.statuses class (subst (λ st. class < classes_in st) set_same low)));
+    statuses = λ class low. subst (λ share. HasStatus new.family.profile (class_setup new.family class) (status_at share class)) (sym step.same.3)
+        (subst (λ st. HasStatus st.profile (class_setup st class) (status_at old.share class)) (sym set_same)
+        (sole.statuses class (subst (λ st. class < classes_of st) set_same low)));
     emitted = subst (λ st. sole_items st (take new.expanded new.history.settlements) ≡ applied ++ new.own.items) (sym set_same)
         (subst (λ k. sole_items old.family (take k new.history.settlements) ≡ applied ++ new.own.items) (sym step.expanded)
         (subst (λ h. sole_items old.family (take (old.expanded + 1) h) ≡ applied ++ new.own.items) (sym history_is)
         (more_items old.family old.history.settlements old.expanded step.settlement applied old.own.items new.own.items step.first sole.emitted own_same)));
-    lawful = subst (λ st. AreLawfulNodes st 1 (sole_history new.history.settlements) (sole_applied applied) (cells_below (classes_in st) new.share)
+    lawful = subst (λ st. AreLawfulNodes st 1 (sole_history new.history.settlements) (sole_applied applied) (cells_below (classes_of st) new.share)
         (value_of new.history.settlements)) (sym set_same)
-        (subst (λ h. AreLawfulNodes old.family 1 (sole_history h) (sole_applied applied) (cells_below (classes_in old.family) new.share) (value_of h)) (sym history_is)
-        (subst (λ share. AreLawfulNodes old.family 1 (sole_history old.history.settlements) (sole_applied applied) (cells_below (classes_in old.family) share)
+        (subst (λ h. AreLawfulNodes old.family 1 (sole_history h) (sole_applied applied) (cells_below (classes_of old.family) new.share) (value_of h)) (sym history_is)
+        (subst (λ share. AreLawfulNodes old.family 1 (sole_history old.history.settlements) (sole_applied applied) (cells_below (classes_of old.family) share)
         (value_of old.history.settlements)) (sym step.same.3) sole.lawful));
-    falls = subst (λ st. HaveFalls st 1 (sole_history new.history.settlements) (cells_below (classes_in st) new.share)) (sym set_same)
-        (subst (λ h. HaveFalls old.family 1 (sole_history h) (cells_below (classes_in old.family) new.share)) (sym history_is)
-        (subst (λ share. HaveFalls old.family 1 (sole_history old.history.settlements) (cells_below (classes_in old.family) share)) (sym step.same.3) sole.falls));
+    falls = subst (λ st. HaveFalls st 1 (sole_history new.history.settlements) (cells_below (classes_of st) new.share)) (sym set_same)
+        (subst (λ h. HaveFalls old.family 1 (sole_history h) (cells_below (classes_of old.family) new.share)) (sym history_is)
+        (subst (λ share. HaveFalls old.family 1 (sole_history old.history.settlements) (cells_below (classes_of old.family) share)) (sym step.same.3) sole.falls));
   }
 
 pub made_expanded : (old new : Node) → IsSound new → old.own.items ≡ [] → IsExpanded old new → (steps : ℕ) → HasMade steps old →

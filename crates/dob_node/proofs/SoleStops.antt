@@ -3,9 +3,9 @@ use Rattle.std.proofs.Common.{◌≡◌, ℕ, ◌<◌, ◌%◌, lit<, inl, inr, 
 use Rattle.std.proofs.Math.ListN.{get_or-eq_default}
 use Rattle.std.proofs.lemmas.Bool.{cases_eq}
 use Rattle.dob_moves.specs.declared.position_status.Status.TheVariants.{Open}
-use Rattle.dob_moves.proofs.Cases.{one_status_in}
-use Rattle.dob_rank.specs.Families.{classes_in}
-use Rattle.dob_rank.specs.Families.{class_setup_in}
+use Rattle.dob_moves.proofs.Cases.{one_status}
+use Rattle.dob_rank.specs.Families.{classes_of}
+use Rattle.dob_rank.specs.Families.{class_setup}
 use Rattle.dob_pieces.specs.declared.profile.Family.{Family}
 use Rattle.dob_share.specs.declared.news.Settlement.{Settlement}
 use Rattle.dob_share.specs.declared.news.Item.{Item}
@@ -42,8 +42,8 @@ module _ (node : Node) (steps : ℕ) (made : HasMade steps node) (item : Item) (
         ∙ ap (λ xs. made.0 ++ (xs ++ sole_items node.family (drop node.expanded h))) first,
   )
 
-  can : CanApply node.family 1 0 (cells_below (classes_in node.family) node.share) item
-  can = can_apply node.family 1 (sole_history h) (sole_applied made.0) (cells_below (classes_in node.family) node.share) (value_of h) (lit< tt) made.1.lawful 0 0 (lit< tt)
+  can : CanApply node.family 1 0 (cells_below (classes_of node.family) node.share) item
+  can = can_apply node.family 1 (sole_history h) (sole_applied made.0) (cells_below (classes_of node.family) node.share) (value_of h) (lit< tt) made.1.lawful 0 0 (lit< tt)
       (lit< tt) item next
 
   -- it fits
@@ -54,20 +54,20 @@ module _ (node : Node) (steps : ℕ) (made : HasMade steps node) (item : Item) (
       subst (λ (m : ℕ). item.to % m ≡ node.id) (sym made.1.alone.0) (one_owner item.to ∙ sym made.1.alone.1),
       can.below,
     ),
-    one_status_in node.family.profile (class_setup_in node.family item.to) (status_at node.share item.to) Open (made.1.statuses item.to can.below) can.is_open,
-    subst (λ c. CanTake item.was item.now c) (cell_below (classes_in node.family) node.share item.to can.below) can.takes,
+    one_status node.family.profile (class_setup node.family item.to) (status_at node.share item.to) Open (made.1.statuses item.to can.below) can.is_open,
+    subst (λ c. CanTake item.was item.now c) (cell_below (classes_of node.family) node.share item.to can.below) can.takes,
   )
 
   -- and for few classes it doesn't go too deep
-  pub next_not_deep : classes_in node.family < 65535 → GoesTooDeep node.share item → ⊥
+  pub next_not_deep : classes_of node.family < 65535 → GoesTooDeep node.share item → ⊥
   unfolding GoesTooDeep
-  next_not_deep few deep = not_too_deep node.family 1 (sole_history h) (sole_applied made.0) (cells_below (classes_in node.family) node.share) (value_of h) (lit< tt)
+  next_not_deep few deep = not_too_deep node.family 1 (sole_history h) (sole_applied made.0) (cells_below (classes_of node.family) node.share) (value_of h) (lit< tt)
       made.1.lawful made.1.falls 0 0 (lit< tt) (lit< tt) item next few
-      (subst (λ c. IsTooDeep (changed item.was item.now c)) (sym (cell_below (classes_in node.family) node.share item.to can.below)) deep)
+      (subst (λ c. IsTooDeep (changed item.was item.now c)) (sym (cell_below (classes_of node.family) node.share item.to can.below)) deep)
 
-pub never_too_deep : (family : Family) (limit : ℕ) → classes_in family < 65535 → IsTooDeepWithin family limit → ⊥
+pub never_too_deep : (family : Family) (limit : ℕ) → classes_of family < 65535 → IsTooDeepWithin family limit → ⊥
 never_too_deep family limit few is = next_not_deep is.node is.steps is.made is.fault.item is.fault.behind is.fault.first
-    (subst (λ (st : Family). classes_in st < 65535) (sym is.of) few) is.fault.reason.1
+    (subst (λ (st : Family). classes_of st < 65535) (sym is.of) few) is.fault.reason.1
 
 pub stopped_sole : (node : Node) (steps limit : ℕ) (why : Cause) → HasMade steps node → steps < limit → HasItemFault node why → HasStoppedAlone node.family limit why
 stopped_sole node steps limit cause.TooDeep made low fault =

@@ -12,7 +12,7 @@ use Rattle.dob_share.specs.declared.news.Item.{Item}
 use Rattle.dob_share.specs.declared.share.Share.{Share}
 use Rattle.dob_share.specs.Owners.{owner_of}
 use Rattle.dob_value.specs.Follows.{IsEntry}
-use Rattle.dob_rank.specs.Families.{classes_in}
+use Rattle.dob_rank.specs.Families.{classes_of}
 use Rattle.dob_update.specs.Items.{item_for}
 use Rattle.dob_node.specs.Stores.{HistoryView}
 use Rattle.dob_node.specs.TakenItems.{HasEntries, AreKept, IsTaken, listed}
@@ -51,9 +51,9 @@ next_emitted expanded all count emitted is other = elim (cases_order expanded co
 
 -- a settlement of the history is of a class of the family
 pub class_low : (family : Family) (n id : ℕ) (share : Share) (history : HistoryView) (number : ℕ) (s : Settlement) →
-    AreKept family n id share history → slice_get history.settlements number ≡ Some s → s.class < classes_in family
+    AreKept family n id share history → slice_get history.settlements number ≡ Some s → s.class < classes_of family
 class_low family n id share history number s kept there =
-    subst (λ (r : Settlement). r.class < classes_in family) (get_or_from_slice_get history.settlements number s s there)
+    subst (λ (r : Settlement). r.class < classes_of family) (get_or_from_slice_get history.settlements number s s there)
     (kept.classes number s (slice_get_within history.settlements number s there))
 
 -- the items of a settlement have its values

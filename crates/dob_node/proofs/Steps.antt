@@ -6,12 +6,12 @@ use Rattle.std.proofs.lemmas.List.Elements.{All-contains, All-nil, All-cons, All
 use Rattle.dob_pieces.specs.declared.profile.Family.{Family}
 use Rattle.dob_pieces.specs.declared.setup.Setup.{Setup}
 use Rattle.dob_moves.specs.declared.position_status.Status.TheVariants.{Open}
-use Rattle.dob_moves.specs.Statuses.{HasStatusIn}
-use Rattle.dob_rank.specs.Families.{RepresentsClassIn}
-use Rattle.dob_rank.specs.Families.{classes_in}
-use Rattle.dob_rank.specs.Families.{class_setup_in}
-use Rattle.dob_rank.proofs.Present.{HasClassesIn-classes_in}
-use Rattle.dob_rank.proofs.FamilyRepresentatives.{class_setup_is_in}
+use Rattle.dob_moves.specs.Statuses.{HasStatus}
+use Rattle.dob_rank.specs.Families.{RepresentsClass}
+use Rattle.dob_rank.specs.Families.{classes_of}
+use Rattle.dob_rank.specs.Families.{class_setup}
+use Rattle.dob_rank.proofs.Present.{HasClasses-classes_of}
+use Rattle.dob_rank.proofs.FamilyRepresentatives.{class_setup_is}
 use Rattle.dob_value.specs.declared.value.Value.{Value}
 use Rattle.dob_value.specs.Follows.{IsEntry}
 use Rattle.dob_unmove.specs.Edges.{predecessors}
@@ -28,7 +28,7 @@ use Rattle.dob_node.specs.Lawful.{known_of, AreLawfulNodes, IsNextItem, CanApply
 use Rattle.dob_node.proofs.Rest.{some_of, below_owner}
 use Rattle.dob_node.proofs.Splits.{IsMade, IsFrom, split, made_from}
 use Rattle.dob_node.proofs.Learns.{has_copy, learnt, nothing_learnt}
-use Rattle.dob_moves.proofs.Cases.{one_status_in}
+use Rattle.dob_moves.proofs.Cases.{one_status}
 use Rattle.dob_node.proofs.Settles.{chained_more, value_of-more, still_begun, known_still}
 use Rattle.dob_node.proofs.Totals.{some_known}
 use Rattle.dob_node.proofs.Kept.{all_known-same, known_entries, follows_entry, better_apart}
@@ -39,17 +39,17 @@ use Rattle.dob_node.proofs.ValuesFollow.{value_follows, SumsUp-same}
 
 -- ---- a class that has a copy is open
 
-open_class : (family : Family) (p q : ℕ) → q < classes_in family → 0 < copies (predecessors family) p q →
-    (p < classes_in family) × HasStatusIn family.profile (class_setup_in family p) Open
+open_class : (family : Family) (p q : ℕ) → q < classes_of family → 0 < copies (predecessors family) p q →
+    (p < classes_of family) × HasStatus family.profile (class_setup family p) Open
 open_class family p q below above =
-    let rep : RepresentsClassIn family (class_setup_in family q) q = class_setup_is_in family q (classes_in family) (HasClassesIn-classes_in family) below in
-    let are = ArePredecessors-predecessors family (class_setup_in family q) q rep in
+    let rep : RepresentsClass family (class_setup family q) q = class_setup_is family q (classes_of family) (HasClasses-classes_of family) below in
+    let are = ArePredecessors-predecessors family (class_setup family q) q rep in
     let there = counted (λ to. eqb to p) (predecessors family q) above in
     let same : there.0 ≡ p = eqb-true there.0 p there.2 in
-    let known = All-contains (λ (class : ℕ). (s : Setup) × RepresentsClassIn family s class) (predecessors family q) there.0 are.counts.known there.1 in
-    let low : p < classes_in family = subst (λ k. k < classes_in family) same (representative_below family known.0 there.0 known.1) in
-    let represents : RepresentsClassIn family (class_setup_in family p) p = class_setup_is_in family p (classes_in family) (HasClassesIn-classes_in family) low in
-    let edge = are.counts.edges (class_setup_in family p) p represents in
+    let known = All-contains (λ (class : ℕ). (s : Setup) × RepresentsClass family s class) (predecessors family q) there.0 are.counts.known there.1 in
+    let low : p < classes_of family = subst (λ k. k < classes_of family) same (representative_below family known.0 there.0 known.1) in
+    let represents : RepresentsClass family (class_setup family p) p = class_setup_is family p (classes_of family) (HasClasses-classes_of family) low in
+    let edge = are.counts.edges (class_setup family p) p represents in
     let move = some_of edge.moves (copies (predecessors family) p q) edge.counted above in
     (low, (edge.sound move.0 move.1).0)
 
@@ -60,7 +60,7 @@ module _ (family : Family) (n : ℕ) (histories : ℕ → List Settlement) (appl
   targets = predecessors family
 
   abbrev classes : ℕ
-  classes = classes_in family
+  classes = classes_of family
 
   -- what node j has applied from each node
   abbrev items : ℕ → List Item
@@ -93,7 +93,7 @@ module _ (family : Family) (n : ℕ) (histories : ℕ → List Settlement) (appl
   else_one : (k : ℕ) → k ≢ i → one_more k ≡ items k
   else_one k other = ap (λ b. cond b (items k ++ item ∷ []) (items k)) (ne_eqb k i other)
 
-  there_is : (item.to < classes) × HasStatusIn family.profile (class_setup_in family item.to) Open
+  there_is : (item.to < classes) × HasStatus family.profile (class_setup family item.to) Open
   there_is =
       let copy = has_copy targets classes n histories items one_more i j item (lawful.chained i low_i) made grown_one else_one in
       open_class family item.to made.s.class next_is.below (omega arith)
@@ -137,7 +137,7 @@ module _ (family : Family) (n : ℕ) (histories : ℕ → List Settlement) (appl
       (settled : AreSettled j item.to (value item.to) (worth item.to) histories grown) where
     -- ---- with the item, before its settlement
 
-    known_now : (p : ℕ) → p < classes → HasStatusIn family.profile (class_setup_in family p) Open → SumsUp (known_of family n histories after p) (cells p)
+    known_now : (p : ℕ) → p < classes → HasStatus family.profile (class_setup family p) Open → SumsUp (known_of family n histories after p) (cells p)
     known_now p low is_open = elim (cases_eq p item.to) [
       | inl same ↦ subst (λ k. SumsUp (known_of family n histories after k) (cells k)) (sym same) here
       | inr other ↦ SumsUp-same (known_of family n histories after p) (cells p) (cell p) (are_after.others p other).0
@@ -278,8 +278,8 @@ module _ (family : Family) (n : ℕ) (histories : ℕ → List Settlement) (appl
             (CellValue-same (cells p) (cell p) (value p) (are_after.others p other).0 (lawful.cell_values p low is_open))
       ];
       over = λ p status low is closed. subst (λ v. FollowsAtStatus status [] v)
-          (sym (are_after.others p (λ same. closed (one_status_in family.profile (class_setup_in family p) status Open is
-          (subst (λ k. HasStatusIn family.profile (class_setup_in family k) Open) (sym same) there_is.1)))).1)
+          (sym (are_after.others p (λ same. closed (one_status family.profile (class_setup family p) status Open is
+          (subst (λ k. HasStatus family.profile (class_setup family k) Open) (sym same) there_is.1)))).1)
           (lawful.over p status low is closed);
       values = value_now;
     }

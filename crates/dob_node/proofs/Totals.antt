@@ -14,19 +14,19 @@ use Rattle.dob_pieces.proofs.MaskWalks.{length-each}
 use Rattle.dob_pieces.proofs.Lists.{head_in}
 use Rattle.dob_moves.specs.declared.game_move.Move.{Move}
 use Rattle.dob_moves.specs.declared.position_status.Status.TheVariants.{Open}
-use Rattle.dob_moves.specs.MoveLists.{moves_of_in}
+use Rattle.dob_moves.specs.MoveLists.{moves_of}
 use Rattle.dob_moves.specs.Outcomes.{moved}
-use Rattle.dob_moves.specs.Statuses.{HasStatusIn}
-use Rattle.dob_moves.proofs.MoveLists.{AreMovesIn-moves_of_in}
-use Rattle.dob_moves.proofs.ProfileMoves.{GoesIn-moved}
-use Rattle.dob_rank.specs.Families.{RepresentsClassIn}
+use Rattle.dob_moves.specs.Statuses.{HasStatus}
+use Rattle.dob_moves.proofs.MoveLists.{AreMoves-moves_of}
+use Rattle.dob_moves.proofs.ProfileMoves.{Goes-moved}
+use Rattle.dob_rank.specs.Families.{RepresentsClass}
 use Rattle.dob_rank.specs.Numbers.{sum_below}
-use Rattle.dob_rank.specs.Families.{classes_in, class_number_in}
-use Rattle.dob_rank.specs.Families.{class_setup_in}
+use Rattle.dob_rank.specs.Families.{classes_of, class_number}
+use Rattle.dob_rank.specs.Families.{class_setup}
 use Rattle.dob_rank.proofs.Sums.{sum_same}
-use Rattle.dob_rank.proofs.Present.{HasClassesIn-classes_in}
-use Rattle.dob_rank.proofs.FamilyNumbers.{class_number_in-below}
-use Rattle.dob_rank.proofs.FamilyRepresentatives.{class_setup_is_in}
+use Rattle.dob_rank.proofs.Present.{HasClasses-classes_of}
+use Rattle.dob_rank.proofs.FamilyNumbers.{class_number-below}
+use Rattle.dob_rank.proofs.FamilyRepresentatives.{class_setup_is}
 use Rattle.dob_value.specs.declared.value.Value.{Value}
 use Rattle.dob_value.specs.declared.value.Value.TheVariants.{Loss, Draw}
 use Rattle.dob_value.specs.Entries.{is_draw}
@@ -95,47 +95,47 @@ length-row f (suc n) =
     length-append (each_below (λ (k : ℕ). f k ∷ []) n) (f n ∷ []) in
     omega arith
 
-module _ (family : Family) (p : ℕ) (low : p < classes_in family) where
+module _ (family : Family) (p : ℕ) (low : p < classes_of family) where
   abbrev setup : Setup
-  setup = class_setup_in family p
+  setup = class_setup family p
 
-  represents : RepresentsClassIn family setup p
-  represents = class_setup_is_in family p (classes_in family) (HasClassesIn-classes_in family) low
+  represents : RepresentsClass family setup p
+  represents = class_setup_is family p (classes_of family) (HasClasses-classes_of family) low
 
-  lead_within : All (λ (m : Move). class_number_in family (turned (moved setup m)) < classes_in family) (moves_of_in family.profile setup)
+  lead_within : All (λ (m : Move). class_number family (turned (moved setup m)) < classes_of family) (moves_of family.profile setup)
   lead_within = λ k d below.
-      let are = AreMovesIn-moves_of_in family.profile setup represents.0.0.of_set.legal.squares in
-      let is = are.sound _ (All-contains_itself (moves_of_in family.profile setup) k d below) in
-      class_number_in-below family _ (moves_keep_the_family family setup _ _ represents.0.0 is.0 (GoesIn-moved family.profile setup _ is.1))
+      let are = AreMoves-moves_of family.profile setup represents.0.0.of_set.legal.squares in
+      let is = are.sound _ (All-contains_itself (moves_of family.profile setup) k d below) in
+      class_number-below family _ (moves_keep_the_family family setup _ _ represents.0.0 is.0 (Goes-moved family.profile setup _ is.1))
 
-  edges-all : sum_below (λ q. edges family p q) (classes_in family) ≡ length (moves_of_in family.profile setup)
+  edges-all : sum_below (λ q. edges family p q) (classes_of family) ≡ length (moves_of family.profile setup)
   unfolding edges
-  edges-all = in_all_places (λ (m : Move). class_number_in family (turned (moved setup m))) (classes_in family) (moves_of_in family.profile setup) lead_within
+  edges-all = in_all_places (λ (m : Move). class_number family (turned (moved setup m))) (classes_of family) (moves_of family.profile setup) lead_within
 
-  copies-edges : (q : ℕ) → q < classes_in family → copies (predecessors family) p q ≡ edges family p q
+  copies-edges : (q : ℕ) → q < classes_of family → copies (predecessors family) p q ≡ edges family p q
   copies-edges q below =
-      times-predecessors family (class_setup_in family q) q (class_setup_is_in family q (classes_in family) (HasClassesIn-classes_in family) below) p low
+      times-predecessors family (class_setup family q) q (class_setup_is family q (classes_of family) (HasClasses-classes_of family) below) p low
 
   -- there is a copy for each move
   pub length-all_known : (n : ℕ) (histories : ℕ → List Settlement) (applied : ℕ → List Item) →
-      length (all_known (predecessors family) (classes_in family) n histories applied p) ≡ length (moves_of_in family.profile setup)
+      length (all_known (predecessors family) (classes_of family) n histories applied p) ≡ length (moves_of family.profile setup)
   unfolding all_known
   length-all_known n histories applied =
       let row : ℕ → List Value =
       λ q. each_below (λ (copy : ℕ). known (histories (owner_of n q)) (applied (owner_of n q)) p q copy ∷ []) (copies (predecessors family) p q) in
-      length-each row (classes_in family)
-      ∙ sum_same (λ q. length (row q)) (λ q. edges family p q) (classes_in family)
+      length-each row (classes_of family)
+      ∙ sum_same (λ q. length (row q)) (λ q. edges family p q) (classes_of family)
       (λ q below. length-row (λ copy. known (histories (owner_of n q)) (applied (owner_of n q)) p q copy) (copies (predecessors family) p q)
       ∙ copies-edges q below)
       ∙ edges-all
 
   -- an open class has a copy at least
-  pub some_known : (n : ℕ) (histories : ℕ → List Settlement) (applied : ℕ → List Item) → HasStatusIn family.profile setup Open →
-      0 < length (all_known (predecessors family) (classes_in family) n histories applied p)
+  pub some_known : (n : ℕ) (histories : ℕ → List Settlement) (applied : ℕ → List Item) → HasStatus family.profile setup Open →
+      0 < length (all_known (predecessors family) (classes_of family) n histories applied p)
   some_known n histories applied is_open =
-      let are = AreMovesIn-moves_of_in family.profile setup represents.0.0.of_set.legal.squares in
+      let are = AreMoves-moves_of family.profile setup represents.0.0.of_set.legal.squares in
       let there = are.whole is_open.2.0 is_open is_open.2.1 in
-      let below : there.0 < length (moves_of_in family.profile setup) = there.1 in
+      let below : there.0 < length (moves_of family.profile setup) = there.1 in
       let whole = length-all_known n histories applied in
       omega arith
 
@@ -177,13 +177,13 @@ no_wins xs plies (suc count) draws is =
     absurd (false≢true (drawn ∙ found.2))
 
 -- a cell with all moves left sums up what is known before anything is applied
-pub start_sums : (family : Family) (p : ℕ) → p < classes_in family → (n : ℕ) (histories : ℕ → List Settlement) (applied : ℕ → List Item) →
+pub start_sums : (family : Family) (p : ℕ) → p < classes_of family → (n : ℕ) (histories : ℕ → List Settlement) (applied : ℕ → List Item) →
     ((i : ℕ) → applied i ≡ []) →
-    SumsUp (all_known (predecessors family) (classes_in family) n histories applied p)
-    (record { left = length (moves_of_in family.profile (class_setup_in family p)); wins = λ _. 0; least = None })
+    SumsUp (all_known (predecessors family) (classes_of family) n histories applied p)
+    (record { left = length (moves_of family.profile (class_setup family p)); wins = λ _. 0; least = None })
 start_sums family p low n histories applied none =
-    let known_list = all_known (predecessors family) (classes_in family) n histories applied p in
-    let draws = all_draws (predecessors family) (classes_in family) n histories applied p none in
+    let known_list = all_known (predecessors family) (classes_of family) n histories applied p in
+    let draws = all_draws (predecessors family) (classes_of family) n histories applied p none in
     record {
       left = sym (count_draws known_list draws ∙ length-all_known family p low n histories applied);
       wins = λ plies. no_wins known_list plies (count_by (λ v. is_win_in plies v) known_list) draws refl;

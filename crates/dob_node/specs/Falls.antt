@@ -3,7 +3,7 @@
 use Rattle.std.specs.Prelude.{◌≡◌, ◌≢◌, ℕ, ◌+◌, ◌<◌, ◌≤◌, List, [], ◌∷◌, Contains, Some}
 use Rattle.std.specs.List.{All, AllPairs}
 use Rattle.dob_pieces.specs.declared.profile.Family.{Family}
-use Rattle.dob_rank.specs.Families.{classes_in}
+use Rattle.dob_rank.specs.Families.{classes_of}
 use Rattle.dob_value.specs.declared.value.Value.{Value}
 use Rattle.dob_value.specs.declared.value.Value.TheVariants.{Win, Loss, Draw}
 use Rattle.dob_value.specs.Bounds.{plies_of}
@@ -46,5 +46,5 @@ pub record IsCellWithin (bound : ℕ) (cell : Cell) : Type 0 where
 -- Each settlement stands first in a fall, and no distance in a history or in a class's cell is above the number of classes.
 pub record HaveFalls (family : Family) (n : ℕ) (histories : ℕ → List Settlement) (cell : ℕ → Cell) : Type 0 where
   pub each : (s : Settlement) → IsSettlement n histories s → (others : List Settlement) × IsFall n histories s others
-  pub settled : (s : Settlement) → IsSettlement n histories s → plies_of s.now ≤ classes_in family
-  pub cells : (class : ℕ) → class < classes_in family → IsCellWithin (classes_in family) (cell class)
+  pub settled : (s : Settlement) → IsSettlement n histories s → plies_of s.now ≤ classes_of family
+  pub cells : (class : ℕ) → class < classes_of family → IsCellWithin (classes_of family) (cell class)

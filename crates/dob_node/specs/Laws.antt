@@ -1,9 +1,9 @@
 -- Laws of histories, of which `src/laws.rt` has one function each.
 use Rattle.std.specs.Prelude.{◌≡◌, ◌≢◌, ℕ, ◌<◌, List, [], length, Some, None, slice_get}
 use Rattle.dob_pieces.specs.declared.profile.Family.{Family}
-use Rattle.dob_moves.specs.MoveLists.{moves_of_in}
-use Rattle.dob_rank.specs.Families.{classes_in}
-use Rattle.dob_rank.specs.Families.{class_setup_in}
+use Rattle.dob_moves.specs.MoveLists.{moves_of}
+use Rattle.dob_rank.specs.Families.{classes_of}
+use Rattle.dob_rank.specs.Families.{class_setup}
 use Rattle.dob_value.specs.declared.value.Value.{Value}
 use Rattle.dob_value.specs.Follows.{IsValueTable}
 use Rattle.dob_unmove.specs.Edges.{predecessors}
@@ -20,8 +20,8 @@ use Rattle.dob_node.specs.Falls.{HaveFalls}
 -- before anything is applied a cell with all the class's moves left sums up what their copies know
 abbrev pub NothingIsKnown : Type 0
 NothingIsKnown = (family : Family) (n : ℕ) (histories : ℕ → List Settlement) (applied : ℕ → ℕ → List Item) (p : ℕ) →
-    p < classes_in family → ((i j : ℕ) → applied i j ≡ []) →
-    SumsUp (known_of family n histories applied p) (record { left = length (moves_of_in family.profile (class_setup_in family p)); wins = λ _. 0; least = None })
+    p < classes_of family → ((i j : ℕ) → applied i j ≡ []) →
+    SumsUp (known_of family n histories applied p) (record { left = length (moves_of family.profile (class_setup family p)); wins = λ _. 0; least = None })
 
 -- the next item fits the cell of its class
 abbrev pub NextItemFits : Type 0
@@ -55,12 +55,12 @@ FallsStay = (family : Family) (n : ℕ) (histories grown : ℕ → List Settleme
 abbrev pub NextItemIsShort : Type 0
 NextItemIsShort = (family : Family) (n : ℕ) (histories : ℕ → List Settlement) (applied : ℕ → ℕ → List Item) (cell : ℕ → Cell) (value : ℕ → Value)
     (i j : ℕ) (item : Item) → 0 < n → i < n → j < n → AreLawfulNodes family n histories applied cell value → HaveFalls family n histories cell →
-    IsNextItem family n histories applied i j item → classes_in family < 65535 → ¬ IsTooDeep (changed item.was item.now (cell item.to))
+    IsNextItem family n histories applied i j item → classes_of family < 65535 → ¬ IsTooDeep (changed item.was item.now (cell item.to))
 
 -- where all items are applied, the values are the value table
 abbrev pub LawfulIsRight : Type 0
 LawfulIsRight = (family : Family) (n : ℕ) (histories : ℕ → List Settlement) (applied : ℕ → ℕ → List Item) (cell : ℕ → Cell) (value : ℕ → Value)
     (openings : List Opening) (values : List Value) → 0 < n → AreOpenings family openings → AreLawfulNodes family n histories applied cell value →
     ((i j : ℕ) → i < n → j < n → applied i j ≡ items_from (predecessors family) n j (histories i)) →
-    length values ≡ classes_in family → ((class : ℕ) → class < classes_in family → slice_get values class ≡ Some (value class)) →
+    length values ≡ classes_of family → ((class : ℕ) → class < classes_of family → slice_get values class ≡ Some (value class)) →
     IsValueTable family values

@@ -3,22 +3,22 @@ use Rattle.std.specs.Prelude.{◌≡◌, ℕ, List, length, Some, slice_get}
 use Rattle.dob_pieces.specs.declared.profile.Family.{Family}
 use Rattle.dob_pieces.specs.declared.profile.Profile.{Profile}
 use Rattle.dob_pieces.specs.declared.setup.Setup.{Setup}
-use Rattle.dob_moves.specs.MoveLists.{moves_of_in}
-use Rattle.dob_moves.specs.Statuses.{HasStatusIn}
-use Rattle.dob_rank.specs.Families.{classes_in}
-use Rattle.dob_rank.specs.Families.{class_setup_in}
+use Rattle.dob_moves.specs.MoveLists.{moves_of}
+use Rattle.dob_moves.specs.Statuses.{HasStatus}
+use Rattle.dob_rank.specs.Families.{classes_of}
+use Rattle.dob_rank.specs.Families.{class_setup}
 use Rattle.dob_share.specs.declared.opening.Opening.{Opening}
 
 -- the position's status and number of moves
 pub record IsOpening (profile : Profile) (p : Setup) (given : Opening) : Type 0 where
-  pub status : HasStatusIn profile p given.status
-  pub moves : given.moves ≡ length (moves_of_in profile p)
+  pub status : HasStatus profile p given.status
+  pub moves : given.moves ≡ length (moves_of profile p)
 
 -- those of the representatives of the classes below a number, in their order
 pub record AreOpeningsBelow (family : Family) (upto : ℕ) (openings : List Opening) : Type 0 where
   pub whole : length openings ≡ upto
-  pub each : (class : ℕ) (given : Opening) → slice_get openings class ≡ Some given → IsOpening family.profile (class_setup_in family class) given
+  pub each : (class : ℕ) (given : Opening) → slice_get openings class ≡ Some given → IsOpening family.profile (class_setup family class) given
 
 -- those of all classes
 abbrev pub AreOpenings : Family → List Opening → Type 0
-AreOpenings family openings = AreOpeningsBelow family (classes_in family) openings
+AreOpenings family openings = AreOpeningsBelow family (classes_of family) openings

@@ -4,12 +4,12 @@ use Rattle.dob_pieces.specs.declared.profile.Family.{Family}
 use Rattle.dob_pieces.specs.declared.setup.Setup.{Setup}
 use Rattle.dob_moves.specs.declared.position_status.Status.{Status}
 use Rattle.dob_moves.specs.declared.position_status.Status.TheVariants.{Caught, Tried, Stuck, Open}
-use Rattle.dob_moves.specs.Statuses.{HasStatusIn}
-use Rattle.dob_rank.specs.Families.{classes_in}
+use Rattle.dob_moves.specs.Statuses.{HasStatus}
+use Rattle.dob_rank.specs.Families.{classes_of}
 use Rattle.dob_value.specs.declared.value.Value.{Value}
 use Rattle.dob_value.specs.declared.value.Value.TheVariants.{Win, Loss, Draw}
 use Rattle.dob_value.specs.Follows.{IsEntry, IsValueTable}
-use Rattle.dob_unmove.specs.Classes.{RepresentsClassIn}
+use Rattle.dob_unmove.specs.Classes.{RepresentsClass}
 use Rattle.dob_unmove.specs.Edges.{predecessors}
 use Rattle.dob_share.specs.declared.news.Settlement.{Settlement}
 use Rattle.dob_share.specs.declared.news.Item.{Item}
@@ -45,15 +45,15 @@ pub record IsQuiet (family : Family) (targets : ℕ → List ℕ) (n : ℕ) (his
   pub nothing_to_expand : (i : ℕ) → i < n → expanded i ≡ length (histories i)
   pub nothing_to_send : (i j : ℕ) → i < n → j < n → sent i j ≡ items_from targets n j (take (expanded i) (histories i))
   pub nothing_waits : (i j : ℕ) → i < n → j < n → applied i j ≡ sent i j
-  pub values : (p : Setup) (class : ℕ) → RepresentsClassIn family p class → (status : Status) × HasStatusIn family.profile p status
-      × FollowsAtStatus status (all_known targets (classes_in family) n histories (λ i. applied i (owner_of n class)) class)
+  pub values : (p : Setup) (class : ℕ) → RepresentsClass family p class → (status : Status) × HasStatus family.profile p status
+      × FollowsAtStatus status (all_known targets (classes_of family) n histories (λ i. applied i (owner_of n class)) class)
       (value_of (histories (owner_of n class)) class)
 
 -- the values of the classes, in order, by the histories of their owners
 pub record AreGathered (family : Family) (n : ℕ) (histories : ℕ → List Settlement) (values : List Value) : Type 0 where
-  pub whole : length values ≡ classes_in family
+  pub whole : length values ≡ classes_of family
   pub entries : All IsEntry values
-  pub each : (class : ℕ) → class < classes_in family → slice_get values class ≡ Some (value_of (histories (owner_of n class)) class)
+  pub each : (class : ℕ) → class < classes_of family → slice_get values class ≡ Some (value_of (histories (owner_of n class)) class)
 
 -- quiet nodes hold the value table
 abbrev pub QuietIsRight : Type 0

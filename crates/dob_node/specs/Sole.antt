@@ -1,9 +1,9 @@
 -- One node that owns all classes, and its way to the value table.
 use Rattle.std.specs.Prelude.{◌≡◌, ℕ, zero, suc, ◌+◌, ◌<◌, ◌≤◌, ◌⊎◌, nat_lt, cond, List, [], ◌++◌, length, take}
 use Rattle.dob_pieces.specs.declared.profile.Family.{Family}
-use Rattle.dob_moves.specs.Statuses.{HasStatusIn}
-use Rattle.dob_rank.specs.Families.{classes_in}
-use Rattle.dob_rank.specs.Families.{class_setup_in}
+use Rattle.dob_moves.specs.Statuses.{HasStatus}
+use Rattle.dob_rank.specs.Families.{classes_of}
+use Rattle.dob_rank.specs.Families.{class_setup}
 use Rattle.dob_unmove.specs.Edges.{predecessors}
 use Rattle.dob_share.specs.declared.news.Settlement.{Settlement}
 use Rattle.dob_share.specs.declared.news.Item.{Item}
@@ -45,11 +45,11 @@ cells_below classes share class = cond (nat_lt class classes) (cell_at share cla
 pub record IsSole (node : Node) (applied : List Item) : Type 0 where
   pub sound : IsSound node
   pub alone : (node.n ≡ 1) × (node.id ≡ 0)
-  pub statuses : (class : ℕ) → class < classes_in node.family → HasStatusIn node.family.profile (class_setup_in node.family class) (status_at node.share class)
+  pub statuses : (class : ℕ) → class < classes_of node.family → HasStatus node.family.profile (class_setup node.family class) (status_at node.share class)
   pub emitted : sole_items node.family (take node.expanded node.history.settlements) ≡ applied ++ node.own.items
   pub lawful : AreLawfulNodes node.family 1 (sole_history node.history.settlements) (sole_applied applied)
-      (cells_below (classes_in node.family) node.share) (value_of node.history.settlements)
-  pub falls : HaveFalls node.family 1 (sole_history node.history.settlements) (cells_below (classes_in node.family) node.share)
+      (cells_below (classes_of node.family) node.share) (value_of node.history.settlements)
+  pub falls : HaveFalls node.family 1 (sole_history node.history.settlements) (cells_below (classes_of node.family) node.share)
 
 -- the one node as it is opened, before its first step
 abbrev pub IsBegun : Family → Node → Type 0

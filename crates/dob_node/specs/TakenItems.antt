@@ -2,7 +2,7 @@
 use Rattle.std.specs.Prelude.{◌≡◌, ◌≢◌, ℕ, ◌%◌, ◌^◌, ◌<◌, ◌≤◌, ◌↔◌, List, [], ◌∷◌, ◌++◌, length, Option, None, Some}
 use Rattle.std.specs.List.{All}
 use Rattle.dob_pieces.specs.declared.profile.Family.{Family}
-use Rattle.dob_rank.specs.Families.{classes_in}
+use Rattle.dob_rank.specs.Families.{classes_of}
 use Rattle.dob_value.specs.Follows.{IsEntry}
 use Rattle.dob_share.specs.declared.news.Settlement.{Settlement}
 use Rattle.dob_share.specs.declared.news.Item.{Item}
@@ -29,10 +29,10 @@ pub record AreKept (family : Family) (n id : ℕ) (share : Share) (history : His
   pub share_is : (share.n ≡ n) × (share.id ≡ id)
   pub history_is : (history.n ≡ n) × (history.id ≡ id)
   pub one_of_n : id < n
-  pub few : classes_in family ≤ 2 ^ 32
-  pub owned : (class : ℕ) → IsOwn share class ↔ ((owner_of n class ≡ id) × (class < classes_in family))
+  pub few : classes_of family ≤ 2 ^ 32
+  pub owned : (class : ℕ) → IsOwn share class ↔ ((owner_of n class ≡ id) × (class < classes_of family))
   pub counted : share.settled ≡ length history.settlements
-  pub classes : All (λ (s : Settlement). s.class < classes_in family) history.settlements
+  pub classes : All (λ (s : Settlement). s.class < classes_of family) history.settlements
   pub parities : (class : ℕ) → IsOwn share class → HasParities (cell_at share class)
 
 -- the settlement, where there is one

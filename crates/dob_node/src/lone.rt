@@ -1,7 +1,7 @@
 // One node that owns all classes of a family, and makes its value table alone.
 ghost use Rattle.std.specs.Prelude.{◌≡◌, ℕ, ◌+◌, ◌<◌, ◌≤◌, ◌↔◌, ◌⊎◌, true, false, None, Err, IfOk, IfErr, IfSome, OnOk, IsErrOf};
 ghost use Rattle.dob_pieces.specs.declared.profile.Family.{Family as Set};
-ghost use Rattle.dob_rank.specs.Families.{classes_in};
+ghost use Rattle.dob_rank.specs.Families.{classes_of};
 ghost use Rattle.dob_rank.specs.Limits.{IsTooLarge};
 ghost use Rattle.dob_value.specs.Follows.{IsValueTable};
 ghost use Rattle.dob_share.specs.Shares.{IsOwn, HasValueNow};
@@ -13,7 +13,7 @@ use crate::cause::{Cause, Fault};
 use crate::node::Node;
 use crate::openings::opening;
 use dob_pieces::{Family, Memory};
-use dob_rank::{FamilyClasses, SegmentLength, is_too_large};
+use dob_rank::{Classes, SegmentLength, is_too_large};
 use dob_value::{Table, Value};
 use std::alloc::Global;
 
@@ -26,7 +26,7 @@ use std::alloc::Global;
 pub fn alone(alloc: Global, family: Family, limit: u64) -> Result<Option<Table>, Fault>
     ensures too_large { IsErrOf result Fault.SetTooLarge ↔ IsTooLarge family.set }
     ensures too_deep { result ≡ Err Fault.TooDeep → IsTooDeepWithin family limit }
-    ensures few { classes_in family < 65535 → ¬ (result ≡ Err Fault.TooDeep) }
+    ensures few { classes_of family < 65535 → ¬ (result ≡ Err Fault.TooDeep) }
     ensures fits { (class : ℕ) → ¬ (result ≡ Err (Fault.Contradiction class)) }
     ensures family { IfOk result (λ given. IfSome given (λ table. table.family ≡ family)) }
     ensures table { IfOk result (λ given. IfSome given (λ table. IsValueTable family table.values)) }
@@ -36,7 +36,7 @@ pub fn alone(alloc: Global, family: Family, limit: u64) -> Result<Option<Table>,
     if is_too_large(family.set) {
         return Err(Fault::SetTooLarge);
     }
-    let classes = FamilyClasses::open(alloc, family)?;
+    let classes = Classes::open(alloc, family)?;
     let node = begin(alloc, &classes, family)?;
     let Some(ended) = finish(node, &classes, limit)? else {
         return Ok(None);
@@ -46,7 +46,7 @@ pub fn alone(alloc: Global, family: Family, limit: u64) -> Result<Option<Table>,
 }
 
 // The node of all classes, before its first step.
-fn begin(alloc: Global, classes: &FamilyClasses, family: Family) -> Result<Node, Memory>
+fn begin(alloc: Global, classes: &Classes, family: Family) -> Result<Node, Memory>
     requires { classes.now.family ≡ family }
     ensures family { IfOk result (λ node. node.family ≡ family) }
     ensures made { IfOk result (λ node. HasMade 0 node) }
@@ -57,7 +57,7 @@ fn begin(alloc: Global, classes: &FamilyClasses, family: Family) -> Result<Node,
 }
 
 // The node when it has nothing left to do, after steps up to that many. `None` where it has something left after them.
-fn finish(mut node: Node, classes: &FamilyClasses, limit: u64) -> Result<Option<Node>, Fault>
+fn finish(mut node: Node, classes: &Classes, limit: u64) -> Result<Option<Node>, Fault>
     requires family { classes.now.family ≡ node.family }
     requires begun { HasMade 0 node }
     requires going { node.failed ≡ None }
@@ -79,7 +79,7 @@ fn finish(mut node: Node, classes: &FamilyClasses, limit: u64) -> Result<Option<
 }
 
 // The table of the values that the node has come to.
-fn table_of(alloc: Global, node: Node, classes: FamilyClasses) -> Result<Table, Memory>
+fn table_of(alloc: Global, node: Node, classes: Classes) -> Result<Table, Memory>
     requires family { classes.family ≡ node.family }
     requires made { (steps : ℕ) × HasMade steps node }
     requires done { IsDone node }
@@ -107,7 +107,7 @@ fn fault_of(why: Cause) -> Fault
 }
 
 // One step of the node: the first own item, or where there is none the next expansion. False where it is idle.
-fn step(node: &mut Node, classes: &FamilyClasses) -> Result<bool, Cause>
+fn step(node: &mut Node, classes: &Classes) -> Result<bool, Cause>
     requires family { classes.now.family ≡ node.old.family }
     requires sound { IsSound node.old }
     requires going { node.old.failed ≡ None }
@@ -124,7 +124,7 @@ fn step(node: &mut Node, classes: &FamilyClasses) -> Result<bool, Cause>
 }
 
 // Steps of the node, up to that many.
-fn make_steps(node: &mut Node, classes: &FamilyClasses, limit: u64) -> Result<(), Cause>
+fn make_steps(node: &mut Node, classes: &Classes, limit: u64) -> Result<(), Cause>
     requires family { classes.now.family ≡ node.old.family }
     requires opened { HasMade 0 node.old }
     requires going { node.old.failed ≡ None }

@@ -16,7 +16,7 @@ use crate::outboxes::{add_for_others, are_empty, cut_at, empty_outboxes};
 use crate::taking::take_items;
 use dob_moves::Status;
 use dob_pieces::{Family, Memory};
-use dob_rank::{FamilyClasses, Segments};
+use dob_rank::{Classes, Segments};
 use dob_share::{Item, Opening, Settlement, Share, opening_at, owner};
 use dob_unmove::back_into;
 use dob_update::{Batch, Outbox, item_for};
@@ -101,7 +101,7 @@ impl Node {
     /// other nodes' classes are to be sent. False where there is none.
     ///
     /// Error: `Memory`, by which the node fails and stays as it was.
-    pub fn expand(&mut self, classes: &FamilyClasses) -> Result<bool, Cause>
+    pub fn expand(&mut self, classes: &Classes) -> Result<bool, Cause>
         requires family { classes.now.family ≡ self.old.family }
         requires sound { IsSound self.old }
         requires going { self.old.failed ≡ None }
@@ -121,7 +121,7 @@ impl Node {
     }
 
     // As `expand`, but that the node doesn't fail.
-    fn expand_next(&mut self, classes: &FamilyClasses) -> Result<bool, Cause>
+    fn expand_next(&mut self, classes: &Classes) -> Result<bool, Cause>
         requires family { classes.now.family ≡ self.old.family }
         requires sound { IsSound self.old }
         ensures done { (result ≡ Ok false) ↔ (self.old.expanded ≡ length self.old.history.settlements) }

@@ -1,12 +1,12 @@
 // What is known of each class before anything is settled: its status and its number of moves.
 ghost use Rattle.std.specs.Prelude.{◌<◌, IfOk};
-ghost use Rattle.dob_rank.specs.Families.{classes_in};
-ghost use Rattle.dob_rank.specs.Families.{class_setup_in};
+ghost use Rattle.dob_rank.specs.Families.{classes_of};
+ghost use Rattle.dob_rank.specs.Families.{class_setup};
 ghost use Rattle.dob_node.specs.Openings.{IsOpening, AreOpenings};
 
-use dob_moves::status_and_count_in;
+use dob_moves::status_and_count;
 use dob_pieces::{Memory, Position, Profile};
-use dob_rank::{FamilyClasses, SegmentLength, Segments};
+use dob_rank::{Classes, SegmentLength, Segments};
 use dob_share::Opening;
 use std::alloc::Global;
 
@@ -14,14 +14,14 @@ use std::alloc::Global;
 pub(crate) fn opening_of(profile: Profile, position: &Position) -> Opening
     ensures { IsOpening profile position.now.setup result }
 {
-    let (status, moves) = status_and_count_in(profile, position);
+    let (status, moves) = status_and_count(profile, position);
     Opening { status, moves }
 }
 
 /// The status and the number of moves of the class of that number.
-pub fn opening_in(classes: &FamilyClasses, class: u64) -> Opening
-    requires { class < classes_in classes.now.family }
-    ensures { IsOpening classes.now.family.profile (class_setup_in classes.now.family class) result }
+pub fn opening_in(classes: &Classes, class: u64) -> Opening
+    requires { class < classes_of classes.now.family }
+    ensures { IsOpening classes.now.family.profile (class_setup classes.now.family class) result }
 {
     opening_of(classes.family.profile, &classes.class_at(class))
 }
@@ -32,7 +32,7 @@ pub fn opening_in(classes: &FamilyClasses, class: u64) -> Opening
 #[tactic(auto, using(crate::proofs::Starts::openings_none, crate::proofs::Starts::openings_more))]
 pub fn opening(
     alloc: Global,
-    classes: &FamilyClasses,
+    classes: &Classes,
     segment_length: SegmentLength,
 ) -> Result<Segments<Opening>, Memory>
     ensures { IfOk result (λ openings. AreOpenings classes.now.family openings) }

@@ -5,9 +5,9 @@ use Rattle.std.proofs.lemmas.Bool.{cases_lt}
 use Rattle.dob_pieces.specs.declared.setup.Setup.{Setup}
 use Rattle.dob_moves.specs.declared.game_move.Move.{Move}
 use Rattle.dob_moves.specs.declared.position_status.Status.TheVariants.{Open}
-use Rattle.dob_moves.specs.Moves.{GoesIn}
-use Rattle.dob_moves.specs.Statuses.{CanCatch, HasStatusIn}
-use Rattle.dob_rank.specs.Families.{IsPositionIn}
+use Rattle.dob_moves.specs.Moves.{Goes}
+use Rattle.dob_moves.specs.Statuses.{CanCatch, HasStatus}
+use Rattle.dob_rank.specs.Families.{IsPositionOf}
 use Rattle.dob_value.specs.declared.value.Value.{Value}
 use Rattle.dob_value.specs.declared.value.Value.TheVariants.{Win, Loss, Draw}
 use Rattle.dob_value.specs.Values.{Won, Lost, HasValue}
@@ -22,19 +22,19 @@ use Rattle.dob_probe.specs.Faults.{IsFaultOfLine}
 use Rattle.dob_probe.specs.Laws.{LinesAreBest, NoneBreaks}
 
 module _ (table : ClassTable) (right : IsValueTable table.family table.values) where
-  pub to_value : (p : Setup) (v : Value) → IsPositionIn table.family p → GivenBy table p v → HasValue table.family.profile p v
+  pub to_value : (p : Setup) (v : Value) → IsPositionOf table.family p → GivenBy table p v → HasValue table.family.profile p v
   to_value p v is given = right.values_are p v is given
 
-  pub of_value : (p : Setup) (v : Value) → IsPositionIn table.family p → HasValue table.family.profile p v → GivenBy table p v
+  pub of_value : (p : Setup) (v : Value) → IsPositionOf table.family p → HasValue table.family.profile p v → GivenBy table p v
   of_value p v is value =
       let given = right.known p is in
       let same = at_most_one_value table.family.profile p given.0 v (to_value p given.0 is given.1) value in
       subst (λ w. GivenBy table p w) same given.1
 
-  after : (p : Setup) (m : Move) (q : Setup) → IsPositionIn table.family p → HasStatusIn table.family.profile p Open → GoesIn table.family.profile p m q → IsPositionIn table.family q
+  after : (p : Setup) (m : Move) (q : Setup) → IsPositionOf table.family p → HasStatus table.family.profile p Open → Goes table.family.profile p m q → IsPositionOf table.family q
   after p m q is goes_on goes = moves_keep_the_family table.family p m q is goes_on goes
 
-  leads_by_value : (p : Setup) (wanted : Value) (m : Move) (q : Setup) → IsPositionIn table.family p → LeadsTo table.family.profile (GivenBy table) p wanted m q →
+  leads_by_value : (p : Setup) (wanted : Value) (m : Move) (q : Setup) → IsPositionOf table.family p → LeadsTo table.family.profile (GivenBy table) p wanted m q →
       LeadsTo table.family.profile (HasValue table.family.profile) p wanted m q
   leads_by_value p wanted m q is leads = record {
     goes_on = leads.goes_on;
@@ -42,7 +42,7 @@ module _ (table : ClassTable) (right : IsValueTable table.family table.values) w
     has = to_value q wanted (after p m q is leads.goes_on leads.goes) leads.has;
   }
 
-  leads_by_table : (p : Setup) (wanted : Value) (m : Move) (q : Setup) → IsPositionIn table.family p → LeadsTo table.family.profile (HasValue table.family.profile) p wanted m q →
+  leads_by_table : (p : Setup) (wanted : Value) (m : Move) (q : Setup) → IsPositionOf table.family p → LeadsTo table.family.profile (HasValue table.family.profile) p wanted m q →
       LeadsTo table.family.profile (GivenBy table) p wanted m q
   leads_by_table p wanted m q is leads = record {
     goes_on = leads.goes_on;
@@ -50,7 +50,7 @@ module _ (table : ClassTable) (right : IsValueTable table.family table.values) w
     has = of_value q wanted (after p m q is leads.goes_on leads.goes) leads.has;
   }
 
-  goes_on_by_value : (p : Setup) (wanted : Value) → IsPositionIn table.family p → GoesOnTo (GivenBy table) p wanted → GoesOnTo (HasValue table.family.profile) p wanted
+  goes_on_by_value : (p : Setup) (wanted : Value) → IsPositionOf table.family p → GoesOnTo (GivenBy table) p wanted → GoesOnTo (HasValue table.family.profile) p wanted
   goes_on_by_value p wanted is goes_on = record {
     no_catch = goes_on.no_catch;
     value = goes_on.value;
@@ -58,7 +58,7 @@ module _ (table : ClassTable) (right : IsValueTable table.family table.values) w
     next = goes_on.next;
   }
 
-  continues_by_value : (p : Setup) (m : Move) (q : Setup) → IsPositionIn table.family p → Continues table.family.profile (GivenBy table) p m q → Continues table.family.profile (HasValue table.family.profile) p m q
+  continues_by_value : (p : Setup) (m : Move) (q : Setup) → IsPositionOf table.family p → Continues table.family.profile (GivenBy table) p m q → Continues table.family.profile (HasValue table.family.profile) p m q
   continues_by_value p m q is next = (
     next.0,
     goes_on_by_value p next.0 is next.1,
@@ -68,7 +68,7 @@ module _ (table : ClassTable) (right : IsValueTable table.family table.values) w
     },
   )
 
-  pub best : (moves : List Move) (p : Setup) → IsPositionIn table.family p → IsLine table.family.profile (GivenBy table) p moves → IsLine table.family.profile (HasValue table.family.profile) p moves
+  pub best : (moves : List Move) (p : Setup) → IsPositionOf table.family p → IsLine table.family.profile (GivenBy table) p moves → IsLine table.family.profile (HasValue table.family.profile) p moves
   best [] p is ends = record {
     no_catch = ends.no_catch;
     value = ends.value;
@@ -98,7 +98,7 @@ module _ (table : ClassTable) (right : IsValueTable table.family table.values) w
   win_of n q (Loss e) value won = absurd (won_not_lost table.family.profile n e q won value.0)
   win_of n q Draw value won = absurd ((value n).0 won)
 
-  win_goes_on : (n : ℕ) (p : Setup) → IsPositionIn table.family p → ¬ CanCatch p → HasValue table.family.profile p (Win n)
+  win_goes_on : (n : ℕ) (p : Setup) → IsPositionOf table.family p → ¬ CanCatch p → HasValue table.family.profile p (Win n)
       → ((m : Move) (q : Setup) → ¬ LeadsTo table.family.profile (HasValue table.family.profile) p (Loss (n - 1)) m q) → ⊥
   win_goes_on zero p is no_catch value none = value.0
   win_goes_on (suc n) p is no_catch value none = elim value.0 [
@@ -121,13 +121,13 @@ module _ (table : ClassTable) (right : IsValueTable table.family table.values) w
         })
   ]
 
-  loss_goes_on : (n : ℕ) (p : Setup) → IsPositionIn table.family p → HasValue table.family.profile p (Loss (suc n)) → ((m : Move) (q : Setup) → ¬ LeadsTo table.family.profile (HasValue table.family.profile) p (Win n) m q) → ⊥
+  loss_goes_on : (n : ℕ) (p : Setup) → IsPositionOf table.family p → HasValue table.family.profile p (Loss (suc n)) → ((m : Move) (q : Setup) → ¬ LeadsTo table.family.profile (HasValue table.family.profile) p (Win n) m q) → ⊥
   loss_goes_on n p is value none = elim value.0 [
     | inl over ↦ let bound : suc n ≤ 0 = value.1 0 over in absurd (omega arith)
     | inr open_loss ↦ by_depth n open_loss.0 open_loss.1 value.1 none
   ]
     where
-      by_depth : (n : ℕ) → HasStatusIn table.family.profile p Open → ((m : Move) (q : Setup) → GoesIn table.family.profile p m q → Won table.family.profile n q) → ((e : ℕ) → Lost table.family.profile e p → suc n ≤ e) →
+      by_depth : (n : ℕ) → HasStatus table.family.profile p Open → ((m : Move) (q : Setup) → Goes table.family.profile p m q → Won table.family.profile n q) → ((e : ℕ) → Lost table.family.profile e p → suc n ≤ e) →
           ((m : Move) (q : Setup) → ¬ LeadsTo table.family.profile (HasValue table.family.profile) p (Win n) m q) → ⊥
       by_depth zero goes_on all least none = let move = goes_on.2 in all move.0 move.1.0 move.1.1
       by_depth (suc k) goes_on all least none =
@@ -153,7 +153,7 @@ module _ (table : ClassTable) (right : IsValueTable table.family table.values) w
           let bound : suc (suc k) ≤ suc k = least (suc k) lost in
           absurd (omega arith)
 
-  goes_on_by : (v wanted : Value) (p : Setup) → IsPositionIn table.family p → ¬ CanCatch p → HasValue table.family.profile p v → value_wanted v ≡ Some wanted →
+  goes_on_by : (v wanted : Value) (p : Setup) → IsPositionOf table.family p → ¬ CanCatch p → HasValue table.family.profile p v → value_wanted v ≡ Some wanted →
       ((m : Move) (q : Setup) → ¬ LeadsTo table.family.profile (HasValue table.family.profile) p wanted m q) → ⊥
   goes_on_by (Win n) wanted p is no_catch value next none =
       let same : wanted ≡ Loss (n - 1) = cc in
@@ -164,13 +164,13 @@ module _ (table : ClassTable) (right : IsValueTable table.family table.values) w
       loss_goes_on n p is value (subst (λ w. (m : Move) (q : Setup) → ¬ LeadsTo table.family.profile (HasValue table.family.profile) p w m q) same none)
   goes_on_by Draw wanted p is no_catch value next none = let never : None ≡ Some wanted = next in absurd (cc)
 
-  lacks_none : (p : Setup) → IsPositionIn table.family p → ¬ LacksMove table.family.profile (GivenBy table) p
+  lacks_none : (p : Setup) → IsPositionOf table.family p → ¬ LacksMove table.family.profile (GivenBy table) p
   lacks_none p is lacks =
       let goes_on = lacks.1 in
       goes_on_by goes_on.value lacks.0 p is goes_on.no_catch (to_value p goes_on.value is goes_on.has) goes_on.next
       (λ m q leads. lacks.2 m q (leads_by_table p lacks.0 m q is leads))
 
-  none_breaks_after : (ms : List Move) (p q : Setup) → IsPositionIn table.family p → Begins table.family.profile (GivenBy table) p ms q → ¬ LacksMove table.family.profile (GivenBy table) q
+  none_breaks_after : (ms : List Move) (p q : Setup) → IsPositionOf table.family p → Begins table.family.profile (GivenBy table) p ms q → ¬ LacksMove table.family.profile (GivenBy table) q
   none_breaks_after [] p q is same lacks = lacks_none p is (subst (LacksMove table.family.profile (GivenBy table)) (sym same) lacks)
   none_breaks_after (m ∷ ms) p q is begins lacks =
       let next = begins.1.2.leads in
@@ -185,7 +185,7 @@ none_breaks table p class right is breaks = none_breaks_after table right breaks
 -- what a consistent table's line is, whatever came of it
 pub best_answered : {T : Type 0} (moves_of : T → List Move) (table : ClassTable) (p : Setup) (result : Result T Fault) →
     IfOk result (λ t. IsLine table.family.profile (GivenBy table) p (moves_of t)) → IfErr result (IsFaultOfLine table p) →
-    IsConsistent table.family table.values → IsPositionIn table.family p →
+    IsConsistent table.family table.values → IsPositionOf table.family p →
     MatchResult result (λ t. IsLine table.family.profile (HasValue table.family.profile) p (moves_of t)) (λ fault. fault ≡ Memory)
 best_answered moves_of table p (Ok t) line fault consistent is =
     lines_are_best table p (moves_of t) (consistent_is_right table.family table.values consistent) is line

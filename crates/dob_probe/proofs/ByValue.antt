@@ -10,9 +10,9 @@ use Rattle.dob_pieces.specs.declared.profile.Profile.{Profile}
 use Rattle.dob_pieces.specs.declared.setup.Setup.{Setup}
 use Rattle.dob_moves.specs.declared.game_move.Move.{Move}
 use Rattle.dob_moves.specs.declared.position_status.Status.TheVariants.{Open}
-use Rattle.dob_moves.specs.Moves.{GoesIn, CanGoIn, place}
-use Rattle.dob_moves.specs.Statuses.{CanCatch, HasStatusIn, AreMovesIn}
-use Rattle.dob_rank.specs.Families.{IsPositionIn}
+use Rattle.dob_moves.specs.Moves.{Goes, CanGo, place}
+use Rattle.dob_moves.specs.Statuses.{CanCatch, HasStatus, AreMoves}
+use Rattle.dob_rank.specs.Families.{IsPositionOf}
 use Rattle.dob_value.specs.declared.value.Value.{Value}
 use Rattle.dob_value.specs.declared.value.Value.TheVariants.{Win, Loss, Draw}
 use Rattle.dob_value.specs.Values.{HasValue}
@@ -193,7 +193,7 @@ listed_none profile Has p choices = record {
 
 -- each listed move stands before the next of the list of moves
 pub listed_earlier : (profile : Profile) (Has : Setup → Value → Type 0) (p : Setup) (choices : List Move) (upto : ℕ) (list : List ValuedMove) (choice : Move) →
-    AreMovesIn profile p choices → upto < length choices → slice_get choices upto ≡ Some choice → AreListed profile Has p choices upto list →
+    AreMoves profile p choices → upto < length choices → slice_get choices upto ≡ Some choice → AreListed profile Has p choices upto list →
     (valued : ValuedMove) → Contains list valued → place valued.choice < place choice
 listed_earlier profile Has p choices upto list choice are within here listed valued there =
     let earlier = (listed.sound valued there).1 in
@@ -212,9 +212,9 @@ listed_earlier profile Has p choices upto list choice are within here listed val
 same_valued : (a b : ValuedMove) → a.choice ≡ b.choice → a.value ≡ b.value → a ≡ b
 same_valued a b choice value = λ i. record { choice = choice i; value = value i }
 
-module _ (table : ClassTable) (p : Setup) (member : IsPositionIn table.family p) (choices : List Move) where
+module _ (table : ClassTable) (p : Setup) (member : IsPositionOf table.family p) (choices : List Move) where
   pub listed_more : (upto : ℕ) (list new : List ValuedMove) (more : ValuedMove) (value : Value) → slice_get choices upto ≡ Some more.choice →
-      HasStatusIn table.family.profile p Open → CanGoIn table.family.profile p more.choice → ((q : Setup) → GoesIn table.family.profile p more.choice q → GivenBy table q value) →
+      HasStatus table.family.profile p Open → CanGo table.family.profile p more.choice → ((q : Setup) → Goes table.family.profile p more.choice q → GivenBy table q value) →
       more.value ≡ seen_from_before value → ((x : ValuedMove) → Contains new x ↔ (Contains list x ⊎ (x ≡ more))) → AllPairs ComesBefore new →
       AreListed table.family.profile (GivenBy table) p choices upto list → AreListed table.family.profile (GivenBy table) p choices (upto + 1) new
   listed_more upto list new more value here goes_on can_go given seen has ordered before = record {
@@ -241,7 +241,7 @@ module _ (table : ClassTable) (p : Setup) (member : IsPositionIn table.family p)
           let same : upto ≡ index = omega arith in
           let here_too : slice_get choices index ≡ Some more.choice = subst (λ k. slice_get choices k ≡ Some more.choice) same here in
           let choice : valued.choice ≡ more.choice = same_Some valued.choice more.choice (sym there ∙ here_too) in
-          let goes : GoesIn table.family.profile p more.choice known.outcome = subst (λ m. GoesIn table.family.profile p m known.outcome) choice known.goes in
+          let goes : Goes table.family.profile p more.choice known.outcome = subst (λ m. Goes table.family.profile p m known.outcome) choice known.goes in
           let inside = moves_keep_the_family table.family p valued.choice known.outcome member goes_on known.goes in
           let one : known.value ≡ value = one_given table known.outcome known.value value inside known.has (given known.outcome goes) in
           (has valued).1 (inr (same_valued valued more choice (known.seen ∙ ap seen_from_before one ∙ sym seen)))
@@ -250,7 +250,7 @@ module _ (table : ClassTable) (p : Setup) (member : IsPositionIn table.family p)
   }
 
 pub listed_all : (profile : Profile) (Has : Setup → Value → Type 0) (p : Setup) (choices : List Move) (upto : ℕ) (list : List ValuedMove) → (¬ CanCatch p) →
-    AreMovesIn profile p choices → length choices ≤ upto → AreListed profile Has p choices upto list → AreValuedMoves profile Has p list
+    AreMoves profile p choices → length choices ≤ upto → AreListed profile Has p choices upto list → AreValuedMoves profile Has p list
 listed_all profile Has p choices upto list free are all listed = record {
   sound = λ valued there. inr (listed.sound valued there).0;
   caught = λ catch. absurd (free catch);
@@ -265,7 +265,7 @@ listed_all profile Has p choices upto list free are all listed = record {
 
 -- ---- by the value table the values are the right ones
 
-module _ (table : ClassTable) (right : IsValueTable table.family table.values) (p : Setup) (is : IsPositionIn table.family p) where
+module _ (table : ClassTable) (right : IsValueTable table.family table.values) (p : Setup) (is : IsPositionOf table.family p) where
   by_value : (valued : ValuedMove) → HasMoveValue table.family.profile (GivenBy table) p valued → HasMoveValue table.family.profile (HasValue table.family.profile) p valued
   by_value valued has = record {
     goes_on = has.goes_on;

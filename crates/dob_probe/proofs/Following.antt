@@ -5,31 +5,31 @@ use Rattle.dob_pieces.specs.declared.setup.Setup.{Setup}
 use Rattle.dob_moves.specs.declared.game_move.Move.{Move}
 use Rattle.dob_moves.specs.declared.position_status.Status.{Status}
 use Rattle.dob_moves.specs.declared.position_status.Status.TheVariants.{Caught, Tried, Stuck, Open}
-use Rattle.dob_moves.specs.Moves.{GoesIn}
-use Rattle.dob_moves.specs.Statuses.{HasStatusIn}
-use Rattle.dob_moves.proofs.Cases.{one_status_in}
-use Rattle.dob_rank.specs.Families.{IsPositionIn}
+use Rattle.dob_moves.specs.Moves.{Goes}
+use Rattle.dob_moves.specs.Statuses.{HasStatus}
+use Rattle.dob_moves.proofs.Cases.{one_status}
+use Rattle.dob_rank.specs.Families.{IsPositionOf}
 use Rattle.dob_value.specs.declared.value.Value.{Value}
 use Rattle.dob_value.specs.declared.value.Value.TheVariants.{Win, Loss, Draw}
 use Rattle.dob_value.specs.declared.sweep.TheConstants.{MAX_DISTANCE}
 use Rattle.dob_value.specs.Graphs.{AreSuccessors}
 use Rattle.dob_value.specs.Follows.{ClassTable, HasSuccessor, SuccessorsAreWins, FollowsFromSuccessors, FollowsAt, Follows, IsTable, IsConsistent}
 use Rattle.dob_value.specs.Distances.{IsLeastLoss}
-use Rattle.dob_value.proofs.ClassNumbers.{one_of_class_in}
+use Rattle.dob_value.proofs.ClassNumbers.{one_of_class}
 use Rattle.dob_value.proofs.Successors.{moves_keep_the_family}
 use Rattle.dob_probe.specs.Lines.{GivenBy}
 use Rattle.dob_probe.specs.Sums.{IsGreatestWin, TellsDraw, HasNext, value_after}
 use Rattle.dob_probe.specs.Checks.{HasEntry, ClassFollows, ClassBreaks}
 use Rattle.dob_probe.proofs.Entries.{one_given, given_is_entry}
 
-module _ (table : ClassTable) (p : Setup) (is : IsPositionIn table.family p) where
+module _ (table : ClassTable) (p : Setup) (is : IsPositionOf table.family p) where
   abbrev Has : Setup → Value → Type 0
   Has = GivenBy table
 
-  one : HasStatusIn table.family.profile p Open → (m : Move) (q : Setup) (v w : Value) → GoesIn table.family.profile p m q → Has q v → Has q w → v ≡ w
+  one : HasStatus table.family.profile p Open → (m : Move) (q : Setup) (v w : Value) → Goes table.family.profile p m q → Has q v → Has q w → v ≡ w
   one goes_on m q v w goes a b = one_given table q v w (moves_keep_the_family table.family p m q is goes_on goes) a b
 
-  module _ (goes_on : HasStatusIn table.family.profile p Open) (values : List Value) (are : AreSuccessors table.family.profile (λ v q. GivenBy table q v) p values) where
+  module _ (goes_on : HasStatus table.family.profile p Open) (values : List Value) (are : AreSuccessors table.family.profile (λ v q. GivenBy table q v) p values) where
     has_of : (v : Value) → Contains values v → HasSuccessor table.family.profile Has p v
     has_of v there = are.sound v there
 
@@ -94,13 +94,13 @@ module _ (table : ClassTable) (p : Setup) (is : IsPositionIn table.family p) whe
         omega arith
 
   -- one value follows
-  not_loss_and_wins : HasStatusIn table.family.profile p Open → (plies : ℕ) → HasSuccessor table.family.profile Has p (Loss plies) → ¬ SuccessorsAreWins table.family.profile Has p
+  not_loss_and_wins : HasStatus table.family.profile p Open → (plies : ℕ) → HasSuccessor table.family.profile Has p (Loss plies) → ¬ SuccessorsAreWins table.family.profile Has p
   not_loss_and_wins goes_on plies has all =
       let win = all has.0 has.1 has.2 in
       let never : Loss plies ≡ Win win.0 = one goes_on has.0 has.1 (Loss plies) (Win win.0) has.2 has.3 win.1 in
       absurd (cc)
 
-  one_from : HasStatusIn table.family.profile p Open → (v w : Value) → FollowsFromSuccessors table.family.profile Has p v → FollowsFromSuccessors table.family.profile Has p w → v ≡ w
+  one_from : HasStatus table.family.profile p Open → (v w : Value) → FollowsFromSuccessors table.family.profile Has p v → FollowsFromSuccessors table.family.profile Has p w → v ≡ w
   one_from goes_on (Win a) (Win b) x y =
       let up : x.0 ≤ y.0 = x.3 y.0 y.2 in
       let down : y.0 ≤ x.0 = y.3 x.0 x.2 in
@@ -123,7 +123,7 @@ module _ (table : ClassTable) (p : Setup) (is : IsPositionIn table.family p) whe
   one_from goes_on Draw (Loss b) x y = absurd (x.1 y.4)
   one_from goes_on Draw Draw x y = refl
 
-  one_at : (s : Status) → HasStatusIn table.family.profile p s → (v w : Value) → FollowsAt table.family.profile Has p s v → FollowsAt table.family.profile Has p s w → v ≡ w
+  one_at : (s : Status) → HasStatus table.family.profile p s → (v w : Value) → FollowsAt table.family.profile Has p s v → FollowsAt table.family.profile Has p s w → v ≡ w
   one_at Caught status v w a b = a ∙ sym b
   one_at Tried status v w a b = a ∙ sym b
   one_at Stuck status v w a b = a ∙ sym b
@@ -131,7 +131,7 @@ module _ (table : ClassTable) (p : Setup) (is : IsPositionIn table.family p) whe
 
   pub one_follows : (v w : Value) → Follows table.family.profile Has p v → Follows table.family.profile Has p w → v ≡ w
   one_follows v w a b =
-      let same = one_status_in table.family.profile p b.0 a.0 b.1 a.1 in
+      let same = one_status table.family.profile p b.0 a.0 b.1 a.1 in
       one_at a.0 a.1 v w a.2 (subst (λ s. FollowsAt table.family.profile Has p s w) same b.2)
 
 -- ---- what is found of one class
@@ -140,7 +140,7 @@ module _ (table : ClassTable) (class : ℕ) (representative : Setup) (v : Value)
     (follows : Follows table.family.profile (GivenBy table) representative found) where
   pub class_follows : found ≡ v → ClassFollows table class
   class_follows same other w entry =
-      let same_representative = one_of_class_in table.family representative other class has.represents entry.represents has.number entry.number in
+      let same_representative = one_of_class table.family representative other class has.represents entry.represents has.number entry.number in
       let same_value = same_Some v w (sym has.entry ∙ entry.entry) in
       subst (λ q. Follows table.family.profile (GivenBy table) q w) same_representative (subst (Follows table.family.profile (GivenBy table) representative) (same ∙ same_value) follows)
 

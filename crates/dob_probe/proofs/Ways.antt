@@ -6,11 +6,11 @@ use Rattle.std.proofs.lemmas.Option.{slice_get-get_or, same_Some}
 use Rattle.dob_pieces.specs.declared.profile.Profile.{Profile}
 use Rattle.dob_pieces.specs.declared.setup.Setup.{Setup}
 use Rattle.dob_moves.specs.declared.game_move.Move.{Move}
-use Rattle.dob_moves.specs.Moves.{GoesIn, place}
-use Rattle.dob_moves.specs.Statuses.{CanCatch, AreMovesIn, IsFirstCatch}
-use Rattle.dob_moves.proofs.ProfileMoves.{GoesIn-is}
-use Rattle.dob_rank.specs.Families.{IsPositionIn, IsInClassIn}
-use Rattle.dob_rank.proofs.FamilyRepresentatives.{one_class_in}
+use Rattle.dob_moves.specs.Moves.{Goes, place}
+use Rattle.dob_moves.specs.Statuses.{CanCatch, AreMoves, IsFirstCatch}
+use Rattle.dob_moves.proofs.ProfileMoves.{Goes-is}
+use Rattle.dob_rank.specs.Families.{IsPositionOf, IsInClass}
+use Rattle.dob_rank.proofs.FamilyRepresentatives.{one_class}
 use Rattle.dob_value.specs.declared.value.Value.{Value}
 use Rattle.dob_value.specs.declared.value.Value.TheVariants.{Win, Loss, Draw}
 use Rattle.dob_value.specs.Follows.{ClassTable, IsEntry}
@@ -62,7 +62,7 @@ module _ (profile : Profile) (Has : Setup → Value → Type 0) (p : Setup) (wan
     slice_get-get_or choices there.0 move there.1 ∙ ap (λ m. let o : Option Move = Some m in o) there.2,
   )
 
-  pub first_found : (index : ℕ) (choice : Move) (q : Setup) → AreMovesIn profile p choices → index < length choices →
+  pub first_found : (index : ℕ) (choice : Move) (q : Setup) → AreMoves profile p choices → index < length choices →
       slice_get choices index ≡ Some choice → NoneBelow profile Has p wanted choices index → LeadsTo profile Has p wanted choice q →
       IsFirstTo profile Has p wanted choice q
   first_found index choice q are within here none leads = record {
@@ -84,7 +84,7 @@ module _ (profile : Profile) (Has : Setup → Value → Type 0) (p : Setup) (wan
       read k m below there d = same_Some (get_or choices k d) m (sym (slice_get-get_or choices k d below) ∙ there)
 
       in_order : (i j : ℕ) (a b : Move) → i < j → j < length choices → slice_get choices i ≡ Some a → slice_get choices j ≡ Some b →
-          AreMovesIn profile p choices → place a < place b
+          AreMoves profile p choices → place a < place b
       in_order i j a b below within at_i at_j are =
           let first = read i a (omega arith) at_i a in
           let later = read j b within at_j a in
@@ -93,7 +93,7 @@ module _ (profile : Profile) (Has : Setup → Value → Type 0) (p : Setup) (wan
           let high = ap place later in
           omega (arith, low, high, rising)
 
-  pub none_leads : (upto : ℕ) → AreMovesIn profile p choices → length choices ≤ upto → NoneBelow profile Has p wanted choices upto →
+  pub none_leads : (upto : ℕ) → AreMoves profile p choices → length choices ≤ upto → NoneBelow profile Has p wanted choices upto →
       (move : Move) (q : Setup) → ¬ LeadsTo profile Has p wanted move q
   none_leads upto are all none move q leads =
       let there = found_at move (are.whole move leads.goes_on (q, leads.goes)) in
@@ -106,12 +106,12 @@ module _ (table : ClassTable) where
   abbrev Has : Setup → Value → Type 0
   Has = GivenBy table
 
-  one_wanted : (p : Setup) (v w : Value) → IsPositionIn table.family p → GoesOnTo Has p v → GoesOnTo Has p w → v ≡ w
+  one_wanted : (p : Setup) (v w : Value) → IsPositionOf table.family p → GoesOnTo Has p v → GoesOnTo Has p w → v ≡ w
   one_wanted p v w is a b =
       let same = one_given table p a.value b.value is a.has b.has in
       same_Some v w (sym a.next ∙ ap value_wanted same ∙ b.next)
 
-  not_over : (p : Setup) (wanted : Value) → IsPositionIn table.family p → EndsAt Has p → ¬ GoesOnTo Has p wanted
+  not_over : (p : Setup) (wanted : Value) → IsPositionOf table.family p → EndsAt Has p → ¬ GoesOnTo Has p wanted
   not_over p wanted is a b =
       let same = one_given table p a.value b.value is a.has b.has in
       let never : None ≡ Some wanted = sym a.over ∙ ap value_wanted same ∙ b.next in
@@ -127,22 +127,22 @@ module _ (table : ClassTable) where
   ]
 
   -- the line goes on in one way
-  one_way : (p : Setup) (m n : Move) (q r : Setup) → IsPositionIn table.family p → Continues table.family.profile Has p m q → Continues table.family.profile Has p n r → q ≡ r
+  one_way : (p : Setup) (m n : Move) (q r : Setup) → IsPositionOf table.family p → Continues table.family.profile Has p m q → Continues table.family.profile Has p n r → q ≡ r
   one_way p m n q r is a b =
       let wanted : b.0 ≡ a.0 = one_wanted p b.0 a.0 is b.1 a.1 in
       let other : IsFirstTo table.family.profile Has p a.0 n r = subst (λ w. IsFirstTo table.family.profile Has p w n r) wanted b.2 in
       let same : n ≡ m = one_move p a.0 n m r q other a.2 in
-      GoesIn-is table.family.profile p m q a.2.leads.goes ∙ sym (GoesIn-is table.family.profile p m r (subst (λ k. GoesIn table.family.profile p k r) same other.leads.goes))
+      Goes-is table.family.profile p m q a.2.leads.goes ∙ sym (Goes-is table.family.profile p m r (subst (λ k. Goes table.family.profile p k r) same other.leads.goes))
 
-  lacks_not_continues : (p : Setup) (m : Move) (q : Setup) → IsPositionIn table.family p → LacksMove table.family.profile Has p → ¬ Continues table.family.profile Has p m q
+  lacks_not_continues : (p : Setup) (m : Move) (q : Setup) → IsPositionOf table.family p → LacksMove table.family.profile Has p → ¬ Continues table.family.profile Has p m q
   lacks_not_continues p m q is lacks next =
       let wanted : next.0 ≡ lacks.0 = one_wanted p next.0 lacks.0 is next.1 lacks.1 in
       lacks.2 m q (subst (λ w. LeadsTo table.family.profile Has p w m q) wanted next.2.leads)
 
-  next_is : (p : Setup) (m : Move) (q : Setup) → IsPositionIn table.family p → Continues table.family.profile Has p m q → IsPositionIn table.family q
+  next_is : (p : Setup) (m : Move) (q : Setup) → IsPositionOf table.family p → Continues table.family.profile Has p m q → IsPositionOf table.family q
   next_is p m q is next = moves_keep_the_family table.family p m q is next.2.leads.goes_on next.2.leads.goes
 
-  line_or_break : (line ms : List Move) (p q : Setup) → IsPositionIn table.family p → IsLine table.family.profile Has p line → Begins table.family.profile Has p ms q → ¬ LacksMove table.family.profile Has q
+  line_or_break : (line ms : List Move) (p q : Setup) → IsPositionOf table.family p → IsLine table.family.profile Has p line → Begins table.family.profile Has p ms q → ¬ LacksMove table.family.profile Has q
   line_or_break [] [] p q is ends same lacks = not_over p lacks.0 is ends (subst (λ s. GoesOnTo Has s lacks.0) (sym same) lacks.1)
   line_or_break [] (m ∷ ms) p q is ends begins lacks = not_over p begins.1.0 is ends begins.1.1
   line_or_break (l ∷ line) [] p q is way same lacks =
@@ -158,9 +158,9 @@ module _ (table : ClassTable) where
         line_or_break line ms next.0 q (next_is p l next.0 is next.1) next.2 (subst (λ s. Begins table.family.profile Has s ms q) same begins.2) lacks
   ]
 
-  one_end : (ms ns : List Move) (p q r : Setup) → IsPositionIn table.family p → Begins table.family.profile Has p ms q → Begins table.family.profile Has p ns r →
-      LacksMove table.family.profile Has q → LacksMove table.family.profile Has r → (q ≡ r) × IsPositionIn table.family q
-  one_end [] [] p q r is a b lacks lacks_too = (sym a ∙ b, subst (IsPositionIn table.family) a is)
+  one_end : (ms ns : List Move) (p q r : Setup) → IsPositionOf table.family p → Begins table.family.profile Has p ms q → Begins table.family.profile Has p ns r →
+      LacksMove table.family.profile Has q → LacksMove table.family.profile Has r → (q ≡ r) × IsPositionOf table.family q
+  one_end [] [] p q r is a b lacks lacks_too = (sym a ∙ b, subst (IsPositionOf table.family) a is)
   one_end [] (n ∷ ns) p q r is a b lacks lacks_too =
       absurd (lacks_not_continues p n b.0 is (subst (LacksMove table.family.profile Has) (sym a) lacks) b.1)
   one_end (m ∷ ms) [] p q r is a b lacks lacks_too =
@@ -176,7 +176,7 @@ lines_dont_break table p moves class is line breaks =
 pub one_break : OneBreak
 one_break table p class other is a b =
     let end = one_end table a.0 b.0 p a.1 b.1 is a.2 b.2 a.4 b.4 in
-    one_class_in table.family a.1 class other a.3 (subst (λ s. IsInClassIn table.family s other) (sym end.0) b.3)
+    one_class table.family a.1 class other a.3 (subst (λ s. IsInClass table.family s other) (sym end.0) b.3)
 
 -- ---- the line as far as it has come
 
@@ -188,9 +188,9 @@ distance Draw = 0
 
 -- the moves are a beginning of the line of p, and lead to a position of the family with that value
 pub record IsOnLine (table : ClassTable) (p : Setup) (moves : List Move) (q : Setup) (value : Value) : Type 0 where
-  pub started : IsPositionIn table.family p
+  pub started : IsPositionOf table.family p
   pub begins : Begins table.family.profile (GivenBy table) p moves q
-  pub member : IsPositionIn table.family q
+  pub member : IsPositionOf table.family q
   pub given : GivenBy table q value
   pub entry : IsEntry value
 
@@ -246,7 +246,7 @@ module _ (table : ClassTable) (p : Setup) (moves : List Move) (q : Setup) (value
   pub line_catches : (m : Move) → IsFirstCatch q m → IsLine table.family.profile (GivenBy table) p (moves ++ m ∷ [])
   line_catches m catch = line_after table.family.profile (GivenBy table) moves (m ∷ []) p q on.begins (inl (catch, refl))
 
-  line_breaks : (wanted : Value) (class : ℕ) → ¬ CanCatch q → value_wanted value ≡ Some wanted → IsInClassIn table.family q class →
+  line_breaks : (wanted : Value) (class : ℕ) → ¬ CanCatch q → value_wanted value ≡ Some wanted → IsInClass table.family q class →
       ((m : Move) (r : Setup) → ¬ LeadsTo table.family.profile (GivenBy table) q wanted m r) → BreaksAt table p class
   line_breaks wanted class no_catch next number none = (moves, q, on.begins, number, (wanted, goes_on_to wanted no_catch next, none))
 
@@ -260,7 +260,7 @@ module _ (table : ClassTable) (p : Setup) (moves : List Move) (q : Setup) (value
 
 module _ {T : Type 0} (moves_of : T → List Move) (table : ClassTable) (p : Setup) where
   pub break_answered : (class : ℕ) (result : Result T Fault) → IfOk result (λ t. IsLine table.family.profile (GivenBy table) p (moves_of t)) →
-      IfErr result (IsFaultOfLine table p) → IsPositionIn table.family p → BreaksAt table p class →
+      IfErr result (IsFaultOfLine table p) → IsPositionOf table.family p → BreaksAt table p class →
       (result ≡ Err (Inconsistent class)) ⊎ (result ≡ Err Memory)
   break_answered class (Ok t) line fault is breaks = absurd (lines_dont_break table p (moves_of t) class is line breaks)
   break_answered class (Err OtherSet) line fault is breaks = absurd (fault is)
@@ -270,9 +270,9 @@ module _ {T : Type 0} (moves_of : T → List Move) (table : ClassTable) (p : Set
   break_answered class (Err Memory) line fault is breaks = inr refl
 
 -- a move to a position with another value doesn't lead to the value that is wanted
-pub other_value : (table : ClassTable) (p : Setup) (m : Move) (next : Setup) (v wanted : Value) → IsPositionIn table.family p → GoesIn table.family.profile p m next →
+pub other_value : (table : ClassTable) (p : Setup) (m : Move) (next : Setup) (v wanted : Value) → IsPositionOf table.family p → Goes table.family.profile p m next →
     GivenBy table next v → ¬ (v ≡ wanted) → (q : Setup) → ¬ LeadsTo table.family.profile (GivenBy table) p wanted m q
 other_value table p m next v wanted is goes given apart q leads =
-    let same : q ≡ next = GoesIn-is table.family.profile p m q leads.goes ∙ sym (GoesIn-is table.family.profile p m next goes) in
+    let same : q ≡ next = Goes-is table.family.profile p m q leads.goes ∙ sym (Goes-is table.family.profile p m next goes) in
     let member = moves_keep_the_family table.family p m next is leads.goes_on goes in
     apart (one_given table next v wanted member given (subst (λ s. GivenBy table s wanted) same leads.has))

@@ -1,15 +1,15 @@
 -- Of which classes of a table the value follows, and which is the first whose value doesn't.
 use Rattle.std.specs.Prelude.{◌≡◌, ℕ, ◌<◌, length, Some, slice_get}
 use Rattle.dob_pieces.specs.declared.setup.Setup.{Setup}
-use Rattle.dob_rank.specs.Families.{IsRepresentativeIn, HasClassIn}
+use Rattle.dob_rank.specs.Families.{IsRepresentative, HasClass}
 use Rattle.dob_value.specs.declared.value.Value.{Value}
 use Rattle.dob_value.specs.Follows.{ClassTable, Follows}
 use Rattle.dob_probe.specs.Lines.{GivenBy}
 
 -- the setup represents the class of that number, and this is the class's entry
 pub record HasEntry (table : ClassTable) (class : ℕ) (representative : Setup) (v : Value) : Type 0 where
-  pub represents : IsRepresentativeIn table.family representative
-  pub number : HasClassIn table.family representative class
+  pub represents : IsRepresentative table.family representative
+  pub number : HasClass table.family representative class
   pub entry : slice_get table.values class ≡ Some v
 
 -- the class's entry follows from its status and its successors' values

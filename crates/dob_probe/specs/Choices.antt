@@ -3,8 +3,8 @@ use Rattle.std.specs.Prelude.{◌≡◌, ◌⊎◌, ◌+◌, ◌<◌, List, leng
 use Rattle.dob_pieces.specs.declared.profile.Profile.{Profile}
 use Rattle.dob_pieces.specs.declared.setup.Setup.{Setup}
 use Rattle.dob_moves.specs.declared.position_status.Status.TheVariants.{Open}
-use Rattle.dob_moves.specs.Moves.{GoesIn, place}
-use Rattle.dob_moves.specs.Statuses.{CanCatch, HasStatusIn, IsFirstCatch}
+use Rattle.dob_moves.specs.Moves.{Goes, place}
+use Rattle.dob_moves.specs.Statuses.{CanCatch, HasStatus, IsFirstCatch}
 use Rattle.dob_value.specs.declared.value.Value.{Value}
 use Rattle.dob_value.specs.declared.value.Value.TheVariants.{Win, Loss, Draw}
 use Rattle.dob_probe.specs.declared.choices.ValuedMove.{ValuedMove}
@@ -38,9 +38,9 @@ pub record IsWinningCatch (p : Setup) (valued : ValuedMove) : Type 0 where
 
 -- the move of an open position has the value of the position that it leads to, seen from before it
 pub record HasMoveValue (profile : Profile) (Has : Setup → Value → Type 0) (p : Setup) (valued : ValuedMove) : Type 0 where
-  pub goes_on : HasStatusIn profile p Open
+  pub goes_on : HasStatus profile p Open
   pub outcome : Setup
-  pub goes : GoesIn profile p valued.choice outcome
+  pub goes : Goes profile p valued.choice outcome
   pub value : Value
   pub has : Has outcome value
   pub seen : valued.value ≡ seen_from_before value

@@ -6,7 +6,7 @@ use Rattle.std.specs.Fmt.{decimal}
 use Rattle.dob_pieces.specs.Faults.{memory_text}
 use Rattle.dob_pieces.specs.declared.setup.Setup.{Setup}
 use Rattle.dob_moves.specs.declared.game_move.Move.{Move}
-use Rattle.dob_rank.specs.Families.{IsPositionIn, IsInClassIn}
+use Rattle.dob_rank.specs.Families.{IsPositionOf, IsInClass}
 use Rattle.dob_value.specs.declared.value.Value.{Value}
 use Rattle.dob_value.specs.Follows.{ClassTable}
 use Rattle.dob_probe.specs.declared.fault.Fault.{Fault}
@@ -28,18 +28,18 @@ fault_text Memory = memory_text
 abbrev pub IsGap : ClassTable → Setup → Value → Fault → Type 0
 IsGap table p wanted OtherSet = ⊥
 IsGap table p wanted (Inconsistent class) =
-    IsInClassIn table.family p class × ((move : Move) (q : Setup) → ¬ LeadsTo table.family.profile (GivenBy table) p wanted move q)
+    IsInClass table.family p class × ((move : Move) (q : Setup) → ¬ LeadsTo table.family.profile (GivenBy table) p wanted move q)
 IsGap table p wanted Memory = Unit {0}
 
 -- a fault of a line: the position is of another family, or the line breaks off at that class, or memory failed
 abbrev pub IsFaultOfLine : ClassTable → Setup → Fault → Type 0
-IsFaultOfLine table p OtherSet = ¬ IsPositionIn table.family p
-IsFaultOfLine table p (Inconsistent class) = IsPositionIn table.family p × BreaksAt table p class
+IsFaultOfLine table p OtherSet = ¬ IsPositionOf table.family p
+IsFaultOfLine table p (Inconsistent class) = IsPositionOf table.family p × BreaksAt table p class
 IsFaultOfLine table p Memory = Unit {0}
 
 -- a fault of listing moves with their values: the position is of another family, or memory failed
 abbrev pub IsFaultOfMoves : ClassTable → Setup → Fault → Type 0
-IsFaultOfMoves table p OtherSet = ¬ IsPositionIn table.family p
+IsFaultOfMoves table p OtherSet = ¬ IsPositionOf table.family p
 IsFaultOfMoves table p (Inconsistent class) = ⊥
 IsFaultOfMoves table p Memory = Unit {0}
 

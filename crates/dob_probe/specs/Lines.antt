@@ -5,9 +5,9 @@ use Rattle.dob_pieces.specs.declared.profile.Profile.{Profile}
 use Rattle.dob_pieces.specs.declared.setup.Setup.{Setup}
 use Rattle.dob_moves.specs.declared.game_move.Move.{Move}
 use Rattle.dob_moves.specs.declared.position_status.Status.TheVariants.{Open}
-use Rattle.dob_moves.specs.Moves.{GoesIn, place}
-use Rattle.dob_moves.specs.Statuses.{CanCatch, HasStatusIn, IsFirstCatch}
-use Rattle.dob_rank.specs.Families.{IsInClassIn}
+use Rattle.dob_moves.specs.Moves.{Goes, place}
+use Rattle.dob_moves.specs.Statuses.{CanCatch, HasStatus, IsFirstCatch}
+use Rattle.dob_rank.specs.Families.{IsInClass}
 use Rattle.dob_value.specs.declared.value.Value.{Value}
 use Rattle.dob_value.specs.declared.value.Value.TheVariants.{Win, Loss, Draw}
 use Rattle.dob_value.specs.Follows.{ClassTable, HasInTable}
@@ -26,8 +26,8 @@ value_wanted Draw = None
 
 -- the move of an open position leads to one with that value, where Has says which value a position has
 pub record LeadsTo (profile : Profile) (Has : Setup → Value → Type 0) (p : Setup) (wanted : Value) (move : Move) (q : Setup) : Type 0 where
-  pub goes_on : HasStatusIn profile p Open
-  pub goes : GoesIn profile p move q
+  pub goes_on : HasStatus profile p Open
+  pub goes : Goes profile p move q
   pub has : Has q wanted
 
 -- the first such move: each other one stands later in the move order
@@ -72,4 +72,4 @@ LacksMove profile Has q = (wanted : Value) × GoesOnTo Has q wanted × ((move : 
 -- some beginning of the line of p leads to a position of that class, where the line goes on but its move is missing
 abbrev pub BreaksAt : ClassTable → Setup → ℕ → Type 0
 BreaksAt table p class = (moves : List Move) × (q : Setup)
-    × Begins table.family.profile (GivenBy table) p moves q × IsInClassIn table.family q class × LacksMove table.family.profile (GivenBy table) q
+    × Begins table.family.profile (GivenBy table) p moves q × IsInClass table.family q class × LacksMove table.family.profile (GivenBy table) q

@@ -2,8 +2,8 @@
 ghost use Rattle.std.specs.Prelude.{◌≡◌, ◌⊎◌, ◌↔◌, ◌<◌, ◌≤◌, ℕ, length, get_or, Contains, AllPairs, IsTrue, IfOk, IfErr, OnOk, Err};
 ghost use Rattle.dob_pieces.specs.declared.setup.Setup.{Setup};
 ghost use Rattle.dob_moves.specs.Moves.{place};
-ghost use Rattle.dob_moves.specs.Statuses.{AreMovesIn, CanCatch};
-ghost use Rattle.dob_rank.specs.Families.{IsPositionIn};
+ghost use Rattle.dob_moves.specs.Statuses.{AreMoves, CanCatch};
+ghost use Rattle.dob_rank.specs.Families.{IsPositionOf};
 ghost use Rattle.dob_value.specs.Values.{HasValue};
 ghost use Rattle.dob_value.specs.Follows.{IsConsistent, IsEntry, IsTable};
 ghost use Rattle.dob_probe.specs.Choices.{AreValuedMoves, ComesBefore, IsBetter, seen_from_before};
@@ -13,7 +13,7 @@ ghost use Rattle.dob_probe.specs.Lines.{GivenBy};
 use crate::fault::Fault;
 use crate::probes::is_in_family;
 use crate::successors::value_to;
-use dob_moves::{Move, first_catch, moves_in};
+use dob_moves::{Move, first_catch, moves};
 use dob_pieces::{Memory, Position};
 use dob_value::{Table, Value};
 use std::alloc::Global;
@@ -38,8 +38,8 @@ pub fn valued_moves(
 ) -> Result<Vec<ValuedMove>, Fault>
     ensures moves { IfOk result (λ list. AreValuedMoves table.now.family.profile (GivenBy table.now) position.now.setup list.items) }
     ensures fault { IfErr result (IsFaultOfMoves table.now position.now.setup) }
-    ensures member { OnOk result (IsPositionIn table.now.family position.now.setup) }
-    ensures other { (IsPositionIn table.now.family position.now.setup → ⊥) → result ≡ Err Fault.OtherSet }
+    ensures member { OnOk result (IsPositionOf table.now.family position.now.setup) }
+    ensures other { (IsPositionOf table.now.family position.now.setup → ⊥) → result ≡ Err Fault.OtherSet }
     ensures right { IsConsistent table.now.family table.now.values →
         IfOk result (λ list. AreValuedMoves table.now.family.profile (HasValue table.now.family.profile) position.now.setup list.items) }
 {
@@ -58,7 +58,7 @@ fn moves_of_set(
     position: &Position,
 ) -> Result<Vec<ValuedMove>, Memory>
     requires whole { IsTable table.now.family table.now.values }
-    requires member { IsPositionIn table.now.family position.now.setup }
+    requires member { IsPositionOf table.now.family position.now.setup }
     ensures { IfOk result (λ list. AreValuedMoves table.now.family.profile (GivenBy table.now) position.now.setup list.items) }
 {
     if let Some(choice) = first_catch(position) {
@@ -67,7 +67,7 @@ fn moves_of_set(
         list.push(ValuedMove { choice, value })?;
         return Ok(list);
     }
-    let choices = moves_in(alloc, table.family().profile, position)?;
+    let choices = moves(alloc, table.family().profile, position)?;
     moves_by_value(alloc, table, position, &choices)
 }
 
@@ -81,8 +81,8 @@ fn moves_by_value(
     choices: &[Move],
 ) -> Result<Vec<ValuedMove>, Memory>
     requires whole { IsTable table.now.family table.now.values }
-    requires member { IsPositionIn table.now.family position.now.setup }
-    requires choices { AreMovesIn table.now.family.profile position.now.setup choices.now }
+    requires member { IsPositionOf table.now.family position.now.setup }
+    requires choices { AreMoves table.now.family.profile position.now.setup choices.now }
     requires free { ¬ CanCatch position.now.setup }
     ensures { IfOk result (λ list. AreValuedMoves table.now.family.profile (GivenBy table.now) position.now.setup list.items) }
 {

@@ -1,6 +1,6 @@
 // The line of a position by a table.
 ghost use Rattle.std.specs.Prelude.{◌≡◌, ◌⊎◌, ℕ, IfOk, IfErr, MatchResult, Err};
-ghost use Rattle.dob_rank.specs.Families.{IsPositionIn};
+ghost use Rattle.dob_rank.specs.Families.{IsPositionOf};
 ghost use Rattle.dob_value.specs.Values.{HasValue};
 ghost use Rattle.dob_value.specs.Follows.{IsEntry, IsConsistent};
 ghost use Rattle.dob_probe.specs.Lines.{GivenBy, IsFirstTo, IsLine, BreaksAt, value_wanted};
@@ -8,7 +8,7 @@ ghost use Rattle.dob_probe.specs.Faults.{IsGap, IsFaultOfLine};
 
 use crate::fault::Fault;
 use crate::probes::probe;
-use dob_moves::{Move, apply, first_catch, moves_in};
+use dob_moves::{Move, apply, first_catch, moves};
 use dob_pieces::Position;
 use dob_value::{Table, Value};
 use std::alloc::Global;
@@ -22,10 +22,10 @@ use std::alloc::Global;
 pub fn line(alloc: Global, table: &Table, position: &Position) -> Result<Vec<Move>, Fault>
     ensures line { IfOk result (λ moves. IsLine table.now.family.profile (GivenBy table.now) position.now.setup moves.items) }
     ensures fault { IfErr result (IsFaultOfLine table.now position.now.setup) }
-    ensures other { (IsPositionIn table.now.family position.now.setup → ⊥) → result ≡ Err Fault.OtherSet }
-    ensures broken { (class : ℕ) → IsPositionIn table.now.family position.now.setup → BreaksAt table.now position.now.setup class
+    ensures other { (IsPositionOf table.now.family position.now.setup → ⊥) → result ≡ Err Fault.OtherSet }
+    ensures broken { (class : ℕ) → IsPositionOf table.now.family position.now.setup → BreaksAt table.now position.now.setup class
         → (result ≡ Err (Fault.Inconsistent class)) ⊎ (result ≡ Err Fault.Memory) }
-    ensures right { IsConsistent table.now.family table.now.values → IsPositionIn table.now.family position.now.setup
+    ensures right { IsConsistent table.now.family table.now.values → IsPositionOf table.now.family position.now.setup
         → MatchResult result (λ moves. IsLine table.now.family.profile (HasValue table.now.family.profile) position.now.setup moves.items) (λ fault. fault ≡ Fault.Memory) }
 {
     let value = probe(table, position)?;
@@ -41,7 +41,7 @@ fn line_from(
     mut position: Position,
     mut value: Value,
 ) -> Result<Vec<Move>, Fault>
-    requires member { IsPositionIn table.now.family position.setup }
+    requires member { IsPositionOf table.now.family position.setup }
     requires value { GivenBy table.now position.setup value }
     requires entry { IsEntry value }
     ensures line { IfOk result (λ moves. IsLine table.now.family.profile (GivenBy table.now) position.setup moves.items) }
@@ -84,11 +84,11 @@ fn first_to(
     position: &Position,
     wanted: Value,
 ) -> Result<(Move, Position), Fault>
-    requires { IsPositionIn table.now.family position.now.setup }
+    requires { IsPositionOf table.now.family position.now.setup }
     ensures found { IfOk result (λ found. IsFirstTo table.now.family.profile (GivenBy table.now) position.now.setup wanted found.0 found.1.setup) }
     ensures missing { IfErr result (IsGap table.now position.now.setup wanted) }
 {
-    let choices = moves_in(alloc, table.family().profile, position)?;
+    let choices = moves(alloc, table.family().profile, position)?;
     for choice in &choices {
         let next = apply(position, *choice);
         if table.value_of(&next) == wanted {

@@ -2,10 +2,10 @@
 // there is a draw are kept.
 ghost use Rattle.std.specs.Prelude.{◌≡◌, ◌++◌, List, [], ◌∷◌, IfOk, OnOk};
 ghost use Rattle.dob_pieces.specs.declared.setup.Setup.{Setup};
-ghost use Rattle.dob_moves.specs.Moves.{GoesIn, CanGoIn};
-ghost use Rattle.dob_moves.specs.Statuses.{AreMovesIn, HasStatusIn};
+ghost use Rattle.dob_moves.specs.Moves.{Goes, CanGo};
+ghost use Rattle.dob_moves.specs.Statuses.{AreMoves, HasStatus};
 ghost use Rattle.dob_moves.specs.declared.position_status.Status.{Status};
-ghost use Rattle.dob_rank.specs.Families.{IsPositionIn};
+ghost use Rattle.dob_rank.specs.Families.{IsPositionOf};
 ghost use Rattle.dob_value.specs.declared.value.Value.{Value as Valued};
 ghost use Rattle.dob_value.specs.Graphs.{AreSuccessors};
 ghost use Rattle.dob_value.specs.Follows.{Follows, IsTable};
@@ -13,7 +13,7 @@ ghost use Rattle.dob_value.specs.Distances.{lesser_of, greater_of};
 ghost use Rattle.dob_probe.specs.Lines.{GivenBy};
 ghost use Rattle.dob_probe.specs.Sums.{AreSummed, HasNext, value_after};
 
-use dob_moves::{Move, Status, apply, moves_into_in};
+use dob_moves::{Move, Status, apply, moves_into};
 use dob_pieces::{Memory, Position};
 use dob_value::{Table, Value};
 
@@ -102,7 +102,7 @@ pub(crate) fn value_that_follows(
     position: &Position,
 ) -> Result<Value, Memory>
     requires whole { IsTable table.now.family table.now.values }
-    requires member { IsPositionIn table.now.family position.now.setup }
+    requires member { IsPositionOf table.now.family position.now.setup }
     ensures { IfOk result (λ value. Follows table.now.family.profile (GivenBy table.now) position.now.setup value) }
 {
     match list_moves(room, table, position)? {
@@ -116,16 +116,16 @@ pub(crate) fn value_that_follows(
 //
 // Error: `Memory`.
 fn list_moves(room: &mut Vec<Move>, table: &Table, position: &Position) -> Result<Status, Memory>
-    ensures moves { OnOk result (AreMovesIn table.now.family.profile position.now.setup room.new.items) }
-    ensures status { IfOk result (λ status. HasStatusIn table.now.family.profile position.now.setup status) }
+    ensures moves { OnOk result (AreMoves table.now.family.profile position.now.setup room.new.items) }
+    ensures status { IfOk result (λ status. HasStatus table.now.family.profile position.now.setup status) }
 {
-    moves_into_in(table.family().profile, room, position)
+    moves_into(table.family().profile, room, position)
 }
 
 // The values of the positions to which the moves lead.
 fn successors_of(table: &Table, position: &Position, choices: &[Move]) -> Successors
-    requires member { IsPositionIn table.now.family position.now.setup }
-    requires choices { AreMovesIn table.now.family.profile position.now.setup choices.now }
+    requires member { IsPositionOf table.now.family position.now.setup }
+    requires choices { AreMoves table.now.family.profile position.now.setup choices.now }
     ensures { (values : List Valued) × AreSuccessors table.now.family.profile (λ v q. GivenBy table.now q v) position.now.setup values × AreSummed values result }
 {
     let mut kept = Successors::none();
@@ -138,10 +138,10 @@ fn successors_of(table: &Table, position: &Position, choices: &[Move]) -> Succes
 
 // The value of the position to which the move leads.
 pub(crate) fn value_to(table: &Table, position: &Position, choice: Move) -> Value
-    requires member { IsPositionIn table.now.family position.now.setup }
-    requires open { HasStatusIn table.now.family.profile position.now.setup Status.Open }
-    requires can_go { CanGoIn table.now.family.profile position.now.setup choice }
-    ensures { (q : Setup) → GoesIn table.now.family.profile position.now.setup choice q → GivenBy table.now q result }
+    requires member { IsPositionOf table.now.family position.now.setup }
+    requires open { HasStatus table.now.family.profile position.now.setup Status.Open }
+    requires can_go { CanGo table.now.family.profile position.now.setup choice }
+    ensures { (q : Setup) → Goes table.now.family.profile position.now.setup choice q → GivenBy table.now q result }
 {
     table.value_of(&apply(position, choice))
 }

@@ -5,25 +5,25 @@ use Rattle.std.proofs.lemmas.List.{length_push, get_or_append_left, get_or_push}
 use Rattle.dob_pieces.specs.declared.piece_set.PieceSet.{PieceSet}
 use Rattle.dob_pieces.specs.declared.setup.Setup.{Setup}
 use Rattle.dob_rank.specs.declared.block_classes.BlockClasses.{BlockClasses}
-use Rattle.dob_rank.specs.Order.{IsPositionOf}
-use Rattle.dob_rank.specs.Numbers.{product, number_of, digits_of, HasDigits, block_bases, block_of, block_size, start_of, rank_of, size_of}
+use Rattle.dob_rank.specs.Order.{IsPositionOfSet}
+use Rattle.dob_rank.specs.Numbers.{product, number_of, digits_of, HasDigits, block_bases, block_of, block_size, start_of, rank_of_set, size_of_set}
 use Rattle.dob_rank.specs.Runs.{run_bases, local_bases, runs_in, run_size, run_start, run_of, local_of, IsInRun}
-use Rattle.dob_rank.specs.Marks.{marks_below, marked, classes_of}
+use Rattle.dob_rank.specs.Marks.{marks_below, marked, classes_of_set}
 use Rattle.dob_rank.specs.BlockTables.{IsBlock, AreBlocks}
 use Rattle.dob_rank.proofs.Sums.{sum_below-rises}
 use Rattle.dob_rank.proofs.Blocks.{sum_below_more, HasDigits-numbers}
 use Rattle.dob_rank.proofs.Words.{marks_below_none}
-use Rattle.dob_rank.proofs.Numbering.{HasBlock, rank_of-block}
+use Rattle.dob_rank.proofs.Numbering.{HasBlock, rank_of_set-block}
 use Rattle.dob_rank.proofs.Found.{made_in_block, run_in_bases, local_in_bases}
 use Rattle.dob_rank.proofs.RunPlaces.{place_in_run, run_start-is, spot_there}
-use Rattle.dob_rank.proofs.ClassNumbers.{IsAtClass, at_class}
+use Rattle.dob_rank.proofs.ClassNumbers.{IsAtClassOfSet, at_class_of_set}
 
 -- the block of a position, with the position's set and block in place of its own
 record IsBlockOf (set : PieceSet) (s : Setup) (block : BlockClasses) : Type 0 where
   set_is : block.set ≡ set
   number_is : block.number ≡ block_of set s
 
-block_read : (set : PieceSet) (s : Setup) (blocks : List BlockClasses) (index : ℕ) (block : BlockClasses) → IsPositionOf set s → index ≡ block_of set s →
+block_read : (set : PieceSet) (s : Setup) (blocks : List BlockClasses) (index : ℕ) (block : BlockClasses) → IsPositionOfSet set s → index ≡ block_of set s →
     AreBlocks set blocks → index < length blocks → block ≡ slice_index_or blocks index block → IsBlockOf set s block
 block_read set s blocks index block p is are below read =
     let here : IsBlock set index (slice_index_or blocks index block) = are index block below in
@@ -31,15 +31,15 @@ block_read set s blocks index block p is are below read =
     record { set_is = there.set_is; number_is = there.number_is ∙ is }
 
 -- the position's spot in that block
-pub record IsSpotRead (set : PieceSet) (s : Setup) (block : BlockClasses) (run local : ℕ) : Type 0 where
+pub record IsSpotReadOfSet (set : PieceSet) (s : Setup) (block : BlockClasses) (run local : ℕ) : Type 0 where
   pub there : IsInRun block.set block.number run local
-  pub mark_is : marked block.set (run_start block.set block.number run + local) ≡ marked set (rank_of set s)
-  pub before_is : marks_below (marked block.set) (run_start block.set block.number run + local) ≡ marks_below (marked set) (rank_of set s)
+  pub mark_is : marked block.set (run_start block.set block.number run + local) ≡ marked set (rank_of_set set s)
+  pub before_is : marks_below (marked block.set) (run_start block.set block.number run + local) ≡ marks_below (marked set) (rank_of_set set s)
 
-pub spot_read : (set : PieceSet) (s : Setup) (blocks : List BlockClasses) (index run local : ℕ) (block : BlockClasses) → IsPositionOf set s →
+pub spot_read_of_set : (set : PieceSet) (s : Setup) (blocks : List BlockClasses) (index run local : ℕ) (block : BlockClasses) → IsPositionOfSet set s →
     index ≡ block_of set s → run ≡ run_of set s → local ≡ local_of s → AreBlocks set blocks → index < length blocks →
-    block ≡ slice_index_or blocks index block → IsSpotRead set s block run local
-spot_read set s blocks index run local block p is run_is local_is are below read =
+    block ≡ slice_index_or blocks index block → IsSpotReadOfSet set s block run local
+spot_read_of_set set s blocks index run local block p is run_is local_is are below read =
     let of = block_read set s blocks index block p is are below read in
     let spot = spot_there set s block.set block.number run local p of.set_is of.number_is run_is local_is in
     record {
@@ -66,14 +66,14 @@ pub record HasClassesOf (set : PieceSet) (index : ℕ) (block : BlockClasses) : 
   pub before_is : block.before ≡ marks_below (marked set) (start_of set index)
   pub after_is : block.after ≡ marks_below (marked set) (start_of set (index + 1))
 
-pub classes_read : (set : PieceSet) (blocks : List BlockClasses) (index : ℕ) (block : BlockClasses) → AreBlocks set blocks → index < length blocks →
+pub classes_read_of_set : (set : PieceSet) (blocks : List BlockClasses) (index : ℕ) (block : BlockClasses) → AreBlocks set blocks → index < length blocks →
     block ≡ slice_index_or blocks index block → HasClassesOf set index block
-classes_read set blocks index block are below read =
+classes_read_of_set set blocks index block are below read =
     let there : IsBlock set index block = subst (IsBlock set index) (sym read) (are index block below) in
     record { is = there; before_is = before_is set index block there; after_is = after_is set index block there }
 
-pub new_block : (set : PieceSet) (number : ℕ) (block : BlockClasses) → block.set ≡ set → block.number ≡ number → HasClassesOf set number block
-new_block set number block set_is number_is =
+pub new_block_of_set : (set : PieceSet) (number : ℕ) (block : BlockClasses) → block.set ≡ set → block.number ≡ number → HasClassesOf set number block
+new_block_of_set set number block set_is number_is =
     let is : IsBlock set number block = record { set_is = set_is; number_is = number_is } in
     record { is = is; before_is = before_is set number block is; after_is = after_is set number block is }
 
@@ -97,29 +97,29 @@ AreBlocks-none set blocks none = λ k other below. absurd (none_below k (length 
 
 -- ---- the classes of all blocks
 
-pub classes_all : (set : PieceSet) (number count : ℕ) → number ≡ product (block_bases set)
-    → count ≡ marks_below (marked set) (start_of set number) → count ≡ classes_of set
-unfolding classes_of size_of
-classes_all set number count is counted = counted ∙ ap (λ n. marks_below (marked set) (start_of set n)) is
+pub classes_all_of_set : (set : PieceSet) (number count : ℕ) → number ≡ product (block_bases set)
+    → count ≡ marks_below (marked set) (start_of set number) → count ≡ classes_of_set set
+unfolding classes_of_set size_of_set
+classes_all_of_set set number count is counted = counted ∙ ap (λ n. marks_below (marked set) (start_of set n)) is
 
-pub no_classes_yet : (set : PieceSet) → 0 ≡ marks_below (marked set) (start_of set 0)
-no_classes_yet set = sym (marks_below_none (marked set))
+pub no_classes_yet_of_set : (set : PieceSet) → 0 ≡ marks_below (marked set) (start_of set 0)
+no_classes_yet_of_set set = sym (marks_below_none (marked set))
 
-pub class_in_blocks : (set : PieceSet) (class number : ℕ) → class < classes_of set → number ≡ product (block_bases set)
+pub class_in_blocks_of_set : (set : PieceSet) (class number : ℕ) → class < classes_of_set set → number ≡ product (block_bases set)
     → class < marks_below (marked set) (start_of set number)
-class_in_blocks set class number below is = subst (λ n. class < n) (sym (classes_all set number _ is refl)) below
+class_in_blocks_of_set set class number below is = subst (λ n. class < n) (sym (classes_all_of_set set number _ is refl)) below
 
-pub in_first : (set : PieceSet) (class number : ℕ) → number ≤ 0 → class < marks_below (marked set) (start_of set number) → ⊥
-in_first set class number none below =
+pub in_first_of_set : (set : PieceSet) (class number : ℕ) → number ≤ 0 → class < marks_below (marked set) (start_of set number) → ⊥
+in_first_of_set set class number none below =
     let zero_is : number ≡ 0 = omega arith in
     let none_before : marks_below (marked set) (start_of set number) ≡ 0 =
-    ap (λ n. marks_below (marked set) (start_of set n)) zero_is ∙ sym (no_classes_yet set) in
+    ap (λ n. marks_below (marked set) (start_of set n)) zero_is ∙ sym (no_classes_yet_of_set set) in
     omega (arith, below, none_before)
 
 -- a place of a block lies below the size of the set
 pub place_below_size : (set : PieceSet) (block place : ℕ) → block < product (block_bases set)
-    → place < block_size set block → start_of set block + place < size_of set
-unfolding size_of
+    → place < block_size set block → start_of set block + place < size_of_set set
+unfolding size_of_set
 place_below_size set block place within below =
     let upto = sum_below-rises (block_size set) block (product (block_bases set)) within in
     omega (arith, upto, below)
@@ -146,7 +146,7 @@ pub at_spot : (set : PieceSet) (index run local class : ℕ) (block : BlockClass
     run < runs_in block.set block.number → local < run_size block.set block.number →
     marked block.set (run_start block.set block.number run + local) ≡ true →
     marks_below (marked block.set) (run_start block.set block.number run + local) ≡ class →
-    HasBlock set (number_of (block_bases set) block.on_board) (run * product (local_bases block.on_board) + local) s → IsAtClass set s class
+    HasBlock set (number_of (block_bases set) block.on_board) (run * product (local_bases block.on_board) + local) s → IsAtClassOfSet set s class
 at_spot set index run local class block s is run_low local_low on number made =
     let within : block.number < product (block_bases set) = subst (λ q. block.number < product (block_bases q)) is.set_is block.within in
     let numbers = subst (λ q. block.on_board ≡ digits_of (block_bases q) block.number) is.set_is block.numbers in
@@ -158,9 +158,9 @@ at_spot set index run local class block s is run_low local_low on number made =
     } in
     let start = run_start-is set block.number run in
     let whole : start_of set block.number + (run * run_size set block.number + local) ≡ run_start set block.number run + local = omega (arith, start) in
-    at_class set s (run_start set block.number run + local) class there.position
-    (rank_of-block set block.number (run * run_size set block.number + local) s there ∙ whole)
-    (subst (λ n. n < size_of set) whole
+    at_class_of_set set s (run_start set block.number run + local) class there.position
+    (rank_of_set-block set block.number (run * run_size set block.number + local) s there ∙ whole)
+    (subst (λ n. n < size_of_set set) whole
     (place_below_size set block.number (run * run_size set block.number + local) within (place_in_run set block.number run local in_run)))
     (subst (λ q. marked q (run_start q block.number run + local) ≡ true) is.set_is on)
     (subst (λ q. marks_below (marked q) (run_start q block.number run + local) ≡ class) is.set_is number)

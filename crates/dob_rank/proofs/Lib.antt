@@ -40,7 +40,6 @@ pub mod ImageDigits  -- the digits of a mirror image, one after another
 pub mod MixedRuns  -- the marks of mixed runs
 pub mod StretchLists  -- stretches of marks
 pub mod RunMarks  -- the marks of runs
-pub mod RunTables  -- the tables of runs and stretches grow
 pub mod RunSums  -- the marks of a block as a sum over runs
 pub mod BlockTables  -- the blocks of a set
 pub mod DigitParts  -- the digits of a place, part by part
@@ -68,7 +67,7 @@ pub mod FarCounts  -- how many positions of profile B a run has up to a place
 pub mod FarUnranks  -- the position of a rank of profile B
 pub mod FamilyNumbers  -- class numbers of a family are marks below
 pub mod FamilyRepresentatives  -- one representative and one number a class of a family
-pub mod FamilyTables  -- the tables of runs of a family grow and are read
+pub mod RunTables  -- the tables of runs of a family grow and are read
 pub mod FamilyBlocks  -- the blocks of a family
 pub mod FamilySums  -- the classes of a block of a family as a sum over runs
 pub mod ClassBounds  -- how many positions and classes a set has at most

@@ -34,15 +34,15 @@ run_start_end set block = run_start-is set block (runs_in set block) ∙ ap (λ 
 
 -- ---- marks of runs
 
-pub first_marks : (set : PieceSet) (block run n : ℕ) → block < product (block_bases set) → run < runs_in set block → n ≤ run_size set block →
+pub first_marks_of_set : (set : PieceSet) (block run n : ℕ) → block < product (block_bases set) → run < runs_in set block → n ≤ run_size set block →
     run_kind (run % lion_pairs) ≡ First → marks_below (marked set) (run_start set block run + n) ≡ marks_below (marked set) (run_start set block run) + n
-first_marks set block run n within there upto kind =
+first_marks_of_set set block run n within there upto kind =
     marks_below-all (marked set) (run_start set block run) n
     (λ k below. marked_first set block run k (record { block_below = within; run_below = there; local_below = omega arith }) kind)
 
-pub later_marks : (set : PieceSet) (block run n : ℕ) → block < product (block_bases set) → run < runs_in set block → n ≤ run_size set block →
+pub later_marks_of_set : (set : PieceSet) (block run n : ℕ) → block < product (block_bases set) → run < runs_in set block → n ≤ run_size set block →
     run_kind (run % lion_pairs) ≡ Later → marks_below (marked set) (run_start set block run + n) ≡ marks_below (marked set) (run_start set block run)
-later_marks set block run n within there upto kind =
+later_marks_of_set set block run n within there upto kind =
     marks_below-unmarked (marked set) (run_start set block run) n
     (λ k below. marked_later set block run k (record { block_below = within; run_below = there; local_below = omega arith }) kind)
 
@@ -62,9 +62,9 @@ start_small set block upto =
     omega (arith, sum, few)
 
 -- there are few marks below each place of a block
-pub marks_small : (set : PieceSet) (block place : ℕ) → block < product (block_bases set) → place ≤ block_size set block →
+pub marks_small_of_set : (set : PieceSet) (block place : ℕ) → block < product (block_bases set) → place ≤ block_size set block →
     marks_below (marked set) (start_of set block + place) ≤ 2 ^ 42
-marks_small set block place within upto =
+marks_small_of_set set block place within upto =
     let start = start_small set block (omega arith) in
     let size = block_size-small set block within in
     let marks = marks_below-le (marked set) (start_of set block + place) in
@@ -77,7 +77,7 @@ pub run_marks_few : (set : PieceSet) (block run local : ℕ) → IsInRun set blo
     marks_below (marked set) (run_start set block run + local) ≤ 2 ^ 42
 run_marks_few set block run local at =
     let below = place_in_run set block run local at in
-    let few = marks_small set block (run * run_size set block + local) at.block_below (omega (arith, below)) in
+    let few = marks_small_of_set set block (run * run_size set block + local) at.block_below (omega (arith, below)) in
     subst (λ n. marks_below (marked set) n ≤ 2 ^ 42)
     (joined (run_start set block run) (start_of set block) (run * run_size set block) local (run_start-is set block run)) few
   where
@@ -85,7 +85,7 @@ run_marks_few set block run local at =
     joined run start first local e = omega arith
 
 -- the place, and the entry of its run
-pub record IsThere (set : PieceSet) (block run local : ℕ) (tables : List Stretches) (entry : Run) : Type 0 where
+pub record IsThereOfSet (set : PieceSet) (block run local : ℕ) (tables : List Stretches) (entry : Run) : Type 0 where
   pub in_run : IsInRun set block run local
   pub entry_is : IsRun set block run tables entry
 
@@ -99,7 +99,7 @@ entry_in block run entry below read =
     run_read block.set block.number _ run block.runs.items block.mixed.items entry block.table (subst (λ n. run < n) (sym block.whole) below) read
 
 pub there_in : (block : BlockClasses) (run local : ℕ) (entry : Run) → run < runs_in block.set block.number → local < run_size block.set block.number →
-    entry ≡ slice_index_or block.runs.items run entry → IsThere block.set block.number run local block.mixed.items entry
+    entry ≡ slice_index_or block.runs.items run entry → IsThereOfSet block.set block.number run local block.mixed.items entry
 there_in block run local entry run_below local_below read = record {
   in_run = record { block_below = block.within; run_below = run_below; local_below = local_below };
   entry_is = entry_in block run entry run_below read;
@@ -113,21 +113,21 @@ pub record IsFound (set : PieceSet) (block run local : ℕ) (on : Bool) (before 
   pub mark_is : on ≡ marked set (run_start set block run + local)
   pub before_is : before ≡ marks_below (marked set) (run_start set block run + local)
 
-pub first_found : (set : PieceSet) (block run local : ℕ) (tables : List Stretches) (entry : Run) → IsThere set block run local tables entry →
+pub first_found : (set : PieceSet) (block run local : ℕ) (tables : List Stretches) (entry : Run) → IsThereOfSet set block run local tables entry →
     run_kind (run % lion_pairs) ≡ First → IsFound set block run local true (entry.before + local)
 first_found set block run local tables entry at kind =
     let in_run = at.in_run in
-    let marks = first_marks set block run local in_run.block_below in_run.run_below (let low = in_run.local_below in omega arith) kind in
+    let marks = first_marks_of_set set block run local in_run.block_below in_run.run_below (let low = in_run.local_below in omega arith) kind in
     record {
       mark_is = sym (marked_first set block run local in_run kind);
       before_is = ap (λ n. n + local) at.entry_is.before_is ∙ sym marks;
     }
 
-pub later_found : (set : PieceSet) (block run local : ℕ) (tables : List Stretches) (entry : Run) → IsThere set block run local tables entry →
+pub later_found_of_set : (set : PieceSet) (block run local : ℕ) (tables : List Stretches) (entry : Run) → IsThereOfSet set block run local tables entry →
     run_kind (run % lion_pairs) ≡ Later → IsFound set block run local false entry.before
-later_found set block run local tables entry at kind =
+later_found_of_set set block run local tables entry at kind =
     let in_run = at.in_run in
-    let marks = later_marks set block run local in_run.block_below in_run.run_below (let low = in_run.local_below in omega arith) kind in
+    let marks = later_marks_of_set set block run local in_run.block_below in_run.run_below (let low = in_run.local_below in omega arith) kind in
     record {
       mark_is = sym (marked_later set block run local in_run kind);
       before_is = at.entry_is.before_is ∙ sym marks;
@@ -171,25 +171,25 @@ marks_by_table set block run n within there upto kind =
     (sym (lions_run run)) kind)))
     ∙ marks_from (marked set) (run_start set block run) n
 
-table_read : (set : PieceSet) (block run local : ℕ) (tables : List Stretches) (entry : Run) (table : Stretches) → IsThere set block run local tables entry →
+table_read : (set : PieceSet) (block run local : ℕ) (tables : List Stretches) (entry : Run) (table : Stretches) → IsThereOfSet set block run local tables entry →
     run_kind (run % lion_pairs) ≡ Mixed → table ≡ slice_index_or tables entry.table table → IsTable set block (run % lion_pairs) table
 table_read set block run local tables entry table at kind read =
     subst (IsTable set block (run % lion_pairs)) (sym read) ((at.entry_is.table_is kind).1 table)
 
 -- the table has the place
 pub table_local : (set : PieceSet) (block run local : ℕ) (tables : List Stretches) (entry : Run) (table : Stretches) →
-    IsThere set block run local tables entry → run_kind (run % lion_pairs) ≡ Mixed → table ≡ slice_index_or tables entry.table table →
+    IsThereOfSet set block run local tables entry → run_kind (run % lion_pairs) ≡ Mixed → table ≡ slice_index_or tables entry.table table →
     local < run_size table.set table.block
 table_local set block run local tables entry table at kind read =
     let is = table_read set block run local tables entry table at kind read in
     subst (λ s. local < run_size s table.block) (sym is.set_is) (subst (λ b. local < run_size set b) (sym is.block_is) at.in_run.local_below)
 
 -- what the table's answer says of the place
-pub mixed_found : (set : PieceSet) (block run local : ℕ) (tables : List Stretches) (entry : Run) (table : Stretches) (on : Bool) (number : ℕ) →
-    IsThere set block run local tables entry → run_kind (run % lion_pairs) ≡ Mixed → table ≡ slice_index_or tables entry.table table →
+pub mixed_found_of_set : (set : PieceSet) (block run local : ℕ) (tables : List Stretches) (entry : Run) (table : Stretches) (on : Bool) (number : ℕ) →
+    IsThereOfSet set block run local tables entry → run_kind (run % lion_pairs) ≡ Mixed → table ≡ slice_index_or tables entry.table table →
     on ≡ marked table.set (run_start table.set table.block table.run + local) → number ≡ marks_below (local_marks table.set table.block table.run) local →
     IsFound set block run local on (entry.before + number)
-mixed_found set block run local tables entry table on number at kind read on_is number_is =
+mixed_found_of_set set block run local tables entry table on number at kind read on_is number_is =
     let in_run = at.in_run in
     let low = in_run.local_below in
     let lower : run % lion_pairs ≤ run = omega arith in
@@ -211,17 +211,17 @@ mixed_found set block run local tables entry table on number at kind read on_is 
 -- ---- searches
 
 -- the search for a run starts between 0 and their number
-pub record IsRunStart (set : PieceSet) (block high class : ℕ) : Type 0 where
+pub record IsRunStartOfSet (set : PieceSet) (block high class : ℕ) : Type 0 where
   pub some : 0 < high
   pub within : high ≤ runs_in set block
   pub low_is : marks_below (marked set) (run_start set block 0) ≤ class
   pub high_is : class < marks_below (marked set) (run_start set block high)
 
-pub run_search : (set : PieceSet) (block before after high class : ℕ) → block < product (block_bases set)
+pub run_search_of_set : (set : PieceSet) (block before after high class : ℕ) → block < product (block_bases set)
     → before ≡ marks_below (marked set) (start_of set block) →
     after ≡ marks_below (marked set) (start_of set block + block_size set block) → high ≡ runs_in set block → before ≤ class → class < after →
-    IsRunStart set block high class
-run_search set block before after high class within starts ends is low upto =
+    IsRunStartOfSet set block high class
+run_search_of_set set block before after high class within starts ends is low upto =
     let first : before ≡ marks_below (marked set) (run_start set block 0) = starts ∙ ap (marks_below (marked set)) (sym (run_start_first set block)) in
     let last : after ≡ marks_below (marked set) (run_start set block high) =
     ends ∙ ap (marks_below (marked set)) (sym (run_start_end set block)) ∙ ap (λ n. marks_below (marked set) (run_start set block n)) (sym is) in
@@ -262,13 +262,13 @@ pub first_spot : (set : PieceSet) (block run before class : ℕ) → block < pro
     IsSearched set block run class → run_kind (run % lion_pairs) ≡ First → before ≡ marks_below (marked set) (run_start set block run) →
     IsSpotOfClass set block run (class - before) class
 first_spot set block run before class within at kind before_is =
-    let all = first_marks set block run (run_size set block) within at.run_below (omega arith) kind in
+    let all = first_marks_of_set set block run (run_size set block) within at.run_below (omega arith) kind in
     let next : marks_below (marked set) (run_start set block (run + 1)) ≡ marks_below (marked set) (run_start set block run + run_size set block) =
     ap (marks_below (marked set)) (run_start_next set block run) in
     let below : class - before < run_size set block =
     few_classes class before (marks_below (marked set) (run_start set block run)) (marks_below (marked set) (run_start set block (run + 1)))
     (run_size set block) before_is at.low_is at.high_is (next ∙ all) in
-    let marks = first_marks set block run (class - before) within at.run_below (omega arith) kind in
+    let marks = first_marks_of_set set block run (class - before) within at.run_below (omega arith) kind in
     record {
       local_below = below;
       mark_is = marked_first set block run (class - before) (record { block_below = within; run_below = at.run_below; local_below = below }) kind;
@@ -282,8 +282,8 @@ first_spot set block run before class within at kind before_is =
     sum_back low before class a b = omega arith
 
 -- a mixed run's table has the marks that are left
-pub mixed_left : (before marks count next class : ℕ) → before ≡ marks → marks + count ≡ next → marks ≤ class → class < next → class - before < count
-mixed_left before marks count next class is whole low high = omega arith
+pub mixed_left_of_set : (before marks count next class : ℕ) → before ≡ marks → marks + count ≡ next → marks ≤ class → class < next → class - before < count
+mixed_left_of_set before marks count next class is whole low high = omega arith
 
 -- a place of the table is one of the run
 pub place_in_table : (set : PieceSet) (block run local : ℕ) (tables : List Stretches) (entry : Run) (table : Stretches) → IsRun set block run tables entry →
@@ -294,12 +294,12 @@ place_in_table set block run local tables entry table is kind read inside =
 
 -- the place of a class in a mixed run, by the run's table
 pub mixed_spot : (set : PieceSet) (block run local class : ℕ) (tables : List Stretches) (entry : Run) (table : Stretches) →
-    IsThere set block run local tables entry → run_kind (run % lion_pairs) ≡ Mixed → table ≡ slice_index_or tables entry.table table →
+    IsThereOfSet set block run local tables entry → run_kind (run % lion_pairs) ≡ Mixed → table ≡ slice_index_or tables entry.table table →
     marks_below (marked set) (run_start set block run) ≤ class →
     local_marks table.set table.block table.run local ≡ true →
     marks_below (local_marks table.set table.block table.run) local ≡ class - entry.before → IsSpotOfClass set block run local class
 mixed_spot set block run local class tables entry table at kind read low on number =
-    let found = mixed_found set block run local tables entry table true (class - entry.before) at kind read (sym on) (sym number) in
+    let found = mixed_found_of_set set block run local tables entry table true (class - entry.before) at kind read (sym on) (sym number) in
     let before = at.entry_is.before_is in
     let whole : entry.before + (class - entry.before) ≡ class = omega (arith, before, low) in
     record { local_below = at.in_run.local_below; mark_is = sym found.mark_is; class_is = sym found.before_is ∙ whole }
@@ -308,7 +308,7 @@ mixed_spot set block run local class tables entry table at kind read low on numb
 pub none_in_later : (set : PieceSet) (block run class : ℕ) → block < product (block_bases set) → IsSearched set block run class →
     run_kind (run % lion_pairs) ≡ Later → ⊥
 none_in_later set block run class within at kind =
-    let none = later_marks set block run (run_size set block) within at.run_below (omega arith) kind in
+    let none = later_marks_of_set set block run (run_size set block) within at.run_below (omega arith) kind in
     let next = ap (marks_below (marked set)) (run_start_next set block run) in
     let low = at.low_is in
     let high = at.high_is in

@@ -2,7 +2,7 @@
 use Rattle.std.specs.Prelude.{ℕ, zero, suc, ◌==◌, ◌&&◌, if◌then◌else◌, Bool}
 use Rattle.dob_pieces.specs.declared.piece_set.PieceSet.{PieceSet}
 use Rattle.dob_pieces.specs.declared.setup.Setup.{Setup}
-use Rattle.dob_rank.specs.Numbers.{size_of, nth}
+use Rattle.dob_rank.specs.Numbers.{size_of_set, nth}
 use Rattle.dob_rank.specs.Marks.{marks_below, is_first}
 
 -- the marked place, below a bound, with so many marked places before it
@@ -11,5 +11,5 @@ marked_place mark number zero = 0
 marked_place mark number (suc n) = if mark n && (marks_below mark n == number) then n else marked_place mark number n
 
 -- the representative with so many representatives before it
-unfoldable pub class_setup : PieceSet → ℕ → Setup
-class_setup set class = nth set (marked_place (is_first set) class (size_of set))
+unfoldable pub class_setup_in_set : PieceSet → ℕ → Setup
+class_setup_in_set set class = nth set (marked_place (is_first set) class (size_of_set set))

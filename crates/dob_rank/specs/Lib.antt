@@ -11,8 +11,6 @@ pub mod BoardDigits
 pub mod Runs
 pub mod Weights
 pub mod Places
-pub mod RunTables
-pub mod BlockTables
 pub mod Laws
 pub mod Limits
 pub mod Faults
@@ -20,5 +18,5 @@ pub mod Segmented
 pub mod SegmentsLeft
 pub mod Stretches
 pub mod FamilyRuns
-pub mod FamilyTables
-pub mod FamilyBlocks
+pub mod RunTables
+pub mod BlockTables

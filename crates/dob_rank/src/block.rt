@@ -2,7 +2,7 @@
 // The blocks stand in the order of those numbers.
 ghost use Rattle.std.specs.Prelude.{◌≡◌, ◌<◌, ◌≤◌, ◌+◌, ◌*◌, ◌^◌, slice_index};
 ghost use Rattle.dob_rank.specs.Numbers.{choose, product, HasDigits, number_of, digits_of, sum_below, bases_by, block_bases};
-ghost use Rattle.dob_rank.specs.Numbers.{block_size, size_of};
+ghost use Rattle.dob_rank.specs.Numbers.{block_size, size_of_set};
 ghost use Rattle.dob_rank.specs.Runs.{runs_in, run_size, run_bases, square_bases, form_bases, local_bases, run_number, local_number, AreFewOnBoard};
 
 use crate::runs::{ENEMY_SQUARES, FREE_SQUARES, LIONS, OWN_SQUARES, Spot};
@@ -292,7 +292,7 @@ pub(crate) fn run_size_in(set: PieceSet, block: u64) -> u64
 
 /// The block in which a rank below the set's size lies, and the place there.
 pub(crate) fn find_block(set: PieceSet, rank: u64) -> (u64, u64)
-    requires { rank < size_of set }
+    requires { rank < size_of_set set }
     ensures block { result.0 < product (block_bases set) }
     ensures place { result.1 < block_size set result.0 }
     ensures whole { sum_below (block_size set) result.0 + result.1 ≡ rank }

@@ -10,8 +10,8 @@ ghost use Rattle.dob_rank.specs.Stretches.{AreStretches, IsGrowing, EndsWith, Is
 ghost use Rattle.dob_rank.specs.declared.runs.RunKind.TheVariants.{Mixed};
 
 use crate::block;
-use crate::ranks::{position_at, spot_of};
 use crate::runs::Spot;
+use crate::set_ranks::{position_at, spot_of};
 use dob_pieces::{Memory, PieceSet};
 use std::alloc::Global;
 

@@ -9,7 +9,7 @@ use Rattle.dob_pieces.specs.declared.profile.Family.{Family}
 use Rattle.dob_pieces.proofs.Elements.{some_at}
 use Rattle.dob_moves.specs.declared.position_status.Status.{Status}
 use Rattle.dob_moves.specs.declared.position_status.Status.TheVariants.{Caught, Tried, Stuck, Open}
-use Rattle.dob_rank.specs.Families.{classes_in}
+use Rattle.dob_rank.specs.Families.{classes_of}
 use Rattle.dob_value.specs.declared.value.Value.{Value}
 use Rattle.dob_value.specs.Follows.{IsValueTable}
 use Rattle.dob_unmove.specs.Edges.{predecessors}
@@ -56,7 +56,7 @@ closed_follows Open cell v closed is = absurd (closed refl)
 module _ (family : Family) (n : ℕ) (some : 0 < n) (histories : ℕ → List Settlement) (applied : ℕ → ℕ → List Item) (share : ℕ → Share)
     (knows : (i : ℕ) → i < n → KnowsRight family n i (share i) (histories i) (λ k. applied k i))
     (all : (i j : ℕ) → i < n → j < n → applied i j ≡ items_from (predecessors family) n j (histories i))
-    (shown : (class : ℕ) → class < classes_in family → (v : Value) × HasValueNow (share (owner_of n class)) class v) where
+    (shown : (class : ℕ) → class < classes_of family → (v : Value) × HasValueNow (share (owner_of n class)) class v) where
   abbrev value : ℕ → Value
   value class = value_of (histories (owner_of n class)) class
 
@@ -67,10 +67,10 @@ module _ (family : Family) (n : ℕ) (some : 0 < n) (histories : ℕ → List Se
   low_owner class = below_owner n class some
 
   -- the value shown
-  pub shows : (class : ℕ) → class < classes_in family → (v : Value) → HasValueNow (share (owner_of n class)) class v → v ≡ value class
+  pub shows : (class : ℕ) → class < classes_of family → (v : Value) → HasValueNow (share (owner_of n class)) class v → v ≡ value class
   shows class low v is = (knows (owner_of n class) (low_owner class)).values class v low refl is
 
-  has_value : (class : ℕ) → class < classes_in family → HasValueNow (share (owner_of n class)) class (value class)
+  has_value : (class : ℕ) → class < classes_of family → HasValueNow (share (owner_of n class)) class (value class)
   has_value class low = let given = shown class low in subst (λ v. HasValueNow (share (owner_of n class)) class v) (shows class low given.0 given.1) given.1
 
   could : (j : ℕ) → j < n → CanHaveMade family n j histories (λ k. applied k j)
@@ -94,8 +94,8 @@ module _ (family : Family) (n : ℕ) (some : 0 < n) (histories : ℕ → List Se
     values = λ class low. refl;
   }
 
-  pub known_is_right : (openings : List Opening) (values : List Value) → AreOpenings family openings → length values ≡ classes_in family →
-      ((class : ℕ) → class < classes_in family → slice_get values class ≡ Some (value class)) → IsValueTable family values
+  pub known_is_right : (openings : List Opening) (values : List Value) → AreOpenings family openings → length values ≡ classes_of family →
+      ((class : ℕ) → class < classes_of family → slice_get values class ≡ Some (value class)) → IsValueTable family values
   known_is_right openings values are whole each = lawful_is_right family n histories applied cell value openings values some are are_lawful all whole each
 
 -- ---- links
@@ -216,8 +216,8 @@ module _ (family : Family) (n : ℕ) (some : 0 < n) (runners : List Runner) (are
       known_is_right family n some history applied share knows all_applied given openings values openings_are shown.whole
       (λ class low. (spot class low).1 ∙ ap Some (shows family n some history applied share knows all_applied given class low (spot class low).0 (given class low).1))
     where
-      spot : (class : ℕ) → class < classes_in family → (v : Value) × (slice_get values class ≡ Some v)
+      spot : (class : ℕ) → class < classes_of family → (v : Value) × (slice_get values class ≡ Some v)
       spot class low = some_at values class (subst (λ m. class < m) (sym shown.whole) low)
 
-      given : (class : ℕ) → class < classes_in family → (v : Value) × HasValueNow (share (owner_of n class)) class v
+      given : (class : ℕ) → class < classes_of family → (v : Value) × HasValueNow (share (owner_of n class)) class v
       given class low = ((spot class low).0, shown.each class (spot class low).0 (at (owner_of n class)) (spot class low).1 (there (owner_of n class) (below_owner n class some)))

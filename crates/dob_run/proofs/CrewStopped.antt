@@ -7,7 +7,7 @@ use Rattle.std.specs.declared.vec.Vec.{Vec}
 use Rattle.std.proofs.lemmas.List.{length-map, append-nil}
 use Rattle.dob_pieces.specs.declared.profile.Family.{Family}
 use Rattle.dob_pieces.proofs.Elements.{some_at}
-use Rattle.dob_rank.specs.Families.{classes_in}
+use Rattle.dob_rank.specs.Families.{classes_of}
 use Rattle.dob_value.specs.declared.value.Value.{Value}
 use Rattle.dob_share.specs.Owners.{owner_of}
 use Rattle.dob_update.specs.Batches.{BatchView}
@@ -144,11 +144,11 @@ module _ (board : Board) (family : Family) (size : ℕ) (runners : List Runner) 
 
     -- what the nodes show is what the runners show
     shown_by : (nodes : List Node) (values : List Value) → nodes ≡ map node_of runners →
-        AreShownBelow (length nodes) (classes_in family) nodes values → AreShown family board.nodes runners values
+        AreShownBelow (length nodes) (classes_of family) nodes values → AreShown family board.nodes runners values
     shown_by nodes values is shown =
         let count : length nodes ≡ board.nodes = ap length is ∙ length-map runners node_of ∙ crew_many board runners crew in
-        let by_nodes : AreShownBelow board.nodes (classes_in family) (map node_of runners) values =
-        subst (λ (p : ℕ × List Node). AreShownBelow p.0 (classes_in family) p.1 values) (λ q. (count q, is q)) shown in
+        let by_nodes : AreShownBelow board.nodes (classes_of family) (map node_of runners) values =
+        subst (λ (p : ℕ × List Node). AreShownBelow p.0 (classes_of family) p.1 values) (λ q. (count q, is q)) shown in
         record {
           whole = by_nodes.whole;
           each = λ class value runner at owns. by_nodes.each class value at runner.node (get_map node_of runners (owner_of board.nodes class) runner owns);
@@ -225,7 +225,7 @@ module _ (board : Board) (family : Family) (size : ℕ) (runners : List Runner) 
           took = omega (arith, ap length (parts inlet i), length-append (worked_from inlet i) (in_hand (held_from inlet.hand i)))
 
       pub built_is : (nodes : List Node) (built : Built) → nodes ≡ map node_of runners → built.table.family ≡ family →
-          AreShownBelow (length nodes) (classes_in family) nodes built.table.values → built.closed ≡ left.closed → built.links ≡ left.links →
+          AreShownBelow (length nodes) (classes_of family) nodes built.table.values → built.closed ≡ left.closed → built.links ≡ left.links →
           IsBuilt family board.nodes size built
       built_is nodes built nodes_is family_is shown closed links =
           let values : List Value = built.table.values in

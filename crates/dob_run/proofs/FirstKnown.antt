@@ -3,12 +3,12 @@ use Rattle.std.proofs.Common.{◌≡◌, ℕ, ◌+◌, ◌*◌, ◌/◌, ◌%◌
 use Rattle.std.specs.List.{All}
 use Rattle.std.proofs.Math.Nat.{mod-add-div'}
 use Rattle.dob_pieces.specs.declared.profile.Family.{Family}
-use Rattle.dob_moves.specs.MoveLists.{moves_of_in}
+use Rattle.dob_moves.specs.MoveLists.{moves_of}
 use Rattle.dob_moves.specs.declared.position_status.Status.{Status}
 use Rattle.dob_moves.specs.declared.position_status.Status.TheVariants.{Caught, Tried, Stuck, Open}
-use Rattle.dob_moves.proofs.Cases.{one_status_in}
-use Rattle.dob_rank.specs.Families.{classes_in}
-use Rattle.dob_rank.specs.Families.{class_setup_in}
+use Rattle.dob_moves.proofs.Cases.{one_status}
+use Rattle.dob_rank.specs.Families.{classes_of}
+use Rattle.dob_rank.specs.Families.{class_setup}
 use Rattle.dob_value.specs.declared.value.Value.{Value}
 use Rattle.dob_value.specs.declared.value.Value.TheVariants.{Draw}
 use Rattle.dob_value.specs.Follows.{IsEntry}
@@ -50,14 +50,14 @@ module _ (family : Family) (n id : ℕ) (openings : List Opening) (node : Node) 
   abbrev h : List Settlement
   h = node.history.settlements
 
-  is_own : (class : ℕ) → class < classes_in family → owner_of n class ≡ id → IsOwn node.share class
+  is_own : (class : ℕ) → class < classes_of family → owner_of n class ≡ id → IsOwn node.share class
   is_own class low own = (kept.owned class).1 (own, low)
 
-  cell_is : (class : ℕ) → class < classes_in family → owner_of n class ≡ id → SameCell (cell_at node.share class) (fresh (length (moves_of_in family.profile (class_setup_in family class))))
+  cell_is : (class : ℕ) → class < classes_of family → owner_of n class ≡ id → SameCell (cell_at node.share class) (fresh (length (moves_of family.profile (class_setup family class))))
   cell_is class low own = subst (λ (m : ℕ). SameCell (cell_at node.share class) (fresh m)) (listed_opening family openings class are low).moves
       (opened.cells class (is_own class low own))
 
-  value_is : (class : ℕ) → class < classes_in family → owner_of n class ≡ id → value_of h class ≡ or_else (opening_value (status_in openings class)) Draw
+  value_is : (class : ℕ) → class < classes_of family → owner_of n class ≡ id → value_of h class ≡ or_else (opening_value (status_in openings class)) Draw
   value_is class low own =
       ap (λ xs. value_of xs class) opened.history
       ∙ ap (λ (m : ℕ). value_of (opening_settlements (status_in openings) n id (places_of node.share)) m) (sym place_is)
@@ -74,19 +74,19 @@ module _ (family : Family) (n id : ℕ) (openings : List Opening) (node : Node) 
     summed : AreSummed family n id node.share applied
     summed histories could class low own at_open =
         is_sum (known_by family n histories applied class) (cell_at node.share class)
-        (SumsUp-same (known_by family n histories applied class) (cell_at node.share class) (fresh (length (moves_of_in family.profile (class_setup_in family class))))
+        (SumsUp-same (known_by family n histories applied class) (cell_at node.share class) (fresh (length (moves_of family.profile (class_setup family class))))
         (cell_is class low own) (start_sums family class low n histories applied none))
 
     pub knows_opened : KnowsRight family n id node.share h applied
     knows_opened = record {
-      chained = subst (λ xs. IsChained (classes_in family) n id xs) (sym opened.history)
-          (opened_chained n id kept.one_of_n (status_in openings) (classes_in family) (places_of node.share)
+      chained = subst (λ xs. IsChained (classes_of family) n id xs) (sym opened.history)
+          (opened_chained n id kept.one_of_n (status_in openings) (classes_of family) (places_of node.share)
           (λ q less. subst (λ (m : ℕ). q * n + id < m) are.whole ((opened.places q).0 less)));
       entries = subst (λ xs. All (λ (s : Settlement). IsEntry s.now) xs) (sym opened.history)
           (opened_entries n id kept.one_of_n (status_in openings) (places_of node.share));
       statuses = λ class status low own has. opened.statuses class (is_own class low own)
-          ∙ one_status_in family.profile (class_setup_in family class) (status_in openings class) status (listed_opening family openings class are low).status has;
-      values = λ class v low own has. opened_is (status_in openings class) (cell_at node.share class) (length (moves_of_in family.profile (class_setup_in family class))) v (cell_is class low own)
+          ∙ one_status family.profile (class_setup family class) (status_in openings class) status (listed_opening family openings class are low).status has;
+      values = λ class v low own has. opened_is (status_in openings class) (cell_at node.share class) (length (moves_of family.profile (class_setup family class))) v (cell_is class low own)
           (subst (λ s. IsValue s (cell_at node.share class) v) (opened.statuses class (is_own class low own)) has)
           ∙ sym (value_is class low own);
       sums = summed;

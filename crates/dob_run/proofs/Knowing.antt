@@ -7,7 +7,7 @@ use Rattle.std.proofs.lemmas.List.Elements.{All-append, All-nil, All-cons, All-h
 use Rattle.dob_pieces.specs.declared.profile.Family.{Family}
 use Rattle.dob_moves.specs.declared.position_status.Status.{Status}
 use Rattle.dob_moves.specs.declared.position_status.Status.TheVariants.{Caught, Tried, Stuck, Open}
-use Rattle.dob_rank.specs.Families.{classes_in}
+use Rattle.dob_rank.specs.Families.{classes_of}
 use Rattle.dob_value.specs.declared.value.Value.{Value}
 use Rattle.dob_value.specs.Follows.{IsEntry}
 use Rattle.dob_unmove.specs.Edges.{predecessors}
@@ -35,7 +35,7 @@ use Rattle.dob_run.specs.Knows.{sum_of, CanHaveMade, AreSummed, KnowsRight}
 use Rattle.dob_run.proofs.Summing.{sums_by, is_sum}
 
 abbrev pub known_by : Family → ℕ → (ℕ → List Settlement) → (ℕ → List Item) → ℕ → List Value
-known_by family n histories applied class = all_known (predecessors family) (classes_in family) n histories applied class
+known_by family n histories applied class = all_known (predecessors family) (classes_of family) n histories applied class
 
 -- ---- cells that say the same
 
@@ -89,14 +89,14 @@ module _ (family : Family) (n id : ℕ) (histories : ℕ → List Settlement) (a
   from : IsFrom n id made.s item
   from = made_from (predecessors family) n id made.s made.part item made.rest made.block_is
 
-  next_is : IsNext (classes_in family) n i made.before made.s
+  next_is : IsNext (classes_of family) n i made.before made.s
   next_is = could.chained i low made.before made.s made.behind made.history_is
 
   better : Better item.was item.now
   better = subst (λ (r : Item). Better r.was r.now) (sym from.is) next_is.better
 
   learns : Changes (known_by family n histories applied item.to) (known_by family n histories after item.to) item.was item.now
-  learns = learnt (predecessors family) (classes_in family) n histories applied after i id item (could.chained i low) made grown same_else
+  learns = learnt (predecessors family) (classes_of family) n histories applied after i id item (could.chained i low) made grown same_else
 
   -- the cell of its class
   pub summed_here : (cell new : Cell) → SameCell cell (sum_of (known_by family n histories applied item.to)) → SameCell new (changed item.was item.now cell) →
@@ -111,7 +111,7 @@ module _ (family : Family) (n id : ℕ) (histories : ℕ → List Settlement) (a
   pub summed_else : (class : ℕ) → owner_of n class ≡ id → class ≢ item.to → (cell : Cell) →
       SameCell cell (sum_of (known_by family n histories applied class)) → SameCell cell (sum_of (known_by family n histories after class))
   summed_else class own other cell is = subst (λ known. SameCell cell (sum_of known))
-      (nothing_learnt (predecessors family) (classes_in family) n histories applied after i id item (could.chained i low) made grown same_else class own other) is
+      (nothing_learnt (predecessors family) (classes_of family) n histories applied after i id item (could.chained i low) made grown same_else class own other) is
 
 module _ (family : Family) (n id : ℕ) (share mid : Share) (history longer : HistoryView) (applied after : ℕ → List Item) (i : ℕ) (low : i < n) (item : Item)
     (grown : after i ≡ applied i ++ item ∷ []) (same_else : (k : ℕ) → k ≢ i → after k ≡ applied k) (kept : AreKept family n id share history)
@@ -122,7 +122,7 @@ module _ (family : Family) (n id : ℕ) (share mid : Share) (history longer : Hi
   abbrev g : List Settlement
   g = longer.settlements
 
-  mine : (owner_of n item.to ≡ id) × (item.to < classes_in family)
+  mine : (owner_of n item.to ≡ id) × (item.to < classes_of family)
   mine = (kept.owned item.to).0 (fits_own share item taken.fits)
 
   is_open : status_at share item.to ≡ Open
@@ -142,12 +142,12 @@ module _ (family : Family) (n id : ℕ) (share mid : Share) (history longer : Hi
       before : CanHaveMade family n id histories applied
       before = could_before family n id histories applied after i low item could grown same_else
 
-  chained_after : (given : Option Settlement) → HasSettled share mid item.to given → g ≡ h ++ listed given → IsChained (classes_in family) n id g
-  chained_after None settled is = subst (λ xs. IsChained (classes_in family) n id xs) (sym (is ∙ append-nil h)) knows.chained
-  chained_after (Some s) settled is = subst (λ xs. IsChained (classes_in family) n id xs) (sym is)
-      (chained_more (classes_in family) n id h s knows.chained (record {
+  chained_after : (given : Option Settlement) → HasSettled share mid item.to given → g ≡ h ++ listed given → IsChained (classes_of family) n id g
+  chained_after None settled is = subst (λ xs. IsChained (classes_of family) n id xs) (sym (is ∙ append-nil h)) knows.chained
+  chained_after (Some s) settled is = subst (λ xs. IsChained (classes_of family) n id xs) (sym is)
+      (chained_more (classes_of family) n id h s knows.chained (record {
         number = settled.1 ∙ kept.counted;
-        below = subst (λ k. k < classes_in family) (sym settled.2) mine.1;
+        below = subst (λ k. k < classes_of family) (sym settled.2) mine.1;
         own = ap (λ k. owner_of n k) settled.2 ∙ mine.0;
         was = knows.values item.to s.was mine.1 mine.0 settled.3 ∙ ap (λ k. value_of h k) (sym settled.2);
         better = settled.5;
@@ -162,7 +162,7 @@ module _ (family : Family) (n id : ℕ) (share mid : Share) (history longer : Hi
       (All-nil (λ (s : Settlement). IsEntry s.now))))
 
   values_after : (given : Option Settlement) → HasSettled share mid item.to given → g ≡ h ++ listed given →
-      (class : ℕ) (v : Value) → class < classes_in family → owner_of n class ≡ id → HasValueNow mid class v → v ≡ value_of g class
+      (class : ℕ) (v : Value) → class < classes_of family → owner_of n class ≡ id → HasValueNow mid class v → v ≡ value_of g class
   values_after given settled is class v low_class own has = elim (cases_eq class item.to) [
     | inl same ↦ subst (λ k. HasValueNow mid k v → v ≡ value_of g k) (sym same) (here given settled is) has
     | inr other ↦
@@ -204,7 +204,7 @@ knows_same family n id share history applied after same knows = record {
   statuses = knows.statuses;
   values = knows.values;
   sums = λ histories could class low own at_open. subst (λ known. SameCell (cell_at share class) (sum_of known))
-      (sym (all_known-same (predecessors family) (classes_in family) n histories histories applied after class (λ k. refl) same))
+      (sym (all_known-same (predecessors family) (classes_of family) n histories histories applied after class (λ k. refl) same))
       (knows.sums histories (record {
         chained = could.chained;
         begun = λ i low_i. ((could.begun i low_i).0, (could.begun i low_i).1 ∙ ap (λ xs. xs ++ (could.begun i low_i).0) (same i));

@@ -9,7 +9,7 @@ use Rattle.std.proofs.lemmas.List.Concat.{length-flat_map}
 use Rattle.std.proofs.lemmas.List.Sums.{sum_by-cons, sum_by-le, length-filter}
 use Rattle.std.proofs.lemmas.Option.{slice_get-get_or}
 use Rattle.dob_pieces.specs.declared.profile.Family.{Family}
-use Rattle.dob_rank.specs.Families.{classes_in}
+use Rattle.dob_rank.specs.Families.{classes_of}
 use Rattle.dob_value.specs.declared.value.Value.{Value}
 use Rattle.dob_value.specs.declared.value.Value.TheVariants.{Draw}
 use Rattle.dob_value.specs.Entries.{is_draw}
@@ -167,8 +167,8 @@ few_items size batches small =
 
 -- ---- what is needed
 
-module _ (family : Family) (n i j : ℕ) (history : List Settlement) (values : List Value) (whole : length values ≡ classes_in family)
-    (is : (class : ℕ) (value : Value) → class < classes_in family → owner_of n class ≡ i → slice_get values class ≡ Some value →
+module _ (family : Family) (n i j : ℕ) (history : List Settlement) (values : List Value) (whole : length values ≡ classes_of family)
+    (is : (class : ℕ) (value : Value) → class < classes_of family → owner_of n class ≡ i → slice_get values class ≡ Some value →
     value ≡ value_of history class) where
   -- what a class has to tell, and what it adds
   abbrev has : ℕ → ℕ
@@ -177,7 +177,7 @@ module _ (family : Family) (n i j : ℕ) (history : List Settlement) (values : L
   abbrev adds : ℕ → ℕ
   adds class = cond {A = ℕ} (eqb (owner_of n class) i) (has class) 0
 
-  own_emitted : (class : ℕ) → class < classes_in family → owner_of n class ≡ i → has class ≤ of_told (edges_to family n j) history class
+  own_emitted : (class : ℕ) → class < classes_of family → owner_of n class ≡ i → has class ≤ of_told (edges_to family n j) history class
   own_emitted class low own = elim (cases_Bool (tells history class)) [
     | inl emitted ↦
         let right : of_told (edges_to family n j) history class ≡ edges_to family n j class =
@@ -196,7 +196,7 @@ module _ (family : Family) (n i j : ℕ) (history : List Settlement) (values : L
       no_more true m = omega arith
       no_more false m = omega arith
 
-  each_emitted : (class : ℕ) → class < classes_in family → adds class ≤ of_told (edges_to family n j) history class
+  each_emitted : (class : ℕ) → class < classes_of family → adds class ≤ of_told (edges_to family n j) history class
   each_emitted class low = elim (cases_Bool (eqb (owner_of n class) i)) [
     | inl own ↦
         let here : adds class ≡ has class = ap (λ b. cond {A = ℕ} b (has class) 0) own in
@@ -210,16 +210,16 @@ module _ (family : Family) (n i j : ℕ) (history : List Settlement) (values : L
   -- the items that the history makes are as many at least
   needed_made : needed family n values i j ≤ length (items_from (predecessors family) n j history)
   needed_made =
-      let less = sum_no_more adds (of_told (edges_to family n j) history) 0 (classes_in family) (λ class low. each_emitted class (omega arith)) in
-      let once = listed_once (edges_to family n j) history 0 (classes_in family) in
+      let less = sum_no_more adds (of_told (edges_to family n j) history) 0 (classes_of family) (λ class low. each_emitted class (omega arith)) in
+      let once = listed_once (edges_to family n j) history 0 (classes_of family) in
       let made = length-items_from (predecessors family) n j history in
       omega (arith, less, once, made)
 
 -- A runner's node that has nothing left to expand or to send has offered room for all that its classes have to tell.
 pub needed_fits : (family : Family) (n size i j : ℕ) (node : Node) (endpoint : Endpoint) (outlet : Outlet) (values : List Value) →
     IsLawfulRunner family size node endpoint → IsIdle node → node.id ≡ i → node.n ≡ n → i ≢ j → slice_get endpoint.outlets.items j ≡ Some outlet →
-    length values ≡ classes_in family →
-    ((class : ℕ) (value : Value) → class < classes_in family → owner_of n class ≡ i → slice_get values class ≡ Some value →
+    length values ≡ classes_of family →
+    ((class : ℕ) (value : Value) → class < classes_of family → owner_of n class ≡ i → slice_get values class ≡ Some value →
     HasValueNow node.share class value) →
     needed family n values i j ≤ length (offered outlet) * size
 needed_fits family n size i j node endpoint outlet values law idle id_is n_is apart there whole shown =
@@ -231,9 +231,9 @@ needed_fits family n size i j node endpoint outlet values law idle id_is n_is ap
     sends : SendsRight node size j (offered outlet)
     sends = law.sends j outlet (λ e. apart (sym (e ∙ sym law.of.1 ∙ id_is))) there
 
-    values_are : (class : ℕ) (value : Value) → class < classes_in family → owner_of n class ≡ i → slice_get values class ≡ Some value →
+    values_are : (class : ℕ) (value : Value) → class < classes_of family → owner_of n class ≡ i → slice_get values class ≡ Some value →
         value ≡ value_of node.history.settlements class
-    values_are class value low own at = law.knows.values class value (subst (λ (s : Family). class < classes_in s) (sym law.of.0) low)
+    values_are class value low own at = law.knows.values class value (subst (λ (s : Family). class < classes_of s) (sym law.of.0) low)
         (ap (λ m. owner_of m class) n_is ∙ own ∙ sym id_is) (shown class value low own at)
 
     all_items : items_from (predecessors family) n j node.history.settlements ≡ items_of_batches (offered outlet)

@@ -4,7 +4,7 @@ use Rattle.std.specs.Prelude.{slice_get}
 use Rattle.std.proofs.lemmas.List.{length-append}
 use Rattle.std.specs.List.{AllZip, range_with_len}
 use Rattle.dob_pieces.specs.declared.profile.Family.{Family}
-use Rattle.dob_rank.specs.Families.{class_setup_in}
+use Rattle.dob_rank.specs.Families.{class_setup}
 use Rattle.dob_share.specs.declared.opening.Opening.{Opening}
 use Rattle.dob_node.specs.Openings.{IsOpening, AreOpeningsBelow}
 use Rattle.dob_run.specs.Scans.{AreOpeningsFrom}
@@ -36,12 +36,12 @@ at_either (y ∷ xs) ys (suc k) x e =
     ⊎_elim (λ l. inl l) (λ r. let place = r.1 in inr (r.0, omega arith, r.2)) (at_either xs ys k x e)
 
 pub openings_are : (family : Family) (first upto : ℕ) (openings : List Opening) → first ≤ upto →
-    AllZip (λ (class : ℕ) (given : Opening). IsOpening family.profile (class_setup_in family class) given) (range_with_len first (upto - first)) openings →
+    AllZip (λ (class : ℕ) (given : Opening). IsOpening family.profile (class_setup family class) given) (range_with_len first (upto - first)) openings →
     AreOpeningsFrom family first upto openings
 openings_are family first upto openings order are =
-    let many = as_many (λ (class : ℕ) (given : Opening). IsOpening family.profile (class_setup_in family class) given) first (upto - first) openings are in record {
+    let many = as_many (λ (class : ℕ) (given : Opening). IsOpening family.profile (class_setup family class) given) first (upto - first) openings are in record {
       whole = omega arith;
-      each = each_is (λ (c : ℕ) (o : Opening). IsOpening family.profile (class_setup_in family c) o) first (upto - first) openings are;
+      each = each_is (λ (c : ℕ) (o : Opening). IsOpening family.profile (class_setup family c) o) first (upto - first) openings are;
     }
 
 -- the openings below a number, and those from there on
@@ -53,6 +53,6 @@ openings_joined family first upto before more are next = record {
     | inl earlier ↦ are.each class given earlier
     | inr later ↦ (
         let place : first + later.0 ≡ class = omega (arith, are.whole, later.1) in
-        subst (λ (c : ℕ). IsOpening family.profile (class_setup_in family c) given) place (next.each later.0 given later.2))
+        subst (λ (c : ℕ). IsOpening family.profile (class_setup family c) given) place (next.each later.0 given later.2))
   ];
 }

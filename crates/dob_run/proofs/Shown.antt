@@ -2,7 +2,7 @@
 use Rattle.std.proofs.Common.{◌≡◌, ℕ, ◌<◌, List, length, refl, eqb, sym, ap, ◌∙◌, subst}
 use Rattle.dob_pieces.proofs.Elements.{some_at}
 use Rattle.dob_pieces.specs.declared.profile.Family.{Family}
-use Rattle.dob_rank.specs.Families.{classes_in}
+use Rattle.dob_rank.specs.Families.{classes_of}
 use Rattle.dob_value.specs.declared.value.Value.{Value}
 use Rattle.dob_value.specs.declared.value.Value.TheVariants.{Draw}
 use Rattle.dob_value.specs.Follows.{IsEntry}
@@ -26,12 +26,12 @@ owner_is family size n k node endpoint law id_is n_is = record {
     owner : (class : ℕ) → owner_of n class ≡ k → owner_of node.n class ≡ node.id
     owner class is = ap (λ (m : ℕ). owner_of m class) n_is ∙ is ∙ sym id_is
 
-    few : (class : ℕ) → class < classes_in family → class < classes_in node.family
-    few class low = subst (λ (s : Family). class < classes_in s) (sym law.of.0) low
+    few : (class : ℕ) → class < classes_of family → class < classes_of node.family
+    few class low = subst (λ (s : Family). class < classes_of s) (sym law.of.0) low
 
 -- what a class's owner shows is such a value as a table can have
 pub shown_entry : (family : Family) (nodes : List Node) (class : ℕ) (value : Value) → 0 < length nodes → AreOwners family (length nodes) nodes →
-    class < classes_in family → IsShown (length nodes) nodes class value → IsEntry value
+    class < classes_of family → IsShown (length nodes) nodes class value → IsEntry value
 shown_entry family nodes class value some owners low shown =
     let owner = some_at nodes (owner_of (length nodes) class) (below_owner (length nodes) class some) in
     (owners (owner_of (length nodes) class) owner.0 owner.1).entries class value low refl (shown owner.0 owner.1)

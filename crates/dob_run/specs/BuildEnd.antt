@@ -2,7 +2,7 @@
 use Rattle.std.specs.Prelude.{◌≡◌, ◌≢◌, ⊤, ℕ, ◌<◌, ◌⊎◌, List, Option, None, Some, length, slice_get}
 use Rattle.dob_pieces.specs.declared.profile.Family.{Family}
 use Rattle.dob_rank.specs.Limits.{IsSmall}
-use Rattle.dob_rank.specs.Families.{classes_in}
+use Rattle.dob_rank.specs.Families.{classes_of}
 use Rattle.dob_value.specs.declared.value.Value.{Value}
 use Rattle.dob_value.specs.Follows.{IsEntry, AreGiven}
 use Rattle.dob_share.specs.Owners.{owner_of}
@@ -55,8 +55,8 @@ IsFailureOf runners Sizes = ⊥
 
 -- Node k, one of n, has each class of the family that is its own, and shows for it such a value as a table can have.
 pub record IsOwner (family : Family) (n k : ℕ) (node : Node) : Type 0 where
-  pub own : (class : ℕ) → class < classes_in family → owner_of n class ≡ k → IsOwn node.share class
-  pub entries : (class : ℕ) (value : Value) → class < classes_in family → owner_of n class ≡ k → HasValueNow node.share class value →
+  pub own : (class : ℕ) → class < classes_of family → owner_of n class ≡ k → IsOwn node.share class
+  pub entries : (class : ℕ) (value : Value) → class < classes_of family → owner_of n class ≡ k → HasValueNow node.share class value →
       IsEntry value
 
 -- so do they all

@@ -2,7 +2,7 @@
 use Rattle.std.specs.Prelude.{◌≡◌, ◌≢◌, ℕ, ◌+◌, ◌*◌, ◌<◌, ◌≤◌, ◌==◌, cond, List, [], Some, length, slice_get, slice_index_or, slice_index}
 use Rattle.std.specs.List.{count_by, sum_by, range_with_len}
 use Rattle.dob_pieces.specs.declared.profile.Family.{Family}
-use Rattle.dob_rank.specs.Families.{classes_in}
+use Rattle.dob_rank.specs.Families.{classes_of}
 use Rattle.dob_value.specs.declared.value.Value.{Value}
 use Rattle.dob_value.specs.declared.value.Value.TheVariants.{Draw}
 use Rattle.dob_value.specs.Entries.{is_draw}
@@ -20,7 +20,7 @@ edges_to family n j class = count_by (λ from. owner_of n from == j) (predecesso
 -- how many items node i has to tell node j at least: those of its classes that aren't a draw
 abbrev pub needed : Family → ℕ → List Value → ℕ → ℕ → ℕ
 needed family n values i j = sum_by (λ class. cond (owner_of n class == i) (cond (is_draw (slice_index_or values class Draw)) 0 (edges_to family n j class)) 0)
-    (range_with_len 0 (classes_in family))
+    (range_with_len 0 (classes_of family))
 
 -- The link from node i to node j is done: the batches posted, taken, sent and received are one number, nothing waits, and in
 -- so many batches of that size there was room for all that i had to tell j.

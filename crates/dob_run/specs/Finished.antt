@@ -1,7 +1,7 @@
 -- A crew that has come to its end: nothing is left to do anywhere.
 use Rattle.std.specs.Prelude.{◌≡◌, ℕ, ◌<◌, ◌++◌, List, Some, false, length, slice_get, slice_index}
 use Rattle.dob_pieces.specs.declared.profile.Family.{Family}
-use Rattle.dob_rank.specs.Families.{classes_in}
+use Rattle.dob_rank.specs.Families.{classes_of}
 use Rattle.dob_value.specs.declared.value.Value.{Value}
 use Rattle.dob_value.specs.Follows.{IsValueTable}
 use Rattle.dob_share.specs.declared.opening.Opening.{Opening}
@@ -41,7 +41,7 @@ pub record AreFinished (family : Family) (n : ℕ) (runners : List Runner) : Typ
 
 -- each value is what the owner of its class shows
 pub record AreShown (family : Family) (n : ℕ) (runners : List Runner) (values : List Value) : Type 0 where
-  pub whole : length values ≡ classes_in family
+  pub whole : length values ≡ classes_of family
   pub each : (class : ℕ) (value : Value) (runner : Runner) → slice_get values class ≡ Some value → slice_get runners (owner_of n class) ≡ Some runner →
       HasValueNow runner.node.share class value
 

@@ -12,7 +12,7 @@ use Rattle.dob_value.specs.declared.value.Value.{Value}
 use Rattle.dob_value.specs.declared.value.Value.TheVariants.{Win, Loss, Draw}
 use Rattle.dob_value.specs.Follows.{IsEntry}
 use Rattle.dob_share.specs.declared.news.Item.{Item}
-use Rattle.dob_rank.specs.Families.{classes_in}
+use Rattle.dob_rank.specs.Families.{classes_of}
 use Rattle.dob_moves.specs.declared.position_status.Status.{Status}
 use Rattle.dob_share.specs.declared.news.Settlement.{Settlement}
 use Rattle.dob_share.specs.declared.share.Share.{Share}
@@ -74,7 +74,7 @@ AreKept-prop family n id share history a b = λ i. record {
   few = le_prop a.few b.few i;
   owned = Π_prop (λ class. ×_prop (Π_prop (λ _. ×_prop (ℕ-set _ _) le_prop)) (Π_prop (λ _. IsOwn-prop share class))) a.owned b.owned i;
   counted = ℕ-set _ _ a.counted b.counted i;
-  classes = All-prop (λ (s : Settlement). s.class < classes_in family) (λ s. le_prop {n = suc s.class} {m = classes_in family}) history.settlements a.classes b.classes i;
+  classes = All-prop (λ (s : Settlement). s.class < classes_of family) (λ s. le_prop {n = suc s.class} {m = classes_of family}) history.settlements a.classes b.classes i;
   parities = Π_prop (λ class. Π_prop (λ _. HasParities-prop (cell_at share class))) a.parities b.parities i;
 }
 
@@ -160,7 +160,7 @@ AreSummed-prop family n id share applied =
 KnowsRight-prop : (family : Family) (n id : ℕ) (share : Share) (history : List Settlement) (applied : ℕ → List Item) →
     IsProp (KnowsRight family n id share history applied)
 KnowsRight-prop family n id share history applied a b = λ i. record {
-  chained = IsChained-prop (classes_in family) n id history a.chained b.chained i;
+  chained = IsChained-prop (classes_of family) n id history a.chained b.chained i;
   entries = All-prop (λ (s : Settlement). IsEntry s.now) (λ (s : Settlement). IsEntry-prop s.now) history a.entries b.entries i;
   statuses = Π_prop (λ class. Π_prop (λ status. Π_prop (λ _. Π_prop (λ _. Π_prop (λ _. status_set _ _))))) a.statuses b.statuses i;
   values = Π_prop (λ class. Π_prop (λ value. Π_prop (λ _. Π_prop (λ _. Π_prop (λ _. value_set _ _))))) a.values b.values i;

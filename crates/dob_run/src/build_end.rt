@@ -2,7 +2,7 @@
 ghost use Rattle.std.specs.Prelude.{◌≡◌, ◌≢◌, ◌+◌, ◌<◌, ℕ, Some, IfOk, IfErr, OnOk, MatchOption, map, length, slice_get, slice_index};
 ghost use Rattle.dob_pieces.specs.declared.profile.Family.{Family};
 ghost use Rattle.dob_rank.specs.Limits.{IsSmall};
-ghost use Rattle.dob_rank.specs.Families.{classes_in};
+ghost use Rattle.dob_rank.specs.Families.{classes_of};
 ghost use Rattle.dob_share.specs.Owners.{owner_of};
 ghost use Rattle.dob_share.specs.Shares.{IsOwn};
 ghost use Rattle.dob_node.specs.declared.cause.Cause.{Cause};
@@ -22,7 +22,7 @@ use dob_board::{Board, Closed, Halt};
 use dob_chan::Rejoined;
 use dob_node::{Cause, Node};
 use dob_pieces::{Family, Memory};
-use dob_rank::FamilyClasses;
+use dob_rank::Classes;
 use dob_share::owner;
 use dob_value::{Table, Value};
 use std::alloc::Global;
@@ -46,7 +46,7 @@ pub struct Built {
 pub fn finish<R: Wait>(
     rt: &R,
     alloc: Global,
-    classes: FamilyClasses,
+    classes: Classes,
     board: Board,
     runners: Vec<Runner>,
 ) -> Result<Built, Fault>
@@ -127,11 +127,11 @@ fn cause_at(causes: &[Option<Cause>], place: usize) -> Cause
 }
 
 // The table of the values that the nodes show.
-fn table_of(alloc: Global, classes: FamilyClasses, nodes: &[Node]) -> Result<Table, Memory>
+fn table_of(alloc: Global, classes: Classes, nodes: &[Node]) -> Result<Table, Memory>
     requires some { 0 < length nodes.now }
     requires owners { AreOwners classes.family (length nodes.now) nodes.now }
     ensures family { IfOk result (λ table. table.family ≡ classes.family) }
-    ensures values { IfOk result (λ table. AreShownBelow (length nodes.now) (classes_in classes.family) nodes.now table.values) }
+    ensures values { IfOk result (λ table. AreShownBelow (length nodes.now) (classes_of classes.family) nodes.now table.values) }
 {
     let value_at = |class: u64| -> Value
         requires some { 0 < length nodes.now }

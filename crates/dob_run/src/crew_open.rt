@@ -21,7 +21,7 @@ use crate::runner::Runner;
 use dob_board::{Board, NodeSeat};
 use dob_node::{Node, Opening, opening};
 use dob_pieces::{Family, Memory};
-use dob_rank::{FamilyClasses, SegmentLength, Segments};
+use dob_rank::{Classes, SegmentLength, Segments};
 use std::alloc::Global;
 
 /// A board, and the runner of each of `n` nodes that own the classes, in order, before their first turn. They cut batches of
@@ -31,7 +31,7 @@ use std::alloc::Global;
 /// to 1024; `Memory`.
 pub fn crew(
     alloc: Global,
-    classes: &FamilyClasses,
+    classes: &Classes,
     n: usize,
     batch: usize,
     capacity: usize,
@@ -52,7 +52,7 @@ pub fn crew(
 // A crew as above, of sizes within their limits.
 fn open_crew(
     alloc: Global,
-    classes: &FamilyClasses,
+    classes: &Classes,
     n: usize,
     batch: usize,
     capacity: usize,

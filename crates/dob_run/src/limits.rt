@@ -5,7 +5,7 @@ ghost use Rattle.dob_run.specs.Faults.{AreWithin, HasSizeFault, HasStartFault};
 
 use crate::fault::Fault;
 use dob_pieces::Family;
-use dob_rank::{FamilyClasses, is_too_large};
+use dob_rank::{Classes, is_too_large};
 use dob_safra::is_size;
 use dob_update::are_sizes;
 use std::alloc::Global;
@@ -43,7 +43,7 @@ pub(crate) fn classes_within(
     n: usize,
     batch: usize,
     capacity: usize,
-) -> Result<FamilyClasses, Fault>
+) -> Result<Classes, Fault>
     ensures family { IfOk result (λ classes. classes.family ≡ family) }
     ensures within { OnOk result (IsSmall family.set × AreWithin n batch capacity) }
     ensures fault { IfErr result (HasStartFault family n batch capacity) }
@@ -54,7 +54,7 @@ pub(crate) fn classes_within(
     if let Some(fault) = size_passed(n, batch, capacity) {
         return Err(fault);
     }
-    match FamilyClasses::open(alloc, family) {
+    match Classes::open(alloc, family) {
         Ok(classes) => Ok(classes),
         Err(_) => Err(Fault::Memory),
     }

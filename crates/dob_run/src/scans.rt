@@ -1,13 +1,13 @@
 // What is known of each class before anything is settled, by several threads.
 ghost use Rattle.std.specs.Prelude.{◌<◌, ◌≤◌, IfOk};
-ghost use Rattle.dob_rank.specs.Families.{classes_in};
-ghost use Rattle.dob_rank.specs.Families.{class_setup_in};
+ghost use Rattle.dob_rank.specs.Families.{classes_of};
+ghost use Rattle.dob_rank.specs.Families.{class_setup};
 ghost use Rattle.dob_node.specs.Openings.{IsOpening, AreOpenings};
 ghost use Rattle.dob_run.specs.Scans.{AreOpeningsFrom};
 
 use dob_node::{Opening, opening_in};
 use dob_pieces::Memory;
-use dob_rank::{FamilyClasses, SegmentLength, Segments};
+use dob_rank::{Classes, SegmentLength, Segments};
 use rayon::prelude::*;
 use std::alloc::Global;
 use std::thread::Threads;
@@ -23,7 +23,7 @@ const AT_A_TIME: u64 = 1 << 20;
 pub fn scan(
     rt: &(impl Threads + Sync),
     alloc: Global,
-    classes: &FamilyClasses,
+    classes: &Classes,
     segment_length: SegmentLength,
 ) -> Result<Segments<Opening>, Memory>
     ensures { IfOk result (λ openings. AreOpenings classes.now.family openings) }
@@ -44,20 +44,20 @@ pub fn scan(
 fn scan_part(
     rt: &(impl Threads + Sync),
     alloc: Global,
-    classes: &FamilyClasses,
+    classes: &Classes,
     first: u64,
     end: u64,
 ) -> Result<Vec<Opening>, Memory>
     requires order { first ≤ end }
-    requires within { end ≤ classes_in classes.now.family }
+    requires within { end ≤ classes_of classes.now.family }
     ensures { IfOk result (λ openings. AreOpeningsFrom classes.now.family first end openings.items) }
 {
     let openings = (first..end)
         .into_par_iter()
         .map(
             |class: u64| -> Opening
-                requires { class < classes_in classes.now.family }
-                ensures { IsOpening classes.entry.now.family.profile (class_setup_in classes.entry.now.family class) result }
+                requires { class < classes_of classes.now.family }
+                ensures { IsOpening classes.entry.now.family.profile (class_setup classes.entry.now.family class) result }
             { opening_in(classes, class) },
         )
         .collect::<Vec<_>>(rt, alloc)?;

@@ -16,7 +16,7 @@ use crate::turn_loop::Until;
 use dob_board::Board;
 use dob_node::Cause;
 use dob_pieces::{Family, Memory};
-use dob_rank::{FamilyClasses, SegmentLength};
+use dob_rank::{Classes, SegmentLength};
 use std::alloc::Global;
 use std::snapshot::Snapshot;
 use std::sync::Wait;
@@ -57,7 +57,7 @@ pub(crate) fn run_crew<R: Threads + Wait + Sync, G: Gate + Sync>(
     capacity: usize,
     gate: &G,
     until: &Until,
-) -> Result<(FamilyClasses, Board, Vec<Runner>), Fault>
+) -> Result<(Classes, Board, Vec<Runner>), Fault>
     ensures family { IfOk result (λ ran. ran.0.family ≡ family) }
     ensures ran { IfOk result (λ ran. HasRun (says_no (G.says gate.now)) until.now family n batch capacity ran.1 ran.2.items) }
     ensures let_on { IfOk result (λ ran. AreLetOn (G.says gate.now) until.now ran.2.items) }
@@ -76,7 +76,7 @@ fn run_each<R: Threads + Wait + Sync, G: Gate + Sync>(
     rt: &R,
     alloc: Global,
     runners: Vec<Runner>,
-    classes: &FamilyClasses,
+    classes: &Classes,
     gate: &G,
     until: &Until,
 ) -> Result<Vec<Runner>, Memory>
@@ -104,7 +104,7 @@ fn start_all<'s, E, R: Threads + Wait + Sync, G: Gate + Sync>(
     alloc: Global,
     scope: &Scope<'s, E>,
     runners: Vec<Runner>,
-    classes: &'s FamilyClasses,
+    classes: &'s Classes,
     gate: &'s G,
     until: &'s Until,
     unstarted: &'s AtomicUsize,
@@ -125,7 +125,7 @@ fn start<'s, E, R: Threads + Wait + Sync, G: Gate + Sync>(
     rt: &'s R,
     scope: &Scope<'s, E>,
     runner: Runner,
-    classes: &'s FamilyClasses,
+    classes: &'s Classes,
     gate: &'s G,
     until: &'s Until,
     unstarted: &'s AtomicUsize,
@@ -162,7 +162,7 @@ fn go_unless<R: Wait, G: Gate>(
     unstarted: &AtomicUsize,
     rt: &R,
     mut runner: Runner,
-    classes: &FamilyClasses,
+    classes: &Classes,
     gate: &G,
     until: &Until,
 ) -> Runner

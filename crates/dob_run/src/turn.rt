@@ -13,7 +13,7 @@ use crossbeam_utils::Backoff;
 use dob_board::Halt;
 use dob_node::{Cause, Node};
 use dob_pieces::Family;
-use dob_rank::FamilyClasses;
+use dob_rank::Classes;
 use std::sync::Wait;
 
 impl Runner {
@@ -66,7 +66,7 @@ impl Runner {
     pub fn turn<R: Wait, G: Gate>(
         &mut self,
         rt: &R,
-        classes: &FamilyClasses,
+        classes: &Classes,
         gate: &G,
     ) -> Result<Halt, Cause>
         requires running { self.old.endpoint.seat.halt ≡ Running }
@@ -113,7 +113,7 @@ impl Runner {
 
     /// A turn's work: at most one batch is applied; settlements are expanded until as many items are made as
     /// a batch holds, and the own items are applied; and at most one batch is sent to each node. Whether anything was done.
-    pub(crate) fn work<R: Wait>(&mut self, rt: &R, classes: &FamilyClasses) -> Result<bool, Cause>
+    pub(crate) fn work<R: Wait>(&mut self, rt: &R, classes: &Classes) -> Result<bool, Cause>
         requires unfailed { self.old.failed ≡ None }
         requires family { classes.now.family ≡ self.old.family }
         ensures { StepsBy Works self.old self.new result }

@@ -7,7 +7,7 @@ ghost use Rattle.dob_run.specs.TurnRounds.{AddsFew};
 use crate::gate::Gate;
 use crate::runner::Runner;
 use dob_node::Cause;
-use dob_rank::FamilyClasses;
+use dob_rank::Classes;
 use std::sync::Wait;
 
 /// How long a runner makes turns: so many, without the halt word and the token, or until its seat has seen that the run ended
@@ -25,7 +25,7 @@ impl Runner {
     pub(crate) fn go_until<R: Wait, G: Gate>(
         &mut self,
         rt: &R,
-        classes: &FamilyClasses,
+        classes: &Classes,
         gate: &G,
         until: &Until,
     )
@@ -40,7 +40,7 @@ impl Runner {
 
     // Makes whole turns until its seat has seen that the run ended or failed: the gate let it go on at least once, where the run
     // went on and it didn't fail. Its promises hold if it returns.
-    fn make_turns<R: Wait, G: Gate>(&mut self, rt: &R, classes: &FamilyClasses, gate: &G)
+    fn make_turns<R: Wait, G: Gate>(&mut self, rt: &R, classes: &Classes, gate: &G)
         requires unfailed { self.old.failed ≡ None }
         requires family { classes.now.family ≡ self.old.family }
         ensures keeps { KeepsRunner self.old self.new }
@@ -59,7 +59,7 @@ impl Runner {
 
     // Makes so many turns of work for its node, or ends at the first that fails. If none did, at most one batch a turn went over
     // each link. Its promises hold if it returns.
-    fn go<R: Wait, G: Gate>(&mut self, rt: &R, classes: &FamilyClasses, gate: &G, turns: u64)
+    fn go<R: Wait, G: Gate>(&mut self, rt: &R, classes: &Classes, gate: &G, turns: u64)
         requires unfailed { self.old.failed ≡ None }
         requires family { classes.now.family ≡ self.old.family }
         ensures keeps { KeepsRunner self.old self.new }
@@ -78,7 +78,7 @@ impl Runner {
     fn turn_alone<R: Wait, G: Gate>(
         &mut self,
         rt: &R,
-        classes: &FamilyClasses,
+        classes: &Classes,
         gate: &G,
     ) -> Result<bool, Cause>
         requires unfailed { self.old.failed ≡ None }

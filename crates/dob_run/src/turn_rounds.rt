@@ -5,13 +5,13 @@ ghost use Rattle.dob_run.specs.TurnRounds.{HoldsUp, IsHeldUp, ExpandsSome, Appli
 
 use crate::runner::Runner;
 use dob_node::Cause;
-use dob_rank::FamilyClasses;
+use dob_rank::Classes;
 use std::sync::Wait;
 
 impl Runner {
     /// Expands settlements until as many items are made as a batch holds, or nothing is left to expand; none where a batch
     /// can't be sent and another whole one is left for the same node. Whether any was expanded.
-    pub(crate) fn expand_all(&mut self, classes: &FamilyClasses) -> Result<bool, Cause>
+    pub(crate) fn expand_all(&mut self, classes: &Classes) -> Result<bool, Cause>
         requires unfailed { self.old.failed ≡ None }
         requires family { classes.now.family ≡ self.old.family }
         ensures { StepsBy ExpandsSome self.old self.new result }

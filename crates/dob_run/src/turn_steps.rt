@@ -7,7 +7,7 @@ ghost use Rattle.dob_run.specs.TurnRounds.{TakesBatch, LeavesBatch, ExpandsOne, 
 use crate::hands::Outlet;
 use crate::runner::Runner;
 use dob_node::Cause;
-use dob_rank::FamilyClasses;
+use dob_rank::Classes;
 use std::sync::Wait;
 
 impl Runner {
@@ -48,7 +48,7 @@ impl Runner {
     }
 
     /// Expands the next settlement of the node's history. False where there is none.
-    pub(crate) fn expand_one(&mut self, classes: &FamilyClasses) -> Result<bool, Cause>
+    pub(crate) fn expand_one(&mut self, classes: &Classes) -> Result<bool, Cause>
         requires unfailed { self.old.failed ≡ None }
         requires family { classes.now.family ≡ self.old.family }
         ensures { StepsBy ExpandsOne self.old self.new result }

@@ -3,7 +3,7 @@ ghost use Rattle.std.specs.Prelude.{◌≡◌};
 ghost use Rattle.dob_pieces.specs.declared.profile.Profile.TheVariants.{A};
 
 use dob_pieces::{Family, PieceSet, Profile};
-use dob_rank::FamilyClasses;
+use dob_rank::Classes;
 use dob_value::Table;
 use std::alloc::Global;
 use std::process::Abort;
@@ -29,10 +29,10 @@ pub(crate) fn family_of(rt: &impl Abort, name: &str) -> Family
 }
 
 /// The classes of the family of that name in profile A.
-pub(crate) fn classes_of(rt: &impl Abort, alloc: Global, name: &str) -> FamilyClasses
+pub(crate) fn classes_of(rt: &impl Abort, alloc: Global, name: &str) -> Classes
     ensures { result.family.profile ≡ A }
 {
-    FamilyClasses::open(alloc, family_of(rt, name)).expect(rt, "classes")
+    Classes::open(alloc, family_of(rt, name)).expect(rt, "classes")
 }
 
 /// Whether the two tables give each class one value.

@@ -14,7 +14,7 @@ use Rattle.dob_pieces.specs.Setups.{Cell, at, piece_of, IsLegal}
 use Rattle.dob_pieces.specs.Masks.{is_own, is_empty, is_piece}
 use Rattle.dob_pieces.proofs.Attacks.{lion_at}
 use Rattle.dob_pieces.proofs.Boards.{within-from_piece}
-use Rattle.dob_rank.specs.Families.{RepresentsClassIn}
+use Rattle.dob_rank.specs.Families.{RepresentsClass}
 use Rattle.dob_unmove.specs.declared.attackers.Threat.{Threat}
 use Rattle.dob_unmove.specs.declared.undo.Undo.{Undo}
 use Rattle.dob_unmove.specs.declared.undo.Undo.TheVariants.{Unstep, Unput}
@@ -44,7 +44,7 @@ module _ (family : Family) (after : Setup) (ways : Ways) (w : CanWalk family aft
   legal = legal_turned family after w.of_set
 
   abbrev Dead : Undo → Type 0
-  Dead u = IsDead (RepresentsClassIn family) after u
+  Dead u = IsDead (RepresentsClass family) after u
 
   dead_stood : (u : Undo) → CanUndo after u → stood_before threat u ≡ true → Dead u
   dead_stood u can stood = λ found. was_not_open after threat legal w.ways_are.threat_is u can stood found.1.1
@@ -109,7 +109,7 @@ module _ (family : Family) (after : Setup) (ways : Ways) (w : CanWalk family aft
   last_fails true true c d e f off = cc
   last_fails false b c d e f off = cc
 
-  pub ends_dead : AreDead (RepresentsClassIn family) after (may_end after threat w.ways_are.stays) (undoes_at after)
+  pub ends_dead : AreDead (RepresentsClass family) after (may_end after threat w.ways_are.stays) (undoes_at after)
   ends_dead k lt off u inside =
       let can = at_sound after k u inside in
       let on : ends_on u ≡ k = undoes_end after k u inside in
@@ -150,7 +150,7 @@ module _ (family : Family) (after : Setup) (ways : Ways) (w : CanWalk family aft
       (at_from after threat legal w.ways_are.threat_is kind from to caught can ∙ ap (λ (k : Kind). Some (piece_of Mover k)) lion.0) lion.1
 
   pub comes_dead : (kind : Kind) (to : ℕ) → stands (at after to) (arrives_at kind to) ≡ true
-      → AreDead (RepresentsClassIn family) after (may_come after threat.lion kind to) (unsteps_from after kind to)
+      → AreDead (RepresentsClass family) after (may_come after threat.lion kind to) (unsteps_from after kind to)
   comes_dead kind to there k lt off u inside =
       let f = from_step after kind to k u inside in
       let parts = and_parts (not (is_some (at after k))) (leads kind k to) f.test in

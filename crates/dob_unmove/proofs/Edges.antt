@@ -14,24 +14,24 @@ use Rattle.dob_pieces.specs.declared.setup.Setup.{Setup}
 use Rattle.dob_pieces.specs.Setups.{turned}
 use Rattle.dob_pieces.proofs.Lists.{none_in_empty, head_in, cons_cases}
 use Rattle.dob_moves.specs.declared.game_move.Move.{Move}
-use Rattle.dob_moves.specs.Moves.{GoesIn, place}
-use Rattle.dob_moves.specs.MoveLists.{moves_of_in}
+use Rattle.dob_moves.specs.Moves.{Goes, place}
+use Rattle.dob_moves.specs.MoveLists.{moves_of}
 use Rattle.dob_moves.specs.Outcomes.{moved}
 use Rattle.dob_moves.specs.declared.position_status.Status.TheVariants.{Open}
-use Rattle.dob_moves.specs.Statuses.{HasStatusIn, AreMovesIn}
-use Rattle.dob_moves.proofs.MoveLists.{AreMovesIn-moves_of_in}
+use Rattle.dob_moves.specs.Statuses.{HasStatus, AreMoves}
+use Rattle.dob_moves.proofs.MoveLists.{AreMoves-moves_of}
 use Rattle.dob_moves.proofs.ByProfile.{goes}
 use Rattle.dob_moves.proofs.Kept.{IsAllowed-Goes}
 use Rattle.dob_moves.proofs.Shared.{share_status}
-use Rattle.dob_moves.proofs.ProfileMoves.{goes_to_allowed, GoesIn-is, GoesIn-moved, IsLegal-GoesIn, total-GoesIn}
+use Rattle.dob_moves.proofs.ProfileMoves.{goes_to_allowed, Goes-is, Goes-moved, IsLegal-Goes, total-Goes}
 use Rattle.dob_rank.specs.Order.{IsEither}
-use Rattle.dob_rank.specs.Families.{IsPositionIn, RepresentsClassIn}
-use Rattle.dob_rank.specs.Families.{class_setup_in}
-use Rattle.dob_rank.specs.Families.{classes_in, class_number_in}
+use Rattle.dob_rank.specs.Families.{IsPositionOf, RepresentsClass}
+use Rattle.dob_rank.specs.Families.{class_setup}
+use Rattle.dob_rank.specs.Families.{classes_of, class_number}
 use Rattle.dob_rank.proofs.Counted.{no_longer}
-use Rattle.dob_rank.proofs.Present.{HasClassIn-marked, HasClassesIn-classes_in}
-use Rattle.dob_rank.proofs.FamilyNumbers.{IsPositionIn-mirrored, class_number_in-below, class_number_in-representative, class_number_in-mirrored, class_once_in}
-use Rattle.dob_rank.proofs.FamilyRepresentatives.{class_setup_is_in, class_setup_only_in, one_number_in}
+use Rattle.dob_rank.proofs.Present.{HasClass-marked, HasClasses-classes_of}
+use Rattle.dob_rank.proofs.FamilyNumbers.{IsPositionOf-mirrored, class_number-below, class_number-representative, class_number-mirrored, class_once}
+use Rattle.dob_rank.proofs.FamilyRepresentatives.{class_setup_is, class_setup_only, one_number}
 use Rattle.dob_unmove.specs.Unmoves.{LeadsInto, HasEdges, CountEdges, ArePredecessors}
 use Rattle.dob_unmove.specs.Edges.{leads_into, edges, predecessors}
 use Rattle.dob_unmove.proofs.Classes.{IsNumbering-classes}
@@ -40,16 +40,16 @@ use Rattle.dob_unmove.proofs.Ascending.{times, ascending_same, each-below, each-
 
 -- ---- class numbers
 
-pub RepresentsIn-class_setup : (family : Family) (class : ℕ) → class < classes_in family → RepresentsClassIn family (class_setup_in family class) class
-RepresentsIn-class_setup family class below = class_setup_is_in family class (classes_in family) (HasClassesIn-classes_in family) below
+pub RepresentsClass-class_setup : (family : Family) (class : ℕ) → class < classes_of family → RepresentsClass family (class_setup family class) class
+RepresentsClass-class_setup family class below = class_setup_is family class (classes_of family) (HasClasses-classes_of family) below
 
 -- the representative's number is that of its class
-number_of_representative : (family : Family) (q : Setup) (class : ℕ) → RepresentsClassIn family q class → class_number_in family q ≡ class
+number_of_representative : (family : Family) (q : Setup) (class : ℕ) → RepresentsClass family q class → class_number family q ≡ class
 number_of_representative family q class is =
-    class_number_in-representative family q is.0.0 is.0.1 ∙ one_number_in family q q _ class (HasClassIn-marked family q is.0.0) is.1 refl
+    class_number-representative family q is.0.0 is.0.1 ∙ one_number family q q _ class (HasClass-marked family q is.0.0) is.1 refl
 
-pub representative_below : (family : Family) (q : Setup) (class : ℕ) → RepresentsClassIn family q class → class < classes_in family
-representative_below family q class is = subst (λ n. n < classes_in family) (number_of_representative family q class is) (class_number_in-below family q is.0.0)
+pub representative_below : (family : Family) (q : Setup) (class : ℕ) → RepresentsClass family q class → class < classes_of family
+representative_below family q class is = subst (λ n. n < classes_of family) (number_of_representative family q class is) (class_number-below family q is.0.0)
 
 -- ---- the moves into a class
 
@@ -63,23 +63,23 @@ contains_filter {X} test (y ∷ ys) x h is = at (cons_cases y ys x h) (λ later.
   at (inr later) kept true e = Contains-append_right (y ∷ []) (filter test ys) x (kept later)
   at (inr later) kept false e = kept later
 
-position_after : (family : Family) (p : Setup) (m : Move) (q : Setup) → IsPositionIn family p → HasStatusIn family.profile p Open →
-    GoesIn family.profile p m q → IsPositionIn family q
+position_after : (family : Family) (p : Setup) (m : Move) (q : Setup) → IsPositionOf family p → HasStatus family.profile p Open →
+    Goes family.profile p m q → IsPositionOf family q
 position_after family p m q is open_to_move goes = record {
   of_set = record {
-    legal = IsLegal-GoesIn family.profile p m q goes is.of_set.legal open_to_move.1;
-    pieces = λ kind. total-GoesIn family.profile p m q goes is.of_set.legal.squares kind ∙ is.of_set.pieces kind;
+    legal = IsLegal-Goes family.profile p m q goes is.of_set.legal open_to_move.1;
+    pieces = λ kind. total-Goes family.profile p m q goes is.of_set.legal.squares kind ∙ is.of_set.pieces kind;
   };
   allowed = IsAllowed-Goes family.profile p m q is.of_set.legal.squares is.allowed goes;
 }
 
 -- ---- between positions of a family the moves are those by its profile
 
-module _ (family : Family) (p q : Setup) (is_p : IsPositionIn family p) (is_q : IsPositionIn family q) where
-  either_is : (s : Setup) → IsEither q s → IsPositionIn family s
+module _ (family : Family) (p q : Setup) (is_p : IsPositionOf family p) (is_q : IsPositionOf family q) where
+  either_is : (s : Setup) → IsEither q s → IsPositionOf family s
   either_is s either = elim either [
-    | inl same ↦ subst (IsPositionIn family) (sym same) is_q
-    | inr image ↦ subst (IsPositionIn family) (sym image) (IsPositionIn-mirrored family q is_q)
+    | inl same ↦ subst (IsPositionOf family) (sym same) is_q
+    | inr image ↦ subst (IsPositionOf family) (sym image) (IsPositionOf-mirrored family q is_q)
   ]
 
   leads_by : (m : Move) → LeadsInto A p q m → LeadsInto family.profile p q m
@@ -109,58 +109,58 @@ module _ (family : Family) (p q : Setup) (is_p : IsPositionIn family p) (is_q : 
   }
 
 -- so classes are counted alike
-counts_by : (family : Family) (q : Setup) (numbers : List ℕ) → IsPositionIn family q → CountEdges A (RepresentsClassIn family) q numbers →
-    CountEdges family.profile (RepresentsClassIn family) q numbers
+counts_by : (family : Family) (q : Setup) (numbers : List ℕ) → IsPositionOf family q → CountEdges A (RepresentsClass family) q numbers →
+    CountEdges family.profile (RepresentsClass family) q numbers
 counts_by family q numbers is_q counts = record {
   known = counts.known;
   edges = λ p class is_p. edges_by family p q is_p.0.0 is_q _ (counts.edges p class is_p);
 }
 
 -- of two positions of one class each is the other or its mirror image
-same_class : (family : Family) (s q : Setup) (class : ℕ) → IsPositionIn family s → RepresentsClassIn family q class → class_number_in family s ≡ class → IsEither q s
-same_class family s q class is represents e = class_once_in family s q is represents.0.0 (e ∙ sym (number_of_representative family q class represents))
+same_class : (family : Family) (s q : Setup) (class : ℕ) → IsPositionOf family s → RepresentsClass family q class → class_number family s ≡ class → IsEither q s
+same_class family s q class is represents e = class_once family s q is represents.0.0 (e ∙ sym (number_of_representative family q class represents))
 
-class_of_either : (family : Family) (s q : Setup) (class : ℕ) → RepresentsClassIn family q class → IsEither q s → class_number_in family s ≡ class
+class_of_either : (family : Family) (s q : Setup) (class : ℕ) → RepresentsClass family q class → IsEither q s → class_number family s ≡ class
 class_of_either family s q class represents either = elim either [
-  | inl e ↦ ap (class_number_in family) e ∙ number_of_representative family q class represents
-  | inr e ↦ ap (class_number_in family) e ∙ class_number_in-mirrored family q represents.0.0 ∙ number_of_representative family q class represents
+  | inl e ↦ ap (class_number family) e ∙ number_of_representative family q class represents
+  | inr e ↦ ap (class_number family) e ∙ class_number-mirrored family q represents.0.0 ∙ number_of_representative family q class represents
 ]
 
-module _ (family : Family) (p q : Setup) (from class : ℕ) (is_p : RepresentsClassIn family p from) (is_q : RepresentsClassIn family q class) where
-  are : AreMovesIn family.profile p (moves_of_in family.profile p)
-  are = AreMovesIn-moves_of_in family.profile p is_p.0.0.of_set.legal.squares
+module _ (family : Family) (p q : Setup) (from class : ℕ) (is_p : RepresentsClass family p from) (is_q : RepresentsClass family q class) where
+  are : AreMoves family.profile p (moves_of family.profile p)
+  are = AreMoves-moves_of family.profile p is_p.0.0.of_set.legal.squares
 
   abbrev leading : List Move
-  leading = filter (leads_into family p class) (moves_of_in family.profile p)
+  leading = filter (leads_into family p class) (moves_of family.profile p)
 
-  leading_listed : All (Contains (moves_of_in family.profile p)) leading
-  leading_listed = All-filter (leads_into family p class) (Contains (moves_of_in family.profile p)) (moves_of_in family.profile p) (All-contains_itself (moves_of_in family.profile p))
+  leading_listed : All (Contains (moves_of family.profile p)) leading
+  leading_listed = All-filter (leads_into family p class) (Contains (moves_of family.profile p)) (moves_of family.profile p) (All-contains_itself (moves_of family.profile p))
 
   leading_sound : (m : Move) → Contains leading m → LeadsInto family.profile p q m
   leading_sound m here =
-      let is = are.sound m (All-contains (Contains (moves_of_in family.profile p)) leading m leading_listed here) in
-      let goes = GoesIn-moved family.profile p m is.1 in
+      let is = are.sound m (All-contains (Contains (moves_of family.profile p)) leading m leading_listed here) in
+      let goes = Goes-moved family.profile p m is.1 in
       let passes : leads_into family p class m ≡ true =
-      All-contains (λ (x : Move). leads_into family p class x ≡ true) leading m (filter_passes (leads_into family p class) (moves_of_in family.profile p)) here in (
+      All-contains (λ (x : Move). leads_into family p class x ≡ true) leading m (filter_passes (leads_into family p class) (moves_of family.profile p)) here in (
         is.0,
         (
           turned (moved p m),
           goes,
           same_class family (turned (moved p m)) q class (position_after family p m (turned (moved p m)) is_p.0.0 is.0 goes) is_q
-              (eqb-true (class_number_in family (turned (moved p m))) class passes),
+              (eqb-true (class_number family (turned (moved p m))) class passes),
         ),
       )
 
   leading_whole : (m : Move) → LeadsInto family.profile p q m → Contains leading m
   leading_whole m leads =
-      let outcome : leads.1.0 ≡ turned (moved p m) = GoesIn-is family.profile p m leads.1.0 leads.1.1 in
-      contains_filter (leads_into family p class) (moves_of_in family.profile p) m (are.whole m leads.0 (leads.1.0, leads.1.1))
-      (eq-eqb (class_number_in family (turned (moved p m))) class
-      (ap (class_number_in family) (sym outcome) ∙ class_of_either family leads.1.0 q class is_q leads.1.2))
+      let outcome : leads.1.0 ≡ turned (moved p m) = Goes-is family.profile p m leads.1.0 leads.1.1 in
+      contains_filter (leads_into family p class) (moves_of family.profile p) m (are.whole m leads.0 (leads.1.0, leads.1.1))
+      (eq-eqb (class_number family (turned (moved p m))) class
+      (ap (class_number family) (sym outcome) ∙ class_of_either family leads.1.0 q class is_q leads.1.2))
 
   leading_once : AllPairs (λ (a b : Move). ¬ (a ≡ b)) leading
   leading_once i j d before within same =
-      let less = AllPairs-filter (λ (a b : Move). place a < place b) (leads_into family p class) (moves_of_in family.profile p) are.ordered i j d before within in
+      let less = AllPairs-filter (λ (a b : Move). place a < place b) (leads_into family p class) (moves_of family.profile p) are.ordered i j d before within in
       let places = ap place same in
       omega (arith, less, places)
 
@@ -171,9 +171,9 @@ module _ (family : Family) (p q : Setup) (from class : ℕ) (is_p : RepresentsCl
     sound = leading_sound;
     whole = leading_whole;
     once = leading_once;
-    counted = length-filter (leads_into family p class) (moves_of_in family.profile p)
-        ∙ ap (λ (s : Setup). count_by (leads_into family s class) (moves_of_in family.profile s))
-        (class_setup_only_in family p from (classes_in family) (HasClassesIn-classes_in family) (representative_below family p from is_p) is_p.0 is_p.1);
+    counted = length-filter (leads_into family p class) (moves_of family.profile p)
+        ∙ ap (λ (s : Setup). count_by (leads_into family s class) (moves_of family.profile s))
+        (class_setup_only family p from (classes_of family) (HasClasses-classes_of family) (representative_below family p from is_p) is_p.0 is_p.1);
   }
 
 -- two numbers of the moves from one to another are one
@@ -185,68 +185,68 @@ same_edges profile p q m n a b =
 
 -- ---- the list
 
-module _ (family : Family) (q : Setup) (class : ℕ) (is_q : RepresentsClassIn family q class) where
+module _ (family : Family) (q : Setup) (class : ℕ) (is_q : RepresentsClass family q class) where
   abbrev number : ℕ → ℕ
   number from = edges family from class
 
-  pub times-predecessors : (from : ℕ) → from < classes_in family → times from (predecessors family class) ≡ edges family from class
+  pub times-predecessors : (from : ℕ) → from < classes_of family → times from (predecessors family class) ≡ edges family from class
   unfolding predecessors
-  times-predecessors from below = times-each number (classes_in family) from below
+  times-predecessors from below = times-each number (classes_of family) from below
 
-  predecessors-below : All (λ (x : ℕ). x < classes_in family) (predecessors family class)
+  predecessors-below : All (λ (x : ℕ). x < classes_of family) (predecessors family class)
   unfolding predecessors
-  predecessors-below = each-below number (classes_in family)
+  predecessors-below = each-below number (classes_of family)
 
   predecessors-ascends : AllPairs (λ (a b : ℕ). a ≤ b) (predecessors family class)
   unfolding predecessors
-  predecessors-ascends = each-ascends number (classes_in family)
+  predecessors-ascends = each-ascends number (classes_of family)
 
   -- The list counts the moves into the class, and ascends.
-  pub ArePredecessors-predecessors : ArePredecessors family.profile (RepresentsClassIn family) q (predecessors family class)
+  pub ArePredecessors-predecessors : ArePredecessors family.profile (RepresentsClass family) q (predecessors family class)
   ArePredecessors-predecessors = record {
     counts = record {
-      known = All-weaker (λ (x : ℕ). x < classes_in family) (λ (from : ℕ). (p : Setup) × RepresentsClassIn family p from)
-          (λ from below. (class_setup_in family from, RepresentsIn-class_setup family from below)) (predecessors family class) predecessors-below;
+      known = All-weaker (λ (x : ℕ). x < classes_of family) (λ (from : ℕ). (p : Setup) × RepresentsClass family p from)
+          (λ from below. (class_setup family from, RepresentsClass-class_setup family from below)) (predecessors family class) predecessors-below;
       edges = λ p from is_p. subst (HasEdges family.profile p q) (sym (times-predecessors from (representative_below family p from is_p))) (HasEdges-edges family p q from class is_p is_q);
     };
     ascending = predecessors-ascends;
   }
 
-  known_below : (xs : List ℕ) → CountEdges family.profile (RepresentsClassIn family) q xs → All (λ (x : ℕ). x < classes_in family) xs
+  known_below : (xs : List ℕ) → CountEdges family.profile (RepresentsClass family) q xs → All (λ (x : ℕ). x < classes_of family) xs
   known_below xs counts =
-      All-weaker (λ (from : ℕ). (p : Setup) × RepresentsClassIn family p from) (λ (x : ℕ). x < classes_in family)
+      All-weaker (λ (from : ℕ). (p : Setup) × RepresentsClass family p from) (λ (x : ℕ). x < classes_of family)
       (λ from is. representative_below family is.0 from is.1) xs counts.known
 
-  same_times : (xs : List ℕ) → CountEdges family.profile (RepresentsClassIn family) q xs → (from : ℕ) → times from xs ≡ times from (predecessors family class)
-  same_times xs counts from = elim (cases_lt from (classes_in family)) [
+  same_times : (xs : List ℕ) → CountEdges family.profile (RepresentsClass family) q xs → (from : ℕ) → times from xs ≡ times from (predecessors family class)
+  same_times xs counts from = elim (cases_lt from (classes_of family)) [
     | inl below ↦
-        let p = class_setup_in family from in
-        let is_p = RepresentsIn-class_setup family from below in
+        let p = class_setup family from in
+        let is_p = RepresentsClass-class_setup family from below in
         same_edges family.profile p q (times from xs) (times from (predecessors family class)) (counts.edges p from is_p)
         (ArePredecessors-predecessors.counts.edges p from is_p)
     | inr above ↦
-        times-absent from (classes_in family) xs above (known_below xs counts)
-        ∙ sym (times-absent from (classes_in family) (predecessors family class) above predecessors-below)
+        times-absent from (classes_of family) xs above (known_below xs counts)
+        ∙ sym (times-absent from (classes_of family) (predecessors family class) above predecessors-below)
   ]
 
   -- No other list does.
-  pub same_predecessors : (xs : List ℕ) → ArePredecessors family.profile (RepresentsClassIn family) q xs → xs ≡ predecessors family class
+  pub same_predecessors : (xs : List ℕ) → ArePredecessors family.profile (RepresentsClass family) q xs → xs ≡ predecessors family class
   same_predecessors xs are =
       ascending_same xs (predecessors family class) are.ascending predecessors-ascends (same_times xs are.counts)
 
 -- ---- numbers that count the moves into the representative, once they are sorted
 
-module _ (family : Family) (class : ℕ) (representative : Setup) (numbers sorted : List ℕ) (is : RepresentsClassIn family representative class)
-    (counts : CountEdges A (RepresentsClassIn family) representative numbers) (moved : IsPermutation numbers sorted)
+module _ (family : Family) (class : ℕ) (representative : Setup) (numbers sorted : List ℕ) (is : RepresentsClass family representative class)
+    (counts : CountEdges A (RepresentsClass family) representative numbers) (moved : IsPermutation numbers sorted)
     (rises : IsNonDecreasingBy (λ (x : ℕ). x) sorted) where
-  pub sorted_predecessors : (q : Setup) → RepresentsClassIn family q class → ArePredecessors family.profile (RepresentsClassIn family) q sorted
+  pub sorted_predecessors : (q : Setup) → RepresentsClass family q class → ArePredecessors family.profile (RepresentsClass family) q sorted
   sorted_predecessors q is_q =
       let same = (IsNumbering-classes family).one_represents representative q class is is_q in
-      let all = sorted_counts (RepresentsClassIn family) q numbers sorted
-      (subst (λ (p : Setup). CountEdges A (RepresentsClassIn family) p numbers) same counts) moved rises in
+      let all = sorted_counts (RepresentsClass family) q numbers sorted
+      (subst (λ (p : Setup). CountEdges A (RepresentsClass family) p numbers) same counts) moved rises in
       record { counts = counts_by family q sorted is_q.0.0 all.counts; ascending = all.ascending }
 
-  pub sorted_list : class < classes_in family → sorted ≡ predecessors family class
+  pub sorted_list : class < classes_of family → sorted ≡ predecessors family class
   sorted_list below =
-      let is_q = RepresentsIn-class_setup family class below in
-      same_predecessors family (class_setup_in family class) class is_q sorted (sorted_predecessors (class_setup_in family class) is_q)
+      let is_q = RepresentsClass-class_setup family class below in
+      same_predecessors family (class_setup family class) class is_q sorted (sorted_predecessors (class_setup family class) is_q)

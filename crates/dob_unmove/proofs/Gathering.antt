@@ -8,7 +8,7 @@ use Rattle.dob_pieces.specs.declared.setup.Setup.{Setup}
 use Rattle.dob_pieces.specs.Setups.{IsLegal, turned, mirrored}
 use Rattle.dob_moves.specs.declared.position_status.Status.TheVariants.{Open}
 use Rattle.dob_moves.specs.Statuses.{HasStatus}
-use Rattle.dob_rank.specs.declared.family_classes.FamilyClasses.{FamilyClasses}
+use Rattle.dob_rank.specs.declared.classes.Classes.{Classes}
 use Rattle.dob_unmove.specs.Unmoves.{IsNumbering, HasEdges, CountEdges, ArePredecessors, IsOpenPosition}
 use Rattle.dob_unmove.specs.Gathers.{Finds, Adds, Gathers}
 use Rattle.dob_unmove.specs.declared.undo.Undo.{Undo}
@@ -18,10 +18,10 @@ use Rattle.dob_pieces.proofs.Symmetries.{turned-mirrored}
 use Rattle.dob_unmove.proofs.Counting.{all_gathered, counts_alone, counts_both}
 
 -- the answer of the numbering, at the position before the move
-pub finds_from : (Represents : Setup → ℕ → Type 0) (p s : Setup) (o : Option ℕ) → p ≡ s → HasStatus p Open
+pub finds_from : (Represents : Setup → ℕ → Type 0) (p s : Setup) (o : Option ℕ) → p ≡ s → HasStatus A p Open
     → MatchOption o (¬ ((class : ℕ) × Represents p class)) (Represents p) → Finds Represents s o
 finds_from Represents p s None e has h = λ w. h (w.0, subst (λ (x : Setup). Represents x w.0) (sym e) w.1.0)
-finds_from Represents p s (Some class) e has h = (subst (λ (x : Setup). Represents x class) e h, subst (λ (x : Setup). HasStatus x Open) e has)
+finds_from Represents p s (Some class) e has h = (subst (λ (x : Setup). Represents x class) e h, subst (λ (x : Setup). HasStatus A x Open) e has)
 
 -- the walk found no open position, so none that is a representative
 pub finds_none : (Represents : Setup → ℕ → Type 0) (s : Setup) → IsNumbering Represents → ¬ IsOpenPosition s → Finds Represents s None
@@ -56,18 +56,18 @@ sorted_counts Represents q xs ys c moved rises = record {
 -- ---- the walks
 
 -- what one way adds to the gathered classes
-abbrev pub Gathering : (FamilyClasses → Setup → ℕ → Type 0) → Setup → Gathered → Undo → Gathered → Type 0
+abbrev pub Gathering : (Classes → Setup → ℕ → Type 0) → Setup → Gathered → Undo → Gathered → Type 0
 Gathering Represents t old undo new =
     (new.classes ≡ old.classes) × Adds (Represents old.classes.now) t undo old.found.items new.found.items
 
-gathered_by : (Represents : FamilyClasses → Setup → ℕ → Type 0) (t : Setup) (us : List Undo) (old new : Gathered)
+gathered_by : (Represents : Classes → Setup → ℕ → Type 0) (t : Setup) (us : List Undo) (old new : Gathered)
     → TakesAll (Gathering Represents t) old us new
     → (new.classes ≡ old.classes) × Gathers (Represents old.classes.now) t us old.found.items new.found.items
 gathered_by Represents t us old new h =
     all_gathered (λ (s : Gathered). s.classes) (λ (s : Gathered). s.found.items) (λ c. Represents c.now) t us old new h
 
 -- a walk that begins with no numbers
-fresh_walk : (Represents : FamilyClasses → Setup → ℕ → Type 0) (q t : Setup) (old new : Gathered)
+fresh_walk : (Represents : Classes → Setup → ℕ → Type 0) (q t : Setup) (old new : Gathered)
     → t ≡ turned q → old.found.items ≡ [] → TakesAll (Gathering Represents t) old (undoes t) new
     → Gathers (Represents old.classes.now) (turned q) (undoes (turned q)) [] new.found.items
 fresh_walk Represents q t old new e none h =
@@ -75,7 +75,7 @@ fresh_walk Represents q t old new e none h =
     let there = subst (λ (x : Setup). Gathers (Represents old.classes.now) x (undoes x) old.found.items new.found.items) e g in
     subst (λ (xs : List ℕ). Gathers (Represents old.classes.now) (turned q) (undoes (turned q)) xs new.found.items) none there
 
-pub walked_alone : (Represents : FamilyClasses → Setup → ℕ → Type 0) (q t : Setup) (old new : Gathered)
+pub walked_alone : (Represents : Classes → Setup → ℕ → Type 0) (q t : Setup) (old new : Gathered)
     → IsNumbering (Represents old.classes.now) → IsLegal q → mirrored q ≡ q
     → t ≡ turned q → old.found.items ≡ [] → TakesAll (Gathering Represents t) old (undoes t) new
     → CountEdges A (Represents old.classes.now) q new.found.items
@@ -83,7 +83,7 @@ walked_alone Represents q t old new n legal own e none h =
     counts_alone (Represents old.classes.now) n q new.found.items legal.squares own (fresh_walk Represents q t old new e none h)
 
 -- two walks, of which the second goes on with the classes and the numbers of the first
-pub walked_both : (Represents : FamilyClasses → Setup → ℕ → Type 0) (q image t s : Setup) (old mid next new : Gathered)
+pub walked_both : (Represents : Classes → Setup → ℕ → Type 0) (q image t s : Setup) (old mid next new : Gathered)
     → IsNumbering (Represents old.classes.now) → IsLegal q → mirrored q ≢ q → image ≡ mirrored q
     → t ≡ turned q → s ≡ turned image → old.found.items ≡ [] → TakesAll (Gathering Represents t) old (undoes t) mid
     → next.classes ≡ mid.classes → next.found.items ≡ mid.found.items → TakesAll (Gathering Represents s) next (undoes s) new

@@ -17,8 +17,8 @@ use Rattle.dob_pieces.specs.Setups.{Cell, at, held, piece_of, holds_lion, holds_
 use Rattle.dob_pieces.proofs.Boards.{all_below, all_below-at, within-from_piece, total-mirrored, own_lion}
 use Rattle.dob_pieces.proofs.Symmetries.{at-image}
 use Rattle.dob_rank.specs.Order.{squares_from, squares, forms, each_kind, key, Precedes, Before}
-use Rattle.dob_rank.specs.Families.{IsPositionIn, RepresentsClassIn}
-use Rattle.dob_rank.proofs.FamilyNumbers.{IsPositionIn-mirrored}
+use Rattle.dob_rank.specs.Families.{IsPositionOf, RepresentsClass}
+use Rattle.dob_rank.proofs.FamilyNumbers.{IsPositionOf-mirrored}
 use Rattle.dob_unmove.specs.Ways.{is_home}
 
 -- ---- the list of one square
@@ -72,7 +72,7 @@ module _ (test : Cell → Bool) where
         ∙ one_square (suc from) k cs (omega (arith, sum, zero_there, one)) (omega arith) is ∙ ap (λ (n : ℕ). n ∷ []) same)
   ]
 
-lion_square : (side : Side) (family : Family) (p : Setup) (s : ℕ) → IsPositionIn family p → at p s ≡ Some (piece_of side Lion)
+lion_square : (side : Side) (family : Family) (p : Setup) (s : ℕ) → IsPositionOf family p → at p s ≡ Some (piece_of side Lion)
     → squares (holds_lion side) p ≡ s ∷ []
 lion_square side family p s is there =
     let same : 0 + s ≡ s = omega arith in
@@ -138,11 +138,11 @@ key-lions p s e own other =
     ++ (each_kind (held p.hands.mover) ++ (xs ++ (squares (holds_lion Enemy) p ++ rest_of p)))) own
     ∙ ap (λ (xs : List ℕ). each_kind (λ kind. count_by (holds_kind kind) p.board) ++ (each_kind (held p.hands.mover) ++ (s ∷ (xs ++ rest_of p)))) other
 
-image_before : (family : Family) (p : Setup) (s e : ℕ) → IsPositionIn family p → at p s ≡ Some (piece_of Mover Lion) → at p e ≡ Some (piece_of Enemy Lion)
+image_before : (family : Family) (p : Setup) (s e : ℕ) → IsPositionOf family p → at p s ≡ Some (piece_of Mover Lion) → at p e ≡ Some (piece_of Enemy Lion)
     → s < 12 → e < 12 → lions_before (mirrored_square s) (mirrored_square e) s e → Before (mirrored p) p
 unfolding Before
 image_before family p s e is own other low_s low_e less =
-    let image = IsPositionIn-mirrored family p is in
+    let image = IsPositionOf-mirrored family p is in
     let mine = key-lions p s e (lion_square Mover family p s is own) (lion_square Enemy family p e is other) in
     let theirs = key-lions (mirrored p) (mirrored_square s) (mirrored_square e)
     (lion_square Mover family (mirrored p) (mirrored_square s) image (lion-mirrored p Mover s low_s own))
@@ -163,7 +163,7 @@ tells_before s e = is_home e s || (nat_lt 8 s || (nat_lt (mirrored_square s) s |
 all_tell : all_below (λ s. all_below (tells_before s) 12) 12 ≡ true
 all_tell = refl
 
-pub representative_home : (family : Family) (p : Setup) (class s e : ℕ) → RepresentsClassIn family p class → at p s ≡ Some (piece_of Mover Lion)
+pub representative_home : (family : Family) (p : Setup) (class s e : ℕ) → RepresentsClass family p class → at p s ≡ Some (piece_of Mover Lion)
     → at p e ≡ Some (piece_of Enemy Lion)
     → is_home e s ≡ true
 representative_home family p class s e represents own other =

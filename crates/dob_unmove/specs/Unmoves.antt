@@ -8,17 +8,17 @@ use Rattle.dob_pieces.specs.Setups.{IsLegal}
 pub use Rattle.dob_rank.specs.Order.{IsEither}
 use Rattle.dob_moves.specs.declared.game_move.Move.{Move}
 use Rattle.dob_moves.specs.declared.position_status.Status.TheVariants.{Open}
-use Rattle.dob_moves.specs.Moves.{GoesIn}
-use Rattle.dob_moves.specs.Statuses.{HasStatusIn}
+use Rattle.dob_moves.specs.Moves.{Goes}
+use Rattle.dob_moves.specs.Statuses.{HasStatus}
 
 -- a position in which a move can be made
 pub record IsOpenPosition (p : Setup) : Type 0 where
   pub legal : IsLegal p
-  pub open_to_move : HasStatusIn A p Open
+  pub open_to_move : HasStatus A p Open
 
 -- the position p is open, and the move leads from it to q or to the mirror image of q
 abbrev pub LeadsInto : Profile → Setup → Setup → Move → Type 0
-LeadsInto profile p q move = HasStatusIn profile p Open × ((outcome : Setup) × GoesIn profile p move outcome × IsEither q outcome)
+LeadsInto profile p q move = HasStatus profile p Open × ((outcome : Setup) × Goes profile p move outcome × IsEither q outcome)
 
 -- Just so many moves of p lead to q or to the mirror image of q: a list of that length has each of them once, and no
 -- other.

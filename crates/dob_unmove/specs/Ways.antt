@@ -12,7 +12,7 @@ use Rattle.dob_unmove.specs.declared.attackers.Threat.{Threat}
 use Rattle.dob_unmove.specs.declared.ways.Ways.{Ways}
 use Rattle.dob_pieces.specs.declared.profile.Family.{Family}
 use Rattle.dob_rank.specs.Bitboards.{AreBitboards}
-use Rattle.dob_rank.specs.Families.{IsPositionIn}
+use Rattle.dob_rank.specs.Families.{IsPositionOf}
 use Rattle.dob_unmove.specs.Classes.{IsTurned}
 use Rattle.dob_unmove.specs.Threats.{elsewhere, IsThreat}
 
@@ -58,7 +58,7 @@ pub record AreWays (after : Setup) (ways : Ways) : Type 0 where
 
 -- the setup after a move of positions of the family, and what is known of it
 pub record CanWalk (family : Family) (after : Setup) (ways : Ways) : Type 0 where
-  pub of_set : IsTurned (IsPositionIn family) after
+  pub of_set : IsTurned (IsPositionOf family) after
   pub ways_are : AreWays after ways
 
 -- the mover's piece that stands there is of that kind, or none of the mover's does

@@ -1,5 +1,6 @@
 // The position before a move.
 ghost use Rattle.std.specs.Prelude.{◌≡◌, MatchOption};
+ghost use Rattle.dob_pieces.specs.declared.profile.Profile.TheVariants.{A};
 ghost use Rattle.dob_pieces.specs.Setups.{HasFewPieces, IsLegal};
 ghost use Rattle.dob_moves.specs.Statuses.{HasStatus};
 ghost use Rattle.dob_moves.specs.declared.position_status.Status.TheVariants.{Open};
@@ -16,8 +17,8 @@ use dob_pieces::{Hand, HandKind, Hands, Kind, Piece, Position, Profile, Setup, S
 pub(crate) fn open_before(after: &Setup, undo: Undo) -> Option<Position>
     requires can { CanUndo after.now undo }
     requires legal { IsTurned IsLegal after.now }
-    requires was_open { HasStatus (earlier after.now undo) Open }
-    ensures { MatchOption result (¬ IsOpenPosition (earlier after.now undo)) (λ p. (p.setup ≡ earlier after.now undo) × HasStatus p.setup Open) }
+    requires was_open { HasStatus A (earlier after.now undo) Open }
+    ensures { MatchOption result (¬ IsOpenPosition (earlier after.now undo)) (λ p. (p.setup ≡ earlier after.now undo) × HasStatus A p.setup Open) }
 {
     let setup = earlier(after, undo);
     if setup.has_lion_off_far_row() {

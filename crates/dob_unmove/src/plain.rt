@@ -3,13 +3,13 @@
 ghost use Rattle.std.specs.Prelude.{◌≡◌, ◌<◌, ℕ, IfOk, MatchOption};
 ghost use Rattle.dob_pieces.specs.declared.profile.Profile.TheVariants.{A};
 ghost use Rattle.dob_pieces.specs.declared.setup.Setup.{Setup};
-ghost use Rattle.dob_rank.specs.Families.{IsPositionIn};
-ghost use Rattle.dob_rank.specs.Families.{classes_in};
+ghost use Rattle.dob_rank.specs.Families.{IsPositionOf};
+ghost use Rattle.dob_rank.specs.Families.{classes_of};
 ghost use Rattle.dob_unmove.specs.declared.undo.Undo.{Undo};
 ghost use Rattle.dob_unmove.specs.Undoes.{CanUndo, earlier};
 ghost use Rattle.dob_unmove.specs.Unmoves.{CountEdges, ArePredecessors};
 ghost use Rattle.dob_unmove.specs.Edges.{predecessors};
-ghost use Rattle.dob_unmove.specs.Classes.{IsTurned, RepresentsClassIn};
+ghost use Rattle.dob_unmove.specs.Classes.{IsTurned, RepresentsClass};
 ghost use Rattle.dob_unmove.specs.Gathers.{Finds, Adds};
 ghost use Rattle.dob_unmove.specs.Threats.{IsThreat};
 
@@ -18,20 +18,20 @@ use crate::earlier::{may_give_back, open_before};
 use crate::undo::Undo;
 use crate::walk::{Taker, take_all};
 use dob_pieces::{Memory, Position, Setup};
-use dob_rank::FamilyClasses;
+use dob_rank::Classes;
 
 // The classes found so far, and the threat to the enemy lion in the setup from which ways back are taken.
 #[derive(Drop)]
 struct Gathered<'a> {
-    classes: &'a FamilyClasses,
+    classes: &'a Classes,
     threat: Threat,
     found: Vec<u64>,
 }
 
 impl Taker for Gathered<'_> {
-    ghost suits = { λ after gathered. IsTurned (IsPositionIn gathered.classes.now.family) after × IsThreat after gathered.threat };
+    ghost suits = { λ after gathered. IsTurned (IsPositionOf gathered.classes.now.family) after × IsThreat after gathered.threat };
 
-    ghost takes = { λ after old undo new. (new.classes ≡ old.classes) × Adds (RepresentsClassIn old.classes.now.family) after undo old.found.items new.found.items };
+    ghost takes = { λ after old undo new. (new.classes ≡ old.classes) × Adds (RepresentsClass old.classes.now.family) after undo old.found.items new.found.items };
 
     fn take(&mut self, after: &Setup, undo: Undo) -> Result<(), Memory> {
         if let Some(class) = class_before(self.classes, after, &self.threat, undo) {
@@ -42,11 +42,11 @@ impl Taker for Gathered<'_> {
 }
 
 // The class whose representative stood there before the move, if a representative did and was open.
-fn class_before(classes: &FamilyClasses, after: &Setup, threat: &Threat, undo: Undo) -> Option<u64>
+fn class_before(classes: &Classes, after: &Setup, threat: &Threat, undo: Undo) -> Option<u64>
     requires can { CanUndo after.now undo }
-    requires of_set { IsTurned (IsPositionIn classes.now.family) after.now }
+    requires of_set { IsTurned (IsPositionOf classes.now.family) after.now }
     requires threat { IsThreat after.now threat.now }
-    ensures { Finds (RepresentsClassIn classes.now.family) (earlier after.now undo) result }
+    ensures { Finds (RepresentsClass classes.now.family) (earlier after.now undo) result }
 {
     if threat.stood_before(&undo) {
         return None;
@@ -62,22 +62,18 @@ fn class_before(classes: &FamilyClasses, after: &Setup, threat: &Threat, undo: U
 }
 
 // The class whose representative the position of the family is; `None` where it is none.
-pub(crate) fn class_if_representative(classes: &FamilyClasses, position: &Position) -> Option<u64>
-    requires { IsPositionIn classes.now.family position.now.setup }
-    ensures { MatchOption result (¬ ((class : ℕ) × RepresentsClassIn classes.now.family position.now.setup class)) (RepresentsClassIn classes.now.family position.now.setup) }
+pub(crate) fn class_if_representative(classes: &Classes, position: &Position) -> Option<u64>
+    requires { IsPositionOf classes.now.family position.now.setup }
+    ensures { MatchOption result (¬ ((class : ℕ) × RepresentsClass classes.now.family position.now.setup class)) (RepresentsClass classes.now.family position.now.setup) }
 {
     classes.class_of_representative(position)
 }
 
 // The classes from which moves lead to the representative of a class or to its mirror image, in the order of the walk, in
 // the room of that list.
-fn gather(
-    room: Vec<u64>,
-    classes: &FamilyClasses,
-    representative: &Position,
-) -> Result<Vec<u64>, Memory>
-    requires { (class : ℕ) × RepresentsClassIn classes.now.family representative.now.setup class }
-    ensures { IfOk result (λ list. CountEdges A (RepresentsClassIn classes.now.family) representative.now.setup list.items) }
+fn gather(room: Vec<u64>, classes: &Classes, representative: &Position) -> Result<Vec<u64>, Memory>
+    requires { (class : ℕ) × RepresentsClass classes.now.family representative.now.setup class }
+    ensures { IfOk result (λ list. CountEdges A (RepresentsClass classes.now.family) representative.now.setup list.items) }
 {
     let mut found = room;
     found.clear();
@@ -100,9 +96,9 @@ fn gather(
 
 /// The classes from which moves lead into the class, ascending, each as often as moves of its representative lead
 /// there, in the room of a list; what it held is gone. Err where no memory was left for it to grow.
-pub fn back_into(room: Vec<u64>, classes: &FamilyClasses, class: u64) -> Result<Vec<u64>, Memory>
-    requires { class < classes_in classes.now.family }
-    ensures counts { IfOk result (λ list. (q : Setup) → RepresentsClassIn classes.now.family q class → ArePredecessors classes.now.family.profile (RepresentsClassIn classes.now.family) q list.items) }
+pub fn back_into(room: Vec<u64>, classes: &Classes, class: u64) -> Result<Vec<u64>, Memory>
+    requires { class < classes_of classes.now.family }
+    ensures counts { IfOk result (λ list. (q : Setup) → RepresentsClass classes.now.family q class → ArePredecessors classes.now.family.profile (RepresentsClass classes.now.family) q list.items) }
     ensures list { IfOk result (λ list. list.items ≡ predecessors classes.now.family class) }
 {
     let mut numbers = gather(room, classes, &classes.class_at(class))?;

@@ -6,13 +6,13 @@ ghost use Rattle.dob_pieces.specs.Pieces.{kind_on_board};
 ghost use Rattle.dob_pieces.specs.Setups.{at, piece_of, turned, mirrored, HasLionOffFarRow};
 ghost use Rattle.dob_pieces.specs.declared.kind.Kind.{Kind};
 ghost use Rattle.dob_pieces.specs.declared.kind.Side.TheVariants.{Mover};
-ghost use Rattle.dob_rank.specs.Bitboards.{IsShownIn};
-ghost use Rattle.dob_rank.specs.Families.{classes_in};
+ghost use Rattle.dob_rank.specs.Bitboards.{IsShown};
+ghost use Rattle.dob_rank.specs.Families.{classes_of};
 ghost use Rattle.dob_unmove.specs.declared.undo.Undo.{Undo};
 ghost use Rattle.dob_unmove.specs.Undoes.{arrives_at as arrival, CanUndo, earlier};
 ghost use Rattle.dob_unmove.specs.Unmoves.{CountEdges, ArePredecessors};
 ghost use Rattle.dob_unmove.specs.Edges.{predecessors};
-ghost use Rattle.dob_unmove.specs.Classes.{RepresentsClassIn};
+ghost use Rattle.dob_unmove.specs.Classes.{RepresentsClass};
 ghost use Rattle.dob_unmove.specs.Gathers.{Finds, Gathers};
 ghost use Rattle.dob_unmove.specs.Threats.{elsewhere, stood_before};
 ghost use Rattle.dob_unmove.specs.Walks.{stands, uncatch, unsteps_from, unsteps, unputs, undoes_at, undoes};
@@ -25,19 +25,19 @@ use crate::plain::class_if_representative;
 use crate::undo::Undo;
 use crate::ways::Ways;
 use dob_pieces::{HandKind, Kind, Memory, Position, Setup, Square, lowest_square, without_square};
-use dob_rank::{Bitboards, FamilyClasses};
+use dob_rank::{Bitboards, Classes};
 use std::alloc::Global;
 
 /// Appends the classes of the open representatives that stood before the setup. In it the side that made the last move is the
 /// mover.
 fn gather_all(
-    classes: &FamilyClasses,
+    classes: &Classes,
     after: &Setup,
     ways: &Ways,
     found: &mut Vec<u64>,
 ) -> Result<(), Memory>
     requires { CanWalk classes.now.family after.now ways.now }
-    ensures { OnOk result (Gathers (RepresentsClassIn classes.now.family) after.now (undoes after.now) found.old.items found.new.items) }
+    ensures { OnOk result (Gathers (RepresentsClass classes.now.family) after.now (undoes after.now) found.old.items found.new.items) }
 {
     let mut left = ways.ends;
     while left != 0 {
@@ -50,7 +50,7 @@ fn gather_all(
 
 /// Those from which the last move ended on the square.
 fn gather_at(
-    classes: &FamilyClasses,
+    classes: &Classes,
     after: &Setup,
     ways: &Ways,
     to: Square,
@@ -59,7 +59,7 @@ fn gather_at(
     requires walk { CanWalk classes.now.family after.now ways.now }
     requires calm { elsewhere ways.now.threat.attackers to ≡ false }
     requires home { HasLionHome after.now ways.now.threat.lion to }
-    ensures { OnOk result (Gathers (RepresentsClassIn classes.now.family) after.now (undoes_at after.now to) found.old.items found.new.items) }
+    ensures { OnOk result (Gathers (RepresentsClass classes.now.family) after.now (undoes_at after.now to) found.old.items found.new.items) }
 {
     match ways.own_kind(to) {
         Some(kind) => gather_kind(classes, after, ways, kind, to, found),
@@ -69,7 +69,7 @@ fn gather_at(
 
 /// Those from which the mover's piece of that kind came to the square on which it stands.
 fn gather_kind(
-    classes: &FamilyClasses,
+    classes: &Classes,
     after: &Setup,
     ways: &Ways,
     kind: Kind,
@@ -80,7 +80,7 @@ fn gather_kind(
     requires calm { elsewhere ways.now.threat.attackers to ≡ false }
     requires home { HasLionHome after.now ways.now.threat.lion to }
     requires stands { at after.now to ≡ Some (piece_of Mover kind) }
-    ensures { OnOk result (Gathers (RepresentsClassIn classes.now.family) after.now (undoes_at after.now to) found.old.items found.new.items) }
+    ensures { OnOk result (Gathers (RepresentsClass classes.now.family) after.now (undoes_at after.now to) found.old.items found.new.items) }
 {
     match kind {
         Kind::Lion => gather_steps(classes, after, ways, Kind::Lion, to, found),
@@ -100,7 +100,7 @@ fn gather_kind(
 /// Those from which the chick came that stands on the square. On its far row it was dropped there, since a step would have
 /// made it a hen.
 fn gather_chick(
-    classes: &FamilyClasses,
+    classes: &Classes,
     after: &Setup,
     ways: &Ways,
     to: Square,
@@ -110,7 +110,7 @@ fn gather_chick(
     requires calm { elsewhere ways.now.threat.attackers to ≡ false }
     requires home { HasLionHome after.now ways.now.threat.lion to }
     requires stands { at after.now to ≡ Some (piece_of Mover Kind.Chick) }
-    ensures { OnOk result (Gathers (RepresentsClassIn classes.now.family) after.now (undoes_at after.now to) found.old.items found.new.items) }
+    ensures { OnOk result (Gathers (RepresentsClass classes.now.family) after.now (undoes_at after.now to) found.old.items found.new.items) }
 {
     if to.row() != 3 {
         gather_steps(classes, after, ways, Kind::Chick, to, found)?;
@@ -120,7 +120,7 @@ fn gather_chick(
 
 /// Those from which the hen came that stands on the square: on its far row as a chick too.
 fn gather_hen(
-    classes: &FamilyClasses,
+    classes: &Classes,
     after: &Setup,
     ways: &Ways,
     to: Square,
@@ -130,7 +130,7 @@ fn gather_hen(
     requires calm { elsewhere ways.now.threat.attackers to ≡ false }
     requires home { HasLionHome after.now ways.now.threat.lion to }
     requires stands { at after.now to ≡ Some (piece_of Mover Kind.Hen) }
-    ensures { OnOk result (Gathers (RepresentsClassIn classes.now.family) after.now (undoes_at after.now to) found.old.items found.new.items) }
+    ensures { OnOk result (Gathers (RepresentsClass classes.now.family) after.now (undoes_at after.now to) found.old.items found.new.items) }
 {
     if to.row() == 3 {
         gather_steps(classes, after, ways, Kind::Chick, to, found)?;
@@ -140,7 +140,7 @@ fn gather_hen(
 
 /// Those from which a piece of that kind stepped to the square, on which it stands as what it became.
 fn gather_steps(
-    classes: &FamilyClasses,
+    classes: &Classes,
     after: &Setup,
     ways: &Ways,
     kind: Kind,
@@ -151,7 +151,7 @@ fn gather_steps(
     requires calm { elsewhere ways.now.threat.attackers to ≡ false }
     requires home { HasLionHome after.now ways.now.threat.lion to }
     requires stands { stands (at after.now to) (arrival kind to) ≡ true }
-    ensures { OnOk result (Gathers (RepresentsClassIn classes.now.family) after.now (unsteps after.now kind to) found.old.items found.new.items) }
+    ensures { OnOk result (Gathers (RepresentsClass classes.now.family) after.now (unsteps after.now kind to) found.old.items found.new.items) }
 {
     let mut left = ways.sources(kind, to);
     while left != 0 {
@@ -165,7 +165,7 @@ fn gather_steps(
 /// Those from which a piece of that kind stepped from the one square to the other.
 #[tactic(auto, using(crate::proofs::Gathered::gathers))]
 fn gather_steps_from(
-    classes: &FamilyClasses,
+    classes: &Classes,
     after: &Setup,
     ways: &Ways,
     kind: Kind,
@@ -178,7 +178,7 @@ fn gather_steps_from(
     requires home { HasLionHome after.now ways.now.threat.lion to }
     requires stands { stands (at after.now to) (arrival kind to) ≡ true }
     requires comes { may_come after.now ways.now.threat.lion kind to from ≡ true }
-    ensures { OnOk result (Gathers (RepresentsClassIn classes.now.family) after.now (unsteps_from after.now kind to from) found.old.items found.new.items) }
+    ensures { OnOk result (Gathers (RepresentsClass classes.now.family) after.now (unsteps_from after.now kind to from) found.old.items found.new.items) }
 {
     let undo = Undo::Unstep {
         kind,
@@ -196,7 +196,7 @@ fn gather_steps_from(
 /// Those from which that step caught a piece of that kind, if the hand has it.
 #[tactic(auto, using(crate::proofs::Gathered::gathers))]
 fn gather_catch(
-    classes: &FamilyClasses,
+    classes: &Classes,
     after: &Setup,
     ways: &Ways,
     kind: Kind,
@@ -210,7 +210,7 @@ fn gather_catch(
     requires calm { stood_before ways.now.threat (Undo.Unstep kind from to None) ≡ false }
     requires home { HasLionHome after.now ways.now.threat.lion to }
     requires comes { may_come after.now ways.now.threat.lion kind to from ≡ true }
-    ensures { OnOk result (Gathers (RepresentsClassIn classes.now.family) after.now (uncatch after.now kind from to caught) found.old.items found.new.items) }
+    ensures { OnOk result (Gathers (RepresentsClass classes.now.family) after.now (uncatch after.now kind from to caught) found.old.items found.new.items) }
 {
     if !ways.holds_caught(after, caught) {
         return Ok(());
@@ -226,7 +226,7 @@ fn gather_catch(
 
 /// The one from which the piece of that kind that stands on the square was dropped there.
 fn gather_put(
-    classes: &FamilyClasses,
+    classes: &Classes,
     after: &Setup,
     ways: &Ways,
     kind: HandKind,
@@ -237,14 +237,14 @@ fn gather_put(
     requires calm { elsewhere ways.now.threat.attackers to ≡ false }
     requires home { HasLionHome after.now ways.now.threat.lion to }
     requires stands { at after.now to ≡ Some (piece_of Mover (kind_on_board kind)) }
-    ensures { OnOk result (Gathers (RepresentsClassIn classes.now.family) after.now (unputs after.now kind to) found.old.items found.new.items) }
+    ensures { OnOk result (Gathers (RepresentsClass classes.now.family) after.now (unputs after.now kind to) found.old.items found.new.items) }
 {
     gather_one(classes, after, ways, Undo::Unput { kind, to }, found)
 }
 
 /// The one from which the last move was made in that way, if it was the earlier one of its class.
 fn gather_one(
-    classes: &FamilyClasses,
+    classes: &Classes,
     after: &Setup,
     ways: &Ways,
     undo: Undo,
@@ -254,7 +254,7 @@ fn gather_one(
     requires can { CanUndo after.now undo }
     requires calm { stood_before ways.now.threat undo ≡ false }
     requires home { HasLionOffFarRow (earlier after.now undo) }
-    ensures { OnOk result (Gathers (RepresentsClassIn classes.now.family) after.now (undo ∷ []) found.old.items found.new.items) }
+    ensures { OnOk result (Gathers (RepresentsClass classes.now.family) after.now (undo ∷ []) found.old.items found.new.items) }
 {
     if let Some(class) = class_before(classes, after, ways, undo) {
         found.push(class)?;
@@ -264,12 +264,12 @@ fn gather_one(
 
 /// The class whose representative stood there before a move that left an open position, if a representative did. In profile B
 /// no chick is given back on row 1, where none stood.
-fn class_before(classes: &FamilyClasses, after: &Setup, ways: &Ways, undo: Undo) -> Option<u64>
+fn class_before(classes: &Classes, after: &Setup, ways: &Ways, undo: Undo) -> Option<u64>
     requires walk { CanWalk classes.now.family after.now ways.now }
     requires can { CanUndo after.now undo }
     requires calm { stood_before ways.now.threat undo ≡ false }
     requires home { HasLionOffFarRow (earlier after.now undo) }
-    ensures { Finds (RepresentsClassIn classes.now.family) (earlier after.now undo) result }
+    ensures { Finds (RepresentsClass classes.now.family) (earlier after.now undo) result }
 {
     if may_give_back(classes.family.profile, &undo) {
         class_if_shown(classes, &bits_before(ways.bits, undo))
@@ -279,17 +279,17 @@ fn class_before(classes: &FamilyClasses, after: &Setup, ways: &Ways, undo: Undo)
 }
 
 /// The class whose representative is the position of the family that the sets show; `None` where it is none.
-fn class_if_shown(classes: &FamilyClasses, bits: &Bitboards) -> Option<u64>
-    requires { (setup : Setup) × IsShownIn classes.now.family setup bits.now }
-    ensures { (setup : Setup) → IsShownIn classes.now.family setup bits.now
-        → MatchOption result (¬ ((class : ℕ) × RepresentsClassIn classes.now.family setup class)) (RepresentsClassIn classes.now.family setup) }
+fn class_if_shown(classes: &Classes, bits: &Bitboards) -> Option<u64>
+    requires { (setup : Setup) × IsShown classes.now.family setup bits.now }
+    ensures { (setup : Setup) → IsShown classes.now.family setup bits.now
+        → MatchOption result (¬ ((class : ℕ) × RepresentsClass classes.now.family setup class)) (RepresentsClass classes.now.family setup) }
 {
     classes.class_of_shown(bits)
 }
 
 /// Whether the representative is its own mirror image. What is known of the turned setup says mostly that it isn't.
-fn is_own_image(classes: &FamilyClasses, representative: &Position, ways: &Ways) -> bool
-    requires representative { (class : ℕ) × RepresentsClassIn classes.now.family representative.now.setup class }
+fn is_own_image(classes: &Classes, representative: &Position, ways: &Ways) -> bool
+    requires representative { (class : ℕ) × RepresentsClass classes.now.family representative.now.setup class }
     requires ways { AreWays (turned representative.now.setup) ways.now }
     ensures { IsTrue result ↔ (mirrored representative.now.setup ≡ representative.now.setup) }
 {
@@ -302,13 +302,9 @@ fn is_own_image(classes: &FamilyClasses, representative: &Position, ways: &Ways)
 /// The classes from which moves lead to the representative of a class or to its mirror image, in the order of the walk, in
 /// the room of that list. What the walks need of the setups are the sets of squares; the boards of the turned setup and of its
 /// image only say of what the sets are, and are not made when the program runs.
-fn gather(
-    room: Vec<u64>,
-    classes: &FamilyClasses,
-    representative: &Position,
-) -> Result<Vec<u64>, Memory>
-    requires { (class : ℕ) × RepresentsClassIn classes.now.family representative.now.setup class }
-    ensures { IfOk result (λ list. CountEdges A (RepresentsClassIn classes.now.family) representative.now.setup list.items) }
+fn gather(room: Vec<u64>, classes: &Classes, representative: &Position) -> Result<Vec<u64>, Memory>
+    requires { (class : ℕ) × RepresentsClass classes.now.family representative.now.setup class }
+    ensures { IfOk result (λ list. CountEdges A (RepresentsClass classes.now.family) representative.now.setup list.items) }
 {
     let mut found = room;
     found.clear();
@@ -326,9 +322,9 @@ fn gather(
 
 /// The classes from which moves lead into the class, ascending, each as often as moves of its representative lead
 /// there. Err where no memory was left for the list.
-pub fn back(alloc: Global, classes: &FamilyClasses, class: u64) -> Result<Vec<u64>, Memory>
-    requires { class < classes_in classes.now.family }
-    ensures counts { IfOk result (λ list. (q : Setup) → RepresentsClassIn classes.now.family q class → ArePredecessors classes.now.family.profile (RepresentsClassIn classes.now.family) q list.items) }
+pub fn back(alloc: Global, classes: &Classes, class: u64) -> Result<Vec<u64>, Memory>
+    requires { class < classes_of classes.now.family }
+    ensures counts { IfOk result (λ list. (q : Setup) → RepresentsClass classes.now.family q class → ArePredecessors classes.now.family.profile (RepresentsClass classes.now.family) q list.items) }
     ensures list { IfOk result (λ list. list.items ≡ predecessors classes.now.family class) }
 {
     back_into(Vec::new(alloc), classes, class)
@@ -336,9 +332,9 @@ pub fn back(alloc: Global, classes: &FamilyClasses, class: u64) -> Result<Vec<u6
 
 /// The same in the room of a list that the caller keeps for many classes; what it held is gone. Err where no memory was
 /// left for it to grow, and then the list is gone too.
-pub fn back_into(room: Vec<u64>, classes: &FamilyClasses, class: u64) -> Result<Vec<u64>, Memory>
-    requires { class < classes_in classes.now.family }
-    ensures counts { IfOk result (λ list. (q : Setup) → RepresentsClassIn classes.now.family q class → ArePredecessors classes.now.family.profile (RepresentsClassIn classes.now.family) q list.items) }
+pub fn back_into(room: Vec<u64>, classes: &Classes, class: u64) -> Result<Vec<u64>, Memory>
+    requires { class < classes_of classes.now.family }
+    ensures counts { IfOk result (λ list. (q : Setup) → RepresentsClass classes.now.family q class → ArePredecessors classes.now.family.profile (RepresentsClass classes.now.family) q list.items) }
     ensures list { IfOk result (λ list. list.items ≡ predecessors classes.now.family class) }
 {
     let mut numbers = gather(room, classes, &classes.class_at(class))?;

@@ -11,12 +11,12 @@ use Rattle.dob_pieces.specs.declared.profile.Family.{Family}
 use Rattle.dob_pieces.specs.declared.profile.Profile.{Profile}
 use Rattle.dob_pieces.specs.declared.setup.Setup.{Setup}
 use Rattle.dob_pieces.proofs.Lists.{none_in_empty, head_in, cons_cases}
-use Rattle.dob_rank.specs.Families.{IsPositionIn, IsRepresentativeIn}
-use Rattle.dob_rank.specs.Numbers.{rank_of}
+use Rattle.dob_rank.specs.Families.{IsPositionOf, IsRepresentative}
+use Rattle.dob_rank.specs.Numbers.{rank_of_set}
 use Rattle.dob_rank.specs.Marks.{marks_below}
-use Rattle.dob_rank.specs.Families.{classes_in, is_marked}
-use Rattle.dob_rank.specs.Families.{class_setup_in}
-use Rattle.dob_rank.proofs.Present.{HasClassIn-marked, HasClassesIn-classes_in}
+use Rattle.dob_rank.specs.Families.{classes_of, is_marked}
+use Rattle.dob_rank.specs.Families.{class_setup}
+use Rattle.dob_rank.proofs.Present.{HasClass-marked, HasClasses-classes_of}
 use Rattle.dob_value.specs.declared.value.Value.{Value}
 use Rattle.dob_value.specs.declared.value.Value.TheVariants.{Win, Loss, Draw}
 use Rattle.dob_value.specs.Values.{Won, Lost, HasValue}
@@ -25,25 +25,25 @@ use Rattle.dob_value.specs.Graphs.{HasEntries, AreCutOff, SomeHasDistance}
 use Rattle.dob_value.specs.Bounds.{plies_of, DistancesAreFew}
 use Rattle.dob_value.proofs.Depths.{won_stays, lost_stays, won_not_lost}
 use Rattle.dob_value.proofs.Tables.{LeadsToClasses, NothingNew, nothing_later}
-use Rattle.dob_value.proofs.ClassNumbers.{no_longer, one_count, class_within_in, has_representative_in, representative_is_in, represents_itself_in}
-use Rattle.dob_value.proofs.Rows.{class_setup_is_in, class_outlook}
+use Rattle.dob_value.proofs.ClassNumbers.{no_longer, one_count, class_within, has_representative, representative_is, represents_itself}
+use Rattle.dob_value.proofs.Rows.{class_setup_is, class_outlook}
 use Rattle.dob_value.proofs.Successors.{moves_keep_the_family}
 
 -- ---- the moves of a class lead into classes
 
-is_position : (family : Family) (number : ℕ) → number < classes_in family → IsPositionIn family (class_setup_in family number)
-is_position family number low = (class_setup_is_in family number (classes_in family) (HasClassesIn-classes_in family) low).0.0
+is_position : (family : Family) (number : ℕ) → number < classes_of family → IsPositionOf family (class_setup family number)
+is_position family number low = (class_setup_is family number (classes_of family) (HasClasses-classes_of family) low).0.0
 
 pub leads : (family : Family) → LeadsToClasses family
 leads family number low goes_on move q goes =
-    let all = HasClassesIn-classes_in family in
-    let is = moves_keep_the_family family (class_setup_in family number) move q (is_position family number low) goes_on goes in
-    let found = has_representative_in family q is in
-    let represents = representative_is_in family q found.0 is found.1 in
-    let class = marks_below (is_marked family) (rank_of family.set found.0) in
-    let at = HasClassIn-marked family found.0 represents.0 in
-    let within : class < classes_in family = class_within_in family found.0 class (classes_in family) represents at all in
-    (class, (within, class_outlook family q found.0 class (classes_in family) all within is found.1 at))
+    let all = HasClasses-classes_of family in
+    let is = moves_keep_the_family family (class_setup family number) move q (is_position family number low) goes_on goes in
+    let found = has_representative family q is in
+    let represents = representative_is family q found.0 is found.1 in
+    let class = marks_below (is_marked family) (rank_of_set family.set found.0) in
+    let at = HasClass-marked family found.0 represents.0 in
+    let within : class < classes_of family = class_within family found.0 class (classes_of family) represents at all in
+    (class, (within, class_outlook family q found.0 class (classes_of family) all within is found.1 at))
 
 -- ---- entries that are right up to a depth
 
@@ -100,18 +100,18 @@ module _ (family : Family) (n : ℕ) (entries : List Value) (right : AreRightUpT
   abbrev told : List ℕ
   told = map plies_of entries
 
-  in_told : (number k : ℕ) → number < classes_in family → plies_of (slice_index_or entries number Draw) ≡ k → Contains told k
+  in_told : (number k : ℕ) → number < classes_of family → plies_of (slice_index_or entries number Draw) ≡ k → Contains told k
   in_told number k low is =
-      let whole : length entries ≡ classes_in family = right.same_length in
+      let whole : length entries ≡ classes_of family = right.same_length in
       let within : number < length entries = omega (arith, whole, low) in
       let same = length-map entries plies_of in
       (number, omega (arith, same, within), get_or-map plies_of entries number Draw k within ∙ is)
 
-  lesser_told : (number d k : ℕ) → number < classes_in family → HasDistance family.profile (class_setup_in family number) d → d ≤ n → suc k ≤ d → Contains told (suc k)
+  lesser_told : (number d k : ℕ) → number < classes_of family → HasDistance family.profile (class_setup family number) d → d ≤ n → suc k ≤ d → Contains told (suc k)
   lesser_told number d k low has upto less = elim (there_or_not told (suc k)) [
     | inl there ↦ there
     | inr absent ↦
-        let nothing : NothingNew k family = λ other there. no_new family.profile n k (class_setup_in family other) (slice_index_or entries other Draw) (omega (arith, upto, less))
+        let nothing : NothingNew k family = λ other there. no_new family.profile n k (class_setup family other) (slice_index_or entries other Draw) (omega (arith, upto, less))
         (right.fits other there) (λ same. absent (in_told other (suc k) there same)) in
         let later = nothing_later k family (leads family) nothing d number low in
         absurd (elim has [
@@ -128,7 +128,7 @@ module _ (family : Family) (n : ℕ) (entries : List Value) (right : AreRightUpT
       omega (arith, at_i, at_j, same, less)
 
   -- so as many classes as plies
-  pub distance_within : (number d : ℕ) → number < classes_in family → HasDistance family.profile (class_setup_in family number) d → d ≤ n → d ≤ classes_in family
+  pub distance_within : (number d : ℕ) → number < classes_of family → HasDistance family.profile (class_setup family number) d → d ≤ n → d ≤ classes_of family
   distance_within number d low has upto =
       let each : (k : ℕ) → Contains (range_with_len 1 d) k → Contains told k = λ k there.
       let whole = length-range_with_len 1 d in
@@ -139,14 +139,14 @@ module _ (family : Family) (n : ℕ) (entries : List Value) (right : AreRightUpT
       let most = no_longer (range_with_len 1 d) told (range_apart d) each in
       let long = length-range_with_len 1 d in
       let same = length-map entries plies_of in
-      let whole : length entries ≡ classes_in family = right.same_length in
+      let whole : length entries ≡ classes_of family = right.same_length in
       omega (arith, most, long, same, whole)
 
 -- a class that is won or lost in n plies, where entries are cut off at depth n
-pub deep_within : (family : Family) (n : ℕ) (entries : List Value) → AreCutOff n family entries → SomeHasDistance family n → n ≤ classes_in family
+pub deep_within : (family : Family) (n : ℕ) (entries : List Value) → AreCutOff n family entries → SomeHasDistance family n → n ≤ classes_of family
 deep_within family n entries cut some = distance_within family n entries (record {
   same_length = cut.same_length;
-  fits = λ number low. cut_right family.profile n (class_setup_in family number) (slice_index_or entries number Draw) (cut.fits number low);
+  fits = λ number low. cut_right family.profile n (class_setup family number) (slice_index_or entries number Draw) (cut.fits number low);
 }) some.0 n some.1 some.2 (omega arith)
 
 -- ---- value tables
@@ -158,29 +158,29 @@ value_distance profile p Draw has = inl (omega arith)
 
 pub distances_are_few : DistancesAreFew
 distances_are_few family entries table = λ number default within.
-    let number_low : number < classes_in family = omega (arith, whole, within) in
+    let number_low : number < classes_of family = omega (arith, whole, within) in
     let v = get_or entries number default in
     let has = values number default within in
-    elim (value_distance family.profile (class_setup_in family number) v has) [
+    elim (value_distance family.profile (class_setup family number) v has) [
       | inl none ↦ omega (arith, none)
       | inr distance ↦
           let most = distance_within family (plies_of v) entries (right (plies_of v)) number (plies_of v) number_low distance (omega arith) in
           omega (arith, most, whole)
     ]
   where
-    whole : length entries ≡ classes_in family
-    whole = one_count (IsRepresentativeIn family) (length entries) (classes_in family) table.table.classes (HasClassesIn-classes_in family)
+    whole : length entries ≡ classes_of family
+    whole = one_count (IsRepresentative family) (length entries) (classes_of family) table.table.classes (HasClasses-classes_of family)
 
-    values : (number : ℕ) (default : Value) → number < length entries → HasValue family.profile (class_setup_in family number) (get_or entries number default)
+    values : (number : ℕ) (default : Value) → number < length entries → HasValue family.profile (class_setup family number) (get_or entries number default)
     values number default within =
-        let low : number < classes_in family = omega (arith, whole, within) in
-        let represents = class_setup_is_in family number (classes_in family) (HasClassesIn-classes_in family) low in
-        table.values_are (class_setup_in family number) (get_or entries number default) represents.0.0 (record {
+        let low : number < classes_of family = omega (arith, whole, within) in
+        let represents = class_setup_is family number (classes_of family) (HasClasses-classes_of family) low in
+        table.values_are (class_setup family number) (get_or entries number default) represents.0.0 (record {
           class = number;
           number = record {
             position = represents.0.0;
-            representative = class_setup_in family number;
-            stands = represents_itself_in family (class_setup_in family number) represents.0;
+            representative = class_setup family number;
+            stands = represents_itself family (class_setup family number) represents.0;
             before = represents.1;
           };
           entry = slice_get-get_or entries number default within;
@@ -189,6 +189,6 @@ distances_are_few family entries table = λ number default within.
     right : (n : ℕ) → AreRightUpTo n family entries
     right n = record {
       same_length = whole;
-      fits = λ number low. value_right family.profile n (class_setup_in family number) (slice_index_or entries number Draw)
+      fits = λ number low. value_right family.profile n (class_setup family number) (slice_index_or entries number Draw)
           (values number Draw (omega (arith, whole, low)));
     }

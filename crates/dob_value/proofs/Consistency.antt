@@ -6,10 +6,10 @@ use Rattle.dob_pieces.specs.declared.setup.Setup.{Setup}
 use Rattle.dob_moves.specs.declared.game_move.Move.{Move}
 use Rattle.dob_moves.specs.declared.position_status.Status.{Status}
 use Rattle.dob_moves.specs.declared.position_status.Status.TheVariants.{Caught, Tried, Stuck, Open}
-use Rattle.dob_moves.specs.Moves.{GoesIn}
-use Rattle.dob_moves.specs.Statuses.{HasStatusIn}
-use Rattle.dob_moves.proofs.Cases.{one_status_in}
-use Rattle.dob_rank.specs.Families.{IsPositionIn}
+use Rattle.dob_moves.specs.Moves.{Goes}
+use Rattle.dob_moves.specs.Statuses.{HasStatus}
+use Rattle.dob_moves.proofs.Cases.{one_status}
+use Rattle.dob_rank.specs.Families.{IsPositionOf}
 use Rattle.dob_value.specs.declared.value.Value.{Value}
 use Rattle.dob_value.specs.declared.value.Value.TheVariants.{Win, Loss, Draw}
 use Rattle.dob_value.specs.Values.{HasLost, Won, Lost, HasValue}
@@ -18,7 +18,7 @@ use Rattle.dob_value.proofs.Successors.{moves_keep_the_family}
 use Rattle.dob_value.specs.Follows.{HasInTable, FollowsFromSuccessors, FollowsAt, Follows, IsConsistent, ConsistentIsRight}
 use Rattle.dob_value.proofs.Distances.{same_win, same_loss}
 use Rattle.dob_value.proofs.Depths.{won_stays}
-use Rattle.dob_value.proofs.ClassNumbers.{has_entry, one_entry, representative_is_in, representative_outlook}
+use Rattle.dob_value.proofs.ClassNumbers.{has_entry, one_entry, representative_is, representative_outlook}
 
 -- the value is a win, or a loss, in at most so many plies
 abbrev pub IsWinWithin : ℕ → Value → Type 0
@@ -38,22 +38,22 @@ not_draw_loss d e = absurd (cc)
 
 -- what follows at each status
 module _ (profile : Profile) (Has : Setup → Value → Type 0) (p : Setup) where
-  follows_caught : (v : Value) → HasStatusIn profile p Caught → Follows profile Has p v → v ≡ Win 1
+  follows_caught : (v : Value) → HasStatus profile p Caught → Follows profile Has p v → v ≡ Win 1
   follows_caught v caught follows =
-      subst (λ s. FollowsAt profile Has p s v) (one_status_in profile p follows.0 Caught follows.1 caught) follows.2
+      subst (λ s. FollowsAt profile Has p s v) (one_status profile p follows.0 Caught follows.1 caught) follows.2
 
   follows_over : (v : Value) → HasLost profile p → Follows profile Has p v → v ≡ Loss 0
   follows_over v over follows = elim over [
-    | inl tried ↦ subst (λ s. FollowsAt profile Has p s v) (one_status_in profile p follows.0 Tried follows.1 tried) follows.2
-    | inr stuck ↦ subst (λ s. FollowsAt profile Has p s v) (one_status_in profile p follows.0 Stuck follows.1 stuck) follows.2
+    | inl tried ↦ subst (λ s. FollowsAt profile Has p s v) (one_status profile p follows.0 Tried follows.1 tried) follows.2
+    | inr stuck ↦ subst (λ s. FollowsAt profile Has p s v) (one_status profile p follows.0 Stuck follows.1 stuck) follows.2
   ]
 
-  follows_open : (v : Value) → HasStatusIn profile p Open → Follows profile Has p v → FollowsFromSuccessors profile Has p v
+  follows_open : (v : Value) → HasStatus profile p Open → Follows profile Has p v → FollowsFromSuccessors profile Has p v
   follows_open v goes_on follows =
-      subst (λ s. FollowsAt profile Has p s v) (one_status_in profile p follows.0 Open follows.1 goes_on) follows.2
+      subst (λ s. FollowsAt profile Has p s v) (one_status profile p follows.0 Open follows.1 goes_on) follows.2
 
   -- a lost successor makes a win, and successors that are all won make a loss, where a position has one value
-  win_follows : (n : ℕ) (v : Value) → (move : Move) (q : Setup) → GoesIn profile p move q → ((a b : Value) → Has q a → Has q b → a ≡ b) →
+  win_follows : (n : ℕ) (v : Value) → (move : Move) (q : Setup) → Goes profile p move q → ((a b : Value) → Has q a → Has q b → a ≡ b) →
       (u : Value) → Has q u → IsLossWithin n u → FollowsFromSuccessors profile Has p v → IsWinWithin (suc n) v
   win_follows n (Win plies) move q goes one u has loss follows =
       let at_loss : Has q (Loss loss.0) = subst (Has q) loss.1 has in
@@ -67,8 +67,8 @@ module _ (profile : Profile) (Has : Setup → Value → Type 0) (p : Setup) wher
   win_follows n Draw move q goes one u has loss follows =
       absurd (follows.0 loss.0 (move, q, goes, subst (Has q) loss.1 has))
 
-  loss_follows : (n : ℕ) (v : Value) → ((move : Move) (q : Setup) → GoesIn profile p move q → (a b : Value) → Has q a → Has q b → a ≡ b) →
-      ((move : Move) (q : Setup) → GoesIn profile p move q → (u : Value) × Has q u × IsWinWithin n u) →
+  loss_follows : (n : ℕ) (v : Value) → ((move : Move) (q : Setup) → Goes profile p move q → (a b : Value) → Has q a → Has q b → a ≡ b) →
+      ((move : Move) (q : Setup) → Goes profile p move q → (u : Value) × Has q u × IsWinWithin n u) →
       FollowsFromSuccessors profile Has p v → IsLossWithin (suc n) v
   loss_follows n (Win plies) one wins follows =
       let next = follows.2 in
@@ -88,28 +88,28 @@ module _ (profile : Profile) (Has : Setup → Value → Type 0) (p : Setup) wher
       (win.2.0, subst (Has q) win.2.1 win.1)))
 
 module _ (family : Family) (values : List Value) (consistent : IsConsistent family values) where
-  known : (p : Setup) → IsPositionIn family p → (v : Value) × HasInTable family values p v
+  known : (p : Setup) → IsPositionOf family p → (v : Value) × HasInTable family values p v
   known p is = has_entry family values p consistent.table.classes is
 
-  one : (p : Setup) (v w : Value) → IsPositionIn family p → HasInTable family values p v → HasInTable family values p w → v ≡ w
+  one : (p : Setup) (v w : Value) → IsPositionOf family p → HasInTable family values p v → HasInTable family values p w → v ≡ w
   one p v w is = one_entry family values p v w is
 
   -- what an entry says of the representative
-  entry_follows : (p : Setup) (v : Value) → IsPositionIn family p → (has : HasInTable family values p v) →
+  entry_follows : (p : Setup) (v : Value) → IsPositionOf family p → (has : HasInTable family values p v) →
       Follows family.profile (HasInTable family values) has.number.representative v
   entry_follows p v is has =
-      consistent.follows has.number.representative has.class v (representative_is_in family p has.number.representative is has.number.stands)
+      consistent.follows has.number.representative has.class v (representative_is family p has.number.representative is has.number.stands)
       has.number.before has.entry
 
-  representative_member : (p : Setup) (v : Value) → IsPositionIn family p → (has : HasInTable family values p v) → IsPositionIn family has.number.representative
-  representative_member p v is has = (representative_is_in family p has.number.representative is has.number.stands).0
+  representative_member : (p : Setup) (v : Value) → IsPositionOf family p → (has : HasInTable family values p v) → IsPositionOf family has.number.representative
+  representative_member p v is has = (representative_is family p has.number.representative is has.number.stands).0
 
-  outlook : (p : Setup) (v : Value) → IsPositionIn family p → (has : HasInTable family values p v) → SameOutlook family.profile p has.number.representative
+  outlook : (p : Setup) (v : Value) → IsPositionOf family p → (has : HasInTable family values p v) → SameOutlook family.profile p has.number.representative
   outlook p v is has = representative_outlook family p has.number.representative is has.number.stands
 
   -- what is won or lost within n plies is so in the table
   mutual
-    won_in_table : (n : ℕ) (p : Setup) (v : Value) → IsPositionIn family p → HasInTable family values p v → Won family.profile n p → IsWinWithin n v
+    won_in_table : (n : ℕ) (p : Setup) (v : Value) → IsPositionOf family p → HasInTable family values p v → Won family.profile n p → IsWinWithin n v
     won_in_table zero p v is has won = absurd won
     won_in_table (suc n) p v is has won =
         let representative = has.number.representative in
@@ -128,7 +128,7 @@ module _ (family : Family) (values : List Value) (consistent : IsConsistent fami
               (follows_open family.profile (HasInTable family values) representative v goes_on follows)
         ]
 
-    lost_in_table : (n : ℕ) (p : Setup) (v : Value) → IsPositionIn family p → HasInTable family values p v → Lost family.profile n p → IsLossWithin n v
+    lost_in_table : (n : ℕ) (p : Setup) (v : Value) → IsPositionOf family p → HasInTable family values p v → Lost family.profile n p → IsLossWithin n v
     lost_in_table zero p v is has lost =
         (0, follows_over family.profile (HasInTable family values) has.number.representative v (((outlook p v is has).lost 0).0 lost) (entry_follows p v is has), omega arith)
     lost_in_table (suc n) p v is has lost =
@@ -149,9 +149,9 @@ module _ (family : Family) (values : List Value) (consistent : IsConsistent fami
         ]
 
   -- a win of the table at a representative, where losses in one ply less are right; and likewise a loss
-  win_step : (plies : ℕ) (p : Setup) → IsPositionIn family p → (status : Status) → HasStatusIn family.profile p status →
+  win_step : (plies : ℕ) (p : Setup) → IsPositionOf family p → (status : Status) → HasStatus family.profile p status →
       FollowsAt family.profile (HasInTable family values) p status (Win plies) →
-      ((least : ℕ) (q : Setup) → suc least ≤ plies → IsPositionIn family q → HasInTable family values q (Loss least) → Lost family.profile least q) → Won family.profile plies p
+      ((least : ℕ) (q : Setup) → suc least ≤ plies → IsPositionOf family q → HasInTable family values q (Loss least) → Lost family.profile least q) → Won family.profile plies p
   win_step plies p is Caught status follows lower =
       let one_ply : plies ≡ 1 = cc in
       subst (λ d. Won family.profile d p) (sym one_ply) (inl status)
@@ -170,9 +170,9 @@ module _ (family : Family) (values : List Value) (consistent : IsConsistent fami
         lower least next.1 (omega arith) (moves_keep_the_family family p next.0 next.1 is status next.2) next.3,
       ))
 
-  loss_step : (plies : ℕ) (p : Setup) → IsPositionIn family p → (status : Status) → HasStatusIn family.profile p status →
+  loss_step : (plies : ℕ) (p : Setup) → IsPositionOf family p → (status : Status) → HasStatus family.profile p status →
       FollowsAt family.profile (HasInTable family values) p status (Loss plies) →
-      ((win : ℕ) (q : Setup) → suc win ≤ plies → IsPositionIn family q → HasInTable family values q (Win win) → Won family.profile win q) → Lost family.profile plies p
+      ((win : ℕ) (q : Setup) → suc win ≤ plies → IsPositionOf family q → HasInTable family values q (Win win) → Won family.profile win q) → Lost family.profile plies p
   loss_step plies p is Caught status follows lower = absurd (not_loss_and_win plies 1 follows)
   loss_step plies p is Tried status follows lower =
       let none : plies ≡ 0 = cc in
@@ -195,7 +195,7 @@ module _ (family : Family) (values : List Value) (consistent : IsConsistent fami
 
   -- what is a win or a loss in the table is so, by induction on the distance
   mutual
-    win_is_won : (n plies : ℕ) (p : Setup) → plies ≤ n → IsPositionIn family p → HasInTable family values p (Win plies) → Won family.profile plies p
+    win_is_won : (n plies : ℕ) (p : Setup) → plies ≤ n → IsPositionOf family p → HasInTable family values p (Win plies) → Won family.profile plies p
     win_is_won zero plies p upto is has =
         let follows = entry_follows p (Win plies) is has in
         ((outlook p (Win plies) is has).won plies).1
@@ -207,7 +207,7 @@ module _ (family : Family) (values : List Value) (consistent : IsConsistent fami
         (win_step plies has.number.representative (representative_member p (Win plies) is has) follows.0 follows.1 follows.2
         (λ least q below next entry. loss_is_lost n least q (omega arith) next entry))
 
-    loss_is_lost : (n plies : ℕ) (p : Setup) → plies ≤ n → IsPositionIn family p → HasInTable family values p (Loss plies) → Lost family.profile plies p
+    loss_is_lost : (n plies : ℕ) (p : Setup) → plies ≤ n → IsPositionOf family p → HasInTable family values p (Loss plies) → Lost family.profile plies p
     loss_is_lost zero plies p upto is has =
         let follows = entry_follows p (Loss plies) is has in
         ((outlook p (Loss plies) is has).lost plies).1
@@ -219,7 +219,7 @@ module _ (family : Family) (values : List Value) (consistent : IsConsistent fami
         (loss_step plies has.number.representative (representative_member p (Loss plies) is has) follows.0 follows.1 follows.2
         (λ win q below next entry. win_is_won n win q (omega arith) next entry))
 
-  entry_is_value : (p : Setup) (v : Value) → IsPositionIn family p → HasInTable family values p v → HasValue family.profile p v
+  entry_is_value : (p : Setup) (v : Value) → IsPositionOf family p → HasInTable family values p v → HasValue family.profile p v
   entry_is_value p (Win plies) is has = (
     win_is_won plies plies p (omega arith) is has,
     λ n won.

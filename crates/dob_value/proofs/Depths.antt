@@ -3,7 +3,7 @@ use Rattle.std.proofs.Common.{◌≡◌, ℕ, zero, suc, ◌+◌, ◌-◌, ◌�
 use Rattle.dob_pieces.specs.declared.profile.Profile.{Profile}
 use Rattle.dob_pieces.specs.declared.setup.Setup.{Setup}
 use Rattle.dob_moves.specs.declared.position_status.Status.TheVariants.{Caught, Open}
-use Rattle.dob_moves.specs.Statuses.{HasStatusIn}
+use Rattle.dob_moves.specs.Statuses.{HasStatus}
 use Rattle.dob_value.specs.declared.value.Value.TheVariants.{Win, Loss, Draw}
 use Rattle.dob_value.specs.Values.{HasLost, Won, Lost}
 use Rattle.dob_value.specs.Depths.{WonStaysWon, LostStaysLost, OneValue}
@@ -44,10 +44,10 @@ pub lost_stays : LostStaysLost
 lost_stays profile n m p more h = let e : (m - n) + n ≡ m = omega arith in subst (λ k. Lost profile k p) e (lost_more profile (m - n) n p h)
 
 -- a lost position neither catches the lion nor is open
-pub lost_not_caught : (profile : Profile) (p : Setup) → HasLost profile p → ¬ HasStatusIn profile p Caught
+pub lost_not_caught : (profile : Profile) (p : Setup) → HasLost profile p → ¬ HasStatus profile p Caught
 lost_not_caught profile p over caught = elim over [ inl tried ↦ tried.0 caught | inr stuck ↦ stuck.0 caught ]
 
-pub lost_not_open : (profile : Profile) (p : Setup) → HasLost profile p → ¬ HasStatusIn profile p Open
+pub lost_not_open : (profile : Profile) (p : Setup) → HasLost profile p → ¬ HasStatus profile p Open
 lost_not_open profile p over goes_on = elim over [
   | inl tried ↦ goes_on.1 tried.1
   | inr stuck ↦ stuck.2 goes_on.2.0 goes_on.2.1

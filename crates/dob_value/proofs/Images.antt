@@ -7,10 +7,10 @@ use Rattle.dob_pieces.proofs.Boards.{IsLegal-mirrored}
 use Rattle.dob_pieces.proofs.Symmetries.{mirrored-mirrored}
 use Rattle.dob_moves.specs.declared.game_move.Move.{Move}
 use Rattle.dob_moves.specs.declared.position_status.Status.TheVariants.{Caught, Tried, Stuck, Open}
-use Rattle.dob_moves.specs.Moves.{GoesIn}
+use Rattle.dob_moves.specs.Moves.{Goes}
 use Rattle.dob_moves.specs.Mirrors.{mirrored_move}
-use Rattle.dob_moves.proofs.ProfileMoves.{GoesIn-mirrored, HasStatusIn-mirrored}
-use Rattle.dob_moves.proofs.ProfileMoves.{IsLegal-GoesIn}
+use Rattle.dob_moves.proofs.ProfileMoves.{Goes-mirrored, HasStatus-mirrored}
+use Rattle.dob_moves.proofs.ProfileMoves.{IsLegal-Goes}
 use Rattle.dob_value.specs.Values.{HasLost, Won, Lost}
 use Rattle.dob_value.specs.Depths.{SameOutlook, MirrorsHaveOneOutlook, MirrorsHaveOneValue}
 use Rattle.dob_value.proofs.Tables.{value_same}
@@ -18,29 +18,29 @@ use Rattle.dob_value.proofs.Tables.{value_same}
 -- what has lost has lost in the mirror
 over_mirrored : (profile : Profile) (p : Setup) → IsLegal p → HasLost profile p → HasLost profile (mirrored p)
 over_mirrored profile p legal over = elim over [
-  | inl tried ↦ inl (HasStatusIn-mirrored profile p Tried legal tried)
-  | inr stuck ↦ inr (HasStatusIn-mirrored profile p Stuck legal stuck)
+  | inl tried ↦ inl (HasStatus-mirrored profile p Tried legal tried)
+  | inr stuck ↦ inr (HasStatus-mirrored profile p Stuck legal stuck)
 ]
 
 -- a move from the mirror image is the mirror image of a move
-from_mirrored : (profile : Profile) (p : Setup) (move : Move) (q : Setup) → IsLegal p → GoesIn profile (mirrored p) move q →
-    GoesIn profile p (mirrored_move move) (mirrored q)
+from_mirrored : (profile : Profile) (p : Setup) (move : Move) (q : Setup) → IsLegal p → Goes profile (mirrored p) move q →
+    Goes profile p (mirrored_move move) (mirrored q)
 from_mirrored profile p move q legal goes =
-    subst (λ s. GoesIn profile s (mirrored_move move) (mirrored q)) (mirrored-mirrored p legal.squares)
-    (GoesIn-mirrored profile (mirrored p) move q (IsLegal-mirrored p legal).squares goes)
+    subst (λ s. Goes profile s (mirrored_move move) (mirrored q)) (mirrored-mirrored p legal.squares)
+    (Goes-mirrored profile (mirrored p) move q (IsLegal-mirrored p legal).squares goes)
 
 mutual
   pub won_mirrored : (profile : Profile) (n : ℕ) (p : Setup) → IsLegal p → Won profile n p → Won profile n (mirrored p)
   won_mirrored profile zero p legal won = absurd won
   won_mirrored profile (suc n) p legal won = elim won [
-    | inl caught ↦ inl (HasStatusIn-mirrored profile p Caught legal caught)
+    | inl caught ↦ inl (HasStatus-mirrored profile p Caught legal caught)
     | inr open_win ↦
-        let next_legal = IsLegal-GoesIn profile p open_win.1 open_win.2 open_win.3 legal open_win.0.1 in
+        let next_legal = IsLegal-Goes profile p open_win.1 open_win.2 open_win.3 legal open_win.0.1 in
         inr (
-          HasStatusIn-mirrored profile p Open legal open_win.0,
+          HasStatus-mirrored profile p Open legal open_win.0,
           mirrored_move open_win.1,
           mirrored open_win.2,
-          GoesIn-mirrored profile p open_win.1 open_win.2 legal.squares open_win.3,
+          Goes-mirrored profile p open_win.1 open_win.2 legal.squares open_win.3,
           lost_mirrored profile n open_win.2 next_legal open_win.4,
         )
   ]
@@ -50,14 +50,14 @@ mutual
   lost_mirrored profile (suc n) p legal lost = elim lost [
     | inl over ↦ inl (over_mirrored profile p legal over)
     | inr open_loss ↦
-        let image_open = HasStatusIn-mirrored profile p Open legal open_loss.0 in
+        let image_open = HasStatus-mirrored profile p Open legal open_loss.0 in
         inr (
           image_open,
           λ move q goes.
               let back = from_mirrored profile p move q legal goes in
-              let won = won_mirrored profile n (mirrored q) (IsLegal-GoesIn profile p (mirrored_move move) (mirrored q) back legal open_loss.0.1)
+              let won = won_mirrored profile n (mirrored q) (IsLegal-Goes profile p (mirrored_move move) (mirrored q) back legal open_loss.0.1)
               (open_loss.1 (mirrored_move move) (mirrored q) back) in
-              let q_legal = IsLegal-GoesIn profile (mirrored p) move q goes (IsLegal-mirrored p legal) image_open.1 in
+              let q_legal = IsLegal-Goes profile (mirrored p) move q goes (IsLegal-mirrored p legal) image_open.1 in
               subst (λ s. Won profile n s) (mirrored-mirrored q q_legal.squares) won,
         )
   ]

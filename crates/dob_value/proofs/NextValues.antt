@@ -9,7 +9,7 @@ use Rattle.dob_pieces.specs.declared.profile.Profile.{Profile}
 use Rattle.dob_pieces.specs.declared.setup.Setup.{Setup}
 use Rattle.dob_moves.specs.declared.position_status.Status.{Status}
 use Rattle.dob_moves.specs.declared.position_status.Status.TheVariants.{Caught, Tried, Stuck, Open}
-use Rattle.dob_moves.specs.Statuses.{HasStatusIn}
+use Rattle.dob_moves.specs.Statuses.{HasStatus}
 use Rattle.dob_value.specs.declared.value.Value.{Value}
 use Rattle.dob_value.specs.declared.value.Value.TheVariants.{Win, Loss, Draw}
 use Rattle.dob_value.specs.Values.{HasLost, Won, Lost, HasValue}
@@ -43,7 +43,7 @@ not_lost_yet profile n p not_lost over = not_lost (lost_stays profile 0 n p (ome
 -- the entries of the numbers tell of the positions up to depth n
 module _ (profile : Profile) (n : ℕ) (entries : List Value) (p : Setup) (status : Status) (numbers : List ℕ)
     (known : IsNode profile (TellsAt profile n entries) p status numbers) where
-  pub some_lost : HasStatusIn profile p Open →
+  pub some_lost : HasStatus profile p Open →
       list_any (λ number. is_loss_within n (slice_index_or entries number Draw)) numbers ≡ true →
       Won profile (suc n) p
   some_lost goes_on any =
@@ -51,7 +51,7 @@ module _ (profile : Profile) (n : ℕ) (entries : List Value) (p : Setup) (statu
       let step = known.successors.sound found.1 (found.0, found.2, found.3) in
       inr (goes_on, step.0, step.1, step.2, step.3.1.loss found.4)
 
-  pub all_won : HasStatusIn profile p Open →
+  pub all_won : HasStatus profile p Open →
       list_all (λ number. is_win_within n (slice_index_or entries number Draw)) numbers ≡ true →
       Lost profile (suc n) p
   all_won goes_on all =
@@ -63,7 +63,7 @@ module _ (profile : Profile) (n : ℕ) (entries : List Value) (p : Setup) (statu
             next.2.1.win (All-contains (λ number. is_win_within n (slice_index_or entries number Draw) ≡ true) numbers next.0 pass next.1),
       )
 
-  pub none_lost : HasStatusIn profile p Open →
+  pub none_lost : HasStatus profile p Open →
       list_any (λ number. is_loss_within n (slice_index_or entries number Draw)) numbers ≡ false →
       ¬ Won profile (suc n) p
   none_lost goes_on none won = elim won [
@@ -77,7 +77,7 @@ module _ (profile : Profile) (n : ℕ) (entries : List Value) (p : Setup) (statu
         cc
   ]
 
-  pub not_all_won : HasStatusIn profile p Open →
+  pub not_all_won : HasStatus profile p Open →
       list_all (λ number. is_win_within n (slice_index_or entries number Draw)) numbers ≡ false →
       ¬ Lost profile (suc n) p
   not_all_won goes_on not_all lost = elim lost [
@@ -98,19 +98,19 @@ module _ (profile : Profile) (n : ℕ) (entries : List Value) (p : Setup) (statu
   -- the value at depth n + 1, by the status and what was found among its successors
   pub value_at_catch : ¬ Won profile n p → status ≡ Caught → HasValue profile p (Win (n + 1))
   value_at_catch not_won caught =
-      first_won profile n p not_won (inl (subst (λ s. HasStatusIn profile p s) caught known.status))
+      first_won profile n p not_won (inl (subst (λ s. HasStatus profile p s) caught known.status))
 
   pub not_over : ¬ Lost profile n p → (is : Status) → is ≡ status → (is ≡ Tried) ⊎ (is ≡ Stuck) → ⊥
   not_over not_lost is same over = not_lost_yet profile n p not_lost (elim over [
-    | inl tried ↦ inl (subst (λ s. HasStatusIn profile p s) (sym same ∙ tried) known.status)
-    | inr stuck ↦ inr (subst (λ s. HasStatusIn profile p s) (sym same ∙ stuck) known.status)
+    | inl tried ↦ inl (subst (λ s. HasStatus profile p s) (sym same ∙ tried) known.status)
+    | inr stuck ↦ inr (subst (λ s. HasStatus profile p s) (sym same ∙ stuck) known.status)
   ])
 
   pub value_of_win : ¬ Won profile n p → status ≡ Open → (successors : List ℕ) → successors ≡ numbers →
       (found : Bool) → found ≡ list_any (λ number. is_loss_within n (slice_index_or entries number Draw)) successors → found ≡ true →
       HasValue profile p (Win (n + 1))
   value_of_win not_won is_open successors same found is was =
-      let goes_on = subst (λ s. HasStatusIn profile p s) is_open known.status in
+      let goes_on = subst (λ s. HasStatus profile p s) is_open known.status in
       first_won profile n p not_won (some_lost goes_on
       (subst (λ xs. list_any (λ number. is_loss_within n (slice_index_or entries number Draw)) xs ≡ true) same (sym is ∙ was)))
 
@@ -118,7 +118,7 @@ module _ (profile : Profile) (n : ℕ) (entries : List Value) (p : Setup) (statu
       (all : Bool) → all ≡ list_all (λ number. is_win_within n (slice_index_or entries number Draw)) successors → all ≡ true →
       HasValue profile p (Loss (n + 1))
   value_of_loss not_lost is_open successors same all is was =
-      let goes_on = subst (λ s. HasStatusIn profile p s) is_open known.status in
+      let goes_on = subst (λ s. HasStatus profile p s) is_open known.status in
       first_lost profile n p not_lost (all_won goes_on
       (subst (λ xs. list_all (λ number. is_win_within n (slice_index_or entries number Draw)) xs ≡ true) same (sym is ∙ was)))
 
@@ -126,7 +126,7 @@ module _ (profile : Profile) (n : ℕ) (entries : List Value) (p : Setup) (statu
       (found : Bool) → found ≡ list_any (λ number. is_loss_within n (slice_index_or entries number Draw)) successors → found ≡ false →
       ¬ Won profile (n + 1) p
   still_not_won is_open successors same found is no_loss won =
-      let goes_on = subst (λ s. HasStatusIn profile p s) is_open known.status in
+      let goes_on = subst (λ s. HasStatus profile p s) is_open known.status in
       let e : n + 1 ≡ suc n = omega arith in
       none_lost goes_on
       (subst (λ xs. list_any (λ number. is_loss_within n (slice_index_or entries number Draw)) xs ≡ false) same (sym is ∙ no_loss))
@@ -136,7 +136,7 @@ module _ (profile : Profile) (n : ℕ) (entries : List Value) (p : Setup) (statu
       (all : Bool) → all ≡ list_all (λ number. is_win_within n (slice_index_or entries number Draw)) successors → all ≡ false →
       ¬ Lost profile (n + 1) p
   still_not_lost is_open successors same all is not_all lost =
-      let goes_on = subst (λ s. HasStatusIn profile p s) is_open known.status in
+      let goes_on = subst (λ s. HasStatus profile p s) is_open known.status in
       let e : n + 1 ≡ suc n = omega arith in
       not_all_won goes_on
       (subst (λ xs. list_all (λ number. is_win_within n (slice_index_or entries number Draw)) xs ≡ false) same (sym is ∙ not_all))

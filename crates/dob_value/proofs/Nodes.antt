@@ -7,14 +7,14 @@ use Rattle.std.proofs.lemmas.Bool.{cases_lt}
 use Rattle.dob_pieces.specs.declared.profile.Family.{Family}
 use Rattle.dob_moves.specs.declared.position_status.Status.{Status}
 use Rattle.dob_moves.specs.declared.position_status.Status.TheVariants.{Open}
-use Rattle.dob_rank.specs.Families.{IsPositionIn}
-use Rattle.dob_rank.specs.Families.{classes_in}
-use Rattle.dob_rank.proofs.Present.{HasClassesIn-classes_in}
+use Rattle.dob_rank.specs.Families.{IsPositionOf}
+use Rattle.dob_rank.specs.Families.{classes_of}
+use Rattle.dob_rank.proofs.Present.{HasClasses-classes_of}
 use Rattle.dob_value.specs.declared.sweep.TheConstants.{MAX_DISTANCE}
-use Rattle.dob_value.specs.ClassRows.{class_setup_in}
+use Rattle.dob_value.specs.ClassRows.{class_setup}
 use Rattle.dob_value.specs.Graphs.{IsNode, ClassStandsFor, run_at, AreNodes, SomeHasDistance}
 use Rattle.dob_value.specs.Rosters.{SomeTooDeep}
-use Rattle.dob_value.proofs.Rows.{class_setup_is_in}
+use Rattle.dob_value.proofs.Rows.{class_setup_is}
 
 -- a run stays where the list grows, and what is appended is the run from the old end to the new one
 earlier_run : (from to : ℕ) (xs ys : List ℕ) → from ≤ to → to ≤ length xs →
@@ -43,7 +43,7 @@ nodes_none family = record {
 }
 
 module _ (family : Family) (upto : ℕ) (statuses : List Status) (starts successors : List ℕ) (before : AreNodes family upto statuses starts successors)
-    (status : Status) (numbers : List ℕ) (known : IsNode family.profile (ClassStandsFor family) (class_setup_in family upto) status numbers) where
+    (status : Status) (numbers : List ℕ) (known : IsNode family.profile (ClassStandsFor family) (class_setup family upto) status numbers) where
   abbrev all : List ℕ
   all = successors ++ numbers
 
@@ -61,7 +61,7 @@ module _ (family : Family) (upto : ℕ) (statuses : List Status) (starts success
   last_start = start_before upto (omega arith) ∙ before.end
 
   known_before : (number : ℕ) → number < upto →
-      IsNode family.profile (ClassStandsFor family) (class_setup_in family number) (slice_index_or (statuses ++ status ∷ []) number Open) (run_at starts_now all number)
+      IsNode family.profile (ClassStandsFor family) (class_setup family number) (slice_index_or (statuses ++ status ∷ []) number Open) (run_at starts_now all number)
   known_before number below =
       let whole : length statuses ≡ upto = before.statuses_whole in
       let same_status = get_or_append_left statuses (status ∷ []) Open number (omega arith) in
@@ -72,15 +72,15 @@ module _ (family : Family) (upto : ℕ) (statuses : List Status) (starts success
       ∙ ap (λ n. take (n - slice_index_or starts number 0) (drop (slice_index_or starts number 0) all)) to
       ∙ earlier_run (slice_index_or starts number 0) (slice_index_or starts (number + 1) 0) successors numbers (before.ordered number below)
       (before.within number below) in
-      subst (λ s. IsNode family.profile (ClassStandsFor family) (class_setup_in family number) s (run_at starts_now all number)) (sym same_status)
-      (subst (λ run. IsNode family.profile (ClassStandsFor family) (class_setup_in family number) (slice_index_or statuses number Open) run) (sym same_run)
+      subst (λ s. IsNode family.profile (ClassStandsFor family) (class_setup family number) s (run_at starts_now all number)) (sym same_status)
+      (subst (λ run. IsNode family.profile (ClassStandsFor family) (class_setup family number) (slice_index_or statuses number Open) run) (sym same_run)
       (before.known number below))
 
-  known_now : IsNode family.profile (ClassStandsFor family) (class_setup_in family upto) (slice_index_or (statuses ++ status ∷ []) upto Open) (run_at starts_now all upto)
+  known_now : IsNode family.profile (ClassStandsFor family) (class_setup family upto) (slice_index_or (statuses ++ status ∷ []) upto Open) (run_at starts_now all upto)
   known_now =
-      subst (λ s. IsNode family.profile (ClassStandsFor family) (class_setup_in family upto) s (run_at starts_now all upto))
+      subst (λ s. IsNode family.profile (ClassStandsFor family) (class_setup family upto) s (run_at starts_now all upto))
       (sym (get_or_push statuses status Open upto before.statuses_whole))
-      (subst (λ run. IsNode family.profile (ClassStandsFor family) (class_setup_in family upto) status run)
+      (subst (λ run. IsNode family.profile (ClassStandsFor family) (class_setup family upto) status run)
       (sym (last_run (slice_index_or starts_now upto 0) (slice_index_or starts_now (upto + 1) 0) successors numbers last_start end_now)) known)
 
   pub nodes_more : AreNodes family (upto + 1) (statuses ++ status ∷ []) (starts ++ length (successors ++ numbers) ∷ []) (successors ++ numbers)
@@ -112,7 +112,7 @@ module _ (family : Family) (upto : ℕ) (statuses : List Status) (starts success
       | inl earlier ↦ known_before number earlier
       | inr later ↦
           let same : upto ≡ number = omega arith in
-          subst (λ n. IsNode family.profile (ClassStandsFor family) (class_setup_in family n) (slice_index_or (statuses ++ status ∷ []) n Open) (run_at starts_now all n))
+          subst (λ n. IsNode family.profile (ClassStandsFor family) (class_setup family n) (slice_index_or (statuses ++ status ∷ []) n Open) (run_at starts_now all n))
           same known_now
     ];
   }
@@ -120,7 +120,7 @@ module _ (family : Family) (upto : ℕ) (statuses : List Status) (starts success
 -- the same, for lists that are known to be these
 pub nodes_grown : (family : Family) (upto : ℕ) (statuses : List Status) (starts successors : List ℕ) (status : Status) (numbers : List ℕ)
     (statuses_now : List Status) (starts_now successors_now : List ℕ) (last : ℕ) → AreNodes family upto statuses starts successors →
-    IsNode family.profile (ClassStandsFor family) (class_setup_in family upto) status numbers → statuses_now ≡ statuses ++ status ∷ [] →
+    IsNode family.profile (ClassStandsFor family) (class_setup family upto) status numbers → statuses_now ≡ statuses ++ status ∷ [] →
     starts_now ≡ starts ++ last ∷ [] → last ≡ length successors_now → successors_now ≡ successors ++ numbers →
     AreNodes family (upto + 1) statuses_now starts_now successors_now
 nodes_grown family upto statuses starts successors status numbers statuses_now starts_now successors_now last before known is_statuses is_starts is_last
@@ -132,6 +132,6 @@ nodes_grown family upto statuses starts successors status numbers statuses_now s
     (nodes_more family upto statuses starts successors before status numbers known)))
 
 -- a class too deep is a position of its family too deep
-pub deep_position : (family : Family) (n : ℕ) → MAX_DISTANCE < n → SomeHasDistance family n → SomeTooDeep family.profile (IsPositionIn family)
+pub deep_position : (family : Family) (n : ℕ) → MAX_DISTANCE < n → SomeHasDistance family n → SomeTooDeep family.profile (IsPositionOf family)
 deep_position family n deep some =
-    (class_setup_in family some.0, (class_setup_is_in family some.0 (classes_in family) (HasClassesIn-classes_in family) some.1).0.0, n, deep, some.2)
+    (class_setup family some.0, (class_setup_is family some.0 (classes_of family) (HasClasses-classes_of family) some.1).0.0, n, deep, some.2)

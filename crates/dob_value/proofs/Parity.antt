@@ -9,14 +9,14 @@ use Rattle.std.proofs.lemmas.Option.{slice_get-map}
 use Rattle.dob_pieces.specs.declared.profile.Family.{Family}
 use Rattle.dob_pieces.specs.declared.profile.Profile.{Profile}
 use Rattle.dob_pieces.specs.declared.setup.Setup.{Setup}
-use Rattle.dob_rank.specs.Families.{classes_in}
+use Rattle.dob_rank.specs.Families.{classes_of}
 use Rattle.dob_value.specs.declared.value.Value.{Value}
 use Rattle.dob_value.specs.declared.value.Value.TheVariants.{Win, Loss, Draw}
 use Rattle.dob_value.specs.declared.sweep.TheConstants.{MAX_DISTANCE}
 use Rattle.dob_value.specs.Values.{Won, Lost, HasValue}
 use Rattle.dob_value.specs.Entries.{IsCutOff}
 use Rattle.dob_value.specs.Graphs.{AreCutOff, AreValues}
-use Rattle.dob_value.specs.ClassRows.{class_setup_in}
+use Rattle.dob_value.specs.ClassRows.{class_setup}
 use Rattle.dob_value.specs.Codes.{value_at_distance, value_of_code, values_of_codes, IsShort, ValuesHaveParity}
 use Rattle.dob_value.specs.Follows.{IsEntry}
 
@@ -108,18 +108,18 @@ short_of_cut profile n p Draw upto cut = tt
 
 pub all_short : (n : ℕ) (family : Family) (entries : List Value) → n ≤ MAX_DISTANCE → AreCutOff n family entries → All IsShort entries
 all_short n family entries upto cut k d below =
-    let same_length : length entries ≡ classes_in family = cut.same_length in
-    let within : k < classes_in family = omega (arith, below) in
+    let same_length : length entries ≡ classes_of family = cut.same_length in
+    let within : k < classes_of family = omega (arith, below) in
     subst IsShort (get_or_default entries k Draw d below)
-    (short_of_cut family.profile n (class_setup_in family k) (get_or entries k Draw) upto (cut.fits k within))
+    (short_of_cut family.profile n (class_setup family k) (get_or entries k Draw) upto (cut.fits k within))
 
 pub all_entries : (family : Family) (entries : List Value) → AreValues family entries → All IsShort entries → All IsEntry entries
 all_entries family entries values short k d below =
-    let same_length : length entries ≡ classes_in family = values.same_length in
-    let within : k < classes_in family = omega (arith, below) in
-    let here : HasValue family.profile (class_setup_in family k) (get_or entries k d) =
-    subst (HasValue family.profile (class_setup_in family k)) (get_or_default entries k Draw d below) (values.fits k within) in
-    entry_of_value family.profile (class_setup_in family k) (get_or entries k d) here (short k d below)
+    let same_length : length entries ≡ classes_of family = values.same_length in
+    let within : k < classes_of family = omega (arith, below) in
+    let here : HasValue family.profile (class_setup family k) (get_or entries k d) =
+    subst (HasValue family.profile (class_setup family k)) (get_or_default entries k Draw d below) (values.fits k within) in
+    entry_of_value family.profile (class_setup family k) (get_or entries k d) here (short k d below)
 
 -- what a code says is the entry that stands at its place
 pub entry_read : (codes : List ℕ) (class code : ℕ) (v : Value) → slice_get codes class ≡ Some code → v ≡ value_of_code code →

@@ -7,35 +7,35 @@ use Rattle.std.proofs.lemmas.List.Elements.{Contains-push, Contains-push_cases, 
 use Rattle.dob_pieces.specs.declared.profile.Profile.{Profile}
 use Rattle.dob_pieces.specs.declared.setup.Setup.{Setup}
 use Rattle.dob_moves.specs.declared.game_move.Move.{Move}
-use Rattle.dob_moves.specs.Moves.{GoesIn, CanGoIn}
+use Rattle.dob_moves.specs.Moves.{Goes, CanGo}
 use Rattle.dob_moves.specs.declared.position_status.Status.TheVariants.{Open}
-use Rattle.dob_moves.specs.Statuses.{HasStatusIn, AreMovesIn}
+use Rattle.dob_moves.specs.Statuses.{HasStatus, AreMoves}
 use Rattle.dob_moves.proofs.Kept.{IsAllowed-Goes}
-use Rattle.dob_moves.proofs.ProfileMoves.{IsLegal-GoesIn, total-GoesIn}
+use Rattle.dob_moves.proofs.ProfileMoves.{IsLegal-Goes, total-Goes}
 use Rattle.dob_pieces.specs.declared.profile.Family.{Family}
-use Rattle.dob_rank.specs.Families.{IsPositionIn}
+use Rattle.dob_rank.specs.Families.{IsPositionOf}
 use Rattle.dob_value.specs.Graphs.{AreSuccessors}
 
 -- moves lead from positions of a family to such positions
-pub moves_keep_the_family : (family : Family) (p : Setup) (move : Move) (q : Setup) → IsPositionIn family p → HasStatusIn family.profile p Open →
-    GoesIn family.profile p move q → IsPositionIn family q
+pub moves_keep_the_family : (family : Family) (p : Setup) (move : Move) (q : Setup) → IsPositionOf family p → HasStatus family.profile p Open →
+    Goes family.profile p move q → IsPositionOf family q
 moves_keep_the_family family p move q is goes_on goes = record {
   of_set = record {
-    legal = IsLegal-GoesIn family.profile p move q goes is.of_set.legal goes_on.1;
-    pieces = λ kind. total-GoesIn family.profile p move q goes is.of_set.legal.squares kind ∙ is.of_set.pieces kind;
+    legal = IsLegal-Goes family.profile p move q goes is.of_set.legal goes_on.1;
+    pieces = λ kind. total-Goes family.profile p move q goes is.of_set.legal.squares kind ∙ is.of_set.pieces kind;
   };
   allowed = IsAllowed-Goes family.profile p move q is.of_set.legal.squares is.allowed goes;
 }
 
 -- the numbers stand for the outcomes of the moves below an index
 pub record AreSuccessorsBelow (profile : Profile) {X : Type 0} (StandsFor : X → Setup → Type 0) (p : Setup) (choices : List Move) (upto : ℕ) (numbers : List X) : Type 0 where
-  pub sound : (number : X) → Contains numbers number → (move : Move) × (q : Setup) × GoesIn profile p move q × StandsFor number q
-  pub whole : (index : ℕ) (move : Move) (q : Setup) → index < upto → slice_get choices index ≡ Some move → GoesIn profile p move q →
+  pub sound : (number : X) → Contains numbers number → (move : Move) × (q : Setup) × Goes profile p move q × StandsFor number q
+  pub whole : (index : ℕ) (move : Move) (q : Setup) → index < upto → slice_get choices index ≡ Some move → Goes profile p move q →
       (number : X) × Contains numbers number × StandsFor number q
 
 -- what the list of moves says of an entry that was read
-pub choice_goes : (profile : Profile) (p : Setup) (choices : List Move) (index : ℕ) (choice : Move) → AreMovesIn profile p choices → index < length choices →
-    choice ≡ get_or choices index choice → HasStatusIn profile p Open × CanGoIn profile p choice
+pub choice_goes : (profile : Profile) (p : Setup) (choices : List Move) (index : ℕ) (choice : Move) → AreMoves profile p choices → index < length choices →
+    choice ≡ get_or choices index choice → HasStatus profile p Open × CanGo profile p choice
 choice_goes profile p choices index choice are_moves within read =
     are_moves.sound choice (subst (λ m. Contains choices m) (sym read) (Contains-get_or choices index choice within))
 
@@ -47,7 +47,7 @@ module _ (profile : Profile) {X : Type 0} (StandsFor : X → Setup → Type 0) (
   }
 
   pub successors_more : (upto : ℕ) (numbers : List X) (choice : Move) (number : X) → slice_get choices upto ≡ Some choice →
-      CanGoIn profile p choice → ((q : Setup) → GoesIn profile p choice q → StandsFor number q) →
+      CanGo profile p choice → ((q : Setup) → Goes profile p choice q → StandsFor number q) →
       AreSuccessorsBelow profile StandsFor p choices upto numbers →
       AreSuccessorsBelow profile StandsFor p choices (upto + 1) (numbers ++ number ∷ [])
   successors_more upto numbers choice number here can_go stands before = record {
@@ -63,11 +63,11 @@ module _ (profile : Profile) {X : Type 0} (StandsFor : X → Setup → Type 0) (
           let same : upto ≡ index = omega arith in
           let here_too : slice_get choices index ≡ Some choice = subst (λ k. slice_get choices k ≡ Some choice) same here in
           let is_choice : move ≡ choice = same_Some move choice (sym there ∙ here_too) in
-          (number, Contains-push numbers number, stands q (subst (λ m. GoesIn profile p m q) is_choice goes))
+          (number, Contains-push numbers number, stands q (subst (λ m. Goes profile p m q) is_choice goes))
     ];
   }
 
-  pub successors_all : (upto : ℕ) (numbers : List X) → length choices ≤ upto → AreMovesIn profile p choices →
+  pub successors_all : (upto : ℕ) (numbers : List X) → length choices ≤ upto → AreMoves profile p choices →
       AreSuccessorsBelow profile StandsFor p choices upto numbers → AreSuccessors profile StandsFor p numbers
   successors_all upto numbers all are_moves below = record {
     sound = below.sound;

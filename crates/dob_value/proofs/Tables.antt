@@ -7,12 +7,12 @@ use Rattle.std.proofs.lemmas.Bool.{cases_lt, cases_eq, cases_order, leb-true, le
 use Rattle.dob_pieces.specs.declared.profile.Family.{Family}
 use Rattle.dob_pieces.specs.declared.profile.Profile.{Profile}
 use Rattle.dob_pieces.specs.declared.setup.Setup.{Setup}
-use Rattle.dob_rank.specs.Families.{classes_in}
+use Rattle.dob_rank.specs.Families.{classes_of}
 use Rattle.dob_moves.specs.declared.game_move.Move.{Move}
 use Rattle.dob_moves.specs.declared.position_status.Status.{Status}
 use Rattle.dob_moves.specs.declared.position_status.Status.TheVariants.{Caught, Tried, Stuck, Open}
-use Rattle.dob_moves.specs.Moves.{GoesIn}
-use Rattle.dob_moves.specs.Statuses.{HasStatusIn}
+use Rattle.dob_moves.specs.Moves.{Goes}
+use Rattle.dob_moves.specs.Statuses.{HasStatus}
 use Rattle.dob_value.specs.declared.value.Value.{Value}
 use Rattle.dob_value.specs.declared.value.Value.TheVariants.{Win, Loss, Draw}
 use Rattle.dob_value.specs.declared.graph.Graph.{Graph}
@@ -20,7 +20,7 @@ use Rattle.dob_value.specs.Values.{Won, Lost, HasValue}
 use Rattle.dob_value.specs.Depths.{SameOutlook}
 use Rattle.dob_value.specs.Entries.{is_draw, IsCutOff, Tells, TellsAt}
 use Rattle.dob_value.specs.Graphs.{IsNode, IsGraph, ClassStandsFor, AreCutOff, AreSwept, AreValues, value_at_start, status_at}
-use Rattle.dob_value.specs.ClassRows.{class_setup_in}
+use Rattle.dob_value.specs.ClassRows.{class_setup}
 use Rattle.dob_value.proofs.Depths.{won_stays, lost_stays, lost_not_caught, lost_not_open, won_not_lost}
 
 -- an entry that is cut off at a depth tells of each depth up to it
@@ -86,13 +86,13 @@ pub successors_told : (n upto : ℕ) (family : Family) (entries : List Value) (p
 successors_told n upto family entries p status numbers swept known =
     let told : (number : ℕ) (q : Setup) → ClassStandsFor family number q → TellsAt family.profile n entries number q = λ number q stands.
     let fits = swept.fits number stands.0 in
-    let same_length : length entries ≡ classes_in family = swept.same_length in
+    let same_length : length entries ≡ classes_of family = swept.same_length in
     let below : number < length entries = omega (arith, stands.0) in
-    let told_there : Tells family.profile n (class_setup_in family number) (slice_index_or entries number Draw) = elim (cases_lt number upto) [
-      | inl earlier ↦ tells family.profile n (n + 1) (class_setup_in family number) _ (omega arith) (fits.0 earlier)
-      | inr later ↦ tells family.profile n n (class_setup_in family number) _ (omega arith) (fits.1 later)
+    let told_there : Tells family.profile n (class_setup family number) (slice_index_or entries number Draw) = elim (cases_lt number upto) [
+      | inl earlier ↦ tells family.profile n (n + 1) (class_setup family number) _ (omega arith) (fits.0 earlier)
+      | inr later ↦ tells family.profile n n (class_setup family number) _ (omega arith) (fits.1 later)
     ] in
-    (below, tells_same family.profile n (class_setup_in family number) q _ stands.1 told_there) in
+    (below, tells_same family.profile n (class_setup family number) q _ stands.1 told_there) in
     node_standing family.profile (ClassStandsFor family) (TellsAt family.profile n entries) p status numbers told known
 
 -- before a sweep and after it
@@ -107,13 +107,13 @@ pub swept_all : (n upto : ℕ) (family : Family) (entries : List Value) → leng
 swept_all n upto family entries all swept = record {
   same_length = swept.same_length;
   fits = λ number there.
-      let same_length : length entries ≡ classes_in family = swept.same_length in
+      let same_length : length entries ≡ classes_of family = swept.same_length in
       (swept.fits number there).0 (omega arith);
 }
 
 -- one entry more is swept, whether it stays or is written
 pub swept_kept : (n upto : ℕ) (family : Family) (entries : List Value) → AreSwept n upto family entries →
-    IsCutOff family.profile (n + 1) (class_setup_in family upto) (slice_index_or entries upto Draw) → AreSwept n (upto + 1) family entries
+    IsCutOff family.profile (n + 1) (class_setup family upto) (slice_index_or entries upto Draw) → AreSwept n (upto + 1) family entries
 swept_kept n upto family entries swept cut = record {
   same_length = swept.same_length;
   fits = λ number there. (
@@ -121,24 +121,24 @@ swept_kept n upto family entries swept cut = record {
       | inl earlier ↦ (swept.fits number there).0 earlier
       | inr later ↦
           let same : upto ≡ number = omega arith in
-          subst (λ k. IsCutOff family.profile (n + 1) (class_setup_in family k) (slice_index_or entries k Draw)) same cut
+          subst (λ k. IsCutOff family.profile (n + 1) (class_setup family k) (slice_index_or entries k Draw)) same cut
     ],
     λ above. (swept.fits number there).1 (omega arith),
   );
 }
 
-pub swept_written : (n upto : ℕ) (family : Family) (entries : List Value) (v : Value) → upto < classes_in family →
-    AreSwept n upto family entries → IsCutOff family.profile (n + 1) (class_setup_in family upto) v → AreSwept n (upto + 1) family (slice_set entries upto v)
+pub swept_written : (n upto : ℕ) (family : Family) (entries : List Value) (v : Value) → upto < classes_of family →
+    AreSwept n upto family entries → IsCutOff family.profile (n + 1) (class_setup family upto) v → AreSwept n (upto + 1) family (slice_set entries upto v)
 swept_written n upto family entries v within swept cut =
-    let same_length : length entries ≡ classes_in family = swept.same_length in
+    let same_length : length entries ≡ classes_of family = swept.same_length in
     let below_length : upto < length entries = omega arith in
     let written : slice_index_or (slice_set entries upto v) upto Draw ≡ v = rw get_or-set_same in
     record {
       same_length = length-set entries upto v ∙ same_length;
       fits = λ number there. elim (cases_eq number upto) [
         | inl same ↦ (
-          λ below. subst (λ k. IsCutOff family.profile (n + 1) (class_setup_in family k) (slice_index_or (slice_set entries upto v) k Draw)) (sym same)
-              (subst (λ x. IsCutOff family.profile (n + 1) (class_setup_in family upto) x) (sym written) cut),
+          λ below. subst (λ k. IsCutOff family.profile (n + 1) (class_setup family k) (slice_index_or (slice_set entries upto v) k Draw)) (sym same)
+              (subst (λ x. IsCutOff family.profile (n + 1) (class_setup family upto) x) (sym written) cut),
           λ above. absurd (omega arith),
         )
         | inr apart ↦
@@ -148,8 +148,8 @@ swept_written n upto family entries v within swept cut =
                     | inl same ↦ absurd (apart same)
                     | inr order ↦ elim order [ inl first ↦ first | inr last ↦ absurd (omega arith) ]
                   ] in
-                  subst (λ x. IsCutOff family.profile (n + 1) (class_setup_in family number) x) (sym kept) ((swept.fits number there).0 earlier),
-              λ above. subst (λ x. IsCutOff family.profile n (class_setup_in family number) x) (sym kept) ((swept.fits number there).1 (omega arith)),
+                  subst (λ x. IsCutOff family.profile (n + 1) (class_setup family number) x) (sym kept) ((swept.fits number there).0 earlier),
+              λ above. subst (λ x. IsCutOff family.profile n (class_setup family number) x) (sym kept) ((swept.fits number there).1 (omega arith)),
             )
       ];
     }
@@ -167,20 +167,20 @@ nothing_new profile n p Draw cut next =
 
 -- nothing is won or lost first at depth n + 1
 abbrev pub NothingNew : ℕ → Family → Type 0
-NothingNew n family = (number : ℕ) → number < classes_in family →
-    (Won family.profile (suc n) (class_setup_in family number) → Won family.profile n (class_setup_in family number))
-    × (Lost family.profile (suc n) (class_setup_in family number) → Lost family.profile n (class_setup_in family number))
+NothingNew n family = (number : ℕ) → number < classes_of family →
+    (Won family.profile (suc n) (class_setup family number) → Won family.profile n (class_setup family number))
+    × (Lost family.profile (suc n) (class_setup family number) → Lost family.profile n (class_setup family number))
 
 -- the moves of the classes lead into classes
 abbrev pub LeadsToClasses : Family → Type 0
-LeadsToClasses family = (number : ℕ) → number < classes_in family → HasStatusIn family.profile (class_setup_in family number) Open → (move : Move) (q : Setup) →
-    GoesIn family.profile (class_setup_in family number) move q → (next : ℕ) × ClassStandsFor family next q
+LeadsToClasses family = (number : ℕ) → number < classes_of family → HasStatus family.profile (class_setup family number) Open → (move : Move) (q : Setup) →
+    Goes family.profile (class_setup family number) move q → (next : ℕ) × ClassStandsFor family next q
 
 -- then nothing is at any greater depth
-pub nothing_later : (n : ℕ) (family : Family) → LeadsToClasses family → NothingNew n family → (m number : ℕ) → number < classes_in family →
-    (Won family.profile m (class_setup_in family number) → Won family.profile n (class_setup_in family number)) × (Lost family.profile m (class_setup_in family number) → Lost family.profile n (class_setup_in family number))
+pub nothing_later : (n : ℕ) (family : Family) → LeadsToClasses family → NothingNew n family → (m number : ℕ) → number < classes_of family →
+    (Won family.profile m (class_setup family number) → Won family.profile n (class_setup family number)) × (Lost family.profile m (class_setup family number) → Lost family.profile n (class_setup family number))
 nothing_later n family leads nothing zero number there =
-    (λ won. absurd won, λ over. lost_stays family.profile 0 n (class_setup_in family number) (omega arith) over)
+    (λ won. absurd won, λ over. lost_stays family.profile 0 n (class_setup family number) (omega arith) over)
 nothing_later n family leads nothing (suc m) number there = (
   λ won. (nothing number there).0 (elim won [
     | inl caught ↦ inl caught
@@ -214,27 +214,27 @@ pub unchanged_is_final : (n : ℕ) (graph : Graph) (entries : List Value) → Is
     AreCutOff n graph.family entries → AreCutOff (n + 1) graph.family entries → AreValues graph.family entries
 unchanged_is_final n graph entries is cut next =
     let nothing : NothingNew n graph.family = λ number there.
-    nothing_new graph.family.profile n (class_setup_in graph.family number) _ (cut.fits number there) (next.fits number there) in
+    nothing_new graph.family.profile n (class_setup graph.family number) _ (cut.fits number there) (next.fits number there) in
     let leads : LeadsToClasses graph.family = λ number there goes_on move q goes.
     let step = (is.known number there).successors.whole goes_on move q goes in (step.0, step.2) in
     record {
       same_length = cut.same_length;
       fits = λ number there.
-          value_of_cut graph.family.profile n (class_setup_in graph.family number) _ (λ m. nothing_later n graph.family leads nothing m number there) (cut.fits number there);
+          value_of_cut graph.family.profile n (class_setup graph.family number) _ (λ m. nothing_later n graph.family leads nothing m number there) (cut.fits number there);
     }
 
 -- where a sweep finds a draw that it hasn't swept yet, the class is neither won nor lost up to its depth
 pub open_here : (n upto : ℕ) (family : Family) (entries : List Value) (entry : Value) →
-    AreSwept n upto family entries → upto < classes_in family → entry ≡ slice_index_or entries upto Draw →
-    is_draw entry ≡ true → (¬ Won family.profile n (class_setup_in family upto)) × (¬ Lost family.profile n (class_setup_in family upto))
+    AreSwept n upto family entries → upto < classes_of family → entry ≡ slice_index_or entries upto Draw →
+    is_draw entry ≡ true → (¬ Won family.profile n (class_setup family upto)) × (¬ Lost family.profile n (class_setup family upto))
 open_here n upto family entries entry swept within read is_open =
-    let cut : IsCutOff family.profile n (class_setup_in family upto) (slice_index_or entries upto Draw) = (swept.fits upto within).1 (omega arith) in
+    let cut : IsCutOff family.profile n (class_setup family upto) (slice_index_or entries upto Draw) = (swept.fits upto within).1 (omega arith) in
     let draw : slice_index_or entries upto Draw ≡ Draw = sym read ∙ draw_is entry is_open in
-    let at_draw : IsCutOff family.profile n (class_setup_in family upto) Draw = subst (λ x. IsCutOff family.profile n (class_setup_in family upto) x) draw cut in
+    let at_draw : IsCutOff family.profile n (class_setup family upto) Draw = subst (λ x. IsCutOff family.profile n (class_setup family upto) x) draw cut in
     at_draw
 
 -- the table before the first sweep
-pub start_at : (profile : Profile) (p : Setup) (status : Status) → HasStatusIn profile p status → IsCutOff profile 0 p (value_at_start status)
+pub start_at : (profile : Profile) (p : Setup) (status : Status) → HasStatus profile p status → IsCutOff profile 0 p (value_at_start status)
 start_at profile p Caught h = (λ won. won, λ over. lost_not_caught profile p over h)
 start_at profile p Tried h = (omega arith, (inl h, λ n lost. omega arith))
 start_at profile p Stuck h = (omega arith, (inr h, λ n lost. omega arith))
@@ -244,12 +244,12 @@ pub starts_cut : (graph : Graph) → IsGraph graph → AreCutOff 0 graph.family 
 starts_cut graph is = record {
   same_length = length-map graph.statuses.items value_at_start ∙ is.statuses_whole;
   fits = λ number there.
-      let whole : length graph.statuses.items ≡ classes_in graph.family = is.statuses_whole in
+      let whole : length graph.statuses.items ≡ classes_of graph.family = is.statuses_whole in
       let within : number < length graph.statuses.items = omega arith in
       let read : slice_index_or (map value_at_start graph.statuses.items) number Draw ≡ value_at_start (status_at graph number) =
       get_or-map value_at_start graph.statuses.items number Open Draw within in
-      subst (λ x. IsCutOff graph.family.profile 0 (class_setup_in graph.family number) x) (sym read)
-      (start_at graph.family.profile (class_setup_in graph.family number) (status_at graph number) (is.known number there).status);
+      subst (λ x. IsCutOff graph.family.profile 0 (class_setup graph.family number) x) (sym read)
+      (start_at graph.family.profile (class_setup graph.family number) (status_at graph number) (is.known number there).status);
 }
 
 -- a slice that is written back whole is all that there is

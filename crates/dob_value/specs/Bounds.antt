@@ -3,8 +3,8 @@ use Rattle.std.specs.Prelude.{◌≡◌, ℕ, ◌<◌, ◌≤◌, List, length, 
 use Rattle.dob_pieces.specs.declared.profile.Family.{Family}
 use Rattle.dob_pieces.specs.declared.profile.Profile.{Profile}
 use Rattle.dob_pieces.specs.declared.setup.Setup.{Setup}
-use Rattle.dob_rank.specs.Families.{IsPositionIn}
-use Rattle.dob_rank.specs.Families.{classes_in}
+use Rattle.dob_rank.specs.Families.{IsPositionOf}
+use Rattle.dob_rank.specs.Families.{classes_of}
 use Rattle.dob_value.specs.declared.value.Value.{Value}
 use Rattle.dob_value.specs.declared.value.Value.TheVariants.{Win, Loss, Draw}
 use Rattle.dob_value.specs.declared.sweep.TheConstants.{MAX_DISTANCE}
@@ -18,7 +18,7 @@ plies_of Draw = 0
 
 -- the family of the position by the profile has more classes than the greatest distance
 abbrev pub HasManyClasses : Profile → Setup → Type 0
-HasManyClasses profile p = (family : Family) × (family.profile ≡ profile) × IsPositionIn family p × (MAX_DISTANCE < classes_in family)
+HasManyClasses profile p = (family : Family) × (family.profile ≡ profile) × IsPositionOf family p × (MAX_DISTANCE < classes_of family)
 
 -- in the value table of a family no distance is above the number of classes
 abbrev pub DistancesAreFew : Type 0

@@ -6,9 +6,9 @@ use Rattle.dob_pieces.specs.declared.setup.Setup.{Setup}
 use Rattle.dob_moves.specs.declared.game_move.Move.{Move}
 use Rattle.dob_moves.specs.declared.position_status.Status.{Status}
 use Rattle.dob_moves.specs.declared.position_status.Status.TheVariants.{Caught, Tried, Stuck, Open}
-use Rattle.dob_moves.specs.Moves.{GoesIn}
-use Rattle.dob_moves.specs.Statuses.{HasStatusIn}
-use Rattle.dob_rank.specs.Families.{IsPositionIn, IsRepresentativeIn, HasClassIn, HasClassesIn, IsInClassIn}
+use Rattle.dob_moves.specs.Moves.{Goes}
+use Rattle.dob_moves.specs.Statuses.{HasStatus}
+use Rattle.dob_rank.specs.Families.{IsPositionOf, IsRepresentative, HasClass, HasClasses, IsInClass}
 use Rattle.dob_value.specs.declared.value.Value.{Value}
 use Rattle.dob_value.specs.declared.value.Value.TheVariants.{Win, Loss, Draw}
 use Rattle.dob_value.specs.declared.sweep.TheConstants.{MAX_DISTANCE}
@@ -17,16 +17,16 @@ use Rattle.dob_value.specs.Values.{HasValue}
 -- the class of the position has that value in the table
 pub record HasInTable (family : Family) (values : List Value) (p : Setup) (v : Value) : Type 0 where
   pub class : ℕ
-  pub number : IsInClassIn family p class
+  pub number : IsInClass family p class
   pub entry : slice_get values class ≡ Some v
 
 -- some move leads to a position with that value
 abbrev pub HasSuccessor : Profile → (Setup → Value → Type 0) → Setup → Value → Type 0
-HasSuccessor profile Has p v = (move : Move) × (q : Setup) × GoesIn profile p move q × Has q v
+HasSuccessor profile Has p v = (move : Move) × (q : Setup) × Goes profile p move q × Has q v
 
 -- each move leads to a position that is a win
 abbrev pub SuccessorsAreWins : Profile → (Setup → Value → Type 0) → Setup → Type 0
-SuccessorsAreWins profile Has p = (move : Move) (q : Setup) → GoesIn profile p move q → (plies : ℕ) × Has q (Win plies)
+SuccessorsAreWins profile Has p = (move : Move) (q : Setup) → Goes profile p move q → (plies : ℕ) × Has q (Win plies)
 
 -- The value that follows from those of the successors: a win in one ply more than the least loss among them; where
 -- all are wins, a loss in one ply more than the greatest; where there is no loss and not all are wins, a draw.
@@ -46,7 +46,7 @@ FollowsAt profile Has p Open v = FollowsFromSuccessors profile Has p v
 
 -- The value follows from the position's status and its successors' values, where Has says which value a successor has.
 abbrev pub Follows : Profile → (Setup → Value → Type 0) → Setup → Value → Type 0
-Follows profile Has p v = (status : Status) × HasStatusIn profile p status × FollowsAt profile Has p status v
+Follows profile Has p v = (status : Status) × HasStatus profile p status × FollowsAt profile Has p status v
 
 -- wins have odd and losses even distances, at most MAX_DISTANCE
 abbrev pub IsEntry : Value → Type 0
@@ -64,7 +64,7 @@ class_table family values = record { family = family; values = values }
 
 -- one entry for each class
 pub record IsTable (family : Family) (values : List Value) : Type 0 where
-  pub classes : HasClassesIn family (length values)
+  pub classes : HasClasses family (length values)
   pub entries : All IsEntry values
 
 -- as many values as there are classes, each one that is given for its class
@@ -75,14 +75,14 @@ pub record AreGiven (Gives : ℕ → Value → Type 0) (count : ℕ) (values : L
 -- A consistent table: each class's value follows from its status and its successors' values.
 pub record IsConsistent (family : Family) (values : List Value) : Type 0 where
   pub table : IsTable family values
-  pub follows : (representative : Setup) (class : ℕ) (v : Value) → IsRepresentativeIn family representative → HasClassIn family representative class →
+  pub follows : (representative : Setup) (class : ℕ) (v : Value) → IsRepresentative family representative → HasClass family representative class →
       slice_get values class ≡ Some v → Follows family.profile (HasInTable family values) representative v
 
 -- The value table: each class has an entry, which is the value of each of its positions.
 pub record IsValueTable (family : Family) (values : List Value) : Type 0 where
   pub table : IsTable family values
-  pub known : (p : Setup) → IsPositionIn family p → (v : Value) × HasInTable family values p v
-  pub values_are : (p : Setup) (v : Value) → IsPositionIn family p → HasInTable family values p v → HasValue family.profile p v
+  pub known : (p : Setup) → IsPositionOf family p → (v : Value) × HasInTable family values p v
+  pub values_are : (p : Setup) (v : Value) → IsPositionOf family p → HasInTable family values p v → HasValue family.profile p v
 
 -- each consistent table is the value table
 abbrev pub ConsistentIsRight : Type 0

@@ -6,32 +6,32 @@ use Rattle.dob_pieces.specs.declared.setup.Setup.{Setup}
 use Rattle.dob_moves.specs.declared.game_move.Move.{Move}
 use Rattle.dob_moves.specs.declared.position_status.Status.{Status}
 use Rattle.dob_moves.specs.declared.position_status.Status.TheVariants.{Caught, Tried, Stuck, Open}
-use Rattle.dob_moves.specs.Moves.{GoesIn}
-use Rattle.dob_moves.specs.Statuses.{HasStatusIn}
-use Rattle.dob_rank.specs.Families.{classes_in}
+use Rattle.dob_moves.specs.Moves.{Goes}
+use Rattle.dob_moves.specs.Statuses.{HasStatus}
+use Rattle.dob_rank.specs.Families.{classes_of}
 use Rattle.dob_value.specs.declared.value.Value.{Value}
 use Rattle.dob_value.specs.declared.value.Value.TheVariants.{Loss, Draw}
 use Rattle.dob_value.specs.declared.graph.Graph.{Graph}
 use Rattle.dob_value.specs.Values.{HasValue}
 use Rattle.dob_value.specs.Depths.{SameOutlook}
 use Rattle.dob_value.specs.Entries.{IsCutOff, HasDistance}
-use Rattle.dob_value.specs.ClassRows.{class_setup_in}
+use Rattle.dob_value.specs.ClassRows.{class_setup}
 
 -- The numbers, or other things, stand for the positions to which the moves of p lead, for each at least one, and for no
 -- other. StandsFor says which stands for which position.
 pub record AreSuccessors (profile : Profile) {X : Type 0} (StandsFor : X → Setup → Type 0) (p : Setup) (numbers : List X) : Type 0 where
-  pub sound : (number : X) → Contains numbers number → (move : Move) × (q : Setup) × GoesIn profile p move q × StandsFor number q
-  pub whole : HasStatusIn profile p Open → (move : Move) (q : Setup) → GoesIn profile p move q →
+  pub sound : (number : X) → Contains numbers number → (move : Move) × (q : Setup) × Goes profile p move q × StandsFor number q
+  pub whole : HasStatus profile p Open → (move : Move) (q : Setup) → Goes profile p move q →
       (number : X) × Contains numbers number × StandsFor number q
 
 -- the position's status and successors
 pub record IsNode (profile : Profile) (StandsFor : ℕ → Setup → Type 0) (p : Setup) (found : Status) (numbers : List ℕ) : Type 0 where
-  pub status : HasStatusIn profile p found
+  pub status : HasStatus profile p found
   pub successors : AreSuccessors profile StandsFor p numbers
 
 -- the class with that number stands for the positions with its representative's outlook
 abbrev pub ClassStandsFor : Family → ℕ → Setup → Type 0
-ClassStandsFor family number q = (number < classes_in family) × SameOutlook family.profile q (class_setup_in family number)
+ClassStandsFor family number q = (number < classes_of family) × SameOutlook family.profile q (class_setup family number)
 
 -- the run of the list from the number's start to the next number's
 abbrev pub run_at : List ℕ → List ℕ → ℕ → List ℕ
@@ -47,11 +47,11 @@ pub record AreNodes (family : Family) (upto : ℕ) (statuses : List Status) (sta
   pub ordered : (number : ℕ) → number < upto → slice_index_or starts number 0 ≤ slice_index_or starts (number + 1) 0
   pub within : (number : ℕ) → number < upto → slice_index_or starts (number + 1) 0 ≤ length successors
   pub known : (number : ℕ) → number < upto →
-      IsNode family.profile (ClassStandsFor family) (class_setup_in family number) (slice_index_or statuses number Open) (run_at starts successors number)
+      IsNode family.profile (ClassStandsFor family) (class_setup family number) (slice_index_or statuses number Open) (run_at starts successors number)
 
 -- the graph of all classes of its family
 abbrev pub IsGraph : Graph → Type 0
-IsGraph graph = AreNodes graph.family (classes_in graph.family) graph.statuses.items graph.starts.items graph.successors.items
+IsGraph graph = AreNodes graph.family (classes_of graph.family) graph.statuses.items graph.starts.items graph.successors.items
 
 -- the status of the class with that number
 abbrev pub status_at : Graph → ℕ → Status
@@ -63,8 +63,8 @@ successors_at graph number = run_at graph.starts.items graph.successors.items nu
 
 -- a table with an entry for each class, of which each meets the fact at its representative
 pub record HasEntries (Fits : ℕ → Setup → Value → Type 0) (family : Family) (entries : List Value) : Type 0 where
-  pub same_length : length entries ≡ classes_in family
-  pub fits : (number : ℕ) → number < classes_in family → Fits number (class_setup_in family number) (slice_index_or entries number Draw)
+  pub same_length : length entries ≡ classes_of family
+  pub fits : (number : ℕ) → number < classes_of family → Fits number (class_setup family number) (slice_index_or entries number Draw)
 
 -- each entry is its class's value cut off at depth n
 abbrev pub AreCutOff : ℕ → Family → List Value → Type 0
@@ -81,7 +81,7 @@ AreValues family = HasEntries (λ number p entry. HasValue family.profile p entr
 
 -- some class is won or lost in n plies, and not in fewer
 abbrev pub SomeHasDistance : Family → ℕ → Type 0
-SomeHasDistance family n = (number : ℕ) × (number < classes_in family) × HasDistance family.profile (class_setup_in family number) n
+SomeHasDistance family n = (number : ℕ) × (number < classes_of family) × HasDistance family.profile (class_setup family number) n
 
 -- the value at depth 0, by the status
 abbrev pub value_at_start : Status → Value

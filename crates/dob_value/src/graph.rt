@@ -2,15 +2,15 @@
 ghost use Rattle.std.specs.Prelude.{◌≡◌, ◌<◌, ◌++◌, ℕ, List, IfOk};
 ghost use Rattle.dob_pieces.specs.declared.setup.Setup.{Setup};
 ghost use Rattle.dob_moves.specs.declared.position_status.Status.{Status};
-ghost use Rattle.dob_moves.specs.Moves.{GoesIn, CanGoIn};
-ghost use Rattle.dob_moves.specs.Statuses.{HasStatusIn};
-ghost use Rattle.dob_rank.specs.Families.{IsPositionIn};
-ghost use Rattle.dob_rank.specs.Families.{classes_in};
+ghost use Rattle.dob_moves.specs.Moves.{Goes, CanGo};
+ghost use Rattle.dob_moves.specs.Statuses.{HasStatus};
+ghost use Rattle.dob_rank.specs.Families.{IsPositionOf};
+ghost use Rattle.dob_rank.specs.Families.{classes_of};
 ghost use Rattle.dob_value.specs.Graphs.{ClassStandsFor, IsNode, IsGraph, status_at, successors_at};
 
-use dob_moves::{Move, Status, apply, moves_into_in};
+use dob_moves::{Move, Status, apply, moves_into};
 use dob_pieces::{Family, Memory, Position};
-use dob_rank::FamilyClasses;
+use dob_rank::Classes;
 use std::alloc::Global;
 
 /// The statuses of the classes of a family, and the numbers of their successors in one list: those of a class stand from
@@ -27,7 +27,7 @@ impl Graph {
     /// The status of the class with that number.
     pub(crate) fn status_of(&self, number: usize) -> Status
         requires graph { IsGraph self.now }
-        requires within { number < classes_in self.now.family }
+        requires within { number < classes_of self.now.family }
         ensures { result ≡ status_at self.now number }
     {
         self.statuses[number]
@@ -36,7 +36,7 @@ impl Graph {
     /// The numbers of the classes to which its moves lead.
     pub(crate) fn successors_of(&self, number: usize) -> &[usize]
         requires graph { IsGraph self.now }
-        requires within { number < classes_in self.now.family }
+        requires within { number < classes_of self.now.family }
         ensures { result.now ≡ successors_at self.now number }
     {
         &self.successors[self.starts[number]..self.starts[number + 1]]
@@ -44,19 +44,19 @@ impl Graph {
 }
 
 // The number of the position's class.
-fn number_of(classes: &FamilyClasses, position: &Position) -> usize
-    requires { IsPositionIn classes.now.family position.now.setup }
+fn number_of(classes: &Classes, position: &Position) -> usize
+    requires { IsPositionOf classes.now.family position.now.setup }
     ensures { ClassStandsFor classes.now.family result position.now.setup }
 {
     classes.class_of(position) as usize
 }
 
 // The number of the class to which the move leads.
-fn number_after(classes: &FamilyClasses, position: &Position, choice: Move) -> usize
-    requires member { IsPositionIn classes.now.family position.now.setup }
-    requires open { HasStatusIn classes.now.family.profile position.now.setup Status.Open }
-    requires can_go { CanGoIn classes.now.family.profile position.now.setup choice }
-    ensures { (q : Setup) → GoesIn classes.now.family.profile position.now.setup choice q → ClassStandsFor classes.now.family result q }
+fn number_after(classes: &Classes, position: &Position, choice: Move) -> usize
+    requires member { IsPositionOf classes.now.family position.now.setup }
+    requires open { HasStatus classes.now.family.profile position.now.setup Status.Open }
+    requires can_go { CanGo classes.now.family.profile position.now.setup choice }
+    ensures { (q : Setup) → Goes classes.now.family.profile position.now.setup choice q → ClassStandsFor classes.now.family result q }
 {
     number_of(classes, &apply(position, choice))
 }
@@ -64,16 +64,16 @@ fn number_after(classes: &FamilyClasses, position: &Position, choice: Move) -> u
 // Appends the numbers of the classes to which the position's moves lead, and gives its status. The list of choices is
 // room for its moves.
 fn push_successors(
-    classes: &FamilyClasses,
+    classes: &Classes,
     position: &Position,
     choices: &mut Vec<Move>,
     successors: &mut Vec<usize>,
 ) -> Result<Status, Memory>
-    requires { IsPositionIn classes.now.family position.now.setup }
+    requires { IsPositionOf classes.now.family position.now.setup }
     ensures { IfOk result (λ status. (numbers : List ℕ) × (successors.new.items ≡ successors.old.items ++ numbers)
         × IsNode classes.now.family.profile (ClassStandsFor classes.now.family) position.now.setup status numbers) }
 {
-    let status = moves_into_in(classes.family.profile, choices, position)?;
+    let status = moves_into(classes.family.profile, choices, position)?;
     for choice in choices.iter() {
         let number = number_after(classes, position, *choice);
         successors.push(number)?;
@@ -84,7 +84,7 @@ fn push_successors(
 /// The graph of the classes.
 ///
 /// Error: `Memory`.
-pub(crate) fn graph_of(alloc: Global, classes: &FamilyClasses) -> Result<Graph, Memory>
+pub(crate) fn graph_of(alloc: Global, classes: &Classes) -> Result<Graph, Memory>
     ensures family { IfOk result (λ graph. graph.family ≡ classes.now.family) }
     ensures graph { IfOk result (λ graph. IsGraph graph) }
 {

@@ -1,9 +1,9 @@
 // The values of a whole family, and the value of one position.
 ghost use Rattle.std.specs.Prelude.{◌≡◌, ◌<◌, ◌↔◌, All, Some, IfOk, IsErrOf, length, slice_get};
 ghost use Rattle.dob_pieces.specs.Profiles.{IsAllowed};
-ghost use Rattle.dob_rank.specs.Families.{classes_in};
+ghost use Rattle.dob_rank.specs.Families.{classes_of};
 ghost use Rattle.dob_rank.specs.Limits.{IsTooLarge, HasManyPieces};
-ghost use Rattle.dob_rank.specs.Families.{IsPositionIn};
+ghost use Rattle.dob_rank.specs.Families.{IsPositionOf};
 ghost use Rattle.dob_value.specs.Values.{HasValue};
 ghost use Rattle.dob_value.specs.Rosters.{SomeTooDeep, HasSamePieces};
 ghost use Rattle.dob_value.specs.Follows.{IsEntry, IsValueTable};
@@ -15,7 +15,7 @@ use crate::sweep::{MAX_DISTANCE, sweep};
 use crate::table::Table;
 use crate::value::Value;
 use dob_pieces::{Family, Memory, Position, Profile};
-use dob_rank::{FamilyClasses, is_too_large};
+use dob_rank::{Classes, is_too_large};
 use std::alloc::Global;
 
 /// The values of all positions of the family, by sweeps over its classes.
@@ -26,19 +26,19 @@ pub fn sweep_table(alloc: Global, family: Family) -> Result<Table, Fault>
     ensures family { IfOk result (λ table. table.family ≡ family) }
     ensures values { IfOk result (λ table. IsValueTable family table.values) }
     ensures large { IsErrOf result Fault.SetTooLarge ↔ IsTooLarge family.set }
-    ensures deep { IsErrOf result Fault.TooDeep → SomeTooDeep family.profile (IsPositionIn family) }
-    ensures many { IsErrOf result Fault.TooDeep → MAX_DISTANCE < classes_in family }
+    ensures deep { IsErrOf result Fault.TooDeep → SomeTooDeep family.profile (IsPositionOf family) }
+    ensures many { IsErrOf result Fault.TooDeep → MAX_DISTANCE < classes_of family }
 {
     if is_too_large(family.set) {
         return Err(Fault::SetTooLarge);
     }
-    let classes = FamilyClasses::open(alloc, family)?;
+    let classes = Classes::open(alloc, family)?;
     let values = sweep(alloc, &classes)?;
     Ok(table_of(alloc, classes, &values)?)
 }
 
 // The table of the values of the classes.
-fn table_of(alloc: Global, classes: FamilyClasses, values: &[Value]) -> Result<Table, Memory>
+fn table_of(alloc: Global, classes: Classes, values: &[Value]) -> Result<Table, Memory>
     requires values { AreValues classes.family values.now }
     requires entries { All IsEntry values.now }
     ensures family { IfOk result (λ table. table.family ≡ classes.family) }

@@ -2,12 +2,12 @@
 // that changes nothing is the last.
 ghost use Rattle.std.specs.Prelude.{◌≡◌, ◌≢◌, ℕ, ◌+◌, ◌<◌, ◌≤◌, length, All, IfOk, map, slice_index_or, true, false};
 ghost use Rattle.std.specs.List.{list_any, list_all};
-ghost use Rattle.dob_rank.specs.Families.{IsPositionIn};
-ghost use Rattle.dob_rank.specs.Families.{classes_in};
+ghost use Rattle.dob_rank.specs.Families.{IsPositionOf};
+ghost use Rattle.dob_rank.specs.Families.{classes_of};
 ghost use Rattle.dob_value.specs.declared.value.Value.TheVariants.{Draw};
 ghost use Rattle.dob_value.specs.Values.{Won, Lost};
 ghost use Rattle.dob_value.specs.Entries.{is_win_within, is_loss_within, is_draw, IsCutOff, TellsAt, HasDistance};
-ghost use Rattle.dob_value.specs.ClassRows.{class_setup_in};
+ghost use Rattle.dob_value.specs.ClassRows.{class_setup};
 ghost use Rattle.dob_value.specs.Graphs.{IsNode, IsGraph, AreCutOff, AreSwept, AreValues, SomeHasDistance, value_at_start, status_at, successors_at};
 ghost use Rattle.dob_value.specs.Codes.{IsShort};
 ghost use Rattle.dob_value.specs.Follows.{IsEntry};
@@ -17,7 +17,7 @@ use crate::fault::Fault;
 use crate::graph::{Graph, graph_of};
 use crate::value::Value;
 use dob_moves::Status;
-use dob_rank::FamilyClasses;
+use dob_rank::Classes;
 use std::alloc::{AllocError, Global};
 
 /// The greatest distance that an entry may have.
@@ -56,12 +56,12 @@ fn are_won(successors: &[usize], depth: u16, values: &[Value]) -> bool
 fn next_value(graph: &Graph, number: usize, depth: u16, values: &[Value]) -> Value
     requires below { depth ≤ MAX_DISTANCE }
     requires graph { IsGraph graph.now }
-    requires within { number < classes_in graph.now.family }
-    requires told { IsNode graph.now.family.profile (TellsAt graph.now.family.profile depth values.now) (class_setup_in graph.now.family number) (status_at graph.now number) (successors_at graph.now number) }
-    requires not_won { ¬ Won graph.now.family.profile depth (class_setup_in graph.now.family number) }
-    requires not_lost { ¬ Lost graph.now.family.profile depth (class_setup_in graph.now.family number) }
-    ensures cut_off { IsCutOff graph.now.family.profile (depth + 1) (class_setup_in graph.now.family number) result }
-    ensures distance { is_draw result ≡ false → HasDistance graph.now.family.profile (class_setup_in graph.now.family number) (depth + 1) }
+    requires within { number < classes_of graph.now.family }
+    requires told { IsNode graph.now.family.profile (TellsAt graph.now.family.profile depth values.now) (class_setup graph.now.family number) (status_at graph.now number) (successors_at graph.now number) }
+    requires not_won { ¬ Won graph.now.family.profile depth (class_setup graph.now.family number) }
+    requires not_lost { ¬ Lost graph.now.family.profile depth (class_setup graph.now.family number) }
+    ensures cut_off { IsCutOff graph.now.family.profile (depth + 1) (class_setup graph.now.family number) result }
+    ensures distance { is_draw result ≡ false → HasDistance graph.now.family.profile (class_setup graph.now.family number) (depth + 1) }
 {
     let status = graph.status_of(number);
     match status {
@@ -84,7 +84,7 @@ fn next_value(graph: &Graph, number: usize, depth: u16, values: &[Value]) -> Val
 fn update(graph: &Graph, number: usize, depth: u16, values: &mut [Value]) -> bool
     requires below { depth ≤ MAX_DISTANCE }
     requires graph { IsGraph graph.now }
-    requires within { number < classes_in graph.now.family }
+    requires within { number < classes_of graph.now.family }
     requires swept { AreSwept depth number graph.now.family values.old }
     ensures swept { AreSwept depth (number + 1) graph.now.family values.new }
     ensures found { result ≡ true → SomeHasDistance graph.now.family (depth + 1) }
@@ -147,7 +147,7 @@ fn settle(alloc: Global, graph: &Graph) -> Result<Vec<Value>, Fault>
     ensures values { IfOk result (λ values. AreValues graph.now.family values.items) }
     ensures short { IfOk result (λ values. All IsShort values.items) }
     ensures deep { result ≡ Err Fault.TooDeep → (n : ℕ) × (MAX_DISTANCE < n) × SomeHasDistance graph.now.family n }
-    ensures many { result ≡ Err Fault.TooDeep → MAX_DISTANCE < classes_in graph.now.family }
+    ensures many { result ≡ Err Fault.TooDeep → MAX_DISTANCE < classes_of graph.now.family }
     ensures family { result ≢ Err Fault.SetTooLarge }
 {
     let mut values = first_values(alloc, &graph.statuses)?;
@@ -164,11 +164,11 @@ fn settle(alloc: Global, graph: &Graph) -> Result<Vec<Value>, Fault>
 /// The value of each class, in the order of their numbers.
 ///
 /// Errors: `TooDeep` where some distance is above `MAX_DISTANCE`, as then is the number of classes, and `Memory`.
-pub(crate) fn sweep(alloc: Global, classes: &FamilyClasses) -> Result<Vec<Value>, Fault>
+pub(crate) fn sweep(alloc: Global, classes: &Classes) -> Result<Vec<Value>, Fault>
     ensures values { IfOk result (λ values. AreValues classes.now.family values.items) }
     ensures entries { IfOk result (λ values. All IsEntry values.items) }
-    ensures deep { result ≡ Err Fault.TooDeep → SomeTooDeep classes.now.family.profile (IsPositionIn classes.now.family) }
-    ensures many { result ≡ Err Fault.TooDeep → MAX_DISTANCE < classes_in classes.now.family }
+    ensures deep { result ≡ Err Fault.TooDeep → SomeTooDeep classes.now.family.profile (IsPositionOf classes.now.family) }
+    ensures many { result ≡ Err Fault.TooDeep → MAX_DISTANCE < classes_of classes.now.family }
     ensures family { result ≢ Err Fault.SetTooLarge }
 {
     let graph = graph_of(alloc, classes)?;

@@ -1,15 +1,15 @@
 // Tables of a family: a value for each of its classes.
 ghost use Rattle.std.specs.Prelude.{◌≡◌, ◌<◌, ℕ, All, Some, IfOk, length, slice_get};
 ghost use Rattle.dob_value.specs.declared.value.Value.{Value};
-ghost use Rattle.dob_rank.specs.Families.{IsPositionIn, HasClassesIn};
-ghost use Rattle.dob_rank.specs.Families.{classes_in};
+ghost use Rattle.dob_rank.specs.Families.{IsPositionOf, HasClasses};
+ghost use Rattle.dob_rank.specs.Families.{classes_of};
 ghost use Rattle.dob_value.specs.Codes.{values_of_codes};
 ghost use Rattle.dob_value.specs.Follows.{ClassTable, HasInTable, IsTable, IsEntry, AreGiven, class_table};
 
 use crate::codes::{code_of_value, value_of_code};
 use crate::value::Value;
 use dob_pieces::{Family, Memory, Position};
-use dob_rank::{FamilyClasses, SegmentLength, Segments};
+use dob_rank::{Classes, SegmentLength, Segments};
 use std::alloc::Global;
 use std::marker::Model;
 
@@ -17,7 +17,7 @@ use std::marker::Model;
 /// `MAX_DISTANCE`. It keeps 2 bytes a class beside the family's `Classes`, in segments.
 #[derive(Drop)]
 pub struct Table {
-    classes: FamilyClasses,
+    classes: Classes,
     codes: Segments<u16>,
 }
 
@@ -31,8 +31,8 @@ impl Model for Table {
 
 impl Table {
     /// The table of those classes with those codes, one for each class in the order of their numbers.
-    pub fn new(classes: FamilyClasses, codes: Segments<u16>) -> Table
-        requires whole { length codes ≡ classes_in classes.family }
+    pub fn new(classes: Classes, codes: Segments<u16>) -> Table
+        requires whole { length codes ≡ classes_of classes.family }
         requires codes { All (λ code. code < 65536) codes }
         ensures { result ≡ class_table classes.family (values_of_codes codes) }
     {
@@ -45,13 +45,13 @@ impl Table {
     /// Error: `Memory`.
     pub fn from_fn<F: Fn(u64) -> Value>(
         alloc: Global,
-        classes: FamilyClasses,
+        classes: Classes,
         value_at: F,
     ) -> Result<Table, Memory>
-        requires asked { (class : ℕ) → class < classes_in classes.family → F.pre value_at class }
-        requires entries { (class : ℕ) (value : Value) → class < classes_in classes.family → F.post value_at class value → IsEntry value }
+        requires asked { (class : ℕ) → class < classes_of classes.family → F.pre value_at class }
+        requires entries { (class : ℕ) (value : Value) → class < classes_of classes.family → F.post value_at class value → IsEntry value }
         ensures family { IfOk result (λ table. table.family ≡ classes.family) }
-        ensures given { IfOk result (λ table. AreGiven (F.post value_at) (classes_in classes.family) table.values) }
+        ensures given { IfOk result (λ table. AreGiven (F.post value_at) (classes_of classes.family) table.values) }
     {
         let mut codes = Segments::new(alloc, SegmentLength::longest());
         for class in 0..classes.class_count() {
@@ -69,9 +69,9 @@ impl Table {
     }
 
     /// The classes of the family, with their numbers.
-    pub fn classes(&self) -> &FamilyClasses
+    pub fn classes(&self) -> &Classes
         ensures family { result.now.family ≡ self.now.family }
-        ensures count { classes_in self.now.family ≡ length self.now.values }
+        ensures count { classes_of self.now.family ≡ length self.now.values }
         ensures table { IsTable self.now.family self.now.values }
     {
         &self.classes
@@ -79,7 +79,7 @@ impl Table {
 
     /// How many classes there are.
     pub fn class_count(&self) -> u64
-        ensures count { HasClassesIn self.now.family result }
+        ensures count { HasClasses self.now.family result }
         ensures length { result ≡ length self.now.values }
     {
         self.classes.class_count()
@@ -95,7 +95,7 @@ impl Table {
 
     /// The value of the position's class.
     pub fn value_of(&self, position: &Position) -> Value
-        requires { IsPositionIn self.now.family position.now.setup }
+        requires { IsPositionOf self.now.family position.now.setup }
         ensures { HasInTable self.now.family self.now.values position.now.setup result }
     {
         let number = self.classes.class_of(position);

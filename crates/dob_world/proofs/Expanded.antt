@@ -4,9 +4,9 @@ use Rattle.std.proofs.Common.{slice_get, set}
 use Rattle.std.proofs.lemmas.Bool.{cases_lt, cases_eq}
 use Rattle.std.proofs.lemmas.Option.{slice_get_within}
 use Rattle.std.proofs.lemmas.List.{length-set}
-use Rattle.dob_moves.specs.Statuses.{HasStatusIn}
-use Rattle.dob_rank.specs.Families.{classes_in}
-use Rattle.dob_rank.specs.Families.{class_setup_in}
+use Rattle.dob_moves.specs.Statuses.{HasStatus}
+use Rattle.dob_rank.specs.Families.{classes_of}
+use Rattle.dob_rank.specs.Families.{class_setup}
 use Rattle.dob_unmove.specs.Edges.{predecessors}
 use Rattle.dob_share.specs.declared.share.Share.{Share}
 use Rattle.dob_share.specs.Owners.{owner_of}
@@ -46,7 +46,7 @@ module _ (k : Setting) (nodes : List Node) (lanes : List Lane) (i : ℕ) (node a
     sound = sound;
     going = going;
     of = (step.same.0 ∙ is.of.0, step.same.1 ∙ is.of.1, step.same.2 ∙ is.of.2);
-    statuses = subst (λ (share : Share). (class : ℕ) → IsOwn share class → HasStatusIn k.family.profile (class_setup_in k.family class) (status_at share class))
+    statuses = subst (λ (share : Share). (class : ℕ) → IsOwn share class → HasStatus k.family.profile (class_setup k.family class) (status_at share class))
         (sym step.same.3) is.statuses;
   }
 
@@ -73,7 +73,7 @@ module _ (k : Setting) (nodes : List Node) (lanes : List Lane) (i : ℕ) (node a
     nodes = record {
       history = stays nodes i node after there [] (λ (x : Node). x.history.settlements) (ap (λ (h : HistoryView). h.settlements) step.same.4);
       applied = λ m l. refl;
-      cell = λ class. ap (λ c. cond (nat_lt class (classes_in k.family)) c (fresh 0))
+      cell = λ class. ap (λ c. cond (nat_lt class (classes_of k.family)) c (fresh 0))
           (stays nodes i node after there (fresh 0) (λ (x : Node). cell_at x.share class) (ap (λ (s : Share). cell_at s class) step.same.3)
           (owner_of k.n class));
     };

@@ -5,9 +5,9 @@ use Rattle.std.specs.List.{All}
 use Rattle.std.proofs.lemmas.List.{append-nil}
 use Rattle.std.proofs.lemmas.List.Elements.{All-head, All-tail, All-append, All-cons, All-nil}
 use Rattle.dob_moves.specs.declared.position_status.Status.{Status}
-use Rattle.dob_moves.specs.Statuses.{HasStatusIn}
-use Rattle.dob_rank.specs.Families.{classes_in}
-use Rattle.dob_rank.specs.Families.{class_setup_in}
+use Rattle.dob_moves.specs.Statuses.{HasStatus}
+use Rattle.dob_rank.specs.Families.{classes_of}
+use Rattle.dob_rank.specs.Families.{class_setup}
 use Rattle.dob_unmove.specs.Edges.{predecessors}
 use Rattle.dob_share.specs.declared.news.Item.{Item}
 use Rattle.dob_share.specs.declared.share.Share.{Share}
@@ -37,11 +37,11 @@ use Rattle.dob_world.proofs.Moves.{applies_one, applies_many}
 -- ---- nodes and lanes that are kept
 
 pub low_own : (k : Setting) (i : ℕ) (node : Node) → IsSound node → (node.family ≡ k.family) × (node.id ≡ i) × (node.n ≡ k.n) → (class : ℕ) →
-    IsOwn node.share class → class < classes_in k.family
+    IsOwn node.share class → class < classes_of k.family
 low_own k i node sound of class own = (((kept_sound k.family k.n i node of sound).owned class).0 own).1
 
 pub node_opened : (k : Setting) (i : ℕ) (node : Node) → IsSound node → (node.family ≡ k.family) × (node.id ≡ i) × (node.n ≡ k.n) →
-    ((class : ℕ) → IsOwn node.share class → HasStatusIn k.family.profile (class_setup_in k.family class) (status_at node.share class)) → node.failed ≡ None →
+    ((class : ℕ) → IsOwn node.share class → HasStatus k.family.profile (class_setup k.family class) (status_at node.share class)) → node.failed ≡ None →
     IsNodeOf k i node
 node_opened k i node sound of statuses going = record { sound = sound; of = of; statuses = statuses; going = going }
 
@@ -55,7 +55,7 @@ node_after k i node after is sound going family_is id_is n_is statuses = record 
   sound = sound;
   going = going;
   of = of_after;
-  statuses = λ class own. subst (λ (s : Status). HasStatusIn k.family.profile (class_setup_in k.family class) s) (sym (statuses class))
+  statuses = λ class own. subst (λ (s : Status). HasStatus k.family.profile (class_setup k.family class) s) (sym (statuses class))
       (is.statuses class (((kept_of k i node is).owned class).1 ((kept_there.owned class).0 own)));
 }
   where
@@ -292,7 +292,7 @@ module _ (k : Setting) (nodes : List Node) (lanes : List Lane) (i j : ℕ) (low_
     nodes = record {
       history = stays nodes i node after there_n [] (λ (x : Node). x.history.settlements) (ap (λ (h : HistoryView). h.settlements) step.cut.kept.1);
       applied = lane_stays k.n lanes i j lane next low_i low_j whole there_l [] (λ (x : Lane). x.applied.items) step.same;
-      cell = λ class. ap (λ c. cond (nat_lt class (classes_in k.family)) c (fresh 0)) (stays nodes i node after there_n (fresh 0)
+      cell = λ class. ap (λ c. cond (nat_lt class (classes_of k.family)) c (fresh 0)) (stays nodes i node after there_n (fresh 0)
           (λ (x : Node). cell_at x.share class) (ap (λ (s : Share). cell_at s class) step.cut.kept.0) (owner_of k.n class));
     };
   }

@@ -4,7 +4,7 @@ use Rattle.std.proofs.Common.{ap, ◌∙◌, subst, List, [], ◌∷◌, ◌++�
 use Rattle.std.specs.List.{All}
 use Rattle.std.proofs.lemmas.Bool.{eqb-true, eq-eqb, and_parts, and_cases}
 use Rattle.std.proofs.lemmas.List.{length-set}
-use Rattle.dob_rank.specs.Families.{classes_in}
+use Rattle.dob_rank.specs.Families.{classes_of}
 use Rattle.dob_share.specs.declared.news.Item.{Item}
 use Rattle.dob_share.specs.Owners.{owner_of}
 use Rattle.dob_share.specs.Cells.{Cell, fresh}
@@ -45,7 +45,7 @@ module _ (k : Setting) (nodes : List Node) (lanes : List Lane) (i j : ℕ) (low_
   pub cell_there : (class : ℕ) → own_test k j class ≡ true → cell_at node.share class ≡ old.cell class
   unfolding nodes_shown
   cell_there class is =
-      let both = and_parts (nat_lt class (classes_in k.family)) (eqb (owner_of k.n class) j) is in
+      let both = and_parts (nat_lt class (classes_of k.family)) (eqb (owner_of k.n class) j) is in
       sym (ap (λ b. cond b (part (fresh 0) (λ (x : Node). cell_at x.share class) (slice_get nodes (owner_of k.n class))) (fresh 0)) both.0
       ∙ ap (λ m. part (fresh 0) (λ (x : Node). cell_at x.share class) (slice_get nodes m)) (eqb-true (owner_of k.n class) j both.1)
       ∙ was nodes j node after there_n (fresh 0) (λ (x : Node). cell_at x.share class))
@@ -53,17 +53,17 @@ module _ (k : Setting) (nodes : List Node) (lanes : List Lane) (i j : ℕ) (low_
   pub cell_then : (class : ℕ) → own_test k j class ≡ true → cell_at after.share class ≡ new.cell class
   unfolding nodes_shown
   cell_then class is =
-      let both = and_parts (nat_lt class (classes_in k.family)) (eqb (owner_of k.n class) j) is in
+      let both = and_parts (nat_lt class (classes_of k.family)) (eqb (owner_of k.n class) j) is in
       sym (ap (λ b. cond b (part (fresh 0) (λ (x : Node). cell_at x.share class) (slice_get (set nodes j after) (owner_of k.n class))) (fresh 0)) both.0
       ∙ ap (λ m. part (fresh 0) (λ (x : Node). cell_at x.share class) (slice_get (set nodes j after) m)) (eqb-true (owner_of k.n class) j both.1)
       ∙ here nodes j node after there_n (fresh 0) (λ (x : Node). cell_at x.share class))
 
   cell_elsewhere : (class : ℕ) → own_test k j class ≡ false → old.cell class ≡ new.cell class
   unfolding nodes_shown
-  cell_elsewhere class is = elim (and_cases (nat_lt class (classes_in k.family)) (eqb (owner_of k.n class) j) is) [
+  cell_elsewhere class is = elim (and_cases (nat_lt class (classes_of k.family)) (eqb (owner_of k.n class) j) is) [
     | inl high ↦ ap (λ b. cond b (part (fresh 0) (λ (x : Node). cell_at x.share class) (slice_get nodes (owner_of k.n class))) (fresh 0)) high
         ∙ sym (ap (λ b. cond b (part (fresh 0) (λ (x : Node). cell_at x.share class) (slice_get (set nodes j after) (owner_of k.n class))) (fresh 0)) high)
-    | inr other ↦ ap (λ c. cond (nat_lt class (classes_in k.family)) c (fresh 0)) (sym (elsewhere nodes j node after there_n (fresh 0)
+    | inr other ↦ ap (λ c. cond (nat_lt class (classes_of k.family)) c (fresh 0)) (sym (elsewhere nodes j node after there_n (fresh 0)
         (λ (x : Node). cell_at x.share class) (owner_of k.n class) (λ same. let e = eq-eqb (owner_of k.n class) j same in cc)))
   ]
 

@@ -1,8 +1,8 @@
 -- Why a node of a world that stands stops, never because an item contradicts its cell, and what that leaves.
 use Rattle.std.proofs.Common.{◌≡◌, ◌≢◌, ℕ, ◌+◌, ◌*◌, ◌<◌, ◌⊎◌, inl, inr, refl, sym, ap, ◌∙◌, subst, List, [], ◌∷◌, Some, slice_get, set}
 use Rattle.dob_moves.specs.declared.position_status.Status.TheVariants.{Open}
-use Rattle.dob_moves.proofs.Cases.{one_status_in}
-use Rattle.dob_rank.specs.Families.{class_setup_in}
+use Rattle.dob_moves.proofs.Cases.{one_status}
+use Rattle.dob_rank.specs.Families.{class_setup}
 use Rattle.dob_share.specs.declared.news.Item.{Item}
 use Rattle.dob_share.specs.declared.share.Share.{Share}
 use Rattle.dob_share.specs.Cells.{Cell, CanTake, changed}
@@ -37,7 +37,7 @@ pub fits_by : (k : Setting) (i : ℕ) (node : Node) (share : Share) (history : H
 unfolding Fits
 fits_by k i node share history cell item is kept statuses can same = (
   (kept.owned item.to).1 (can.own, can.below),
-  statuses item.to ∙ one_status_in k.family.profile (class_setup_in k.family item.to) (status_at node.share item.to) Open
+  statuses item.to ∙ one_status k.family.profile (class_setup k.family item.to) (status_at node.share item.to) Open
       (is.statuses item.to (((kept_of k i node is).owned item.to).1 (can.own, can.below))) can.is_open,
   subst (λ c. CanTake item.was item.now c) same can.takes,
 )

@@ -5,7 +5,7 @@ use Rattle.std.specs.List.{All}
 use Rattle.std.proofs.lemmas.Bool.{cases_eq, eqb-true, eq-eqb, ne_eqb, lt-ltb, ltb-true, and_parts, and_right}
 use Rattle.std.proofs.lemmas.List.{append-nil}
 use Rattle.std.proofs.lemmas.List.Elements.{All-head, All-tail}
-use Rattle.dob_rank.specs.Families.{classes_in}
+use Rattle.dob_rank.specs.Families.{classes_of}
 use Rattle.dob_share.specs.declared.news.Settlement.{Settlement}
 use Rattle.dob_share.specs.declared.news.Item.{Item}
 use Rattle.dob_share.specs.declared.share.Share.{Share}
@@ -30,7 +30,7 @@ use Rattle.dob_world.proofs.Applied.{next_fits, lawful_step, step_grows, next_af
 -- ---- nodes of which one has that share and history, and has applied those items of another
 
 abbrev pub own_test : Setting → ℕ → ℕ → Bool
-own_test k j class = nat_lt class (classes_in k.family) && eqb (owner_of k.n class) j
+own_test k j class = nat_lt class (classes_of k.family) && eqb (owner_of k.n class) j
 
 abbrev pub with_share : Setting → ℕ → ℕ → Nodes → Share → List Settlement → List Item → Nodes
 with_share k i j nodes share history items = record {
@@ -64,10 +64,10 @@ module _ (k : Setting) (i j : ℕ) (nodes : Nodes) (share : Share) (history : Li
   applied_else m l (inl other) = ap (λ b. cond (b && eqb l j) items (nodes.applied m l)) (ne_eqb m i other)
   applied_else m l (inr other) = applied_receiver m l other
 
-  pub own_is : (class : ℕ) → class < classes_in k.family → owner_of k.n class ≡ j → own_test k j class ≡ true
-  own_is class low own = ap (λ b. b && eqb (owner_of k.n class) j) (lt-ltb class (classes_in k.family) low) ∙ eq-eqb (owner_of k.n class) j own
+  pub own_is : (class : ℕ) → class < classes_of k.family → owner_of k.n class ≡ j → own_test k j class ≡ true
+  own_is class low own = ap (λ b. b && eqb (owner_of k.n class) j) (lt-ltb class (classes_of k.family) low) ∙ eq-eqb (owner_of k.n class) j own
 
-  pub cell_here : (class : ℕ) → class < classes_in k.family → owner_of k.n class ≡ j → given.cell class ≡ cell_at share class
+  pub cell_here : (class : ℕ) → class < classes_of k.family → owner_of k.n class ≡ j → given.cell class ≡ cell_at share class
   cell_here class low own = ap (λ b. cond b (cell_at share class) (nodes.cell class)) (own_is class low own)
 
 -- ---- what is taken
@@ -110,8 +110,8 @@ module _ (k : Setting) (i j : ℕ) (nodes : Nodes) (share after : Share) (histor
 
   cells_after : (p : ℕ) → p ≢ item.to → SameCell (new.cell p) (old.cell p)
   cells_after p other = same_by (own_test k j p) (cell_at after p) (cell_at share p) (nodes.cell p) (λ is.
-      let both = and_parts (nat_lt p (classes_in k.family)) (eqb (owner_of k.n p) j) is in
-      taken.others p ((kept.owned p).1 (eqb-true (owner_of k.n p) j both.1, ltb-true p (classes_in k.family) both.0)) other)
+      let both = and_parts (nat_lt p (classes_of k.family)) (eqb (owner_of k.n p) j) is in
+      taken.others p ((kept.owned p).1 (eqb-true (owner_of k.n p) j both.1, ltb-true p (classes_of k.family) both.0)) other)
 
   values_after : ((p : ℕ) → p ≢ item.to → value_of g p ≡ value_of h p) → (p : ℕ) → p ≢ item.to → value_in k.n new p ≡ value_in k.n old p
   values_after same p other = elim (cases_eq (owner_of k.n p) j) [

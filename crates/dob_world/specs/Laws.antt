@@ -1,7 +1,7 @@
 -- Laws of worlds, of which `src/laws.rt` has one function each.
 use Rattle.std.specs.Prelude.{◌≡◌, ◌≢◌, ℕ, ◌^◌, ◌<◌, ◌≤◌, true, List, ◌∷◌, ◌++◌, length, Some, slice_get}
 use Rattle.dob_pieces.specs.Lists.{IsBeginning}
-use Rattle.dob_rank.specs.Families.{classes_in}
+use Rattle.dob_rank.specs.Families.{classes_of}
 use Rattle.dob_value.specs.declared.value.Value.{Value}
 use Rattle.dob_value.specs.Follows.{IsValueTable}
 use Rattle.dob_share.specs.declared.news.Item.{Item}
@@ -55,8 +55,8 @@ TakenItemFits = (k : Setting) (world : WorldView) (i j : ℕ) (batch : BatchView
 -- a lawful and linked world at rest has the value table
 abbrev pub RestIsRight : Type 0
 RestIsRight = (k : Setting) (world : WorldView) (openings : List Opening) (values : List Value) → 0 < k.n → AreOpenings k.family openings →
-    AreLawful k world.nodes → IsLinked k world → IsAtRest k world → length values ≡ classes_in k.family →
-    ((class : ℕ) → class < classes_in k.family → slice_get values class ≡ Some (value_in k.n world.nodes class)) → IsValueTable k.family values
+    AreLawful k world.nodes → IsLinked k world → IsAtRest k world → length values ≡ classes_of k.family →
+    ((class : ℕ) → class < classes_of k.family → slice_get values class ≡ Some (value_in k.n world.nodes class)) → IsValueTable k.family values
 
 -- where the end may be announced, nothing is left to do
 abbrev pub EndIsRest : Type 0

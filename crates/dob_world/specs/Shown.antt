@@ -1,7 +1,7 @@
 -- What a world shows: its nodes, lanes and ring as functions of node numbers. The lists of a program's world are read here alone.
 use Rattle.std.specs.Prelude.{ℕ, ◌+◌, ◌*◌, nat_lt, false, cond, List, [], Option, None, Some, slice_get, slice_index, slice_index_or}
 use Rattle.dob_pieces.specs.declared.profile.Family.{Family}
-use Rattle.dob_rank.specs.Families.{classes_in}
+use Rattle.dob_rank.specs.Families.{classes_of}
 use Rattle.dob_share.specs.Owners.{owner_of}
 use Rattle.dob_share.specs.Cells.{fresh}
 use Rattle.dob_share.specs.Shares.{cell_at}
@@ -30,7 +30,7 @@ unfoldable pub nodes_shown : Family → ℕ → List Node → List Lane → Node
 nodes_shown family n nodes lanes = record {
   history = λ i. part [] (λ (node : Node). node.history.settlements) (slice_get nodes i);
   applied = λ i j. part [] (λ (lane : Lane). lane.applied.items) (lane_at n lanes i j);
-  cell = λ class. cond (nat_lt class (classes_in family)) (part (fresh 0) (λ (node : Node). cell_at node.share class) (slice_get nodes (owner_of n class)))
+  cell = λ class. cond (nat_lt class (classes_of family)) (part (fresh 0) (λ (node : Node). cell_at node.share class) (slice_get nodes (owner_of n class)))
       (fresh 0);
 }
 

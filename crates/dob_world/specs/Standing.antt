@@ -3,9 +3,9 @@
 use Rattle.std.specs.Prelude.{◌≡◌, ◌≢◌, ℕ, ◌+◌, ◌*◌, ◌<◌, ◌≤◌, false, pos, List, length, None, Some, MatchOption, slice_get, slice_index_or}
 use Rattle.std.specs.List.{All}
 use Rattle.dob_pieces.specs.declared.profile.Family.{Family}
-use Rattle.dob_moves.specs.Statuses.{HasStatusIn}
+use Rattle.dob_moves.specs.Statuses.{HasStatus}
 use Rattle.dob_rank.specs.Limits.{IsSmall}
-use Rattle.dob_rank.specs.Families.{class_setup_in}
+use Rattle.dob_rank.specs.Families.{class_setup}
 use Rattle.dob_share.specs.declared.opening.Opening.{Opening}
 use Rattle.dob_share.specs.Shares.{IsOwn, status_at}
 use Rattle.dob_update.specs.Batches.{AreSizes}
@@ -34,7 +34,7 @@ pub record IsSetting (k : Setting) : Type 0 where
 pub record IsNodeOf (k : Setting) (i : ℕ) (node : Node) : Type 0 where
   pub sound : IsSound node
   pub of : (node.family ≡ k.family) × (node.id ≡ i) × (node.n ≡ k.n)
-  pub statuses : (class : ℕ) → IsOwn node.share class → HasStatusIn k.family.profile (class_setup_in k.family class) (status_at node.share class)
+  pub statuses : (class : ℕ) → IsOwn node.share class → HasStatus k.family.profile (class_setup k.family class) (status_at node.share class)
   pub going : node.failed ≡ None
 
 -- the lane from node i to node j

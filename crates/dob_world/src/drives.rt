@@ -1,6 +1,6 @@
 // A world that is driven by rounds of events until nothing is left to do.
 ghost use Rattle.std.specs.Prelude.{◌≡◌, ℕ, ◌+◌, ◌*◌, ◌^◌, ◌<◌, ◌≤◌, false, None, IfOk, IfErr, OnErr};
-ghost use Rattle.dob_rank.specs.Families.{classes_in};
+ghost use Rattle.dob_rank.specs.Families.{classes_of};
 ghost use Rattle.dob_world.specs.Rounds.{round_length, round_event};
 ghost use Rattle.dob_world.specs.Shown.{setting_of, state_of};
 ghost use Rattle.dob_world.specs.Standing.{IsStanding, IsKept};
@@ -25,7 +25,7 @@ impl World {
         requires standing { IsStanding self.old }
         requires going { self.old.failed ≡ None }
         ensures driven { IfOk result (λ still. HasDriven self.old rounds still self.new) }
-        ensures memory { classes_in (setting_of self.old).family < 65535 → IfErr result IsForMemory }
+        ensures memory { classes_of (setting_of self.old).family < 65535 → IfErr result IsForMemory }
         ensures falls { IfOk result (λ still. HaveFallsIn (setting_of self.new) (state_of self.new).world.nodes) }
         ensures stopped { IfErr result (λ fault. StopsInRounds self.old rounds fault self.new) }
         ensures unannounced { OnErr result (self.new.detector.announced ≡ false) }
@@ -47,7 +47,7 @@ impl World {
         requires standing { IsStanding self.old }
         requires going { self.old.failed ≡ None }
         ensures made { IfOk result (λ still. HasMadeRound self.old still self.new) }
-        ensures memory { classes_in (setting_of self.old).family < 65535 → IfErr result IsForMemory }
+        ensures memory { classes_of (setting_of self.old).family < 65535 → IfErr result IsForMemory }
         ensures stopped { IfErr result (λ fault. StopsInRounds self.old 1 fault self.new) }
         ensures kept { IsKept self.new }
     {

@@ -1,6 +1,6 @@
 // Events one after another.
 ghost use Rattle.std.specs.Prelude.{◌≡◌, ◌^◌, ◌<◌, ◌≤◌, ◌⊎◌, length, IfOk, IfErr};
-ghost use Rattle.dob_rank.specs.Families.{classes_in};
+ghost use Rattle.dob_rank.specs.Families.{classes_of};
 ghost use Rattle.dob_world.specs.Worlds.{setting_by};
 ghost use Rattle.dob_world.specs.Results.{HasSettingFault, HasRun, HasStoppedAt};
 ghost use Rattle.dob_world.specs.Stops.{IsForMemory};
@@ -28,7 +28,7 @@ pub fn run(
 ) -> Result<World, Fault>
     requires few { length events.now ≤ 2 ^ 40 }
     ensures run { IfOk result (λ world. HasRun (setting_by family n batch capacity) events.now world) }
-    ensures memory { classes_in family < 65535 → IfErr result (λ fault. HasSettingFault (setting_by family n batch capacity) fault ⊎ IsForMemory fault) }
+    ensures memory { classes_of family < 65535 → IfErr result (λ fault. HasSettingFault (setting_by family n batch capacity) fault ⊎ IsForMemory fault) }
     ensures fault { IfErr result (λ fault. HasSettingFault (setting_by family n batch capacity) fault
         ⊎ HasStoppedAt (setting_by family n batch capacity) events.now fault) }
 {

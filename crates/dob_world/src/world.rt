@@ -1,7 +1,7 @@
 // The world: nodes that own the classes of a family, a lane from each to each, and what detects the end.
 ghost use Rattle.std.specs.Prelude.{◌≡◌, ◌+◌, ◌*◌, ◌^◌, ◌<◌, ◌≤◌, ◌↔◌, true, false, IfOk, IfErr, IfSome, OnOk, OnErr, Err, vec_len};
 ghost use Rattle.dob_rank.specs.Limits.{IsTooLarge};
-ghost use Rattle.dob_rank.specs.Families.{classes_in};
+ghost use Rattle.dob_rank.specs.Families.{classes_of};
 
 use crate::detector::Detector;
 use crate::event::Event;
@@ -12,7 +12,7 @@ use crate::step::Step;
 use crate::steps::{apply_own, post, receive};
 use dob_node::{Node, opening};
 use dob_pieces::Family;
-use dob_rank::{FamilyClasses, SegmentLength, is_too_large};
+use dob_rank::{Classes, SegmentLength, is_too_large};
 use dob_safra::is_size;
 use dob_update::are_sizes;
 use std::alloc::Global;
@@ -23,7 +23,7 @@ use std::alloc::Global;
 #[derive(Drop)]
 pub struct World {
     pub(crate) alloc: Global,
-    pub(crate) classes: FamilyClasses,
+    pub(crate) classes: Classes,
     pub(crate) n: usize,
     pub(crate) batch: usize,
     pub(crate) capacity: usize,
@@ -75,7 +75,7 @@ impl World {
         if !are_sizes(batch, capacity) {
             return Err(Fault::Sizes);
         }
-        let classes = FamilyClasses::open(alloc, family)?;
+        let classes = Classes::open(alloc, family)?;
         let openings = opening(alloc, &classes, SegmentLength::longest())?;
         let nodes = open_nodes(alloc, &openings, family, n)?;
         let lanes = open_lanes(alloc, n * n, capacity)?;
@@ -113,7 +113,7 @@ impl World {
         ensures named { self.old.failed ≡ None → IfErr result (λ fault. IsStopped event fault self.old self.new) }
         ensures stays { IfSome self.old.failed (λ fault. (result ≡ Err fault) × (self.new ≡ self.old)) }
         ensures unannounced { OnErr result (self.new.detector.announced ≡ false) }
-        ensures memory { self.old.failed ≡ None → classes_in (setting_of self.old).family < 65535 → IfErr result IsForMemory }
+        ensures memory { self.old.failed ≡ None → classes_of (setting_of self.old).family < 65535 → IfErr result IsForMemory }
         ensures falls { OnOk result (HaveFallsIn (setting_of self.new) (state_of self.new).world.nodes) }
         ensures silent { self.old.detector.announced ≡ true → result ≡ Ok Step.Skipped }
         ensures headline { OnOk result (Headline (setting_of self.new) (state_of self.new)) }

@@ -8,8 +8,8 @@ use crate::openings::listed;
 use crate::sets::{classes_of, family_of, is_same_table};
 use dob_moves::{Status, status_and_count};
 use dob_node::{Node, Opening, alone, opening};
-use dob_pieces::{Family, Hand, Hands, Kind, Piece, Position, Side};
-use dob_rank::{FamilyClasses, SegmentLength};
+use dob_pieces::{Family, Hand, Hands, Kind, Piece, Position, Profile, Side};
+use dob_rank::{Classes, SegmentLength};
 use dob_share::{Fault, Item, Share};
 use dob_update::Batch;
 use dob_value::{Value, sweep_table};
@@ -77,7 +77,7 @@ fn enemy_lion() -> Option<Piece> {
 
 // The cell of a class with that representative is settled as lost, and takes no item.
 fn is_lost_at_once<A: Abort>(rt: &A, alloc: Global, position: &Position) {
-    let (status, moves) = status_and_count(position);
+    let (status, moves) = status_and_count(Profile::A, position);
     assert!(rt; status == Status::Stuck);
     assert!(rt; moves == 0);
     let list = listed(rt, alloc, &[Opening { status, moves }]);
@@ -137,7 +137,7 @@ fn stuck_cells(rt: HostRuntime) {
 }
 
 // One of two nodes, at its opening, with lists in segments of the greatest length.
-fn one_of_two<A: Abort>(rt: &A, alloc: Global, classes: &FamilyClasses, id: usize) -> Node
+fn one_of_two<A: Abort>(rt: &A, alloc: Global, classes: &Classes, id: usize) -> Node
     requires { id < 2 }
     ensures sound { IsSound result }
     ensures going { result.failed ≡ None }
@@ -221,7 +221,7 @@ fn send<A: Abort>(
 // A step of a node, which sends before all else or only where it has nothing else to do. False where it did nothing.
 fn step<A: Abort>(
     rt: &A,
-    classes: &FamilyClasses,
+    classes: &Classes,
     node: &mut Node,
     receiver: &mut Node,
     to: usize,
@@ -260,7 +260,7 @@ fn step<A: Abort>(
 // Steps of two nodes in turn, until neither has anything to do.
 fn run<A: Abort>(
     rt: &A,
-    classes: &FamilyClasses,
+    classes: &Classes,
     first: &mut Node,
     second: &mut Node,
     size: usize,

@@ -3,7 +3,7 @@ ghost use Rattle.std.specs.Prelude.{◌≡◌, OnOk};
 
 use crate::sets::classes_of;
 use dob_pieces::Memory;
-use dob_rank::FamilyClasses;
+use dob_rank::Classes;
 use dob_share::Settlement;
 use dob_unmove::back;
 use dob_update::{Outbox, push_items};
@@ -25,7 +25,7 @@ pub(super) fn won(number: u64, class: u64) -> Settlement {
 pub(super) fn add(
     rt: &impl Abort,
     alloc: Global,
-    classes: &FamilyClasses,
+    classes: &Classes,
     outbox: &mut Outbox,
     settlement: Settlement,
 ) -> Result<(), Memory>

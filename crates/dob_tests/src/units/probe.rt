@@ -32,8 +32,8 @@ const ONE_CHICK: Family = Family {
 
 // The family's position of that rank.
 fn position(rt: &impl Abort, family: Family, rank: u64) -> Position {
-    assert!(rt; rank < size(family.set));
-    unrank(family.set, rank)
+    assert!(rt; rank < size(family));
+    unrank(family, rank)
 }
 
 #[test]

@@ -12,7 +12,7 @@ use self::key::{is_first, key};
 use self::plain::starts;
 use crate::sets::{classes_of, set_of};
 use dob_pieces::{Family, Kind, Piece, PieceSet, Position, Profile, Side};
-use dob_rank::{Classes, count_classes, rank, representative, size, size_in, unrank};
+use dob_rank::{Classes, count_classes, rank, representative, size, unrank};
 use std::alloc::{AllocError, Global};
 use std::process::Abort;
 use std::test::Fail;
@@ -52,13 +52,25 @@ const SETS: [(&str, u64, u64, u64); 27] = [
 fn sets_have_their_sizes_and_classes(rt: HostRuntime) {
     for (text, positions, classes, far) in &SETS {
         let set = set_of(&rt, text);
-        assert!(rt; size(set) == *positions, "positions of {text}");
-        assert!(rt; count_classes(set) == *classes, "classes of {text}");
+        assert!(rt;
+            size(Family {
+                set,
+                profile: Profile::A
+            }) == *positions,
+            "positions of {text}"
+        );
+        assert!(rt;
+            count_classes(Family {
+                set,
+                profile: Profile::A
+            }) == *classes,
+            "classes of {text}"
+        );
         let family = Family {
             set,
             profile: Profile::B,
         };
-        assert!(rt; size_in(family) == *far, "positions of {text} in B");
+        assert!(rt; size(family) == *far, "positions of {text} in B");
     }
 }
 
@@ -141,9 +153,18 @@ fn has_lions_of(rt: &impl Abort, position: &Position, class: usize) {
 fn classes_of_lions_alone(rt: HostRuntime) {
     let set = set_of(&rt, "000");
     let mut classes = 0usize;
-    for number in 0..size(set) {
-        let position = unrank(set, number);
-        if rank(&representative(&position)) == number {
+    for number in 0..size(Family {
+        set,
+        profile: Profile::A,
+    }) {
+        let position = unrank(
+            Family {
+                set,
+                profile: Profile::A,
+            },
+            number,
+        );
+        if rank(Profile::A, &representative(Profile::A, &position)) == number {
             has_lions_of(&rt, &position, classes);
             classes = classes.saturating_add(1);
         }
@@ -174,7 +195,13 @@ fn agrees_with_walk(rt: &impl Abort, alloc: Global, text: &str, step: u64) -> Re
     requires { 0 < step }
 {
     let set = PieceSet::read(text)?;
-    let classes = Classes::open(alloc, set)?;
+    let classes = Classes::open(
+        alloc,
+        Family {
+            set,
+            profile: Profile::A,
+        },
+    )?;
     let mut walk = Walk {
         last: Vec::new(alloc),
         walked: 0,
@@ -185,7 +212,13 @@ fn agrees_with_walk(rt: &impl Abort, alloc: Global, text: &str, step: u64) -> Re
             walk.pass(rt, alloc, &classes, &position, step)?;
         }
     }
-    assert!(rt; size(set) == walk.walked, "of {text}");
+    assert!(rt;
+        size(Family {
+            set,
+            profile: Profile::A
+        }) == walk.walked,
+        "of {text}"
+    );
     assert!(rt; classes.class_count() == walk.representatives, "of {text}");
     Ok(())
 }
@@ -233,9 +266,24 @@ impl Walk {
 
 // The position is the one of that rank.
 fn has_rank(rt: &impl Abort, position: &Position, set: PieceSet, number: u64) {
-    assert!(rt; number < size(set));
-    assert!(rt; rank(position) == number);
-    assert!(rt; unrank(set, number) == *position, "rank {number}");
+    assert!(rt;
+        number
+            < size(Family {
+                set,
+                profile: Profile::A
+            })
+    );
+    assert!(rt; rank(Profile::A, position) == number);
+    assert!(rt;
+        unrank(
+            Family {
+                set,
+                profile: Profile::A
+            },
+            number
+        ) == *position,
+        "rank {number}"
+    );
 }
 
 // The position is the representative of that class, to which its mirror image belongs too.
@@ -254,10 +302,13 @@ fn has_member(
     number: u64,
     member: &Position,
 ) {
-    assert!(rt; representative(member) == *position, "class {number}");
-    let own = rank(member);
-    assert!(rt; own < size(classes.set));
-    let ranked = unrank(classes.set, own);
+    assert!(rt;
+        representative(Profile::A, member) == *position,
+        "class {number}"
+    );
+    let own = rank(Profile::A, member);
+    assert!(rt; own < size(classes.family));
+    let ranked = unrank(classes.family, own);
     assert!(rt; classes.class_of(&ranked) == number);
     let named = if member == position {
         Some(number)

@@ -1,13 +1,13 @@
 // Predecessors against lists of another program, and against the moves of whole small sets.
-ghost use Rattle.dob_moves.specs.Statuses.{AreMovesIn};
+ghost use Rattle.dob_moves.specs.Statuses.{AreMoves};
 
 mod plain_rules;
 mod plain_walk;
 
 use crate::sets::classes_of;
 use dob_moves::{Move, apply, moves};
-use dob_pieces::{Hand, Hands, Kind, Memory, Piece, Position, Side, Square};
-use dob_rank::FamilyClasses;
+use dob_pieces::{Hand, Hands, Kind, Memory, Piece, Position, Profile, Side, Square};
+use dob_rank::Classes;
 use dob_unmove::{back, back_into};
 use std::alloc::Global;
 use std::process::Abort;
@@ -37,13 +37,7 @@ fn piece(letter: u8) -> Option<Piece> {
 }
 
 // The class of the position of four rows, from row 4 down to row 1, with what each side has in hand.
-fn class_of(
-    rt: &impl Abort,
-    classes: &FamilyClasses,
-    rows: &[u8; 15],
-    mover: Hand,
-    enemy: Hand,
-) -> u64 {
+fn class_of(rt: &impl Abort, classes: &Classes, rows: &[u8; 15], mover: Hand, enemy: Hand) -> u64 {
     let mut board = [None; Square::COUNT];
     for index in 0..Square::COUNT {
         board[index] = piece(rows[4 * (3 - index / 3) + index % 3]);
@@ -53,7 +47,7 @@ fn class_of(
 }
 
 // The class of a position of the family.
-fn class_in(rt: &impl Abort, classes: &FamilyClasses, position: &Position) -> u64 {
+fn class_in(rt: &impl Abort, classes: &Classes, position: &Position) -> u64 {
     let own = position.piece_set();
     let family = classes.family;
     let same = own.chicks == family.set.chicks && own.elephants == family.set.elephants;
@@ -168,12 +162,12 @@ fn caught_piece_was_a_chick_or_a_hen(rt: HostRuntime) -> Result<(), Memory> {
 fn push_made(
     rt: &impl Abort,
     pairs: &mut Vec<(u64, u64)>,
-    classes: &FamilyClasses,
+    classes: &Classes,
     class: u64,
     position: &Position,
     choices: &[Move],
 ) -> Result<(), Memory>
-    requires { AreMovesIn classes.now.family.profile position.now.setup choices.now }
+    requires { AreMoves classes.now.family.profile position.now.setup choices.now }
 {
     for choice in choices {
         let after = class_in(rt, classes, &apply(position, *choice));
@@ -186,12 +180,12 @@ fn push_made(
 fn pairs_made(
     rt: &impl Abort,
     alloc: Global,
-    classes: &FamilyClasses,
+    classes: &Classes,
 ) -> Result<Vec<(u64, u64)>, Memory> {
     let mut pairs = Vec::new(alloc);
     for class in 0..classes.class_count() {
         let position = classes.class_at(class);
-        let choices = moves(alloc, &position)?;
+        let choices = moves(alloc, Profile::A, &position)?;
         push_made(rt, &mut pairs, classes, class, &position, &choices)?;
     }
     pairs.sort_unstable();
@@ -199,7 +193,7 @@ fn pairs_made(
 }
 
 // For each class, in order, the class and each of its predecessors.
-fn pairs_taken_back(alloc: Global, classes: &FamilyClasses) -> Result<Vec<(u64, u64)>, Memory> {
+fn pairs_taken_back(alloc: Global, classes: &Classes) -> Result<Vec<(u64, u64)>, Memory> {
     let mut pairs = Vec::new(alloc);
     let mut found = Vec::new(alloc);
     for class in 0..classes.class_count() {

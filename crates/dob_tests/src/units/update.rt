@@ -6,7 +6,7 @@ ghost use Rattle.dob_update.specs.Batches.{OutboxView};
 use super::outboxes::{add, filled, won};
 use crate::sets::classes_of;
 use dob_pieces::Memory;
-use dob_rank::FamilyClasses;
+use dob_rank::Classes;
 use dob_share::Settlement;
 use dob_unmove::back;
 use dob_update::{Batch, Outbox, count_items, push_items};
@@ -18,7 +18,7 @@ use std::process::Abort;
 fn add_and_take_back(
     rt: &impl Abort,
     alloc: Global,
-    classes: &FamilyClasses,
+    classes: &Classes,
     outbox: &mut Outbox,
     settlement: Settlement,
 ) -> Result<(), Memory>

@@ -2,7 +2,7 @@
 use Rattle.std.proofs.Common.{◌≡◌, ◌<◌, ap, arith, inr, subst, sym, true, false}
 use Rattle.dob_pieces.specs.declared.profile.Family.{Family}
 use Rattle.dob_pieces.specs.declared.profile.Profile.TheVariants.{A}
-use Rattle.dob_rank.specs.Families.{family_of, IsInClassIn, IsPositionIn, classes_in}
+use Rattle.dob_rank.specs.Families.{family_of, IsInClass, IsPositionOf, classes_of}
 use Rattle.std.proofs.lemmas.Result.{err_from_is_err_and}
 use Rattle.dob_cli.proofs.ByPlace.{few_classes, front_holds}
 use Rattle.dob_cli.proofs.looks.look.Goals as goal
@@ -24,8 +24,8 @@ returns-in_err-value-clause-fault g c =
       c.class_of.result,
       record {
         named = c.in_ok-classes.ensures.named stream known.0;
-        number = subst (λ (family : Family). IsInClassIn family c.args.position.now.setup c.class_of.result) (of_a c.in_ok-classes.classes.family c.in_ok-classes.ensures.rules) c.class_of.ensures.class;
-        below = subst (λ (family : Family). c.class_of.result < classes_in family) (of_a c.in_ok-classes.classes.family c.in_ok-classes.ensures.rules) c.class_of.ensures.bound;
+        number = subst (λ (family : Family). IsInClass family c.args.position.now.setup c.class_of.result) (of_a c.in_ok-classes.classes.family c.in_ok-classes.ensures.rules) c.class_of.ensures.class;
+        below = subst (λ (family : Family). c.class_of.result < classes_of family) (of_a c.in_ok-classes.classes.family c.in_ok-classes.ensures.rules) c.class_of.ensures.bound;
       },
       c.in_err-value.ensures.fault stream (c.in_ok-classes.ensures.shown stream known.1),
     )))
@@ -36,8 +36,8 @@ returns-clause-found g c = λ stream gives shows. (
   c.class_of.result,
   record {
     named = c.in_ok-classes.ensures.named stream gives;
-    number = subst (λ (family : Family). IsInClassIn family c.args.position.now.setup c.class_of.result) (of_a c.in_ok-classes.classes.family c.in_ok-classes.ensures.rules) c.class_of.ensures.class;
-    below = subst (λ (family : Family). c.class_of.result < classes_in family) (of_a c.in_ok-classes.classes.family c.in_ok-classes.ensures.rules) c.class_of.ensures.bound;
+    number = subst (λ (family : Family). IsInClass family c.args.position.now.setup c.class_of.result) (of_a c.in_ok-classes.classes.family c.in_ok-classes.ensures.rules) c.class_of.ensures.class;
+    below = subst (λ (family : Family). c.class_of.result < classes_of family) (of_a c.in_ok-classes.classes.family c.in_ok-classes.ensures.rules) c.class_of.ensures.bound;
   },
   c.in_ok-value.ensures.read stream (c.in_ok-classes.ensures.shown stream shows),
 )
@@ -49,7 +49,7 @@ returns-then-not-is_in_family-clause-fault g c =
       c.in_ok-classes.ensures.named stream known.0,
       λ is.
           let yes : c.is_in_family.result ≡ true = c.is_in_family.ensures.1
-          (subst (λ (family : Family). IsPositionIn family c.args.position.now.setup) (sym (of_a c.in_ok-classes.classes.family c.in_ok-classes.ensures.rules)) is) in
+          (subst (λ (family : Family). IsPositionOf family c.args.position.now.setup) (sym (of_a c.in_ok-classes.classes.family c.in_ok-classes.ensures.rules)) is) in
           let no : c.is_in_family.result ≡ false = c.if-not-is_in_family.true in
           absurd (cc),
     ))

@@ -1,7 +1,7 @@
 -- The position that was read is the text's, and the table the file's.
 use Rattle.std.proofs.Common.{rules, ◌∙◌, ap}
 use Rattle.std.proofs.lemmas.Result.{err_from_is_err_and}
-use Rattle.dob_rank.specs.Families.{IsPositionIn}
+use Rattle.dob_rank.specs.Families.{IsPositionOf}
 use Rattle.dob_cli.specs.Tables.{moves_lines}
 use Rattle.dob_cli.proofs.TableFaults.{line_fault_holds, opening_fault_holds}
 use Rattle.dob_cli.proofs.tables.answer_line.Goals as goal
@@ -17,7 +17,7 @@ pub returns-in_err-value-clause-err : goal.returns-in_err-value-clause-err
 returns-in_err-value-clause-err g c =
     let p = err_from_is_err_and c.from_residual-in_err-value.result c.from_residual-in_err-value.ensures.1 in
     let position = c.in_ok-position.position in
-    let other : ¬ IsPositionIn c.in_ok-table.table.family c.in_ok-position.position.setup = c.in_err-value.ensures.other.0 (search rules) in
+    let other : ¬ IsPositionOf c.in_ok-table.table.family c.in_ok-position.position.setup = c.in_err-value.ensures.other.0 (search rules) in
     rw (p.1, p.2) (
       position.setup,
       (position.legal, record { squares = position.legal.squares; spelled = c.in_ok-position.ensures.read }),

@@ -5,7 +5,7 @@ use Rattle.dob_pieces.specs.declared.piece_set.PieceSet.{PieceSet}
 use Rattle.dob_pieces.specs.declared.profile.Family.{Family}
 use Rattle.dob_pieces.specs.declared.profile.Profile.TheVariants.{A}
 use Rattle.dob_rank.specs.Families.{family_of}
-use Rattle.dob_rank.proofs.FamilyNumbers.{classes_in-whole}
+use Rattle.dob_rank.proofs.FamilyNumbers.{classes_of-whole}
 use Rattle.dob_value.specs.Codes.{values_of_codes}
 use Rattle.dob_value.specs.Follows.{ClassTable, IsTable, class_table}
 use Rattle.dob_dbfile.specs.declared.fault.Fault.TheVariants as fault
@@ -40,7 +40,7 @@ returns-in_err-codes-clause-fault g c = λ stream gives.
     let later = subst (λ (n : ℕ). g.R.Source.gives c.fill.new.source (after n stream)) len taken.1 in
     let given = c.in_err-codes.field-0.0 in
     let wrong = subst (λ (n : ℕ). HasRestFault (header stream) n (after 20 stream) given)
-    (c.class_count.ensures.number ∙ classes_in-whole c.in_ok-classes.classes.family c.in_ok-classes.ensures.rules)
+    (c.class_count.ensures.number ∙ classes_of-whole c.in_ok-classes.classes.family c.in_ok-classes.ensures.rules)
     (subst (λ (h : List ℕ). HasRestFault h c.class_count.result (after 20 stream) given) front (c.in_err-codes.ensures.fault (after 20 stream) later)) in
     rw (p.1, p.2) (rest_fault stream set given (there, counts) wrong)
 
@@ -56,7 +56,7 @@ returns-clause-read g c = λ stream gives.
     let later = subst (λ (n : ℕ). g.R.Source.gives c.fill.new.source (after n stream)) len taken.1 in
     let ends = subst (λ (h : List ℕ). EndsWith h codes (after 20 stream)) front (c.in_ok-codes.ensures.read (after 20 stream) later) in
     let counted = c.in_ok-codes.ensures.counted ∙ c.class_count.ensures.number
-    ∙ classes_in-whole c.in_ok-classes.classes.family c.in_ok-classes.ensures.rules in
+    ∙ classes_of-whole c.in_ok-classes.classes.family c.in_ok-classes.ensures.rules in
     subst (λ (t : ClassTable). (stream ≡ whole (bytes_of t)) × HasDigest t.family.set stream) (sym c.new.ensures) (
       subst (λ (family : Family). stream ≡ whole (bytes_of (class_table family (values_of_codes codes))))
           (ap (family_of set) (sym c.in_ok-classes.ensures.rules)) (right_file stream set codes there counts counted ends),
@@ -70,7 +70,7 @@ returns-clause-table g c =
     (subst (λ (family : Family). IsTable family (values_of_codes codes))
     (ap (family_of c.in_ok-classes.classes.family.set) (sym c.in_ok-classes.ensures.rules))
     (table_of_codes c.in_ok-classes.classes.family.set codes (c.in_ok-codes.ensures.counted ∙ c.class_count.ensures.number
-    ∙ classes_in-whole c.in_ok-classes.classes.family c.in_ok-classes.ensures.rules) c.in_ok-codes.ensures.fit))
+    ∙ classes_of-whole c.in_ok-classes.classes.family c.in_ok-classes.ensures.rules) c.in_ok-codes.ensures.fit))
 
 pub returns-clause-rules : goal.returns-clause-rules
 returns-clause-rules g c = subst (λ (t : ClassTable). t.family.profile ≡ A) (sym c.new.ensures) c.in_ok-classes.ensures.rules

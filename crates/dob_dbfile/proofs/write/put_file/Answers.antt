@@ -3,7 +3,7 @@ use Rattle.std.proofs.Common.{◌≡◌, ◌∙◌, ◌++◌, ◌*◌, ◌+◌, 
 use Rattle.std.proofs.lemmas.Result.{IfErr-weaker, err_from_is_err_and, on_ok_weaker}
 use Rattle.sha2.specs.Sha256.{sha256}
 use Rattle.sha2.specs.Hashers.{Holds256}
-use Rattle.dob_rank.specs.Families.{classes_in}
+use Rattle.dob_rank.specs.Families.{classes_of}
 use Rattle.dob_dbfile.specs.Format.{bytes_of, contents, header_of, records}
 use Rattle.dob_dbfile.specs.Sinks.{Writes, change}
 use Rattle.dob_dbfile.proofs.FileBytes.{file_parts, header_records}
@@ -13,7 +13,7 @@ use Rattle.dob_dbfile.proofs.write.put_file.Goals as goal
 
 pub write_records-requires-clause-counted : goal.write_records-requires-clause-counted
 write_records-requires-clause-counted g c =
-    c.class_count-count.ensures.number ∙ ap classes_in c.classes.ensures.family ∙ c.classes.ensures.count
+    c.class_count-count.ensures.number ∙ ap classes_of c.classes.ensures.family ∙ c.classes.ensures.count
 
 pub write_records-requires-clause-table : goal.write_records-requires-clause-table
 write_records-requires-clause-table g c = c.classes.ensures.table
@@ -67,7 +67,7 @@ returns-clause-part g c =
     let wrote = subst (Writes (change (g.W.Sink.state c.args.sink.now) (g.W.Sink.state c.write_records.new.sink))) all
     (writes_more (g.W.Sink.state c.args.sink.now) (g.W.Sink.state c.write_hashed.new.sink) (g.W.Sink.state c.write_records.new.sink) piece
     (records table.values) c.in_ok-write_hashed.ensures.done c.in_ok-write_records.ensures.done) in
-    let counted = c.class_count-count.ensures.number ∙ ap classes_in c.classes.ensures.family ∙ c.classes.ensures.count in
+    let counted = c.class_count-count.ensures.number ∙ ap classes_of c.classes.ensures.family ∙ c.classes.ensures.count in
     let long : length (contents table) ≡ 20 + 2 * c.class_count-count.result = length-contents table ∙ ap (λ (n : ℕ). 20 + 2 * n) (sym counted) in
     IfErr-weaker c.put_digest.result _ _
     (λ failed. stops_last (g.W.Sink.state c.args.sink.now) (g.W.Sink.state c.write_records.new.sink) (g.W.Sink.state c.put_digest.new.sink)

@@ -1,7 +1,7 @@
 -- Idle, the node shows the value table.
 use Rattle.std.proofs.Common.{ℕ, ◌<◌, ap, subst}
 use Rattle.dob_pieces.specs.declared.profile.Family.{Family}
-use Rattle.dob_rank.specs.Families.{classes_in}
+use Rattle.dob_rank.specs.Families.{classes_of}
 use Rattle.dob_value.proofs.Parity.{IfOk-both}
 use Rattle.dob_node.proofs.SoleEnds.{shows_entry, sole_given}
 use Rattle.dob_node.proofs.lone.table_of.Goals as goal
@@ -9,7 +9,7 @@ use Rattle.dob_node.proofs.lone.table_of.Goals as goal
 pub from_fn-requires-clause-entries : goal.from_fn-requires-clause-entries
 from_fn-requires-clause-entries c = λ class value low has.
     shows_entry c.args.node c.requires.made.0 c.requires.made.1 class
-    (subst (λ (k : ℕ). class < k) (ap (λ (family : Family). classes_in family) c.requires.family) low) value has
+    (subst (λ (k : ℕ). class < k) (ap (λ (family : Family). classes_of family) c.requires.family) low) value has
 
 pub returns-clause-table : goal.returns-clause-table
 returns-clause-table c =

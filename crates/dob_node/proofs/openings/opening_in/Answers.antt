@@ -1,8 +1,8 @@
 -- The position of a class is the one that stands for it.
 use Rattle.std.proofs.Common.{subst}
-use Rattle.dob_rank.specs.Families.{classes_in}
-use Rattle.dob_rank.proofs.Present.{HasClassesIn-classes_in}
-use Rattle.dob_rank.proofs.FamilyRepresentatives.{class_setup_only_in}
+use Rattle.dob_rank.specs.Families.{classes_of}
+use Rattle.dob_rank.proofs.Present.{HasClasses-classes_of}
+use Rattle.dob_rank.proofs.FamilyRepresentatives.{class_setup_only}
 use Rattle.dob_node.specs.Openings.{IsOpening}
 use Rattle.dob_node.proofs.openings.opening_in.Goals as goal
 
@@ -10,5 +10,5 @@ pub returns : goal.returns
 returns c =
     let family = c.args.classes.now.family in
     subst (λ p. IsOpening c.args.classes.now.family.profile p c.opening_of.result)
-    (class_setup_only_in family c.class_at.result.setup c.args.class (classes_in family) (HasClassesIn-classes_in family) c.requires
+    (class_setup_only family c.class_at.result.setup c.args.class (classes_of family) (HasClasses-classes_of family) c.requires
     c.class_at.ensures.representative c.class_at.ensures.class) c.opening_of.ensures

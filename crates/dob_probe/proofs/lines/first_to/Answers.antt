@@ -3,10 +3,10 @@ use Rattle.std.proofs.Common.{◌≡◌, rules, refl, sym, subst}
 use Rattle.std.proofs.lemmas.Option.{slice_get_read}
 use Rattle.dob_pieces.specs.declared.profile.Family.{Family}
 use Rattle.dob_moves.specs.declared.position_status.Status.TheVariants.{Open}
-use Rattle.dob_moves.specs.Statuses.{AreMovesIn}
+use Rattle.dob_moves.specs.Statuses.{AreMoves}
 use Rattle.dob_moves.proofs.ByProfile.{can_go}
 use Rattle.dob_moves.proofs.ProfileMoves.{goes_there, status_there}
-use Rattle.dob_rank.specs.Families.{IsInClassIn}
+use Rattle.dob_rank.specs.Families.{IsInClass}
 use Rattle.dob_value.proofs.Successors.{choice_goes, moves_keep_the_family}
 use Rattle.dob_probe.specs.Lines.{GivenBy, LeadsTo}
 use Rattle.dob_probe.proofs.Ways.{none_below_more, first_found, none_leads, other_value}
@@ -14,10 +14,10 @@ use Rattle.dob_probe.proofs.lines.first_to.Goals as goal
 use Rattle.dob_probe.proofs.lines.first_to.Goals.{After-deref-choice-items}
 
 -- what is known of the list of moves
-choices_are : (c : After-deref-choice-items) → AreMovesIn c.args.table.now.family.profile c.args.position.now.setup c.deref-choice-items.result.now
+choices_are : (c : After-deref-choice-items) → AreMoves c.args.table.now.family.profile c.args.position.now.setup c.deref-choice-items.result.now
 choices_are c =
-    subst (λ (family : Family). AreMovesIn family.profile c.args.position.now.setup c.deref-choice-items.result.now) c.family.ensures.family
-    (subst (λ xs. AreMovesIn c.family.result.profile c.args.position.now.setup xs) (sym c.deref-choice-items.ensures.value) c.in_ok-choices.ensures)
+    subst (λ (family : Family). AreMoves family.profile c.args.position.now.setup c.deref-choice-items.result.now) c.family.ensures.family
+    (subst (λ xs. AreMoves c.family.result.profile c.args.position.now.setup xs) (sym c.deref-choice-items.ensures.value) c.in_ok-choices.ensures)
 
 pub apply-next-requires-clause-open : goal.apply-next-requires-clause-open
 apply-next-requires-clause-open c =
@@ -77,7 +77,7 @@ pub returns-clause-missing : goal.returns-clause-missing
 returns-clause-missing c =
     let table = c.args.table.now in
     let setup = c.args.position.now.setup in (
-      subst (λ (family : Family). IsInClassIn family setup c.class_of.result) c.classes.ensures.family c.class_of.ensures.class,
+      subst (λ (family : Family). IsInClass family setup c.class_of.result) c.classes.ensures.family c.class_of.ensures.class,
       none_leads c.args.table.now.family.profile (GivenBy table) setup c.args.wanted c.deref-choice-items.result.now c.loop-choice.choice-index
           (choices_are (goal.at.returns-clause-missing c).After-deref-choice-items) c.loop-choice-test.false c.loop-choice.invariant,
     )

@@ -1,19 +1,19 @@
 -- The value of a position of the family is its class's entry, and by a consistent table it is the right one.
 use Rattle.std.proofs.Common.{rules, refl, subst}
 use Rattle.dob_pieces.specs.declared.profile.Family.{Family}
-use Rattle.dob_rank.specs.Families.{IsPositionIn}
+use Rattle.dob_rank.specs.Families.{IsPositionOf}
 use Rattle.dob_value.proofs.Consistency.{consistent_is_right}
 use Rattle.dob_probe.proofs.Entries.{given_is_entry}
 use Rattle.dob_probe.proofs.probes.probe.Goals as goal
 
 pub value_of-requires : goal.value_of-requires
 value_of-requires c =
-    subst (λ (family : Family). IsPositionIn family c.args.position.now.setup) c.family.ensures.family (c.if-not-is_in_family.ensures.0 refl)
+    subst (λ (family : Family). IsPositionOf family c.args.position.now.setup) c.family.ensures.family (c.if-not-is_in_family.ensures.0 refl)
 
 pub returns-clause-right : goal.returns-clause-right
 returns-clause-right c = λ consistent.
     let table = c.args.table.now in
-    let is = subst (λ (family : Family). IsPositionIn family c.args.position.now.setup) c.family.ensures.family (c.if-not-is_in_family.ensures.0 refl) in
+    let is = subst (λ (family : Family). IsPositionOf family c.args.position.now.setup) c.family.ensures.family (c.if-not-is_in_family.ensures.0 refl) in
     (consistent_is_right table.family table.values consistent).values_are c.args.position.now.setup c.value_of.result is c.value_of.ensures
 
 pub returns-clause-entry : goal.returns-clause-entry

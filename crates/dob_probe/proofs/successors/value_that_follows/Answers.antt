@@ -2,7 +2,7 @@
 use Rattle.std.proofs.Common.{subst, sym}
 use Rattle.dob_moves.specs.declared.position_status.Status.{Status}
 use Rattle.dob_moves.specs.declared.position_status.Status.TheVariants.{Open}
-use Rattle.dob_moves.specs.Statuses.{HasStatusIn}
+use Rattle.dob_moves.specs.Statuses.{HasStatus}
 use Rattle.dob_value.specs.declared.value.Value.{Value}
 use Rattle.dob_value.specs.Follows.{FollowsFromSuccessors}
 use Rattle.dob_probe.specs.Lines.{GivenBy}
@@ -11,8 +11,8 @@ use Rattle.dob_probe.proofs.successors.value_that_follows.Goals as goal
 use Rattle.dob_probe.proofs.successors.value_that_follows.Goals.{In-Open}
 
 -- the position is open
-open_is : (c : In-Open) → HasStatusIn c.args.table.now.family.profile c.args.position.now.setup Open
-open_is c = subst (λ (s : Status). HasStatusIn c.args.table.now.family.profile c.args.position.now.setup s) c.in-Open.is c.in_ok-list_moves.ensures.status
+open_is : (c : In-Open) → HasStatus c.args.table.now.family.profile c.args.position.now.setup Open
+open_is c = subst (λ (s : Status). HasStatus c.args.table.now.family.profile c.args.position.now.setup s) c.in-Open.is c.in_ok-list_moves.ensures.status
 
 pub value-requires-clause-least : goal.value-requires-clause-least
 value-requires-clause-least c =

@@ -2,7 +2,7 @@
 use Rattle.std.proofs.Common.{sym, subst, ◌∙◌}
 use Rattle.dob_moves.specs.declared.position_status.Status.TheVariants.{Open}
 use Rattle.dob_moves.proofs.ByProfile.{can_go, goes}
-use Rattle.dob_moves.proofs.Outcomes.{Goes-is}
+use Rattle.dob_moves.proofs.Outcomes.{HasOutcome-is}
 use Rattle.dob_moves.proofs.ProfileMoves.{goes_there, status_there}
 use Rattle.dob_value.proofs.Successors.{moves_keep_the_family}
 use Rattle.dob_pieces.specs.declared.setup.Setup.{Setup}
@@ -25,6 +25,6 @@ value_of-requires c =
 pub returns : goal.returns
 returns c = λ q by.
     let setup = c.args.position.now.setup in
-    let same = Goes-is setup c.args.choice c.apply.result.setup c.apply.ensures
-    ∙ sym (Goes-is setup c.args.choice q (goes c.args.table.now.family.profile setup c.args.choice q by)) in
+    let same = HasOutcome-is setup c.args.choice c.apply.result.setup c.apply.ensures
+    ∙ sym (HasOutcome-is setup c.args.choice q (goes c.args.table.now.family.profile setup c.args.choice q by)) in
     subst (λ (s : Setup). GivenBy c.args.table.now s c.value_of.result) same c.value_of.ensures

@@ -1,49 +1,77 @@
--- Each stretch adds its places where they are marked.
-use Rattle.std.proofs.Common.{◌≤◌, sym, ◌∙◌, arith}
-use Rattle.dob_rank.specs.Stretches.{local_marks}
+-- Each stretch adds its positions where they are marked.
+use Rattle.std.proofs.Common.{sym, ap, ◌∙◌, arith}
+use Rattle.dob_rank.specs.Marks.{marks_below}
+use Rattle.dob_rank.specs.FamilyRuns.{is_there, local_marks_in}
 use Rattle.dob_rank.proofs.Words.{marks_below-le, marks_below_none}
-use Rattle.dob_rank.proofs.RunPlaces.{run_size-small}
 use Rattle.dob_rank.proofs.StretchLists.{counted_on, counted_off}
+use Rattle.dob_rank.proofs.FamilyMarks.{run_size_in-small, stretch_in, all_places}
 use Rattle.dob_rank.proofs.class_counts.count_in_mixed.Goals as goal
 
 pub loop-place-init : goal.loop-place-init
 loop-place-init c = record {
   upto = omega arith;
-  counted = sym (marks_below_none (local_marks c.args.set c.args.block c.args.run));
+  start_is = sym (marks_below_none (is_there c.args.family c.args.block c.args.run));
+  counted = sym (marks_below_none (local_marks_in c.args.family c.args.block c.args.run));
 }
+
+pub overflow_sub-count : goal.overflow_sub-count
+overflow_sub-count c =
+    let from = c.stretch_from-is_marked.ensures in
+    let told = stretch_in c.args.family c.args.block c.args.run c.loop-place.place c.stretch_from-is_marked.result.1 c.loop-place.start c.count_before-next.result
+    c.stretch_from-is_marked.result.0 c.requires.block c.requires.run from.within c.loop-place.invariant.start_is c.count_before-next.ensures from.some from.marks in
+    told.further
 
 pub overflow_add-count : goal.overflow_add-count
 overflow_add-count c =
-    let mark = local_marks c.args.set c.args.block c.args.run in
+    let mark = local_marks_in c.args.family c.args.block c.args.run in
     let from = c.stretch_from-is_marked.ensures in
-    let further : c.loop-place.place ≤ c.stretch_from-is_marked.result.1 = omega (arith, from.some) in
-    let sum = counted_on mark c.loop-place.place c.stretch_from-is_marked.result.1 c.loop-place.count further c.loop-place.invariant.counted
-    (λ k a b. from.marks k a b ∙ c.if-is_marked.true) in
-    let few = marks_below-le mark c.stretch_from-is_marked.result.1 in
-    let small = run_size-small c.args.set c.args.block c.requires.block in
-    omega (arith, sum, few, small, from.within)
+    let told = stretch_in c.args.family c.args.block c.args.run c.loop-place.place c.stretch_from-is_marked.result.1 c.loop-place.start c.count_before-next.result
+    c.stretch_from-is_marked.result.0 c.requires.block c.requires.run from.within c.loop-place.invariant.start_is c.count_before-next.ensures from.some from.marks in
+    let sum = counted_on mark c.loop-place.start c.count_before-next.result c.loop-place.count told.further c.loop-place.invariant.counted
+    (λ k a b. told.same k a b ∙ c.if-is_marked.true) in
+    let few = marks_below-le mark c.count_before-next.result in
+    let small = run_size_in-small c.args.family c.args.block c.args.run c.requires.block in
+    let within = told.within in
+    omega (arith, sum, few, small, within)
 
 pub loop-place-preserved-then-is_marked : goal.loop-place-preserved-then-is_marked
 loop-place-preserved-then-is_marked c =
+    let mark = local_marks_in c.args.family c.args.block c.args.run in
     let from = c.stretch_from-is_marked.ensures in
-    let further : c.loop-place.place ≤ c.stretch_from-is_marked.result.1 = omega (arith, from.some) in
+    let told = stretch_in c.args.family c.args.block c.args.run c.loop-place.place c.stretch_from-is_marked.result.1 c.loop-place.start c.count_before-next.result
+    c.stretch_from-is_marked.result.0 c.requires.block c.requires.run from.within c.loop-place.invariant.start_is c.count_before-next.ensures from.some from.marks in
     record {
       upto = omega (arith, from.within, c.run_size_in-size.ensures.value);
-      counted = counted_on (local_marks c.args.set c.args.block c.args.run) c.loop-place.place c.stretch_from-is_marked.result.1 c.loop-place.count further
-          c.loop-place.invariant.counted (λ k a b. from.marks k a b ∙ c.if-is_marked.true);
+      start_is = c.count_before-next.ensures;
+      counted = counted_on mark c.loop-place.start c.count_before-next.result c.loop-place.count told.further c.loop-place.invariant.counted
+          (λ k a b. told.same k a b ∙ c.if-is_marked.true);
     }
 
 pub loop-place-preserved : goal.loop-place-preserved
 loop-place-preserved c =
+    let mark = local_marks_in c.args.family c.args.block c.args.run in
     let from = c.stretch_from-is_marked.ensures in
-    let further : c.loop-place.place ≤ c.stretch_from-is_marked.result.1 = omega (arith, from.some) in
+    let told = stretch_in c.args.family c.args.block c.args.run c.loop-place.place c.stretch_from-is_marked.result.1 c.loop-place.start c.count_before-next.result
+    c.stretch_from-is_marked.result.0 c.requires.block c.requires.run from.within c.loop-place.invariant.start_is c.count_before-next.ensures from.some from.marks in
     record {
       upto = omega (arith, from.within, c.run_size_in-size.ensures.value);
-      counted = counted_off (local_marks c.args.set c.args.block c.args.run) c.loop-place.place c.stretch_from-is_marked.result.1 c.loop-place.count further
-          c.loop-place.invariant.counted (λ k a b. from.marks k a b ∙ c.if-is_marked.false);
+      start_is = c.count_before-next.ensures;
+      counted = counted_off mark c.loop-place.start c.count_before-next.result c.loop-place.count told.further c.loop-place.invariant.counted
+          (λ k a b. told.same k a b ∙ c.if-is_marked.false);
     }
+
+pub returns-clause-value : goal.returns-clause-value
+returns-clause-value c =
+    c.loop-place.invariant.counted
+    ∙ ap (marks_below (local_marks_in c.args.family c.args.block c.args.run))
+    (all_places c.args.family c.args.block c.args.run c.loop-place.place c.loop-place.start c.run_size_in-size.result c.loop-place.invariant.start_is
+    c.run_size_in-size.ensures.value c.loop-place.invariant.upto c.loop-place-test.false)
 
 pub returns-clause-bound : goal.returns-clause-bound
 returns-clause-bound c =
-    let few = marks_below-le (local_marks c.args.set c.args.block c.args.run) c.loop-place.place in
-    omega (arith, few, c.loop-place.invariant.counted, c.loop-place.invariant.upto, c.run_size_in-size.ensures.bound)
+    let whole = all_places c.args.family c.args.block c.args.run c.loop-place.place c.loop-place.start c.run_size_in-size.result c.loop-place.invariant.start_is
+    c.run_size_in-size.ensures.value c.loop-place.invariant.upto c.loop-place-test.false in
+    let few = marks_below-le (local_marks_in c.args.family c.args.block c.args.run) c.loop-place.start in
+    let small = run_size_in-small c.args.family c.args.block c.args.run c.requires.block in
+    let counted = c.loop-place.invariant.counted in
+    omega (arith, whole, few, small, counted)

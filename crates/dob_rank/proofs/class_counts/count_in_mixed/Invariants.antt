@@ -1,13 +1,14 @@
--- The count is of the marks of the places so far.
+-- The count is of the marks of the positions so far.
 use Rattle.std.proofs.Common.{◌≡◌, ◌≤◌, ◌-◌}
 use Rattle.dob_rank.specs.Marks.{marks_below}
-use Rattle.dob_rank.specs.Stretches.{local_marks}
+use Rattle.dob_rank.specs.FamilyRuns.{is_there, local_marks_in}
 use Rattle.dob_rank.proofs.class_counts.count_in_mixed.Given as goal
 
 abbrev pub invariant-loop-place : goal.invariant-loop-place
 invariant-loop-place l = record {
   upto : l.place ≤ l.size;
-  counted : l.count ≡ marks_below (local_marks l.set l.block l.run) l.place;
+  start_is : l.start ≡ marks_below (is_there l.family l.block l.run) l.place;
+  counted : l.count ≡ marks_below (local_marks_in l.family l.block l.run) l.start;
 }
 
 abbrev pub decreases-loop-place : goal.decreases-loop-place

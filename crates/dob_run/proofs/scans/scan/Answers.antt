@@ -1,6 +1,6 @@
 -- Part after part joins the list.
 use Rattle.std.proofs.Common.{◌≡◌, ◌++◌, ◌∙◌, ℕ, ap, subst, sym, arith}
-use Rattle.dob_rank.specs.Families.{classes_in}
+use Rattle.dob_rank.specs.Families.{classes_of}
 use Rattle.dob_node.specs.Openings.{AreOpeningsBelow}
 use Rattle.dob_node.proofs.Starts.{openings_none}
 use Rattle.dob_run.proofs.Scanned.{openings_joined}
@@ -23,6 +23,6 @@ parts-preserved g c =
 
 pub returns : goal.returns
 returns g c =
-    let all : c.parts.class ≡ classes_in c.args.classes.now.family =
+    let all : c.parts.class ≡ classes_of c.args.classes.now.family =
     omega (arith, c.parts.invariant.0, c.parts-test.false, c.class_count-count.ensures.number) in
     subst (λ (n : ℕ). AreOpeningsBelow c.args.classes.now.family n c.parts.openings) all c.parts.invariant.1

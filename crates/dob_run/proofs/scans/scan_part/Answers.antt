@@ -3,8 +3,8 @@ use Rattle.std.proofs.Common.{◌≡◌, ℕ, ◌-◌, ◌<◌, ap, sym, subst, 
 use Rattle.std.specs.List.{AllZip, range_with_len}
 use Rattle.rayon.specs.Numbers.{nat_range}
 use Rattle.rayon.proofs.ToStd.{nat_range-All}
-use Rattle.dob_rank.specs.Families.{classes_in}
-use Rattle.dob_rank.specs.Families.{class_setup_in}
+use Rattle.dob_rank.specs.Families.{classes_of}
+use Rattle.dob_rank.specs.Families.{class_setup}
 use Rattle.dob_share.specs.declared.opening.Opening.{Opening}
 use Rattle.dob_node.specs.Openings.{IsOpening}
 use Rattle.dob_run.proofs.Scanned.{openings_are}
@@ -14,7 +14,7 @@ use Rattle.dob_run.proofs.scans.scan_part.Goals as goal
 pub collect-requires-clause-ready : goal.collect-requires-clause-ready
 collect-requires-clause-ready g c = λ κs lives.
     let ends = c.into_par_iter.ensures in
-    let inside = nat_range-All (λ i. i < classes_in c.args.classes.now.family) c.args.first c.args.end (λ i low high. omega (arith, high, c.requires.within)) in
+    let inside = nat_range-All (λ i. i < classes_of c.args.classes.now.family) c.args.first c.args.end (λ i low high. omega (arith, high, c.requires.within)) in
     rw (c.map.ensures.base, c.map.ensures.f, ends.0, ends.1) (λ k d lt. (inside k d lt, λ y p. tt))
 
 pub returns : goal.returns
@@ -26,6 +26,6 @@ returns g c =
     let ends = c.into_par_iter.ensures in
     let chain = rw (c.map.ensures.base, c.map.ensures.f) at done.1 in
     let places = chain.1 ∙ (λ i. nat_range (ends.0 i) (ends.1 i)) in
-    let are : AllZip (λ (class : ℕ) (given : Opening). IsOpening family.profile (class_setup_in family class) given) (range_with_len first (end - first)) done.0 =
-    subst (λ (classes : List ℕ). AllZip (λ (class : ℕ) (given : Opening). IsOpening family.profile (class_setup_in family class) given) classes done.0) places chain.2 in
+    let are : AllZip (λ (class : ℕ) (given : Opening). IsOpening family.profile (class_setup family class) given) (range_with_len first (end - first)) done.0 =
+    subst (λ (classes : List ℕ). AllZip (λ (class : ℕ) (given : Opening). IsOpening family.profile (class_setup family class) given) classes done.0) places chain.2 in
     subst (AreOpeningsFrom family first end) (sym done.2) (openings_are family first end done.0 c.requires.order are)

@@ -8,17 +8,12 @@ use super::{Log, run};
 use crate::sets::classes_of;
 use dob_node::{Node, Opening, Part, opening};
 use dob_pieces::Family;
-use dob_rank::{FamilyClasses, SegmentLength, Segments};
+use dob_rank::{Classes, SegmentLength, Segments};
 use std::alloc::Global;
 use std::process::Abort;
 
 // The openings of the classes in segments of so many items.
-fn openings_of<A: Abort>(
-    rt: &A,
-    alloc: Global,
-    classes: &FamilyClasses,
-    items: u32,
-) -> Segments<Opening>
+fn openings_of<A: Abort>(rt: &A, alloc: Global, classes: &Classes, items: u32) -> Segments<Opening>
     ensures { AreOpenings classes.now.family result }
 {
     let length = SegmentLength::of(items).expect(rt, "a length");
@@ -51,7 +46,7 @@ fn open_node<A: Abort>(
 }
 
 // The parts of two nodes that went on until they had nothing to do, with lists in segments of so many items.
-fn parts_of<A: Abort>(rt: &A, alloc: Global, classes: &FamilyClasses, items: u32) -> (Part, Part) {
+fn parts_of<A: Abort>(rt: &A, alloc: Global, classes: &Classes, items: u32) -> (Part, Part) {
     let openings = openings_of(rt, alloc, classes, items);
     let mut first = open_node(rt, alloc, &openings, classes.family, 0);
     let mut second = open_node(rt, alloc, &openings, classes.family, 1);

@@ -8,7 +8,7 @@ use super::{is_done, is_table_of_lions, lions};
 use dob_board::{Board, Halt};
 use dob_node::Cause;
 use dob_pieces::Memory;
-use dob_rank::FamilyClasses;
+use dob_rank::Classes;
 use dob_run::{Built, Free, Gate, Runner, crew, finish};
 use std::alloc::Global;
 use std::process::Abort;
@@ -17,13 +17,13 @@ use std::sync::atomic::{AtomicUsize, Ordering};
 use std::test::Fail;
 
 // The classes of lions alone, and a crew of two nodes that own them, with batches of one item and inboxes for one batch.
-fn two_runners(rt: &(impl Wait + Abort), alloc: Global) -> (FamilyClasses, Board, Runner, Runner)
+fn two_runners(rt: &(impl Wait + Abort), alloc: Global) -> (Classes, Board, Runner, Runner)
     ensures small { IsSmall result.0.family.set }
     ensures first { result.0.family ≡ result.2.family }
     ensures second { result.0.family ≡ result.3.family }
     ensures crew { IsNewCrew result.0.family 2 1 1 result.1 (result.2 ∷ result.3 ∷ []) }
 {
-    let classes = FamilyClasses::open(alloc, lions(rt)).expect(rt, "classes");
+    let classes = Classes::open(alloc, lions(rt)).expect(rt, "classes");
     let (board, mut runners) = crew(alloc, &classes, 2, 1, 1).expect(rt, "a crew");
     let second = runners.pop().expect(rt, "the second runner");
     let first = runners.pop().expect(rt, "the first runner");
@@ -45,7 +45,7 @@ fn both(alloc: Global, first: Runner, second: Runner) -> Result<Vec<Runner>, Mem
 fn turn_once<G: Gate>(
     rt: &(impl Wait + Abort),
     runner: &mut Runner,
-    classes: &FamilyClasses,
+    classes: &Classes,
     gate: &G,
 ) -> Result<Halt, Cause>
     requires { classes.now.family ≡ runner.old.family }
@@ -63,7 +63,7 @@ fn turn_to_the_end(
     rt: &(impl Wait + Abort),
     first: &mut Runner,
     second: &mut Runner,
-    classes: &FamilyClasses,
+    classes: &Classes,
 ) -> Result<Halt, Cause>
     requires first { classes.now.family ≡ first.old.family }
     requires second { classes.now.family ≡ second.old.family }
@@ -129,7 +129,7 @@ impl Counting {
 fn answers<G: Gate>(
     rt: &(impl Wait + Abort),
     runner: &mut Runner,
-    classes: &FamilyClasses,
+    classes: &Classes,
     gate: &G,
     expected: Result<Halt, Cause>,
 )
@@ -144,7 +144,7 @@ fn sees_the_hold(
     rt: &(impl Wait + Abort),
     first: &mut Runner,
     second: &mut Runner,
-    classes: &FamilyClasses,
+    classes: &Classes,
     gate: &Counting,
 )
     requires first { classes.now.family ≡ first.old.family }

@@ -5,7 +5,7 @@ ghost use Rattle.dob_world.specs.Standing.{IsStanding, IsKept};
 use super::{finish, make, world_of};
 use crate::sets::{classes_of, family_of, is_same_table};
 use dob_pieces::{Family, Memory};
-use dob_rank::FamilyClasses;
+use dob_rank::Classes;
 use dob_share::{Item, Settlement, owner};
 use dob_unmove::back;
 use dob_value::{Table, Value, sweep_table};
@@ -88,7 +88,7 @@ fn happen(rt: &impl Abort, world: &mut World, n: usize, dice: &mut Dice, events:
 fn lists_are_beginnings(
     rt: &impl Abort,
     alloc: Global,
-    classes: &FamilyClasses,
+    classes: &Classes,
     world: &World,
     n: usize,
 ) -> Result<(), Memory>
@@ -106,7 +106,7 @@ fn lists_are_beginnings(
 fn items_told(
     rt: &impl Abort,
     alloc: Global,
-    classes: &FamilyClasses,
+    classes: &Classes,
     world: &World,
     node: usize,
 ) -> Result<Vec<Item>, Memory>
@@ -126,7 +126,7 @@ fn items_told(
 fn add_items(
     rt: &impl Abort,
     alloc: Global,
-    classes: &FamilyClasses,
+    classes: &Classes,
     settled: Settlement,
     items: &mut Vec<Item>,
 ) -> Result<(), Memory> {
@@ -227,7 +227,7 @@ fn try_schedules(
 fn try_schedule(
     rt: &impl Abort,
     alloc: Global,
-    classes: &FamilyClasses,
+    classes: &Classes,
     dice: &mut Dice,
     events: u64,
     swept: &Table,

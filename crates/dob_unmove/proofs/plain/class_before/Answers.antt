@@ -1,7 +1,7 @@
 -- The position before the move is the one that was asked for.
 use Rattle.std.proofs.Common.{sym, ◌∙◌}
 use Rattle.dob_unmove.specs.Undoes.{earlier}
-use Rattle.dob_unmove.specs.Classes.{RepresentsClassIn}
+use Rattle.dob_unmove.specs.Classes.{RepresentsClass}
 use Rattle.dob_unmove.proofs.Classes.{IsNumbering-classes}
 use Rattle.dob_unmove.proofs.Gathering.{finds_none, finds_from}
 use Rattle.dob_unmove.proofs.Kept.{barred, legal_turned, position_before}
@@ -28,7 +28,7 @@ open_before-requires-clause-legal c = legal_turned c.args.classes.now.family c.a
 
 pub returns-in-None : goal.returns-in-None
 returns-in-None c =
-    finds_none (RepresentsClassIn c.args.classes.now.family) (earlier c.args.after.now c.args.undo) (IsNumbering-classes c.args.classes.now.family) c.in-None.ensures
+    finds_none (RepresentsClass c.args.classes.now.family) (earlier c.args.after.now c.args.undo) (IsNumbering-classes c.args.classes.now.family) c.in-None.ensures
 
 pub class_if_representative-requires : goal.class_if_representative-requires
 class_if_representative-requires c =
@@ -38,5 +38,5 @@ class_if_representative-requires c =
 
 pub returns-in-Some : goal.returns-in-Some
 returns-in-Some c =
-    finds_from (RepresentsClassIn c.args.classes.now.family) c.in-Some.position.setup (earlier c.args.after.now c.args.undo)
+    finds_from (RepresentsClass c.args.classes.now.family) c.in-Some.position.setup (earlier c.args.after.now c.args.undo)
     c.class_if_representative.result c.in-Some.ensures.0 c.in-Some.ensures.1 c.class_if_representative.ensures

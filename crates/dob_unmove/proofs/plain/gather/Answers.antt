@@ -1,8 +1,8 @@
 -- The walks over the position and over its mirror image count the edges.
 use Rattle.std.proofs.Common.{ℕ, refl, sym, ◌∙◌}
 use Rattle.dob_pieces.specs.declared.setup.Setup.{Setup}
-use Rattle.dob_rank.specs.declared.family_classes.FamilyClasses.{FamilyClasses}
-use Rattle.dob_unmove.specs.Classes.{RepresentsClassIn}
+use Rattle.dob_rank.specs.declared.classes.Classes.{Classes}
+use Rattle.dob_unmove.specs.Classes.{RepresentsClass}
 use Rattle.dob_unmove.proofs.Classes.{IsNumbering-classes}
 use Rattle.dob_unmove.proofs.Gathering.{own_image, other_image, walked_alone, walked_both}
 use Rattle.dob_unmove.proofs.Kept.{position_mirrored, turned_image}
@@ -25,7 +25,7 @@ take_all-requires-2 c =
 
 pub returns-then-is_some : goal.returns-then-is_some
 returns-then-is_some c =
-    let Represents : FamilyClasses → Setup → ℕ → Type 0 = λ classes. RepresentsClassIn classes.family in
+    let Represents : Classes → Setup → ℕ → Type 0 = λ classes. RepresentsClass classes.family in
     let n = IsNumbering-classes c.args.classes.now.family in
     let q = c.args.representative.now.setup in
     let own = own_image (Represents c.args.classes.now) q c.mirrored-image.result.setup c.class_if_representative.result n c.requires c.mirrored-image.ensures
@@ -35,7 +35,7 @@ returns-then-is_some c =
 
 pub returns : goal.returns
 returns c =
-    let Represents : FamilyClasses → Setup → ℕ → Type 0 = λ classes. RepresentsClassIn classes.family in
+    let Represents : Classes → Setup → ℕ → Type 0 = λ classes. RepresentsClass classes.family in
     let n = IsNumbering-classes c.args.classes.now.family in
     let q = c.args.representative.now.setup in
     let image = c.mirrored-image.result.setup in

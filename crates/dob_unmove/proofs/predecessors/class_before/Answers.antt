@@ -1,7 +1,7 @@
 -- The sets show the position before the move, which was open, where the piece that was caught may stand again.
 use Rattle.std.proofs.Common.{refl, sym, ◌∙◌}
 use Rattle.dob_unmove.specs.Undoes.{earlier}
-use Rattle.dob_unmove.specs.Classes.{RepresentsClassIn}
+use Rattle.dob_unmove.specs.Classes.{RepresentsClass}
 use Rattle.dob_unmove.proofs.Gathering.{finds_from}
 use Rattle.dob_unmove.proofs.Kept.{barred, few_turned, legal_turned, squares_turned, shown_before}
 use Rattle.dob_unmove.proofs.Threats.{was_open}
@@ -29,7 +29,7 @@ returns-then-may_give_back c =
     let open_there =
     was_open c.args.after.now c.args.ways.now.threat (legal_turned family c.args.after.now w.of_set) w.ways_are.threat_is c.args.undo
     c.requires.can c.requires.calm in
-    finds_from (RepresentsClassIn family) before before c.class_if_shown.result refl open_there
+    finds_from (RepresentsClass family) before before c.class_if_shown.result refl open_there
     (c.class_if_shown.ensures before (shown_before family c.args.after.now c.args.undo _ _ c.requires.can (sym c.may_give_back.ensures ∙ c.if-may_give_back.true)
     w.of_set c.requires.home w.ways_are.bits_are c.bits_before.ensures))
 

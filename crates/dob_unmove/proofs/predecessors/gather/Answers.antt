@@ -3,7 +3,7 @@ use Rattle.std.proofs.Common.{true≢false, sym, ap, ◌∙◌, subst}
 use Rattle.dob_pieces.specs.declared.setup.Setup.{Setup}
 use Rattle.dob_rank.specs.Bitboards.{AreBitboards}
 use Rattle.dob_pieces.specs.Setups.{mirrored}
-use Rattle.dob_unmove.specs.Classes.{RepresentsClassIn}
+use Rattle.dob_unmove.specs.Classes.{RepresentsClass}
 use Rattle.dob_unmove.proofs.Classes.{IsNumbering-classes}
 use Rattle.dob_unmove.proofs.Gathering.{alone_found, both_found}
 use Rattle.dob_unmove.proofs.Kept.{turned_legal, turned_position}
@@ -38,7 +38,7 @@ gather_all-requires-2 c = record {
 
 pub returns-then-is_own_image : goal.returns-then-is_own_image
 returns-then-is_own_image c =
-    let Represents = RepresentsClassIn c.args.classes.now.family in
+    let Represents = RepresentsClass c.args.classes.now.family in
     let n = IsNumbering-classes c.args.classes.now.family in
     let q = c.args.representative.now.setup in
     alone_found Represents n q c.turned-after.result _ c.gather_all.new.found.items c.args.representative.now.legal
@@ -47,7 +47,7 @@ returns-then-is_own_image c =
 
 pub returns : goal.returns
 returns c =
-    let Represents = RepresentsClassIn c.args.classes.now.family in
+    let Represents = RepresentsClass c.args.classes.now.family in
     let n = IsNumbering-classes c.args.classes.now.family in
     let q = c.args.representative.now.setup in
     both_found Represents n q c.turned-after.result c.mirrored-image.result _ c.gather_all.new.found.items c.gather_all-2.new.found.items c.args.representative.now.legal

@@ -2,7 +2,7 @@
 use Rattle.std.proofs.Common.{Option, ◌∙◌, subst}
 use Rattle.dob_pieces.specs.declared.kind.Kind.{Kind}
 use Rattle.dob_pieces.specs.Setups.{at}
-use Rattle.dob_unmove.specs.Classes.{RepresentsClassIn}
+use Rattle.dob_unmove.specs.Classes.{RepresentsClass}
 use Rattle.dob_unmove.specs.Ways.{IsOwnKind}
 use Rattle.dob_unmove.proofs.Gathered.{gathers_none}
 use Rattle.dob_unmove.proofs.OwnKinds.{stands_there}
@@ -16,7 +16,7 @@ gather_kind-requires-clause-stands c =
 
 pub returns-in-None : goal.returns-in-None
 returns-in-None c =
-    let Represents = RepresentsClassIn c.args.classes.now.family in
+    let Represents = RepresentsClass c.args.classes.now.family in
     let none = subst (λ (found : Option Kind). IsOwnKind (at c.args.after.now c.args.to) found) c.in-None.is
     (c.own_kind.ensures c.args.after.now c.requires.walk.ways_are) in
     gathers_same Represents c.args.after.now _ _ c.args.found.now.items c.args.found.now.items

@@ -5,7 +5,7 @@ use Rattle.std.proofs.lemmas.Result.{on_ok_weaker}
 use Rattle.dob_pieces.specs.declared.kind.HandKind.TheVariants as hand
 use Rattle.dob_pieces.specs.declared.kind.Kind.TheVariants.{Chick}
 use Rattle.dob_pieces.specs.Squares.{row}
-use Rattle.dob_unmove.specs.Classes.{RepresentsClassIn}
+use Rattle.dob_unmove.specs.Classes.{RepresentsClass}
 use Rattle.dob_unmove.specs.Gathers.{Gathers}
 use Rattle.dob_unmove.specs.Walks.{unsteps, unputs}
 use Rattle.dob_unmove.proofs.Gathered.{gathers_none}
@@ -15,7 +15,7 @@ use Rattle.dob_unmove.proofs.predecessors.gather_chick.Goals.{then-row-ne3+in_ok
 
 pub returns : goal.returns
 returns c =
-    let Represents = RepresentsClassIn c.args.classes.now.family in
+    let Represents = RepresentsClass c.args.classes.now.family in
     let after = c.args.after.now in
     let to = c.args.to in
     let old = c.args.found.now.items in

@@ -1,6 +1,6 @@
 -- the drop alone
 use Rattle.std.proofs.lemmas.Result.{on_ok_weaker}
-use Rattle.dob_unmove.specs.Classes.{RepresentsClassIn}
+use Rattle.dob_unmove.specs.Classes.{RepresentsClass}
 use Rattle.dob_unmove.proofs.Kept.{legal_turned}
 use Rattle.dob_unmove.proofs.LionsBefore.{drop_home}
 use Rattle.dob_unmove.proofs.Standing.{way_of_drop, gathers_same}
@@ -15,6 +15,6 @@ gather_one-requires-clause-home c =
 pub returns : goal.returns
 returns c =
     on_ok_weaker c.gather_one.result
-    (gathers_same (RepresentsClassIn c.args.classes.now.family) c.args.after.now _ _ c.args.found.now.items c.gather_one.new.found.items
+    (gathers_same (RepresentsClass c.args.classes.now.family) c.args.after.now _ _ c.args.found.now.items c.gather_one.new.found.items
     (way_of_drop c.args.after.now c.args.to c.args.kind c.requires.stands))
     c.gather_one.ensures

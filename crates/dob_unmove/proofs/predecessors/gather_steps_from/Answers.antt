@@ -1,7 +1,7 @@
 -- The step without a catch, which may have been made, and then each catch.
 use Rattle.std.proofs.Common.{None, rules}
 use Rattle.std.proofs.lemmas.Result.{on_ok_weaker}
-use Rattle.dob_unmove.specs.Classes.{RepresentsClassIn}
+use Rattle.dob_unmove.specs.Classes.{RepresentsClass}
 use Rattle.dob_unmove.proofs.Dead.{comes_between, comes_step, steps_from}
 use Rattle.dob_unmove.proofs.Kept.{legal_turned}
 use Rattle.dob_unmove.proofs.LionsBefore.{step_home}
@@ -17,7 +17,7 @@ pub returns : goal.returns
 returns c =
     on_ok_weaker c.gather_catch-4.result
     (λ last.
-    steps_from (RepresentsClassIn c.args.classes.now.family) c.args.after.now c.args.kind c.args.from c.args.to c.args.found.now.items c.gather_one.new.found.items
+    steps_from (RepresentsClass c.args.classes.now.family) c.args.after.now c.args.kind c.args.from c.args.to c.args.found.now.items c.gather_one.new.found.items
     c.gather_catch.new.found.items
     c.gather_catch-2.new.found.items c.gather_catch-3.new.found.items c.gather_catch-4.new.found.items
     (comes_between c.args.after.now c.args.ways.now.threat c.args.kind c.args.from c.args.to c.requires.stands c.requires.comes)

@@ -4,7 +4,7 @@ use Rattle.std.specs.Option.{is_some}
 use Rattle.std.proofs.lemmas.Bool.{cases_Bool}
 use Rattle.dob_pieces.specs.Setups.{turned}
 use Rattle.dob_pieces.proofs.Symmetries.{turned-mirrored}
-use Rattle.dob_unmove.specs.Classes.{RepresentsClassIn}
+use Rattle.dob_unmove.specs.Classes.{RepresentsClass}
 use Rattle.dob_unmove.proofs.Classes.{IsNumbering-classes}
 use Rattle.dob_unmove.proofs.Gathering.{own_image, other_image}
 use Rattle.dob_unmove.proofs.Kept.{position_mirrored}
@@ -17,13 +17,13 @@ pub returns-then-has_lions_on_b : goal.returns-then-has_lions_on_b
 returns-then-has_lions_on_b c =
     let family = c.args.classes.now.family in
     let q = c.args.representative.now.setup in (
-      λ some. own_image (RepresentsClassIn family) q c.mirrored.result.setup c.class_if_representative.result
+      λ some. own_image (RepresentsClass family) q c.mirrored.result.setup c.class_if_representative.result
           (IsNumbering-classes family) c.requires.representative c.mirrored.ensures c.class_if_representative.ensures (sym c.is_some.ensures ∙ some),
       λ own. elim (cases_Bool (is_some c.class_if_representative.result)) [
         | inl some ↦ c.is_some.ensures ∙ some
         | inr none ↦
             absurd
-            (other_image (RepresentsClassIn family) q c.mirrored.result.setup c.class_if_representative.result c.requires.representative c.mirrored.ensures c.class_if_representative.ensures
+            (other_image (RepresentsClass family) q c.mirrored.result.setup c.class_if_representative.result c.requires.representative c.mirrored.ensures c.class_if_representative.ensures
             none own)
       ],
     )

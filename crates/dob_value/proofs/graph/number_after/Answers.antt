@@ -1,7 +1,7 @@
 -- What stands after a move is a position of the same family.
 use Rattle.dob_moves.specs.declared.position_status.Status.TheVariants.{Open}
 use Rattle.dob_moves.proofs.ByProfile.{can_go, goes}
-use Rattle.dob_moves.proofs.Outcomes.{Goes-is}
+use Rattle.dob_moves.proofs.Outcomes.{HasOutcome-is}
 use Rattle.dob_moves.proofs.ProfileMoves.{goes_there, status_there}
 use Rattle.std.proofs.Common.{sym, subst, ◌∙◌}
 use Rattle.dob_value.specs.Graphs.{ClassStandsFor}
@@ -26,6 +26,6 @@ pub returns : goal.returns
 returns c = λ q by.
     let profile = c.args.classes.now.family.profile in
     let setup = c.args.position.now.setup in
-    let same = Goes-is setup c.args.choice c.apply.result.setup c.apply.ensures
-    ∙ sym (Goes-is setup c.args.choice q (goes profile setup c.args.choice q by)) in
+    let same = HasOutcome-is setup c.args.choice c.apply.result.setup c.apply.ensures
+    ∙ sym (HasOutcome-is setup c.args.choice q (goes profile setup c.args.choice q by)) in
     subst (ClassStandsFor c.args.classes.now.family c.number_of.result) same c.number_of.ensures

@@ -1,6 +1,6 @@
 -- The class number is that of the position or of its mirror image.
-use Rattle.dob_rank.specs.Families.{classes_in}
-use Rattle.dob_rank.proofs.Present.{HasClassesIn-classes_in}
+use Rattle.dob_rank.specs.Families.{classes_of}
+use Rattle.dob_rank.proofs.Present.{HasClasses-classes_of}
 use Rattle.dob_value.proofs.Rows.{class_outlook}
 use Rattle.dob_value.proofs.graph.number_of.Goals as goal
 
@@ -9,6 +9,6 @@ returns c =
     let family = c.args.classes.now.family in
     let found = c.class_of.ensures.class in (
       c.class_of.ensures.bound,
-      class_outlook family c.args.position.now.setup found.representative c.class_of.result (classes_in family) (HasClassesIn-classes_in family)
+      class_outlook family c.args.position.now.setup found.representative c.class_of.result (classes_of family) (HasClasses-classes_of family)
           c.class_of.ensures.bound c.requires found.stands found.before,
     )

@@ -1,15 +1,15 @@
 -- Each move's number goes to the end of the list.
 use Rattle.std.proofs.Common.{◌∷◌, ◌++◌, [], ℕ, List, refl, sym, subst, ap, ◌∙◌, append_assoc, append-nil}
 use Rattle.std.proofs.lemmas.Option.{slice_get_read}
-use Rattle.dob_moves.specs.Statuses.{AreMovesIn}
+use Rattle.dob_moves.specs.Statuses.{AreMoves}
 use Rattle.dob_value.specs.Graphs.{ClassStandsFor}
 use Rattle.dob_value.proofs.Successors.{choice_goes, successors_none, successors_more, successors_all}
 use Rattle.dob_value.proofs.graph.push_successors.Goals as goal
 use Rattle.dob_value.proofs.graph.push_successors.Goals.{After-deref-choice-items}
 
 -- what is known of the list of moves
-choices_are : (c : After-deref-choice-items) → AreMovesIn c.args.classes.now.family.profile c.args.position.now.setup c.deref-choice-items.result.now
-choices_are c = subst (λ xs. AreMovesIn c.args.classes.now.family.profile c.args.position.now.setup xs) (sym c.deref-choice-items.ensures.value) c.in_ok-status.ensures.moves
+choices_are : (c : After-deref-choice-items) → AreMoves c.args.classes.now.family.profile c.args.position.now.setup c.deref-choice-items.result.now
+choices_are c = subst (λ xs. AreMoves c.args.classes.now.family.profile c.args.position.now.setup xs) (sym c.deref-choice-items.ensures.value) c.in_ok-status.ensures.moves
 
 pub loop-choice-init : goal.loop-choice-init
 loop-choice-init c =

@@ -1,7 +1,7 @@
 -- The graph's values are those of the classes.
 use Rattle.std.proofs.Common.{subst, All}
 use Rattle.dob_pieces.specs.declared.profile.Family.{Family}
-use Rattle.dob_rank.specs.Families.{IsPositionIn}
+use Rattle.dob_rank.specs.Families.{IsPositionOf}
 use Rattle.dob_value.specs.Graphs.{AreValues}
 use Rattle.dob_value.specs.Rosters.{SomeTooDeep}
 use Rattle.dob_value.specs.Codes.{IsShort}
@@ -23,5 +23,5 @@ returns-clause-entries c =
 pub returns-clause-deep : goal.returns-clause-deep
 returns-clause-deep c is =
     let deep = c.settle.ensures.deep is in
-    subst (λ (family : Family). SomeTooDeep family.profile (IsPositionIn family)) c.in_ok-graph.ensures.family
+    subst (λ (family : Family). SomeTooDeep family.profile (IsPositionOf family)) c.in_ok-graph.ensures.family
     (deep_position c.in_ok-graph.graph.family deep.0 deep.1 deep.2)

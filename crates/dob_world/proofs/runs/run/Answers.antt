@@ -1,6 +1,6 @@
 -- The opening world is the one after no events, and each event makes a run longer.
 use Rattle.std.proofs.Common.{◌<◌, inr, refl, sym, ap, subst, arith, [], Ok}
-use Rattle.dob_rank.specs.Families.{classes_in}
+use Rattle.dob_rank.specs.Families.{classes_of}
 use Rattle.dob_world.specs.Worlds.{Setting, setting_by}
 use Rattle.dob_world.specs.Shown.{state_of}
 use Rattle.dob_world.specs.Start.{IsStart}
@@ -32,7 +32,7 @@ loop-event-preserved c =
 pub returns-in-Err-step-clause-memory : goal.returns-in-Err-step-clause-memory
 returns-in-Err-step-clause-memory c = λ few.
     let run = c.loop-event.invariant.run in
-    inr (c.in-Err-step.ensures.memory run.going (subst (λ (k : Setting). classes_in k.family < 65535) (sym run.setting) few))
+    inr (c.in-Err-step.ensures.memory run.going (subst (λ (k : Setting). classes_of k.family < 65535) (sym run.setting) few))
 
 pub returns-in-Err-step-clause-fault : goal.returns-in-Err-step-clause-fault
 returns-in-Err-step-clause-fault c =

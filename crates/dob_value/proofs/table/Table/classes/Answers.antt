@@ -1,8 +1,8 @@
 -- The classes are as many as the values.
 use Rattle.std.proofs.Common.{◌≡◌, length, subst}
-use Rattle.dob_rank.specs.Families.{IsRepresentativeIn}
-use Rattle.dob_rank.specs.Families.{classes_in}
-use Rattle.dob_rank.proofs.Present.{HasClassesIn-classes_in}
+use Rattle.dob_rank.specs.Families.{IsRepresentative}
+use Rattle.dob_rank.specs.Families.{classes_of}
+use Rattle.dob_rank.proofs.Present.{HasClasses-classes_of}
 use Rattle.dob_value.specs.Codes.{values_of_codes}
 use Rattle.dob_value.specs.Follows.{ClassTable}
 use Rattle.dob_value.proofs.ClassNumbers.{one_count}
@@ -12,6 +12,6 @@ pub returns-clause-count : goal.returns-clause-count
 returns-clause-count c =
     let inside = c.self.inside in
     let family = inside.classes.family in
-    subst (λ (t : ClassTable). classes_in t.family ≡ length t.values) c.self.view_is
-    (one_count (IsRepresentativeIn family) (classes_in family) (length (values_of_codes inside.codes)) (HasClassesIn-classes_in family)
+    subst (λ (t : ClassTable). classes_of t.family ≡ length t.values) c.self.view_is
+    (one_count (IsRepresentative family) (classes_of family) (length (values_of_codes inside.codes)) (HasClasses-classes_of family)
     c.self.invariant.classes)
