@@ -7,7 +7,6 @@ use Rattle.dob_pieces.specs.declared.kind.Kind.TheVariants.{Lion, Giraffe, Eleph
 use Rattle.dob_pieces.specs.declared.kind.Side.{Side}
 use Rattle.dob_pieces.specs.declared.kind.Side.TheVariants.{Mover, Enemy}
 use Rattle.dob_pieces.specs.declared.profile.Profile.{Profile}
-use Rattle.dob_pieces.specs.declared.profile.Profile.TheVariants.{A}
 use Rattle.dob_pieces.specs.declared.setup.Setup.{Setup}
 use Rattle.dob_pieces.specs.Setups.{Cell, at, holds_lion, piece_of}
 use Rattle.dob_pieces.proofs.Lists.{rising-append, rising-pairs}

@@ -3,7 +3,6 @@ use Rattle.std.specs.Prelude.{◌||◌, if◌then◌else◌, Bool, List, [], ◌
 use Rattle.std.specs.Option.{is_some}
 use Rattle.dob_pieces.specs.declared.kind.Side.TheVariants.{Enemy}
 use Rattle.dob_pieces.specs.declared.profile.Profile.{Profile}
-use Rattle.dob_pieces.specs.declared.profile.Profile.TheVariants.{A}
 use Rattle.dob_pieces.specs.declared.setup.Setup.{Setup}
 use Rattle.dob_pieces.specs.Setups.{at, holds_lion}
 use Rattle.dob_moves.specs.declared.game_move.Move.{Move}

@@ -49,7 +49,7 @@ pub record Drops (p : Setup) (kind : HandKind) (to : ℕ) (q : Setup) : Type 0 w
     hands = record p.hands { mover = with_one_less p.hands.mover kind };
   })
 
--- From p the move goes to q, which is seen from the other side.
+-- What comes of a move at p, whatever a profile forbids: q, which is seen from the other side.
 abbrev pub HasOutcome : Setup → Move → Setup → Type 0
 -- a step to an empty square
 HasOutcome p (Step kind from to false false) q =
@@ -74,7 +74,7 @@ abbrev pub may_go : Profile → Move → Bool
 may_go profile (Step kind from to catch grows) = true
 may_go profile (Put kind to) = may_put profile kind to
 
--- From p the move goes to q by the rules of the profile; all moves are those of profile A.
+-- From p the move goes to q by the rules of the profile. In profile A each outcome is one.
 abbrev pub Goes : Profile → Setup → Move → Setup → Type 0
 Goes A p move q = HasOutcome p move q
 Goes B p move q = HasOutcome p move q × (may_go B move ≡ true)

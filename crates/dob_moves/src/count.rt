@@ -102,9 +102,9 @@ pub fn status_and_count(profile: Profile, position: &Position) -> (Status, u8)
     (status, count_at(profile, position, &masks, status))
 }
 
-/// The number of moves of the position by the rules of profile A, as many as `moves` lists: 0 where it isn't open.
-pub fn count_moves(position: &Position) -> u8
-    ensures { result ≡ length (moves_of A position.now.setup) }
+/// The number of moves of the position by the rules of the profile, as many as `moves` lists: 0 where it isn't open.
+pub fn count_moves(profile: Profile, position: &Position) -> u8
+    ensures { result ≡ length (moves_of profile position.now.setup) }
 {
-    status_and_count(position).1
+    status_and_count(profile, position).1
 }

@@ -10,7 +10,7 @@ ghost use Rattle.dob_moves.specs.declared.game_move.Move.{Move as Moved};
 use crate::first_moves::{Aim, first_drop, first_step, grows_at, own_kind};
 use crate::game_move::Move;
 use crate::position_status::Status;
-use dob_pieces::{Kind, Masks, Position, Side, Square, lowest_square};
+use dob_pieces::{Kind, Masks, Position, Profile, Side, Square, lowest_square};
 
 /// The enemy lion's square.
 fn enemy_lion(position: &Position, masks: &Masks) -> Square
@@ -83,14 +83,15 @@ fn can_move(position: &Position, masks: &Masks) -> bool
     lion_can_step(position, masks) || finds_move(position)
 }
 
-/// The status of the position: a catch is looked for first, then a try, then a move.
-pub fn status(position: &Position) -> Status
-    ensures { HasStatus A position.now.setup result }
+/// The status of the position by the rules of the profile: a catch is looked for first, then a try, then a move. Each
+/// profile gives the same.
+pub fn status(profile: Profile, position: &Position) -> Status
+    ensures { HasStatus profile position.now.setup result }
 {
     status_by(position, &Masks::of(&position.setup))
 }
 
-/// The same of a position with those masks.
+/// The status of a position with those masks.
 #[tactic(auto, using(crate::proofs::Masked::tried_by))]
 pub(crate) fn status_by(position: &Position, masks: &Masks) -> Status
     requires { AreMasks position.now.setup masks.now }
