@@ -1,7 +1,6 @@
 -- The faults of a text that is no position's, in the order in which they are tested.
 use Rattle.std.specs.Prelude.{ℕ, List, Some, codes}
 use Rattle.dob_pieces.specs.declared.profile.Profile.{Profile}
-use Rattle.dob_pieces.specs.declared.profile.Profile.TheVariants.{A}
 use Rattle.dob_pieces.specs.declared.setup.Setup.{Setup}
 use Rattle.dob_pieces.specs.declared.fault.PositionFault.TheVariants as position_fault
 use Rattle.dob_pieces.specs.Faults as position
