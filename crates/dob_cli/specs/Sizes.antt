@@ -1,12 +1,10 @@
 -- What the program owes where it is asked for the sizes of a piece set.
 use Rattle.std.specs.Prelude.{◌≡◌, ◌≢◌, ℕ, List, [], ◌∷◌, ◌++◌, codes}
-use Rattle.dob_pieces.specs.declared.profile.Profile.TheVariants.{A}
-use Rattle.dob_rank.specs.Families.{family_of}
 use Rattle.std.specs.Fmt.{decimal}
 use Rattle.dob_pieces.specs.declared.piece_set.PieceSet.{PieceSet}
+use Rattle.dob_pieces.specs.declared.profile.Profile.TheVariants.{A}
 use Rattle.dob_pieces.specs.Sets.{set_text}
-use Rattle.dob_rank.specs.Families.{HasSize}
-use Rattle.dob_rank.specs.Families.{HasClasses}
+use Rattle.dob_rank.specs.Families.{family_of, HasSize, HasClasses}
 use Rattle.dob_cli.specs.declared.counts.Counts.{Counts}
 use Rattle.dob_cli.specs.declared.fault.Fault.{Fault}
 use Rattle.dob_cli.specs.declared.fault.Fault.TheVariants.{SetText, Memory}

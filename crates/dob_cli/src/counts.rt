@@ -36,14 +36,12 @@ fn lines_with(alloc: Global, counts: Counts) -> Result<String, AllocError>
 fn counts_of(set: PieceSet) -> Counts
     ensures { HasCounts set result }
 {
+    let family = Family {
+        set,
+        profile: Profile::A,
+    };
     Counts {
-        positions: size(Family {
-            set,
-            profile: Profile::A,
-        }),
-        classes: count_classes(Family {
-            set,
-            profile: Profile::A,
-        }),
+        positions: size(family),
+        classes: count_classes(family),
     }
 }

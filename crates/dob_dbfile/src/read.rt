@@ -117,13 +117,11 @@ fn set_counted(header: &[u8]) -> Result<PieceSet, Fault>
     let Some(set) = set_named(&header[8..12]) else {
         return Err(Fault::SetByte);
     };
-    if is_count(
-        &header[12..],
-        count_classes(Family {
-            set,
-            profile: Profile::A,
-        }),
-    ) {
+    let family = Family {
+        set,
+        profile: Profile::A,
+    };
+    if is_count(&header[12..], count_classes(family)) {
         Ok(set)
     } else {
         Err(Fault::ClassCount)

@@ -5,7 +5,7 @@ use Rattle.std.proofs.lemmas.Bool.{cases_lt}
 use Rattle.std.proofs.lemmas.Nat.{mul-le}
 use Rattle.std.proofs.Math.Nat.{mul-le-mul}
 use Rattle.dob_pieces.specs.declared.piece_set.PieceSet.{PieceSet}
-use Rattle.dob_rank.specs.Numbers.{product, digits_of, HasDigits, sum_below, choose, with_first, bases, bases_by, block_bases, block_size, size_of_set}
+use Rattle.dob_rank.specs.Numbers.{product, digits_of, HasDigits, sum_below, choose, with_first, bases, bases_by, block_bases, block_size, start_of, size_of_set}
 use Rattle.dob_rank.specs.Placing.{AreChoices}
 use Rattle.dob_rank.specs.Numbers.{own_squares, enemy_squares, free_squares}
 use Rattle.dob_rank.specs.Runs.{run_bases, lion_pairs}
@@ -14,6 +14,7 @@ use Rattle.dob_rank.proofs.Choices.{choose-split}
 use Rattle.dob_rank.proofs.FormDigits.{power_positive}
 use Rattle.dob_rank.proofs.Loops.{digit-at}
 use Rattle.dob_rank.proofs.Numbering.{block_size-product}
+use Rattle.dob_rank.proofs.Sums.{sum_below-rises}
 
 -- each number is at most the one beside it
 abbrev pub AreAtMost : List ℕ → List ℕ → Type 0
@@ -323,3 +324,11 @@ AreChoices-digits set ob ds h k =
       elephant_squares = digit-at (bases_by set ob) ds 6 k (le_by 7 4);
       giraffe_squares = digit-at (bases_by set ob) ds 7 k (le_by 8 3);
     }
+
+-- a place of a block lies below the size of the set
+pub place_below_size : (set : PieceSet) (block place : ℕ) → block < product (block_bases set)
+    → place < block_size set block → start_of set block + place < size_of_set set
+unfolding size_of_set
+place_below_size set block place within below =
+    let upto = sum_below-rises (block_size set) block (product (block_bases set)) within in
+    omega (arith, upto, below)

@@ -22,7 +22,7 @@ use Rattle.dob_rank.proofs.Representatives.{place_found}
 use Rattle.dob_rank.proofs.RunPlaces.{marked_first, marked_later, spot_there, run_start-is, place_in_run, run_size-small}
 use Rattle.dob_rank.proofs.MixedRuns.{marks_by_lions}
 use Rattle.dob_rank.proofs.RunMarks.{marks_agree, marks_from, lions_run, run_start_next}
-use Rattle.dob_rank.proofs.BlockTables.{place_below_size}
+use Rattle.dob_rank.proofs.Blocks.{place_below_size}
 use Rattle.dob_rank.proofs.RunPresent.{allowed_in_run}
 use Rattle.dob_rank.proofs.Present.{present}
 

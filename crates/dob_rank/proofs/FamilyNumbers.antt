@@ -3,6 +3,7 @@ use Rattle.std.proofs.Common.{◌≡◌, ℕ, zero, suc, ◌<◌, ◌≤◌, ◌
 use Rattle.std.proofs.lemmas.Bool.{cases_lt, both_ways}
 use Rattle.std.proofs.Math.Nat.{min-eq_left, min-eq_right, min_comm}
 use Rattle.dob_pieces.specs.declared.profile.Family.{Family}
+use Rattle.dob_pieces.specs.declared.profile.Profile.{Profile}
 use Rattle.dob_pieces.specs.declared.profile.Profile.TheVariants.{A}
 use Rattle.dob_pieces.specs.declared.setup.Setup.{Setup}
 use Rattle.dob_pieces.specs.Profiles.{IsAllowed}
@@ -11,14 +12,12 @@ use Rattle.dob_pieces.proofs.Allowed.{IsAllowed-mirrored}
 use Rattle.dob_pieces.proofs.Symmetries.{mirrored-mirrored}
 use Rattle.dob_rank.specs.Order.{IsEither, IsFirstOfTwo, RepresentativeOf}
 use Rattle.dob_rank.specs.Numbers.{size_of_set, rank_of_set}
-use Rattle.dob_rank.specs.Marks.{one_if, marks_below, is_first, classes_of_set}
-use Rattle.dob_rank.specs.Families.{IsPositionOf, IsRepresentative, HasClass, IsInClass, is_present, is_marked, size_of, classes_of, class_number}
+use Rattle.dob_rank.specs.Marks.{one_if, marks_below, is_first}
+use Rattle.dob_rank.specs.Families.{family_of, IsPositionOf, IsRepresentative, HasClass, IsInClass, is_present, is_marked, size_of, classes_of, class_number}
 use Rattle.dob_rank.proofs.Numbering.{rank_of_set-below, rank_of_set-same}
 use Rattle.dob_rank.proofs.Found.{IsPositionOfSet-mirrored}
 use Rattle.dob_rank.proofs.Present.{HasClass-marked, marked, represents, there}
-use Rattle.dob_rank.proofs.Marks.{marks_below-marked}
 use Rattle.dob_rank.proofs.Words.{marks_below_more, marks_below_none}
-use Rattle.dob_rank.proofs.RunMarks.{marks_agree}
 use Rattle.dob_rank.proofs.ClassNumbers.{earlier, marks_below-rises, marks_below-same}
 use Rattle.dob_rank.proofs.Representatives.{first_by_rank, rank_of_first}
 
@@ -166,14 +165,8 @@ marked_there : (family : Family) (k : ℕ) → family.profile ≡ A → is_marke
 unfolding is_marked
 marked_there family k a = ap (λ (b : Bool). b && is_first family.set k) (there family k a)
 
-pub classes_of-whole : (family : Family) → family.profile ≡ A → classes_of family ≡ classes_of_set family.set
-unfolding classes_of classes_of_set
-classes_of-whole family a =
-    marks_agree (is_marked family) (is_first family.set) (size_of_set family.set) (λ k low. marked_there family k a)
-    ∙ sym (marks_below-marked family.set (size_of_set family.set) (at_most (size_of_set family.set)))
-  where
-    at_most : (n : ℕ) → n ≤ n
-    at_most n = omega arith
+pub classes_of-whole : (family : Family) → family.profile ≡ A → classes_of family ≡ classes_of (family_of family.set A)
+classes_of-whole family a = ap (λ (p : Profile). classes_of (family_of family.set p)) a
 
 -- ---- a family has no more classes than positions
 

@@ -3,10 +3,11 @@ use Rattle.std.proofs.Common.{◌≡◌, ℕ, suc, ◌+◌, ◌-◌, ◌<◌, Bo
 use Rattle.std.proofs.lemmas.Bool.{cases_lt}
 use Rattle.dob_pieces.specs.declared.profile.Family.{Family}
 use Rattle.dob_pieces.specs.declared.setup.Setup.{Setup}
+use Rattle.dob_rank.specs.Order.{Before}
 use Rattle.dob_rank.specs.Numbers.{size_of_set, rank_of_set, nth}
 use Rattle.dob_rank.specs.Marks.{one_if, marks_below}
 use Rattle.dob_rank.specs.Families.{IsPositionOf, HasRank, IsRanked, is_present, size_of, rank_of}
-use Rattle.dob_rank.proofs.Numbering.{nth-block, rank_of_set-nth, rank_of_set-below, rank_of_set-same}
+use Rattle.dob_rank.proofs.Numbering.{nth-block, rank_of_set-nth, rank_of_set-below, rank_of_set-same, rank_of_set-rises}
 use Rattle.dob_rank.proofs.Words.{marks_below_more, marks_below-up}
 use Rattle.dob_rank.proofs.Present.{present, allowed, HasRank-rank_of}
 
@@ -23,6 +24,13 @@ pub rank_of-below : (family : Family) (s : Setup) → IsPositionOf family s → 
 unfolding rank_of size_of
 rank_of-below family s p =
     marks_rise (is_present family) (rank_of_set family.set s) (size_of_set family.set) (rank_of_set-below family.set s p.of_set) (present family s p)
+
+-- the earlier of two positions has the lower rank
+pub rank_of-rises : (family : Family) (p q : Setup) → IsPositionOf family p → IsPositionOf family q → Before p q → rank_of family p < rank_of family q
+unfolding rank_of
+rank_of-rises family p q hp hq before =
+    marks_rise (is_present family) (rank_of_set family.set p) (rank_of_set family.set q) (rank_of_set-rises family.set p q hp.of_set hq.of_set before)
+    (present family p hp)
 
 pub rank_of-same : (family : Family) (p q : Setup) → IsPositionOf family p → IsPositionOf family q → rank_of family p ≡ rank_of family q → p ≡ q
 unfolding rank_of

@@ -1,15 +1,23 @@
 -- Each position of a family has one representative and one class number, and numbers stand in the order of the representatives: as those of a set
 -- (proofs/Representatives).
-use Rattle.std.proofs.Common.{◌≡◌, ℕ, ◌<◌, ◌↔◌, inl, inr, refl, sym, ap, ◌∙◌, subst, arith}
+use Rattle.std.proofs.Common.{◌≡◌, ℕ, ◌<◌, ◌≤◌, ◌↔◌, inl, inr, refl, sym, ap, ◌∙◌, subst, arith}
 use Rattle.std.proofs.lemmas.Bool.{cases_lt, cases_order}
 use Rattle.dob_pieces.specs.declared.profile.Family.{Family}
+use Rattle.dob_pieces.specs.declared.piece_set.PieceSet.{PieceSet}
+use Rattle.dob_pieces.specs.declared.profile.Profile.{Profile}
 use Rattle.dob_pieces.specs.declared.setup.Setup.{Setup}
-use Rattle.dob_rank.specs.Order.{Before, IsEither, RepresentativeOf}
+use Rattle.dob_pieces.specs.Profiles.{IsAllowed}
+use Rattle.dob_pieces.specs.Setups.{IsLegal, mirrored}
+use Rattle.dob_pieces.proofs.Symmetries.{mirrored-mirrored}
+use Rattle.dob_rank.proofs.FamilyOrder.{rank_of-rises}
+use Rattle.dob_rank.proofs.Found.{IsPositionOfSet-mirrored}
+use Rattle.dob_rank.proofs.Sets.{set_of, IsPositionOfSet-set_of}
+use Rattle.dob_rank.specs.Order.{IsPositionOfSet, Before, IsEither, RepresentativeOf}
 use Rattle.dob_rank.specs.Numbers.{size_of_set, rank_of_set, nth}
 use Rattle.dob_rank.specs.Marks.{marks_below}
 use Rattle.dob_rank.specs.ClassRows.{marked_place}
 use Rattle.dob_rank.specs.Families.{IsPositionOf, IsRepresentative, HasRank, HasClasses, HasClass, IsInClass, RepresentsClass}
-use Rattle.dob_rank.specs.Families.{is_present, is_marked, rank_of, classes_of, class_setup}
+use Rattle.dob_rank.specs.Families.{family_of, is_present, is_marked, rank_of, classes_of, class_setup}
 use Rattle.dob_rank.proofs.Numbering.{rank_of_set-rises, rank_of_set-same, Before-from_rank}
 use Rattle.dob_rank.proofs.Counted.{fewer, one_count}
 use Rattle.dob_rank.proofs.Marks.{numbering}
@@ -151,3 +159,39 @@ pub class_setup_only : (family : Family) (representative : Setup) (class classes
 class_setup_only family representative class classes all below is number =
     let there = class_setup_is family class classes all below in
     one_of_class family representative (class_setup family class) class is there.0 number there.1
+
+-- ---- the earlier of a position and its mirror image, by their ranks
+
+-- a rank in the profile's family of each set of the position
+abbrev pub RankOf : Profile → Setup → ℕ → Type 0
+RankOf profile s n = (set : PieceSet) → IsPositionOfSet set s → n ≡ rank_of (family_of set profile) s
+
+not_before : (family : Family) (p q : Setup) (m n : ℕ) → IsPositionOf family p → IsPositionOf family q → m ≡ rank_of family p → n ≡ rank_of family q → n ≤ m
+    → Before p q → ⊥
+not_before family p q m n hp hq rp rq le before = let up = rank_of-rises family p q hp hq before in omega (arith, rp, rq, up, le)
+
+-- the image has the lower rank
+pub image_first : (profile : Profile) (s t : Setup) (legal : IsLegal s) (m n : ℕ) → t ≡ mirrored s → IsAllowed profile s → IsAllowed profile t
+    → RankOf profile t m → RankOf profile s n → m < n → RepresentativeOf s t
+image_first profile s t legal m n e allowed image rt rs lt =
+    let ps : IsPositionOfSet (set_of s legal) s = IsPositionOfSet-set_of s legal in
+    let pt : IsPositionOfSet (set_of s legal) t = subst (IsPositionOfSet (set_of s legal)) (sym e) (IsPositionOfSet-mirrored (set_of s legal) s ps) in
+    let back : mirrored t ≡ s = ap mirrored e ∙ mirrored-mirrored s legal.squares in
+    let le : m ≤ n = omega (arith, lt) in (
+      inr e,
+      λ (b : Before (mirrored t) t).
+          not_before (family_of (set_of s legal) profile) s t n m (record { of_set = ps; allowed = allowed }) (record { of_set = pt; allowed = image }) (rs (set_of s legal) ps)
+          (rt (set_of s legal) pt) le (subst (λ (x : Setup). Before x t) back b),
+    )
+
+-- or else the position is the earlier one
+pub itself_first : (profile : Profile) (s t : Setup) (legal : IsLegal s) (m n : ℕ) → t ≡ mirrored s → IsAllowed profile s → IsAllowed profile t
+    → RankOf profile t m → RankOf profile s n → n ≤ m → RepresentativeOf s s
+itself_first profile s t legal m n e allowed image rt rs le =
+    let ps : IsPositionOfSet (set_of s legal) s = IsPositionOfSet-set_of s legal in
+    let pt : IsPositionOfSet (set_of s legal) t = subst (IsPositionOfSet (set_of s legal)) (sym e) (IsPositionOfSet-mirrored (set_of s legal) s ps) in (
+      inl refl,
+      λ (b : Before (mirrored s) s).
+          not_before (family_of (set_of s legal) profile) t s m n (record { of_set = pt; allowed = image }) (record { of_set = ps; allowed = allowed }) (rt (set_of s legal) pt)
+          (rs (set_of s legal) ps) le (subst (λ (x : Setup). Before x s) (sym e) b),
+    )

@@ -1,19 +1,17 @@
 -- What the lists and numbers of the code amount to: the rank of a position, and the position of a rank.
-use Rattle.std.proofs.Common.{◌≡◌, ℕ, ◌+◌, ◌*◌, ◌<◌, ◌≤◌, List, take, drop, refl, sym, ap, ◌∙◌, subst, inl, inr, arith, ◌^◌}
+use Rattle.std.proofs.Common.{◌≡◌, ℕ, ◌+◌, ◌*◌, ◌<◌, ◌≤◌, List, take, drop, refl, sym, ap, ◌∙◌, subst, arith, ◌^◌}
 use Rattle.dob_pieces.specs.declared.piece_set.PieceSet.{PieceSet}
 use Rattle.dob_pieces.specs.declared.setup.Setup.{Setup}
-use Rattle.dob_pieces.specs.Setups.{IsLegal, mirrored}
+use Rattle.dob_pieces.specs.Setups.{mirrored}
 use Rattle.dob_pieces.proofs.Boards.{total-mirrored, IsLegal-mirrored}
-use Rattle.dob_pieces.proofs.Symmetries.{mirrored-mirrored}
-use Rattle.dob_rank.specs.Order.{IsPositionOfSet, Before, RepresentativeOf}
+use Rattle.dob_rank.specs.Order.{IsPositionOfSet}
 use Rattle.dob_rank.specs.Numbers.{product, number_of, digits_of, HasDigits, sum_below, block_bases, bases_by}
 use Rattle.dob_rank.specs.Numbers.{on_board, digits, block_of, block_size, rank_of_set, setup_by, setup_in}
 use Rattle.dob_rank.specs.Runs.{run_bases, local_bases, run_number, local_number, run_of, local_of, runs_in, run_size}
 use Rattle.dob_rank.proofs.MixedRadix.{HasDigits-digits_of, digits_of-number_of, number_of-digits_of, number_of-below, number_of-append, parts-below}
 use Rattle.dob_rank.proofs.Digits.{HasParts-from_position, HasDigits-on_board, HasDigits-digits}
-use Rattle.dob_rank.proofs.Numbering.{HasBlock, HasBlock-setup_in, block_size-product, block_of-below, place_of-below, rank_of_set-place, place_of, rank_of_set-rises}
+use Rattle.dob_rank.proofs.Numbering.{HasBlock, place_of, HasBlock-setup_in, block_size-product, block_of-below, place_of-below, rank_of_set-place}
 use Rattle.dob_rank.proofs.Blocks.{block_size-small, run_bases-few}
-use Rattle.dob_rank.proofs.Sets.{set_of, IsPositionOfSet-set_of}
 
 pub HasDigits-same : (bs cs ds es : List ℕ) → bs ≡ cs → ds ≡ es → HasDigits cs es → HasDigits bs ds
 HasDigits-same bs cs ds es p q h = subst (λ (xs : List ℕ). HasDigits xs ds) (sym p) (subst (HasDigits cs) (sym q) h)
@@ -101,13 +99,6 @@ pub place_in : (set : PieceSet) (block place : ℕ) (nums : List ℕ) → place 
 place_in set block place nums h e =
     subst (λ (x : ℕ). place < x) (block_size-product set block ∙ ap (λ (xs : List ℕ). product (bases_by set xs)) (sym e)) h
 
-pub HasDigits-found : (set : PieceSet) (block place : ℕ) (nums bs ds : List ℕ) → place < block_size set block
-    → nums ≡ digits_of (block_bases set) block → bs ≡ bases_by set nums
-    → ds ≡ digits_of bs place → HasDigits (bases_by set nums) ds
-HasDigits-found set block place nums bs ds h e f g =
-    subst (HasDigits (bases_by set nums)) (sym (g ∙ ap (λ (xs : List ℕ). digits_of xs place) f))
-    (HasDigits-digits_of (bases_by set nums) place (place_in set block place nums h e))
-
 -- the position that the code makes of a place
 pub made_at : (set : PieceSet) (block place : ℕ) (nums bs ds : List ℕ) (s : Setup) → block < product (block_bases set) → place < block_size set block
     → nums ≡ digits_of (block_bases set) block → bs ≡ bases_by set nums → ds ≡ digits_of bs place → s ≡ setup_by set nums ds → HasBlock set block place s
@@ -165,35 +156,6 @@ made_in_block set block run local nums s within e h =
 pub made_same : (set : PieceSet) (block place : ℕ) (s t : Setup) → t ≡ s → HasBlock set block place s → HasBlock set block place t
 made_same set block place s t e h = subst (HasBlock set block place) (sym e) h
 
--- ---- layers settled are layers
-
--- ---- the earlier of a position and its mirror image
-
 -- the mirror image is a position of the same set
 pub IsPositionOfSet-mirrored : (set : PieceSet) (s : Setup) → IsPositionOfSet set s → IsPositionOfSet set (mirrored s)
 IsPositionOfSet-mirrored set s p = record { legal = IsLegal-mirrored s p.legal; pieces = λ kind. total-mirrored kind s p.legal.squares ∙ p.pieces kind }
-
--- a rank under each set of the position
-abbrev pub RankOf : Setup → ℕ → Type 0
-RankOf s n = (set : PieceSet) → IsPositionOfSet set s → n ≡ rank_of_set set s
-
-not_before : (set : PieceSet) (p q : Setup) (m n : ℕ) → IsPositionOfSet set p → IsPositionOfSet set q → RankOf p m → RankOf q n → n ≤ m → Before p q → ⊥
-not_before set p q m n hp hq rp rq le b =
-    let up : rank_of_set set p < rank_of_set set q = rank_of_set-rises set p q hp hq b in
-    against m n (rank_of_set set p) (rank_of_set set q) (rp set hp) (rq set hq) up le
-  where
-    against : (m n a b : ℕ) → m ≡ a → n ≡ b → a < b → n ≤ m → ⊥
-    against m n a b h k l o = omega arith
-
-pub image_first : (s t : Setup) (legal : IsLegal s) (m n : ℕ) → t ≡ mirrored s → RankOf t m → RankOf s n → m < n → RepresentativeOf s t
-image_first s t legal m n e rt rs lt =
-    let ps : IsPositionOfSet (set_of s legal) s = IsPositionOfSet-set_of s legal in
-    let pt : IsPositionOfSet (set_of s legal) t = subst (IsPositionOfSet (set_of s legal)) (sym e) (IsPositionOfSet-mirrored (set_of s legal) s ps) in
-    let back : mirrored t ≡ s = ap mirrored e ∙ mirrored-mirrored s legal.squares in
-    (inr e, λ (b : Before (mirrored t) t). not_before (set_of s legal) s t n m ps pt rs rt (omega arith) (subst (λ (x : Setup). Before x t) back b))
-
-pub itself_first : (s t : Setup) (legal : IsLegal s) (m n : ℕ) → t ≡ mirrored s → RankOf t m → RankOf s n → n ≤ m → RepresentativeOf s s
-itself_first s t legal m n e rt rs le =
-    let ps : IsPositionOfSet (set_of s legal) s = IsPositionOfSet-set_of s legal in
-    let pt : IsPositionOfSet (set_of s legal) t = subst (IsPositionOfSet (set_of s legal)) (sym e) (IsPositionOfSet-mirrored (set_of s legal) s ps) in
-    (inl refl, λ (b : Before (mirrored s) s). not_before (set_of s legal) t s m n pt ps rt rs le (subst (λ (x : Setup). Before x s) (sym e) b))

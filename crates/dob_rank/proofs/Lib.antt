@@ -41,7 +41,6 @@ pub mod MixedRuns  -- the marks of mixed runs
 pub mod StretchLists  -- stretches of marks
 pub mod RunMarks  -- the marks of runs
 pub mod RunSums  -- the marks of a block as a sum over runs
-pub mod BlockTables  -- the blocks of a set
 pub mod DigitParts  -- the digits of a place, part by part
 pub mod Pairs  -- the tables of choices of two squares
 -- Families: the positions of a set that a profile allows.

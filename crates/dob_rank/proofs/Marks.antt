@@ -9,9 +9,9 @@ use Rattle.std.proofs.lemmas.List.Quantifiers.{all_pairs_push}
 use Rattle.dob_pieces.specs.declared.piece_set.PieceSet.{PieceSet}
 use Rattle.dob_pieces.specs.declared.setup.Setup.{Setup}
 use Rattle.dob_pieces.specs.Setups.{mirrored}
-use Rattle.dob_rank.specs.Order.{IsPositionOfSet, Before, HasCount, IsFirstOfTwo, IsRepresentativeOfSet, HasClassesOfSet, HasClassInSet}
+use Rattle.dob_rank.specs.Order.{IsPositionOfSet, HasCount, IsFirstOfTwo}
 use Rattle.dob_rank.specs.Numbers.{size_of_set, rank_of_set, nth}
-use Rattle.dob_rank.specs.Marks.{one_if, marks_below, is_first, marked, classes_of_set}
+use Rattle.dob_rank.specs.Marks.{one_if, marks_below, is_first, marked}
 use Rattle.dob_rank.proofs.Counts.{IsNumbering}
 use Rattle.dob_rank.proofs.Numbering.{nth-block, nth-rank_of_set, rank_of_set-nth, rank_of_set-below, rank_of_set-rises, Before-from_rank}
 use Rattle.dob_rank.proofs.Found.{IsPositionOfSet-mirrored}
@@ -124,45 +124,9 @@ marked-first set s p on b =
     (ap (λ (x : Setup). leb (rank_of_set set s) (rank_of_set set (mirrored x))) (sym (nth-rank_of_set set s p)) ∙ on) in
     omega arith
 
--- the classes are the marked ranks
-pub HasClassesOfSet-marks : (set : PieceSet) → HasClassesOfSet set (marks_below (is_first set) (size_of_set set))
-HasClassesOfSet-marks set =
-    HasCount-same (IsMarkedBelow (IsPositionOfSet set) (is_first set) (rank_of_set set) (size_of_set set))
-    (IsRepresentativeOfSet set) (marks_below (is_first set) (size_of_set set))
-    (λ s q. (q.0, marked-first set s q.0 q.1))
-    (λ s q. (q.0, first-marked set s q.0 q.1, rank_of_set-below set s q.0))
-    (HasCount-marked (IsPositionOfSet set) (size_of_set set) (nth set) (rank_of_set set) (is_first set) (numbering set) (size_of_set set) (omega arith))
-
--- a class number is the number of marked ranks below the representative's
-pub HasClassInSet-marks : (set : PieceSet) (s : Setup) → IsPositionOfSet set s → HasClassInSet set s (marks_below (is_first set) (rank_of_set set s))
-HasClassInSet-marks set s p =
-    let low : rank_of_set set s < size_of_set set = rank_of_set-below set s p in
-    HasCount-same (IsMarkedBelow (IsPositionOfSet set) (is_first set) (rank_of_set set) (rank_of_set set s))
-    (λ (q : Setup). IsRepresentativeOfSet set q × Before q s) (marks_below (is_first set) (rank_of_set set s))
-    (λ q h. ((h.0, marked-first set q h.0 h.1), Before-from_rank set q s h.0 p h.2))
-    (λ q h. (h.0.0, first-marked set q h.0.0 h.0.1, rank_of_set-rises set q s h.0.0 p h.1))
-    (HasCount-marked (IsPositionOfSet set) (size_of_set set) (nth set) (rank_of_set set) (is_first set) (numbering set) (rank_of_set set s) (omega arith))
-
 -- ---- the marks of a whole set
 
 -- below the size the marks are those of first setups
 pub marked-first_of : (set : PieceSet) (r : ℕ) → r < size_of_set set → marked set r ≡ is_first set r
 unfolding marked
 marked-first_of set r h = ap (λ (b : Bool). b && is_first set r) (lt-ltb r (size_of_set set) h)
-
-pub marks_below-marked : (set : PieceSet) (n : ℕ) → n ≤ size_of_set set → marks_below (marked set) n ≡ marks_below (is_first set) n
-unfolding marks_below
-marks_below-marked set zero h = refl
-marks_below-marked set (suc n) h =
-    let rest : marks_below (marked set) n ≡ marks_below (is_first set) n = marks_below-marked set n (omega arith) in
-    let one : one_if (marked set n) ≡ one_if (is_first set n) = ap one_if (marked-first_of set n h) in
-    omega arith
-
-pub HasClassesOfSet-classes_of_set : (set : PieceSet) → HasClassesOfSet set (classes_of_set set)
-unfolding classes_of_set
-HasClassesOfSet-classes_of_set set = subst (HasClassesOfSet set) (sym (marks_below-marked set (size_of_set set) (omega arith))) (HasClassesOfSet-marks set)
-
-pub HasClassInSet-marked : (set : PieceSet) (s : Setup) → IsPositionOfSet set s → HasClassInSet set s (marks_below (marked set) (rank_of_set set s))
-HasClassInSet-marked set s p =
-    subst (HasClassInSet set s) (sym (marks_below-marked set (rank_of_set set s) (let low : rank_of_set set s < size_of_set set = rank_of_set-below set s p in omega arith)))
-    (HasClassInSet-marks set s p)

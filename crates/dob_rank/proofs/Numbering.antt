@@ -3,13 +3,12 @@ use Rattle.std.proofs.Common.{◌≡◌, ℕ, zero, suc, ◌+◌, ◌-◌, ◌<�
 use Rattle.std.proofs.lemmas.Bool.{cases_lt, lt-ltb, le-ltb}
 use Rattle.dob_pieces.specs.declared.piece_set.PieceSet.{PieceSet}
 use Rattle.dob_pieces.specs.declared.setup.Setup.{Setup}
-use Rattle.dob_rank.specs.Order.{IsPositionOfSet, Before, key, HasSizeOfSet, HasRankInSet}
+use Rattle.dob_rank.specs.Order.{IsPositionOfSet, Before, key}
 use Rattle.dob_rank.specs.Numbers.{product, number_of, digits_of, HasDigits, sum_below, block_bases, bases_by, on_board, digits}
 use Rattle.dob_rank.specs.Numbers.{block_of, block_size, size_of_set, rank_of_set, setup_by, setup_in, find, nth}
 pub use Rattle.dob_rank.specs.Numbers.{place_of, HasBlock}
 use Rattle.dob_rank.proofs.MixedRadix.{number_of-below, number_of-rises, HasDigits-digits_of, number_of-digits_of, digits_of-number_of}
 use Rattle.dob_rank.proofs.Sums.{sum_below-rises, same_block}
-use Rattle.dob_rank.proofs.Counts.{HasCount-from_numbering}
 use Rattle.dob_rank.proofs.Digits.{HasParts, HasParts-from_position, HasDigits-on_board, HasDigits-digits, setup_by-back}
 use Rattle.dob_rank.proofs.Made.{HasPlace, made, IsMade-made, IsPositionOfSet-made, on_board-made, digits-made, all_settled}
 use Rattle.dob_rank.proofs.Keys.{Before-digits, key-same}
@@ -237,27 +236,3 @@ rank_of_set-nth set n h =
 pub nth-rank_of_set : (set : PieceSet) (s : Setup) → IsPositionOfSet set s → nth set (rank_of_set set s) ≡ s
 nth-rank_of_set set s p = rank_of_set-same set (nth set (rank_of_set set s)) s (nth-block set (rank_of_set set s) (rank_of_set-below set s p)).position p
     (rank_of_set-nth set (rank_of_set set s) (rank_of_set-below set s p))
-
--- ---- the counts
-
--- the set has just so many positions
-pub HasSizeOfSet-size_of_set : (set : PieceSet) → HasSizeOfSet set (size_of_set set)
-HasSizeOfSet-size_of_set set = HasCount-from_numbering (IsPositionOfSet set) (size_of_set set) (nth set) (rank_of_set set) (record {
-  sound = λ i h. (nth-block set i h).position;
-  below = λ s p. rank_of_set-below set s p;
-  back = λ s p. nth-rank_of_set set s p;
-  forth = λ i h. rank_of_set-nth set i h;
-})
-
--- just so many positions of the set stand before one
-pub HasRankInSet-rank_of_set : (set : PieceSet) (s : Setup) → IsPositionOfSet set s → HasRankInSet set s (rank_of_set set s)
-HasRankInSet-rank_of_set set s p =
-    let low : rank_of_set set s < size_of_set set = rank_of_set-below set s p in
-    HasCount-from_numbering (λ (q : Setup). IsPositionOfSet set q × Before q s) (rank_of_set set s) (nth set) (rank_of_set set) (record {
-      sound = λ i h. (let h' : i < size_of_set set = omega arith in
-          let at : IsPositionOfSet set (nth set i) = (nth-block set i h').position in
-          (at, Before-from_rank set (nth set i) s at p (subst (λ (x : ℕ). x < rank_of_set set s) (sym (rank_of_set-nth set i h')) h)));
-      below = λ q h. rank_of_set-rises set q s h.0 p h.1;
-      back = λ q h. nth-rank_of_set set q h.0;
-      forth = λ i h. rank_of_set-nth set i (let h' : i < size_of_set set = omega arith in h');
-    })

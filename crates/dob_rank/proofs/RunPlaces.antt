@@ -20,8 +20,8 @@ use Rattle.dob_rank.specs.declared.layers.Layer.TheVariants.{OwnLion, EnemyLion,
 use Rattle.dob_rank.proofs.Blocks.{AreBases-by, few_in_block, block_size-small, run_bases-few}
 use Rattle.dob_rank.proofs.MixedRadix.{digit_below, number_of-below, product-append, number_of-append}
 use Rattle.dob_rank.proofs.Digits.{HasParts-from_position, HasDigits-digits}
-use Rattle.dob_rank.proofs.Numbering.{place_of, rank_of_set-place, block_of-below, block_size-product, on_board-block}
-use Rattle.dob_rank.proofs.Numbering.{HasBlock, HasBlock-setup_in, rank_of_set-block, rank_of_set-below}
+use Rattle.dob_rank.proofs.Numbering.{HasBlock, place_of, rank_of_set-place, block_of-below, block_size-product, on_board-block}
+use Rattle.dob_rank.proofs.Numbering.{HasBlock-setup_in, rank_of_set-block, rank_of_set-below}
 use Rattle.dob_rank.proofs.Found.{IsPositionOfSet-mirrored}
 use Rattle.dob_rank.proofs.Marks.{first-marked, marked-first, marked-first_of}
 use Rattle.dob_rank.proofs.Representatives.{first_by_rank, rank_of_first}

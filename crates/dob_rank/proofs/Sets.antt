@@ -6,13 +6,13 @@ use Rattle.dob_pieces.specs.declared.kind.HandKind.TheVariants as hand
 use Rattle.dob_pieces.specs.declared.piece_set.PieceSet.{PieceSet}
 use Rattle.dob_pieces.specs.declared.setup.Setup.{Setup}
 use Rattle.dob_pieces.specs.Setups.{total, IsLegal}
-use Rattle.dob_rank.specs.Order.{IsPositionOfSet, pieces_of, HasRankInSet}
+use Rattle.dob_rank.specs.Order.{IsPositionOfSet, pieces_of}
 use Rattle.dob_rank.specs.Numbers.{layer, count, product, number_of, digits_of, sum_below, block_bases, bases, bases_by, on_board, digits, order}
 use Rattle.dob_rank.specs.Numbers.{block_of, block_size, rank_of_set}
 use Rattle.dob_rank.specs.declared.layers.Layer.TheVariants.{OwnLion, EnemyLion, Chicks, Elephants, Giraffes, Empty}
 use Rattle.dob_rank.proofs.Digits.{HasParts, HasParts-from_position}
 use Rattle.dob_rank.proofs.Sums.{sum_same}
-use Rattle.dob_rank.proofs.Numbering.{block_size-product, rank_of_set-place, place_of, HasRankInSet-rank_of_set}
+use Rattle.dob_rank.proofs.Numbering.{place_of, block_size-product, rank_of_set-place}
 
 -- a legal setup with the totals of the set
 pub IsPositionOfSet-totals : (set : PieceSet) (s : Setup) → IsLegal s → set.chicks ≡ total hand.Chick s
@@ -92,10 +92,6 @@ rank_of_set-sets p q s hp hq =
     ∙ ap (λ (xs : List ℕ). sum_below (block_size q) (block_of q s) + number_of xs (digits s))
     (bases-same p q (count (order Chicks) (map layer s.board)) (count (order Elephants) (map layer s.board)) (count (order Giraffes) (map layer s.board)) c e g)
     ∙ sym (rank_of_set-place q s)
-
--- the rank found for one set is that of each set of the position
-pub HasRankInSet-sets : (p q : PieceSet) (s : Setup) (n : ℕ) → IsPositionOfSet p s → IsPositionOfSet q s → n ≡ rank_of_set p s → HasRankInSet q s n
-HasRankInSet-sets p q s n hp hq e = subst (HasRankInSet q s) (sym (e ∙ rank_of_set-sets p q s hp hq)) (HasRankInSet-rank_of_set q s hq)
 
 abbrev set_with : (c e g : ℕ) → c ≤ 2 → e ≤ 2 → g ≤ 2 → PieceSet
 set_with c e g few_c few_e few_g = record { chicks = c; elephants = e; giraffes = g; few_chicks = few_c; few_elephants = few_e; few_giraffes = few_g }

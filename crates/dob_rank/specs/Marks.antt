@@ -1,7 +1,6 @@
 -- Marked ranks.
-use Rattle.std.specs.Prelude.{ℕ, ◌&&◌, nat_lt, nat_le, min, Bool, true, false}
+use Rattle.std.specs.Prelude.{ℕ, ◌&&◌, nat_lt, nat_le, Bool, true, false}
 use Rattle.dob_pieces.specs.declared.piece_set.PieceSet.{PieceSet}
-use Rattle.dob_pieces.specs.declared.setup.Setup.{Setup}
 use Rattle.dob_pieces.specs.Setups.{mirrored}
 use Rattle.dob_rank.specs.Numbers.{sum_below, size_of_set, rank_of_set, nth}
 
@@ -20,11 +19,3 @@ is_first set r = nat_le r (rank_of_set set (mirrored (nth set r)))
 -- the same, for a rank of the set alone
 unfoldable pub marked : PieceSet → ℕ → Bool
 marked set r = nat_lt r (size_of_set set) && is_first set r
-
--- the number of classes of the set
-unfoldable pub classes_of_set : PieceSet → ℕ
-classes_of_set set = marks_below (marked set) (size_of_set set)
-
--- the number of the setup's class: the marks below its rank or that of its mirror image, whichever is lower
-unfoldable pub class_number_in_set : PieceSet → Setup → ℕ
-class_number_in_set set setup = marks_below (marked set) (min (rank_of_set set setup) (rank_of_set set (mirrored setup)))

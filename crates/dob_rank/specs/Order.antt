@@ -90,14 +90,6 @@ pub record HasCount (P : Setup → Type 0) (number : ℕ) : Type 0 where
   pub once : AllPairs (λ (p q : Setup). p ≢ q) list
   pub counted : length list ≡ number
 
--- the piece set has so many positions
-abbrev pub HasSizeOfSet : PieceSet → ℕ → Type 0
-HasSizeOfSet set number = HasCount (IsPositionOfSet set) number
-
--- so many positions of the set stand before this one
-abbrev pub HasRankInSet : PieceSet → Setup → ℕ → Type 0
-HasRankInSet set setup number = HasCount (λ (p : Setup). IsPositionOfSet set p × Before p setup) number
-
 -- the setup is no later than its mirror image
 abbrev pub IsFirstOfTwo : Setup → Type 0
 IsFirstOfTwo setup = Before (mirrored setup) setup → ⊥
@@ -113,22 +105,3 @@ IsRepresentativeOfSet set setup = IsPositionOfSet set setup × IsFirstOfTwo setu
 -- the setup is the earlier of another one and its mirror image
 abbrev pub RepresentativeOf : Setup → Setup → Type 0
 RepresentativeOf setup representative = IsEither setup representative × IsFirstOfTwo representative
-
--- the piece set has so many classes
-abbrev pub HasClassesOfSet : PieceSet → ℕ → Type 0
-HasClassesOfSet set number = HasCount (IsRepresentativeOfSet set) number
-
--- so many representatives stand before this one
-abbrev pub HasClassInSet : PieceSet → Setup → ℕ → Type 0
-HasClassInSet set setup number = HasCount (λ (p : Setup). IsRepresentativeOfSet set p × Before p setup) number
-
--- the setup is the representative of the class with that number
-abbrev pub RepresentsInSet : PieceSet → Setup → ℕ → Type 0
-RepresentsInSet set setup number = IsRepresentativeOfSet set setup × HasClassInSet set setup number
-
--- the position of the set is in the class of that number: so many representatives stand before its own
-pub record IsInClassOfSet (set : PieceSet) (setup : Setup) (number : ℕ) : Type 0 where
-  pub position : IsPositionOfSet set setup
-  pub representative : Setup
-  pub stands : RepresentativeOf setup representative
-  pub before : HasClassInSet set representative number

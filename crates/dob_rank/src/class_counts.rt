@@ -17,7 +17,7 @@ use dob_pieces::Family;
 pub fn count_classes(family: Family) -> u64
     ensures count { HasClasses family result }
     ensures number { result ≡ classes_of family }
-    ensures bound { result < 2 ^ 42 }
+    ensures bound { result < 2 ^ 31 }
 {
     let mut count = 0;
     for block in 0..block::blocks(family.set) {

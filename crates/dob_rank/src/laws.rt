@@ -1,8 +1,7 @@
 // Laws of ranks and classes, each the contract of a function that does nothing.
-ghost use Rattle.dob_rank.specs.Laws.{OneClassOfSet, OneRepresentativeOfSet, RanksKeepOrderOfSet, ClassesKeepOrderOfSet, RowsAreRepresentativesOfSet};
 ghost use Rattle.dob_rank.specs.Laws.{OneClass, OneRepresentative, RanksKeepOrder, ClassesKeepOrder, RowsAreRepresentatives};
 
-/// A position of a family is in one class there, and that class has one number.
+/// A position of a family is in one class, and that class has one number.
 pub fn one_class()
     ensures { OneClass }
 {}
@@ -12,7 +11,7 @@ pub fn one_representative()
     ensures { OneRepresentative }
 {}
 
-/// Of two positions of a family the earlier has the lower rank there.
+/// Of two positions of a family the earlier has the lower rank.
 pub fn ranks_keep_order()
     ensures { RanksKeepOrder }
 {}

@@ -38,7 +38,6 @@ pub use class_counts::count_classes;
 pub use classes::Classes;
 pub use fault::Fault;
 pub use limit::{MOST_PIECES, is_too_large};
-pub use ranks::{rank, size, unrank};
+pub use ranks::{rank, representative, size, unrank};
 pub use segment_length::SegmentLength;
 pub use segmented::{Segments, SegmentsIter};
-pub use set_ranks::representative;

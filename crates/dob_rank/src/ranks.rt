@@ -1,6 +1,6 @@
-// Ranks in a family: the positions of a piece set that a profile allows, in the order of their key. In profile A these are all positions of the set.
-// In profile B a choice of the chicks' squares has as many forms as its squares let it have, so that a place in a run is a sum of such numbers in
-// place of a number in mixed radix.
+// Ranks: the positions of a family, those of a piece set that a profile allows, in the order of their key. In profile A these are all positions of the
+// set (src/set_ranks.rt). In profile B a choice of the chicks' squares has as many forms as its squares let it have, so that a place in a run is a sum of
+// such numbers in place of a number in mixed radix.
 ghost use Rattle.std.specs.Prelude.{◌≡◌, ◌<◌, ◌≤◌, ◌+◌, ◌*◌, ◌/◌, ◌%◌, ◌^◌, map, slice_index};
 ghost use Rattle.dob_pieces.specs.Profiles.{IsAllowed};
 ghost use Rattle.dob_pieces.specs.declared.profile.Profile.TheVariants.{B};
@@ -10,7 +10,7 @@ ghost use Rattle.dob_rank.specs.Families.{family_of, IsPositionOf, HasSize, HasR
 ghost use Rattle.dob_rank.specs.Marks.{marks_below};
 ghost use Rattle.dob_rank.specs.Masks.{layer_mask};
 ghost use Rattle.dob_rank.specs.Numbers.{product, block_bases, start_of, block_of, order, layer, count, choose, free_squares, on_board as on_board_of};
-ghost use Rattle.dob_rank.specs.Order.{IsPositionOfSet};
+ghost use Rattle.dob_rank.specs.Order.{IsPositionOfSet, RepresentativeOf};
 ghost use Rattle.dob_rank.specs.Places.{IsSpotFor};
 ghost use Rattle.dob_rank.specs.Runs.{AreFewOnBoard, lion_pairs, square_bases};
 ghost use Rattle.dob_rank.specs.Weights.{may_have, allowed_number, choice_weight, forms_before, lions_before, others_squares, others_forms};
@@ -34,7 +34,7 @@ use dob_pieces::{Family, Piece, PieceSet, Position, Profile, Square};
 pub fn size(family: Family) -> u64
     ensures count { HasSize family result }
     ensures number { result ≡ size_of family }
-    ensures bound { result < 2 ^ 42 }
+    ensures bound { result < 2 ^ 31 }
 {
     match family.profile {
         Profile::A => size_of_set(family.set),
@@ -65,6 +65,20 @@ pub fn unrank(family: Family, rank: u64) -> Position
     match family.profile {
         Profile::A => unrank_in_set(family.set, rank),
         Profile::B => far_unrank(family.set, rank),
+    }
+}
+
+/// The earlier of a position of the profile and its mirror image.
+pub fn representative(profile: Profile, position: &Position) -> Position
+    requires { IsAllowed profile position.now.setup }
+    ensures earlier { RepresentativeOf position.now.setup result.setup }
+    ensures allowed { IsAllowed profile result.setup }
+{
+    let image = position.mirrored();
+    if rank(profile, &image) < rank(profile, position) {
+        image
+    } else {
+        *position
     }
 }
 

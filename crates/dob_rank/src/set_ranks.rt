@@ -1,11 +1,12 @@
-// The rank of a position, the position of a rank, and the representative of a class.
+// The numbering of all positions of a piece set, those of profile A: their ranks, and where each stands among the runs of its block. On it stand the ranks
+// (src/ranks.rt) and the classes of families.
 ghost use Rattle.std.specs.Prelude.{◌≡◌, ◌<◌, ◌≤◌, ◌+◌, ◌*◌, ◌^◌};
 ghost use Rattle.dob_pieces.specs.Setups.{total};
 ghost use Rattle.dob_pieces.specs.declared.setup.Setup.{Setup};
 ghost use Rattle.dob_rank.specs.Bitboards.{IsShownOfSet};
 ghost use Rattle.dob_rank.specs.BoardDigits.{ArePartsOf, AreNumbersOf};
 ghost use Rattle.dob_rank.specs.BoardMasks.{AreMasks};
-ghost use Rattle.dob_rank.specs.Order.{IsPositionOfSet, HasSizeOfSet, HasRankInSet, RepresentativeOf};
+ghost use Rattle.dob_rank.specs.Order.{IsPositionOfSet};
 ghost use Rattle.dob_rank.specs.Numbers.{size_of_set, rank_of_set, product, number_of, block_bases, block_of};
 ghost use Rattle.dob_rank.specs.Numbers.{HasBlock, bases_by, on_board as on_board_of, digits as all_digits_of, setup_by, hands_by};
 ghost use Rattle.dob_rank.specs.Numbers.{HasDigits};
@@ -21,7 +22,6 @@ use dob_pieces::{Hand, HandKind, Hands, PieceSet, Position, Setup};
 
 /// How many positions the piece set has.
 pub(crate) fn size_of_set(set: PieceSet) -> u64
-    ensures count { HasSizeOfSet set result }
     ensures number { result ≡ size_of_set set }
     ensures bound { result < 2 ^ 31 }
 {
@@ -30,8 +30,7 @@ pub(crate) fn size_of_set(set: PieceSet) -> u64
 
 /// How many positions of its piece set stand before the position.
 pub(crate) fn rank_in_set(position: &Position) -> u64
-    ensures count { (set : PieceSet) → IsPositionOfSet set position.now.setup → HasRankInSet set position.now.setup result }
-    ensures number { (set : PieceSet) → IsPositionOfSet set position.now.setup → result ≡ rank_of_set set position.now.setup }
+    ensures { (set : PieceSet) → IsPositionOfSet set position.now.setup → result ≡ rank_of_set set position.now.setup }
 {
     let masks = masks::masks_of(&position.setup.board);
     let on_board = numbers_on_board(position, masks);
@@ -44,9 +43,7 @@ pub(crate) fn rank_in_set(position: &Position) -> u64
 pub(crate) fn unrank_in_set(set: PieceSet, rank: u64) -> Position
     requires { rank < size_of_set set }
     ensures position { IsPositionOfSet set result.setup }
-    ensures count { HasRankInSet set result.setup rank }
     ensures number { rank_of_set set result.setup ≡ rank }
-    ensures only { (p : Setup) → IsPositionOfSet set p → rank_of_set set p ≡ rank → p ≡ result.setup }
 {
     let (block, place) = block::find_block(set, rank);
     let on_board = block::numbers_in(set, block);
@@ -168,18 +165,6 @@ pub(crate) fn position_by(
 {
     let digits = block::digits_in(set, on_board, choices, spot);
     Position::new(setup_of(set, on_board, &digits))
-}
-
-/// The earlier of a position and its mirror image.
-pub fn representative(position: &Position) -> Position
-    ensures { RepresentativeOf position.now.setup result.setup }
-{
-    let image = position.mirrored();
-    if rank_in_set(&image) < rank_in_set(position) {
-        image
-    } else {
-        *position
-    }
 }
 
 /// How many chicks, elephants and giraffes stand on the board.

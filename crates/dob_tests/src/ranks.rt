@@ -2,7 +2,7 @@
 ghost use Rattle.std.specs.Prelude.{◌<◌};
 
 use crate::positions::position;
-use crate::sets::set_of;
+use crate::sets::family_of;
 use dob_pieces::{Family, Position, Profile};
 use dob_rank::{Classes, rank, representative, size, unrank};
 use std::alloc::Global;
@@ -33,25 +33,10 @@ const RANKS: [(&str, u64, &str); 19] = [
 
 // The position has that rank in the set of that name.
 fn has_rank(rt: &impl Abort, name: &str, number: u64, text: &str) {
-    let set = set_of(rt, name);
-    assert!(rt;
-        number
-            < size(Family {
-                set,
-                profile: Profile::A
-            })
-    );
+    let family = family_of(rt, name);
+    assert!(rt; number < size(family));
     let seen = position(rt, text);
-    assert!(rt;
-        unrank(
-            Family {
-                set,
-                profile: Profile::A
-            },
-            number
-        ) == seen,
-        "{text}"
-    );
+    assert!(rt; unrank(family, number) == seen, "{text}");
     assert!(rt; rank(Profile::A, &seen) == number, "{text}");
 }
 
@@ -64,14 +49,11 @@ fn positions_of_ranks(rt: HostRuntime) {
 
 // The position is of that class of its set.
 fn is_of_class(rt: &impl Abort, alloc: Global, seen: &Position, number: u64) {
-    let classes = Classes::open(
-        alloc,
-        Family {
-            set: seen.piece_set(),
-            profile: Profile::A,
-        },
-    )
-    .expect(rt, "classes");
+    let family = Family {
+        set: seen.piece_set(),
+        profile: Profile::A,
+    };
+    let classes = Classes::open(alloc, family).expect(rt, "classes");
     assert!(rt; classes.class_of(seen) == number, "class {number}");
     assert!(rt; number < classes.class_count());
     assert!(rt;

@@ -361,10 +361,6 @@ fn refuses_far_chicks_in_profile_b(rt: HostRuntime) {
             read_position(Profile::B, *text) == Err(TextFault::FarChick),
             "{text}"
         );
-        assert!(rt;
-            read_position(Profile::A, *text) == read_position(Profile::A, *text),
-            "{text}"
-        );
         assert!(rt; read_position(Profile::A, *text).is_ok(), "{text}");
     }
     for (text, fault) in &BEFORE_FAR_CHICK {

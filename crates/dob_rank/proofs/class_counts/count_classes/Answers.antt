@@ -1,5 +1,6 @@
 -- Each block adds its own classes, and all of them are the family's.
-use Rattle.std.proofs.Common.{◌≡◌, ◌+◌, arith, sym, ap, ◌∙◌, subst}
+use Rattle.std.proofs.Common.{◌≡◌, ℕ, ◌+◌, ◌<◌, ◌^◌, arith, sym, ap, ◌∙◌, subst}
+use Rattle.dob_rank.proofs.ClassBounds.{classes_of-below}
 use Rattle.dob_rank.specs.Families.{HasClasses}
 use Rattle.dob_rank.specs.Numbers.{product, block_bases}
 use Rattle.dob_rank.proofs.Present.{HasClasses-classes_of}
@@ -30,6 +31,4 @@ returns-clause-number c =
     classes_all c.args.family c.loop-block.block c.loop-block.count number c.loop-block.invariant
 
 pub returns-clause-bound : goal.returns-clause-bound
-returns-clause-bound c =
-    let few = classes_few c.args.family c.loop-block.block (omega (arith, c.blocks-block-end.ensures.value, c.loop-block.auto.block-end)) in
-    omega (arith, few, c.loop-block.invariant)
+returns-clause-bound c = subst (λ (n : ℕ). n < 2 ^ 31) (sym (returns-clause-number c)) (classes_of-below c.args.family)

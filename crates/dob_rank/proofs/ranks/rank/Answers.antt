@@ -6,12 +6,12 @@ use Rattle.dob_rank.proofs.ranks.rank.Goals as goal
 
 pub returns-in-A-clause-number : goal.returns-in-A-clause-number
 returns-in-A-clause-number c = λ set of_set.
-    c.rank_in_set.ensures.number set of_set ∙ sym (rank_of-whole (family_of set c.args.profile) c.args.position.now.setup c.in-A.is)
+    c.rank_in_set.ensures set of_set ∙ sym (rank_of-whole (family_of set c.args.profile) c.args.position.now.setup c.in-A.is)
 
 pub returns-in-A-clause-count : goal.returns-in-A-clause-count
 returns-in-A-clause-count c = λ set of_set.
     subst (HasRank (family_of set c.args.profile) c.args.position.now.setup)
-    (sym (c.rank_in_set.ensures.number set of_set ∙ sym (rank_of-whole (family_of set c.args.profile) c.args.position.now.setup c.in-A.is)))
+    (sym (c.rank_in_set.ensures set of_set ∙ sym (rank_of-whole (family_of set c.args.profile) c.args.position.now.setup c.in-A.is)))
     (HasRank-rank_of (family_of set c.args.profile) c.args.position.now.setup (record { of_set = of_set; allowed = c.requires }))
 
 pub returns-in-B-clause-number : goal.returns-in-B-clause-number

@@ -1,5 +1,6 @@
 -- In profile A each position of the set is one of the family, and in profile B the positions before the end of the last block are all.
-use Rattle.std.proofs.Common.{sym, ◌∙◌, subst}
+use Rattle.std.proofs.Common.{ℕ, ◌<◌, ◌^◌, sym, ◌∙◌, subst}
+use Rattle.dob_rank.proofs.ClassBounds.{size_of-below}
 use Rattle.dob_rank.specs.Families.{HasSize}
 use Rattle.dob_rank.proofs.Present.{HasSize-size_of, size_of-whole, size_of-end}
 use Rattle.dob_rank.proofs.ranks.size.Goals as goal
@@ -17,3 +18,9 @@ returns-in-B-clause-count c =
 
 pub returns-in-B-clause-number : goal.returns-in-B-clause-number
 returns-in-B-clause-number c = size_of-end c.args.family _ _ c.in-B.is c.blocks-in-B.ensures.value c.far_start.ensures.value
+
+pub returns-in-A-clause-bound : goal.returns-in-A-clause-bound
+returns-in-A-clause-bound c = subst (λ (n : ℕ). n < 2 ^ 31) (sym (returns-in-A-clause-number c)) (size_of-below c.args.family)
+
+pub returns-in-B-clause-bound : goal.returns-in-B-clause-bound
+returns-in-B-clause-bound c = subst (λ (n : ℕ). n < 2 ^ 31) (sym (returns-in-B-clause-number c)) (size_of-below c.args.family)

@@ -1,7 +1,7 @@
 -- A rank is the start of the position's block and its place there, and the same under each set of the position.
 use Rattle.std.proofs.Common.{◌∙◌, arith}
 use Rattle.dob_rank.proofs.DigitParts.{AreFewOnBoard-digits}
-use Rattle.dob_rank.proofs.Sets.{IsPositionOfSet-totals, HasRankInSet-sets, rank_of_set-sets}
+use Rattle.dob_rank.proofs.Sets.{IsPositionOfSet-totals, rank_of_set-sets}
 use Rattle.dob_rank.proofs.Found.{HasDigits-board, block_upto, spot_small, place_is_of, ranked, rank_small}
 use Rattle.dob_rank.proofs.set_ranks.rank_in_set.Goals as goal
 
@@ -37,17 +37,8 @@ overflow_add-result c =
     c.spot_with-block.ensures.run c.spot_with-block.ensures.local c.place_of.ensures in
     omega (arith, rank_small c.piece_set_of-set.result c.args.position.now.setup c.block_start.result c.place_of.result is c.block_start.ensures.bound place)
 
-pub returns-clause-count : goal.returns-clause-count
-returns-clause-count c = λ set is_of.
-    let of_set = c.piece_set_of-set.ensures in
-    let is = IsPositionOfSet-totals c.piece_set_of-set.result c.args.position.now.setup c.args.position.now.legal of_set.chicks of_set.elephants of_set.giraffes in
-    let place = place_is_of c.piece_set_of-set.result c.args.position.now.setup _ _ _ _ c.numbers_on_board-on_board.ensures
-    c.spot_with-block.ensures.run c.spot_with-block.ensures.local c.place_of.ensures in
-    HasRankInSet-sets c.piece_set_of-set.result set c.args.position.now.setup _ is is_of
-    (ranked c.piece_set_of-set.result c.args.position.now.setup _ _ _ c.spot_with-block.ensures.block place c.block_start.ensures.value)
-
-pub returns-clause-number : goal.returns-clause-number
-returns-clause-number c = λ set is_of.
+pub returns : goal.returns
+returns c = λ set is_of.
     let of_set = c.piece_set_of-set.ensures in
     let is = IsPositionOfSet-totals c.piece_set_of-set.result c.args.position.now.setup c.args.position.now.legal of_set.chicks of_set.elephants of_set.giraffes in
     let place = place_is_of c.piece_set_of-set.result c.args.position.now.setup _ _ _ _ c.numbers_on_board-on_board.ensures

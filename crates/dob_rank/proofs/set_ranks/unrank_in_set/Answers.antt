@@ -1,11 +1,10 @@
 -- The position at the place of the rank has that rank.
-use Rattle.std.proofs.Common.{◌∙◌, sym, subst}
-use Rattle.dob_rank.specs.Order.{HasRankInSet}
+use Rattle.std.proofs.Common.{◌∙◌}
 use Rattle.dob_rank.specs.Numbers.{HasBlock}
 use Rattle.dob_rank.proofs.Blocks.{HasDigits-numbers}
 use Rattle.dob_rank.proofs.DigitParts.{AreFewOnBoard-digits}
 use Rattle.dob_rank.proofs.Found.{place_in, made_at_place}
-use Rattle.dob_rank.proofs.Numbering.{rank_of_set-block, rank_of_set-same, HasRankInSet-rank_of_set}
+use Rattle.dob_rank.proofs.Numbering.{rank_of_set-block}
 use Rattle.dob_rank.proofs.set_ranks.unrank_in_set.Goals as goal
 
 pub choices_in-choices-requires : goal.choices_in-choices-requires
@@ -29,15 +28,5 @@ found c =
 pub returns-clause-position : goal.returns-clause-position
 returns-clause-position c = c.position_by.ensures.position
 
-pub returns-clause-count : goal.returns-clause-count
-returns-clause-count c =
-    let rank = rank_of_set-block c.args.set _ _ c.position_by.result.setup (found c) ∙ c.find_block-block.ensures.whole in
-    subst (HasRankInSet c.args.set c.position_by.result.setup) rank (HasRankInSet-rank_of_set c.args.set c.position_by.result.setup c.position_by.ensures.position)
-
 pub returns-clause-number : goal.returns-clause-number
 returns-clause-number c = rank_of_set-block c.args.set _ _ c.position_by.result.setup (found c) ∙ c.find_block-block.ensures.whole
-
-pub returns-clause-only : goal.returns-clause-only
-returns-clause-only c = λ p is same.
-    let rank = rank_of_set-block c.args.set _ _ c.position_by.result.setup (found c) ∙ c.find_block-block.ensures.whole in
-    rank_of_set-same c.args.set p c.position_by.result.setup is c.position_by.ensures.position (same ∙ sym rank)
