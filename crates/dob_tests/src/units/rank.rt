@@ -140,7 +140,7 @@ fn classes_of_lions_alone(rt: HostRuntime) {
     let mut classes = 0usize;
     for number in 0..size(family) {
         let position = unrank(family, number);
-        if rank(&representative(Profile::A, &position)) == number {
+        if rank(Profile::A, &representative(Profile::A, &position)) == number {
             has_lions_of(&rt, &position, classes);
             classes = classes.saturating_add(1);
         }
