@@ -12,8 +12,6 @@ pub mod Runs
 pub mod Weights
 pub mod Places
 pub mod Laws
-pub mod Limits
-pub mod Faults
 pub mod Segmented
 pub mod SegmentsLeft
 pub mod Stretches

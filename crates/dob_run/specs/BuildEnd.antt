@@ -1,9 +1,9 @@
 -- A crew whose runners have all stopped, and what is made of it.
 use Rattle.std.specs.Prelude.{◌≡◌, ◌≢◌, ⊤, ℕ, ◌<◌, ◌⊎◌, List, Option, None, Some, length, slice_get}
 use Rattle.dob_pieces.specs.declared.profile.Family.{Family}
-use Rattle.dob_rank.specs.Limits.{IsSmall}
 use Rattle.dob_rank.specs.Families.{classes_of}
 use Rattle.dob_value.specs.declared.value.Value.{Value}
+use Rattle.dob_value.specs.Codes.{value_of_code}
 use Rattle.dob_value.specs.Follows.{IsEntry, AreGiven}
 use Rattle.dob_share.specs.Owners.{owner_of}
 use Rattle.dob_share.specs.Shares.{IsOwn, HasValueNow}
@@ -12,7 +12,7 @@ use Rattle.dob_board.specs.declared.halt.Halt.TheVariants.{Running, Ended, Faile
 use Rattle.dob_node.specs.declared.cause.Cause.{Cause}
 use Rattle.dob_node.specs.declared.node.Node.{Node}
 use Rattle.dob_run.specs.declared.fault.Fault.{Fault}
-use Rattle.dob_run.specs.declared.fault.Fault.TheVariants.{SetTooLarge, Nodes, Sizes, Stopped, Memory}
+use Rattle.dob_run.specs.declared.fault.Fault.TheVariants.{Nodes, Sizes, Stopped, Memory}
 use Rattle.dob_run.specs.declared.runner.Runner.{Runner}
 
 -- The runner works for that family with batches of at most that size, and its seat knows that the run ended or failed.
@@ -21,10 +21,9 @@ pub record IsStoppedRunner (family : Family) (size : ℕ) (runner : Runner) : Ty
   pub size_is : runner.size ≡ size
   pub halted : runner.endpoint.seat.halt ≢ Running
 
--- so has each of them, and the family is one that has classes
-pub record HaveStopped (family : Family) (size : ℕ) (runners : List Runner) : Type 0 where
-  pub small : IsSmall family.set
-  pub each : (k : ℕ) (runner : Runner) → slice_get runners k ≡ Some runner → IsStoppedRunner family size runner
+-- so has each of them
+abbrev pub HaveStopped : Family → ℕ → List Runner → Type 0
+HaveStopped family size runners = (k : ℕ) (runner : Runner) → slice_get runners k ≡ Some runner → IsStoppedRunner family size runner
 
 abbrev pub failed_of : Runner → Option Cause
 failed_of runner = runner.failed
@@ -49,7 +48,6 @@ pub record IsFailure (runners : List Runner) (node : ℕ) (why : Cause) : Type 0
 abbrev pub IsFailureOf : List Runner → Fault → Type 0
 IsFailureOf runners (Stopped node why) = IsFailure runners node why
 IsFailureOf runners Memory = ⊤
-IsFailureOf runners SetTooLarge = ⊥
 IsFailureOf runners Nodes = ⊥
 IsFailureOf runners Sizes = ⊥
 
@@ -66,6 +64,10 @@ AreOwners family n nodes = (k : ℕ) (node : Node) → slice_get nodes k ≡ Som
 -- the value is one that the class's owner, of n nodes, shows for it
 abbrev pub IsShown : ℕ → List Node → ℕ → Value → Type 0
 IsShown n nodes class value = (node : Node) → slice_get nodes (owner_of n class) ≡ Some node → HasValueNow node.share class value
+
+-- the code is one of 16 bits, of a value that the class's owner shows
+abbrev pub IsCodeShown : ℕ → List Node → ℕ → ℕ → Type 0
+IsCodeShown n nodes class code = (code < 65536) × IsShown n nodes class (value_of_code code)
 
 -- the values of the classes below a number are those that their owners show
 abbrev pub AreShownBelow : ℕ → ℕ → List Node → List Value → Type 0

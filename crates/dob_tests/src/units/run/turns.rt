@@ -1,6 +1,5 @@
 // Runners that are turned by hand, one after the other, in one thread.
 ghost use Rattle.std.specs.Prelude.{◌≡◌, IfOk, OnOk, None, ◌∷◌, []};
-ghost use Rattle.dob_rank.specs.Limits.{IsSmall};
 ghost use Rattle.dob_run.specs.CrewRunners.{IsNewCrew};
 ghost use Rattle.dob_run.specs.Runners.{KeepsRunner};
 
@@ -15,16 +14,19 @@ use std::process::Abort;
 use std::sync::Wait;
 use std::sync::atomic::{AtomicUsize, Ordering};
 use std::test::Fail;
+use std::thread::Threads;
 
 // The classes of lions alone, and a crew of two nodes that own them, with batches of one item and inboxes for one batch.
-fn two_runners(rt: &(impl Wait + Abort), alloc: Global) -> (Classes, Board, Runner, Runner)
-    ensures small { IsSmall result.0.family.set }
+fn two_runners(
+    rt: &(impl Threads + Wait + Abort + Sync),
+    alloc: Global,
+) -> (Classes, Board, Runner, Runner)
     ensures first { result.0.family ≡ result.2.family }
     ensures second { result.0.family ≡ result.3.family }
     ensures crew { IsNewCrew result.0.family 2 1 1 result.1 (result.2 ∷ result.3 ∷ []) }
 {
     let classes = Classes::open(alloc, lions(rt)).expect(rt, "classes");
-    let (board, mut runners) = crew(alloc, &classes, 2, 1, 1).expect(rt, "a crew");
+    let (board, mut runners) = crew(rt, alloc, &classes, 2, 1, 1).expect(rt, "a crew");
     let second = runners.pop().expect(rt, "the second runner");
     let first = runners.pop().expect(rt, "the first runner");
     assert!(rt; runners.is_empty());
