@@ -84,7 +84,7 @@ IsKeepingFault c file table (File (file_fault.Io count)) =
 IsKeepingFault c file table _ = ⊥
 
 -- The fault of building, by its moment. While each file has what it had: no set has the text; or the run by so many nodes,
--- with batches of 256 and channels of 64, was refused or stopped, no node of it held back by a gate; or memory was refused,
+-- with batches of 256 and inboxes of 64, was refused or stopped, no node of it held back by a gate; or memory was refused,
 -- for the words, for the lines or for making the file. Then the table is there, and keeping its file failed.
 abbrev pub IsBuildFault : ShelfChange → List ℕ → ℕ → List ℕ → Fault → Type 0
 IsBuildFault c text nodes file SetText = ((set : PieceSet) → text ≢ set_text set) × SameFiles c.before.has c.after.has

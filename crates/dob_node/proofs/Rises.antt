@@ -96,8 +96,8 @@ fresh_within bound moves cell same = within_same bound cell (fresh moves) same (
   least = λ plies is. absurd (cc);
 })
 
-back : (a b : Cell) → SameCell a b → SameCell b a
-back a b same = record { left = sym same.left; wins = λ plies. sym (same.wins plies); least = sym same.least }
+pub same_back : (a b : Cell) → SameCell a b → SameCell b a
+same_back a b same = record { left = sym same.left; wins = λ plies. sym (same.wins plies); least = sym same.least }
 
 -- ---- the start
 
@@ -231,7 +231,7 @@ module _ (family : Family) (n : ℕ) (histories : ℕ → List Settlement) (appl
   module _ (cells : ℕ → Cell) (worth : ℕ → Value) (are_after : AreAfter item cell cells value worth) (grown : ℕ → List Settlement)
       (settles : AreSettled j to (value to) (worth to) histories grown) where
     gives_now : CellValue cell_then (worth to)
-    gives_now = CellValue-same cell_then (cells to) (worth to) (back (cells to) cell_then are_after.cell_is) are_after.gives
+    gives_now = CellValue-same cell_then (cells to) (worth to) (same_back (cells to) cell_then are_after.cell_is) are_after.gives
 
     abbrev news : Settlement
     news = news_of (worth to)

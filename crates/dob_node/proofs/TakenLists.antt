@@ -186,8 +186,3 @@ before_since items old mid new why same before = record {
   taken = taken_since before.front old mid new same before.taken;
   reason = before.reason;
 }
-
-pub stops_since : (items : List Item) (old mid : Node) (why : Cause) → IsUnchanged old mid → StopsAt items mid.share mid.history why →
-    StopsAt items old.share old.history why
-stops_since items old mid why same stops = stops_with_room items old.share old.history mid.history why same.kept.1
-    (subst (λ (s : Share). StopsAt items s mid.history why) same.kept.0 stops)

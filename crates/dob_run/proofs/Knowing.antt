@@ -30,6 +30,7 @@ use Rattle.dob_node.proofs.Settles.{chained_more, value_of-more}
 use Rattle.dob_node.proofs.Kept.{all_known-same}
 use Rattle.dob_node.proofs.Kepts.{fits_own, now_is, kept_still}
 use Rattle.dob_node.proofs.ItemChanges.{one_value, fits_open, value_elsewhere}
+use Rattle.dob_node.proofs.Rises.{same_back}
 use Rattle.dob_node.proofs.ValuesFollow.{SumsUp-same}
 use Rattle.dob_run.specs.Knows.{sum_of, CanHaveMade, AreSummed, KnowsRight}
 use Rattle.dob_run.proofs.Summing.{sums_by, is_sum}
@@ -46,14 +47,11 @@ same_cells a b c one other = record {
   least = one.least ∙ other.least;
 }
 
-turned_cells : (a b : Cell) → SameCell a b → SameCell b a
-turned_cells a b same = record { left = sym same.left; wins = λ plies. sym (same.wins plies); least = sym same.least }
-
 value_same : (status : Status) (a b : Cell) (v : Value) → SameCell a b → IsValue status a v → IsValue status b v
 value_same Caught a b v same is = is
 value_same Tried a b v same is = is
 value_same Stuck a b v same is = is
-value_same Open a b v same is = CellValue-same b a v (turned_cells a b same) is
+value_same Open a b v same is = CellValue-same b a v (same_back a b same) is
 
 value_back : (share after : Share) (class : ℕ) (v : Value) → status_at after class ≡ status_at share class → SameCell (cell_at after class) (cell_at share class) →
     HasValueNow after class v → HasValueNow share class v

@@ -11,6 +11,7 @@ ghost use Rattle.dob_run.specs.CrewOpen.{IsNewEndpoint, AreNewEndpoints};
 ghost use Rattle.dob_run.specs.CrewRunners.{IsRunnerOf, IsNewCrew};
 ghost use Rattle.dob_run.specs.Faults.{AreWithin, HasCrewFault};
 ghost use Rattle.dob_run.specs.Seating.{AreSeated, CanSeat, CanSeatAll};
+ghost use Rattle.dob_update.specs.Batches.{most_items};
 
 use crate::endpoint::Endpoint;
 use crate::fault::Fault;
@@ -94,7 +95,7 @@ fn runners_of(
 ) -> Result<Vec<Runner>, Memory>
     requires openings { AreOpenings family openings.now }
     requires some { 0 < size }
-    requires at_most { size ≤ 4096 }
+    requires at_most { size ≤ most_items }
     requires new { (capacity : ℕ) × AreNewEndpoints capacity endpoints.items }
     ensures { IfOk result (λ runners. AllZip (IsRunnerOf family size) endpoints.items runners.items) }
 {
@@ -116,7 +117,7 @@ fn open_runner(
 ) -> Result<Runner, Memory>
     requires openings { AreOpenings family openings.now }
     requires some { 0 < size }
-    requires at_most { size ≤ 4096 }
+    requires at_most { size ≤ most_items }
     requires new { (capacity : ℕ) × IsNewEndpoint capacity endpoint }
     ensures { IfOk result (IsRunnerOf family size endpoint) }
 {

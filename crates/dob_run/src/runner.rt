@@ -5,6 +5,7 @@ ghost use Rattle.dob_board.specs.declared.halt.Halt.TheVariants.{Running, Ended,
 ghost use Rattle.dob_node.specs.declared.cause.Cause.{Cause};
 ghost use Rattle.dob_run.specs.LawfulRunners.{IsLawfulRunner, IsSpared};
 ghost use Rattle.dob_run.specs.Props.{IsLawfulRunner-prop};
+ghost use Rattle.dob_update.specs.Batches.{most_items};
 
 use crate::endpoint::Endpoint;
 use crossbeam_utils::Backoff;
@@ -24,7 +25,7 @@ pub struct Runner {
     pub(crate) failed: Option<Cause>,
     pub(crate) backoff: Backoff,
     ghost some: { 0 < size },
-    ghost at_most: { size ≤ 4096 },
+    ghost at_most: { size ≤ most_items },
     ghost going: { endpoint.seat.halt ≡ Running → failed ≡ None },
     ghost own: { endpoint.seat.halt ≡ Failed endpoint.seat.node → failed ≢ None },
     ghost agrees: { (why : Cause) → node.failed ≡ Some why → failed ≡ Some why },

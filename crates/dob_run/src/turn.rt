@@ -5,6 +5,7 @@ ghost use Rattle.dob_node.specs.declared.cause.Cause.TheVariants.{Held};
 ghost use Rattle.dob_board.specs.Seats.{ObservesHalt};
 ghost use Rattle.dob_run.specs.Runners.{StepsBy, GoesRound, HasFailed, HasTurned, IsHeldBack, IsNew, IsAsked, IsReasonFor, says_no};
 ghost use Rattle.dob_run.specs.TurnRounds.{Works};
+ghost use Rattle.dob_update.specs.Batches.{most_items};
 
 use crate::endpoint::Endpoint;
 use crate::gate::Gate;
@@ -21,7 +22,7 @@ impl Runner {
     /// nothing has gone. It cuts batches of at most `size` items, 1 to 4096.
     pub(crate) fn new(node: Node, endpoint: Endpoint, family: Family, size: usize) -> Runner
         requires some { 0 < size }
-        requires at_most { size ≤ 4096 }
+        requires at_most { size ≤ most_items }
         requires fresh { IsNew family node endpoint }
         ensures node { result.node ≡ node }
         ensures endpoint { result.endpoint ≡ endpoint }

@@ -15,6 +15,7 @@ use Rattle.dob_world.specs.Worlds.{Setting, State, IsIdle}
 use Rattle.dob_world.specs.Events.{CanHappen, Happens}
 use Rattle.dob_world.specs.Shown.{nodes_shown, world_shown, ring_of}
 use Rattle.dob_world.specs.Standing.{AreInPlace, IsCounted, Stand, HasAtMost, AreCutsPosted}
+use Rattle.dob_world.proofs.Firsts.{none_some}
 use Rattle.dob_world.proofs.Slots.{was}
 use Rattle.dob_world.proofs.Kept.{happening_keeps_all}
 use Rattle.dob_world.proofs.Bounds.{happening_keeps_falls}
@@ -22,9 +23,6 @@ use Rattle.dob_world.proofs.Matching.{busy_black, happening_keeps_match, posted_
 
 abbrev pub state_at : Setting → List Node → List Lane → Detector → State
 state_at k nodes lanes detector = record { world = world_shown k.family k.n nodes lanes; ring = ring_of detector }
-
-none_some : {X : Type 0} (xs : List X) → xs ≡ [] → 0 < length xs → ⊥
-none_some xs is some = let e : length xs ≡ 0 = ap length is in omega arith
 
 module _ (k : Setting) (nodes : List Node) (lanes : List Lane) (detector : Detector) (steps : ℕ) (stand : Stand k nodes lanes detector steps) where
   pub stand_after : (after : List Node) (next : List Lane) (new : Detector) (event : Event) → steps < 2 ^ 40 → AreInPlace k after next → IsCounted new →

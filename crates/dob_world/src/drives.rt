@@ -7,6 +7,7 @@ ghost use Rattle.dob_world.specs.Standing.{IsStanding, IsKept};
 ghost use Rattle.dob_world.specs.Worlds.{HaveFallsIn};
 ghost use Rattle.dob_world.specs.Stops.{IsForMemory};
 ghost use Rattle.dob_world.specs.Results.{HasMadeRound, HasDriven, StopsInRounds};
+ghost use Rattle.dob_safra.specs.Tokens.{most_nodes};
 
 use crate::event::Event;
 use crate::fault::Fault;
@@ -66,7 +67,7 @@ impl World {
 // The event of that number in a round of `n` nodes.
 fn event_at(n: usize, place: usize) -> Event
     requires some { 0 < n }
-    requires few { n ≤ 16 }
+    requires few { n ≤ most_nodes }
     requires place { place < round_length n }
     ensures { result ≡ round_event n place }
 {

@@ -2,6 +2,7 @@
 ghost use Rattle.std.specs.Prelude.{◌≤◌, IfOk};
 ghost use Rattle.dob_node.specs.Openings.{AreOpenings};
 ghost use Rattle.dob_world.specs.Start.{AreOpenedNodes, AreEmptyLanes};
+ghost use Rattle.dob_safra.specs.Tokens.{most_nodes};
 
 use crate::lane::Lane;
 use dob_node::{Node, Opening};
@@ -17,7 +18,7 @@ pub(crate) fn open_nodes(
     n: usize,
 ) -> Result<Vec<Node>, Memory>
     requires openings { AreOpenings family openings.now }
-    requires owners { n ≤ 16 }
+    requires owners { n ≤ most_nodes }
     ensures { IfOk result (λ nodes. AreOpenedNodes openings.now family n n nodes.items) }
 {
     let mut nodes = Vec::new(alloc);
