@@ -126,10 +126,5 @@ pub(crate) fn cut_at(
 pub(crate) fn are_empty(outboxes: &[Outbox]) -> bool
     ensures { IsTrue result ↔ All (λ (o : OutboxView). o.items ≡ []) outboxes.now }
 {
-    for outbox in outboxes {
-        if !outbox.is_empty() {
-            return false;
-        }
-    }
-    true
+    outboxes.iter().all(|outbox| outbox.is_empty())
 }
