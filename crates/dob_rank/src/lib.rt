@@ -7,6 +7,7 @@
 // block a position is a number in mixed radix, with a digit for each further part of the key.
 #![tactic(auto)]
 
+mod bit_placing;
 mod bitboards;
 mod block;
 mod block_classes;
