@@ -34,6 +34,7 @@ mod ranks;
 mod runs;
 mod segment_length;
 mod segmented;
+mod shown;
 mod starts;
 mod stretches;
 
@@ -48,3 +49,4 @@ pub use limit::{MOST_PIECES, is_too_large};
 pub use ranks::{rank, representative, size, unrank};
 pub use segment_length::SegmentLength;
 pub use segmented::{Segments, SegmentsIter};
+pub use shown::Shown;

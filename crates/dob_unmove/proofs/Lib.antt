@@ -25,5 +25,4 @@ pub mod WayMasks  -- the masks of the ways
 pub mod OwnImages  -- positions that are their own mirror images
 pub mod ImageMasks  -- masks of mirror images
 pub mod BitUndone  -- and when a move is taken back
-pub mod BitImages  -- masks and mirror images of sets of squares
 pub mod OwnKinds  -- the mover's piece on a square
