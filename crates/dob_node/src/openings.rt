@@ -19,8 +19,12 @@ pub(crate) fn opening_of(profile: Profile, shown: &Shown) -> Opening
     ensures { IsOpening profile shown.now.position.setup result }
 {
     let bits = &shown.bits;
-    let (status, moves) =
-        status_and_count_shown(profile, &shown.position, &bits.masks(), bits.hands.mover);
+    let (status, moves) = status_and_count_shown(
+        profile,
+        &shown.position,
+        &bits.masks(),
+        bits.hands.mover,
+    );
     Opening { status, moves }
 }
 
