@@ -16,7 +16,6 @@ mod watch;
 
 use anyhow::{Result, bail};
 use dob_pieces::{Family, PieceSet, Profile};
-use dob_rank::is_too_large;
 use dob_run::CAPACITY;
 use std::rt::{Clock, Files};
 use std::sync::Wait;
@@ -38,7 +37,7 @@ fn main(rt: HostRuntime) -> Result<()> {
     match words.as_slice() {
         [] => measure_lions(&rt),
         [text] => measure_set(&rt, text.as_str()),
-        [text, word] if word.as_str() == "--plain" => plain::run(&rt, small_set(text.as_str())?),
+        [text, word] if word.as_str() == "--plain" => plain::run(&rt, family_of(text.as_str())?),
         [text, name] => write_table(&rt, text.as_str(), name.as_str()),
         [word, text, nodes] if word.as_str() == "build" => {
             measure_build(&rt, text.as_str(), nodes.as_str(), CAPACITY)
@@ -62,7 +61,7 @@ fn measure_set<R: Print + Clock + AllocGlobal + Files + Threads + Sync>(
     rt: &R,
     text: &str,
 ) -> Result<()> {
-    measure::run(rt, small_set(text)?, true)?;
+    measure::run(rt, family_of(text)?, true)?;
     Ok(())
 }
 
@@ -72,7 +71,7 @@ fn write_table<R: Print + Clock + AllocGlobal + Files + Threads + Sync>(
     text: &str,
     name: &str,
 ) -> Result<()> {
-    let bytes = measure::run(rt, small_set(text)?, true)?;
+    let bytes = measure::run(rt, family_of(text)?, true)?;
     std::fs::write(rt, name, &bytes)?;
     Ok(())
 }
@@ -84,7 +83,7 @@ fn measure_build<R: Print + Clock + AllocGlobal + Files + Threads + Wait + Sync>
     nodes: &str,
     capacity: usize,
 ) -> Result<()> {
-    crews::run(rt, small_set(text)?, number(nodes)?, capacity)
+    crews::run(rt, family_of(text)?, number(nodes)?, capacity)
 }
 
 // The number of that text.
@@ -95,10 +94,10 @@ fn number(text: &str) -> Result<usize> {
     Ok(number)
 }
 
-// The family of the piece set of that text in profile A, if its classes can be opened.
-fn small_set(text: &str) -> Result<Family> {
+// The family of the piece set of that text in profile A.
+fn family_of(text: &str) -> Result<Family> {
     match PieceSet::read(text) {
-        Ok(set) if !is_too_large(set) => Ok(Family {
+        Ok(set) => Ok(Family {
             set,
             profile: Profile::A,
         }),

@@ -13,7 +13,6 @@ use Rattle.dob_pieces.specs.Sets.{set_text}
 use Rattle.dob_pieces.specs.declared.profile.Family.{Family}
 use Rattle.dob_pieces.specs.declared.profile.Profile.TheVariants.{A}
 use Rattle.dob_rank.specs.Families.{family_of}
-use Rattle.dob_rank.specs.Limits.{IsSmall}
 use Rattle.dob_value.specs.declared.value.Value.{Value}
 use Rattle.dob_value.specs.Entries.{is_draw}
 use Rattle.dob_value.specs.Follows.{ClassTable, IsValueTable}
@@ -27,7 +26,7 @@ use Rattle.dob_dbfile.specs.Sinks.{Change}
 use Rattle.dob_dbfile.specs.Writing.{StopsAt}
 use Rattle.dob_cli.specs.declared.tally.Tally.{Tally}
 use Rattle.dob_cli.specs.declared.fault.Fault.{Fault}
-use Rattle.dob_cli.specs.declared.fault.Fault.TheVariants.{Text, SetText, SetTooLarge, TooDeep, Run, File, Table, Memory, Io}
+use Rattle.dob_cli.specs.declared.fault.Fault.TheVariants.{Text, SetText, TooDeep, Run, File, Table, Memory, Io}
 use Rattle.dob_cli.specs.Shelves.{HasJust, ShelfChange}
 use Rattle.dob_cli.specs.Sizes.{count_line}
 use Rattle.dob_cli.specs.Builds.{AddsValue, IsBuildFault, IsKeepingFault, IsTableFor, IsTally, class_lines, is_loss, is_win}
@@ -94,12 +93,11 @@ lines_told values tally classes count is = four_lines classes tally.wins tally.l
 
 -- the table that was built of the set with this text is the text's
 pub table_for : (text : List ℕ) (set : PieceSet) (nodes size capacity : ℕ) (built : Built) → text ≡ set_text set → IsBuilt (family_of set A) nodes size built
-    → IsSmall set × AreWithin nodes size capacity → IsTableFor text nodes built.table
+    → AreWithin nodes size capacity → IsTableFor text nodes built.table
 table_for text set nodes size capacity built named is limits = record {
   named = named ∙ ap (λ (family : Family). set_text family.set) (sym is.family_is);
   rules = ap (λ (family : Family). family.profile) is.family_is;
-  small = subst (λ (family : Family). IsSmall family.set) (sym is.family_is) limits.0;
-  few = limits.1.0;
+  few = limits.0;
   right = subst (λ s. IsValueTable s built.table.values) (sym is.family_is) is.values;
 }
 
@@ -122,7 +120,6 @@ module _ (c : ShelfChange) (name : List ℕ) (table : ClassTable) where
       → IsKeepingFault c name table (File fault)
   stopped_keeping sink file_fault.Memory empty stops = empty
   stopped_keeping sink (file_fault.Io count) empty stops = (stops.within, empty)
-  stopped_keeping sink file_fault.SetTooLarge empty stops = absurd stops
   stopped_keeping sink file_fault.Truncated empty stops = absurd stops
   stopped_keeping sink file_fault.Magic empty stops = absurd stops
   stopped_keeping sink file_fault.SetByte empty stops = absurd stops
@@ -138,7 +135,6 @@ module _ (c : ShelfChange) (name : List ℕ) (table : ClassTable) where
   keeping_holds text nodes Memory built holds = holds
   keeping_holds text nodes (Text f) built holds = absurd holds
   keeping_holds text nodes SetText built holds = absurd holds
-  keeping_holds text nodes SetTooLarge built holds = absurd holds
   keeping_holds text nodes TooDeep built holds = absurd holds
   keeping_holds text nodes (Run f) built holds = absurd holds
   keeping_holds text nodes (Table f) built holds = absurd holds

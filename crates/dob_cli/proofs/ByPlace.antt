@@ -21,7 +21,7 @@ use Rattle.dob_dbfile.specs.declared.fault.Fault.TheVariants as file_fault
 use Rattle.dob_dbfile.proofs.Looked.{table_record, table_set}
 use Rattle.dob_probe.specs.declared.fault.Fault.TheVariants as table_fault
 use Rattle.dob_cli.specs.declared.fault.Fault.{Fault}
-use Rattle.dob_cli.specs.declared.fault.Fault.TheVariants.{Text, SetText, SetTooLarge, TooDeep, Run, File, Table, Memory, Io}
+use Rattle.dob_cli.specs.declared.fault.Fault.TheVariants.{Text, SetText, TooDeep, Run, File, Table, Memory, Io}
 use Rattle.dob_cli.specs.Faults.{fault_of_shelf, is_io}
 use Rattle.dob_cli.specs.declared.shelf.ShelfFault.{ShelfFault}
 use Rattle.dob_cli.specs.declared.shelf.ShelfFault.TheVariants as shelf_fault
@@ -82,7 +82,6 @@ fault_holds Has Gives words position (Table (table_fault.Inconsistent class)) na
 fault_holds Has Gives words position (Table table_fault.Memory) named gives holds = absurd holds
 fault_holds Has Gives words position (Text fault) named gives holds = absurd holds
 fault_holds Has Gives words position SetText named gives holds = absurd holds
-fault_holds Has Gives words position SetTooLarge named gives holds = absurd holds
 fault_holds Has Gives words position TooDeep named gives holds = absurd holds
 fault_holds Has Gives words position (Run fault) named gives holds = absurd holds
 fault_holds Has Gives words position Memory named gives holds = absurd holds

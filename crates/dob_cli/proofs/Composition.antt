@@ -7,7 +7,7 @@ use Rattle.dob_dbfile.specs.Format.{bytes_of}
 use Rattle.dob_dbfile.specs.Sinks.{Change}
 use Rattle.dob_probe.specs.declared.fault.Fault.TheVariants as table_fault
 use Rattle.dob_cli.specs.declared.fault.Fault.{Fault}
-use Rattle.dob_cli.specs.declared.fault.Fault.TheVariants.{Text, SetText, SetTooLarge, TooDeep, Run, File, Table, Memory, Io}
+use Rattle.dob_cli.specs.declared.fault.Fault.TheVariants.{Text, SetText, TooDeep, Run, File, Table, Memory, Io}
 use Rattle.dob_cli.specs.Faults.{status_of}
 use Rattle.dob_cli.specs.Endings.{Ending, TellsOneFault}
 use Rattle.dob_cli.specs.Shelves.{ShelfChange, ShelfState}
@@ -19,14 +19,11 @@ use Rattle.dob_cli.specs.Laws.{BuildThenProbe}
 not_done : (fault : Fault) → status_of fault ≡ 0 → ⊥
 not_done (Text f) e = omega (arith, e)
 not_done SetText e = omega (arith, e)
-not_done SetTooLarge e = omega (arith, e)
 not_done TooDeep e = omega (arith, e)
-not_done (Run run_fault.SetTooLarge) e = omega (arith, e)
 not_done (Run run_fault.Nodes) e = omega (arith, e)
 not_done (Run run_fault.Sizes) e = omega (arith, e)
 not_done (Run (run_fault.Stopped node why)) e = omega (arith, e)
 not_done (Run run_fault.Memory) e = omega (arith, e)
-not_done (File file_fault.SetTooLarge) e = omega (arith, e)
 not_done (File file_fault.Truncated) e = omega (arith, e)
 not_done (File file_fault.Magic) e = omega (arith, e)
 not_done (File file_fault.SetByte) e = omega (arith, e)

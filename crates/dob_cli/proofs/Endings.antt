@@ -11,19 +11,17 @@ use Rattle.dob_value.specs.declared.fault.Fault as value
 use Rattle.dob_value.specs.declared.fault.Fault.TheVariants as value_fault
 use Rattle.dob_dbfile.specs.Sinks.{Change, State, change}
 use Rattle.dob_cli.specs.declared.fault.Fault.{Fault}
-use Rattle.dob_cli.specs.declared.fault.Fault.TheVariants.{Text, SetText, SetTooLarge, TooDeep, Run, File, Table, Memory, Io}
+use Rattle.dob_cli.specs.declared.fault.Fault.TheVariants.{Text, SetText, TooDeep, Run, File, Table, Memory, Io}
 use Rattle.dob_cli.specs.Faults.{fault_of_value}
 use Rattle.dob_cli.specs.Endings.{Answers, Ending, Tells, TellsMemory, TellsOneFault, ended}
-use Rattle.dob_rank.specs.Limits.{HasManyPieces}
 use Rattle.dob_cli.specs.Program.{IsFaultOf}
 
 -- a fault of finding a value is one of the text's
 pub value_fault_holds : (text : List ℕ) (p : Setup) (f : value.Fault) → IsLegal p → Spells text p
-    → (f ≡ value_fault.SetTooLarge → HasManyPieces p) → (f ≡ value_fault.TooDeep → SomeTooDeep A (HasSamePieces A p))
+    → (f ≡ value_fault.TooDeep → SomeTooDeep A (HasSamePieces A p))
     → IsFaultOf text (fault_of_value f)
-value_fault_holds text p value_fault.SetTooLarge legal spelled large deep = (p, legal, spelled, large refl)
-value_fault_holds text p value_fault.TooDeep legal spelled large deep = (p, legal, spelled, deep refl)
-value_fault_holds text p value_fault.Memory legal spelled large deep = tt
+value_fault_holds text p value_fault.TooDeep legal spelled deep = (p, legal, spelled, deep refl)
+value_fault_holds text p value_fault.Memory legal spelled deep = tt
 
 -- a fault, with nothing on standard output
 pub faulty : (AreLines : List ℕ → Type 0) (Holds : Fault → Type 0) (fault : Fault) (status : ℕ) (out : State) (err : Change)

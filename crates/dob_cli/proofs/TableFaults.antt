@@ -11,7 +11,7 @@ use Rattle.dob_probe.specs.Choices.{AreValuedMoves}
 use Rattle.dob_probe.proofs.ByValue.{valued_rightly}
 use Rattle.dob_probe.specs.Faults.{IsFaultOfCheck, IsFaultOfLine, IsFaultOfMoves}
 use Rattle.dob_cli.specs.declared.fault.Fault.{Fault}
-use Rattle.dob_cli.specs.declared.fault.Fault.TheVariants.{Text, SetText, SetTooLarge, TooDeep, Run, File, Table, Memory, Io}
+use Rattle.dob_cli.specs.declared.fault.Fault.TheVariants.{Text, SetText, TooDeep, Run, File, Table, Memory, Io}
 use Rattle.dob_cli.specs.Shelves.{FailsWhere, ShelfChange}
 use Rattle.dob_cli.specs.Faults.{fault_of_shelf, is_io}
 use Rattle.dob_cli.specs.declared.shelf.ShelfFault.{ShelfFault}
@@ -56,7 +56,6 @@ opening_fault_holds Has words position (File fault) named holds = (position, nam
 opening_fault_holds Has words position Io named holds = (position, named, holds)
 opening_fault_holds Has words position (Text fault) named holds = absurd holds
 opening_fault_holds Has words position SetText named holds = absurd holds
-opening_fault_holds Has words position SetTooLarge named holds = absurd holds
 opening_fault_holds Has words position TooDeep named holds = absurd holds
 opening_fault_holds Has words position (Run fault) named holds = absurd holds
 opening_fault_holds Has words position (Table fault) named holds = absurd holds

@@ -4,8 +4,6 @@ use Rattle.std.specs.List.{count_by}
 use Rattle.dob_pieces.specs.declared.piece_set.PieceSet.{PieceSet}
 use Rattle.dob_pieces.specs.Sets.{set_text}
 use Rattle.dob_pieces.specs.declared.profile.Profile.TheVariants.{A}
-use Rattle.dob_rank.specs.Families.{family_of}
-use Rattle.dob_rank.specs.Limits.{IsSmall}
 use Rattle.dob_safra.specs.Laws.{IsSize}
 use Rattle.dob_value.specs.declared.value.Value.{Value}
 use Rattle.dob_value.specs.declared.value.Value.TheVariants.{Win, Loss}
@@ -52,12 +50,11 @@ class_lines values =
     ++ (count_line (codes "loss ") (count_by is_loss values)
     ++ count_line (codes "draw ") (count_by is_draw values)))
 
--- So many nodes may build the table: it is the value table in profile A of the piece set that the text names, a small one, and there are 1
--- to 16 nodes.
+-- So many nodes may build the table: it is the value table in profile A of the piece set that the text names, and there are 1 to 16
+-- nodes.
 pub record IsTableFor (text : List ℕ) (nodes : ℕ) (table : ClassTable) : Type 0 where
   pub named : text ≡ set_text table.family.set
   pub rules : table.family.profile ≡ A
-  pub small : IsSmall table.family.set
   pub few : IsSize nodes
   pub right : IsValueTable table.family table.values
 
@@ -89,7 +86,7 @@ IsKeepingFault c file table _ = ⊥
 abbrev pub IsBuildFault : ShelfChange → List ℕ → ℕ → List ℕ → Fault → Type 0
 IsBuildFault c text nodes file SetText = ((set : PieceSet) → text ≢ set_text set) × SameFiles c.before.has c.after.has
 IsBuildFault c text nodes file (Run fault) =
-    (set : PieceSet) × (text ≡ set_text set) × HasBuildFault (family_of set A) nodes 256 64 fault × IsUnheld fault × SameFiles c.before.has c.after.has
+    (set : PieceSet) × (text ≡ set_text set) × HasBuildFault nodes 256 64 fault × IsUnheld fault × SameFiles c.before.has c.after.has
 IsBuildFault c text nodes file Memory = SameFiles c.before.has c.after.has
 IsBuildFault c text nodes file Io = (table : ClassTable) × IsTableFor text nodes table × IsKeepingFault c file table Io
 IsBuildFault c text nodes file (File fault) =

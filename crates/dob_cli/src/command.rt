@@ -100,7 +100,6 @@ A fault is one line on standard error. The status is 1, and 3 for E12, E14, E23 
   E5 Count         there are more than two pieces of a kind, hens counted as chicks
   E6 FarLion       the lion of the side to move stands on row 4
   E7 OtherSet      the position's piece set isn't the file's
-  E8 SetTooLarge   there are more than six pieces besides the lions, which no piece set has
   E9 Nodes         there aren't 1 to 16 nodes
   E12 TooDeep      of `value`: a distance would be above 65534 plies
   E14 Stopped node N: CAUSE

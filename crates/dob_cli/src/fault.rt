@@ -18,13 +18,11 @@ pub enum Fault {
     Text(TextFault),
     /// E25: the text isn't a piece set's.
     SetText,
-    /// E8: the piece set is larger than those whose values can be found, or whose positions are counted.
-    SetTooLarge,
     /// E12: a distance would be above 65,534 plies.
     TooDeep,
-    /// E8, E9, E14, E23: the build isn't begun, or it was stopped.
+    /// E9, E14, E23: the build isn't begun, or it was stopped.
     Run(dob_run::Fault),
-    /// E8, E15 to E20, E23, E24: the file isn't one of a table, or reading or writing it failed.
+    /// E15 to E20, E23, E24: the file isn't one of a table, or reading or writing it failed.
     File(dob_dbfile::Fault),
     /// E7, E21, E23: the table has no answer.
     Table(dob_probe::Fault),
@@ -42,7 +40,7 @@ impl Fault {
         ensures { result ≡ status_of self }
     {
         match self {
-            Fault::Text(_) | Fault::SetText | Fault::SetTooLarge => 1,
+            Fault::Text(_) | Fault::SetText => 1,
             Fault::TooDeep | Fault::Memory | Fault::Io => 3,
             Fault::Run(dob_run::Fault::Stopped { .. } | dob_run::Fault::Memory) => 3,
             Fault::Run(_) => 1,
@@ -63,7 +61,6 @@ impl fmt::Display for Fault {
         match self {
             Fault::Text(fault) => write!(f, "{fault}"),
             Fault::SetText => write!(f, "{SetText}"),
-            Fault::SetTooLarge => write!(f, "{}", dob_rank::Fault::SetTooLarge),
             Fault::TooDeep => write!(f, "{}", dob_value::Fault::TooDeep),
             Fault::Run(fault) => write!(f, "{fault}"),
             Fault::File(fault) => write!(f, "{fault}"),
@@ -99,7 +96,6 @@ impl From<dob_value::Fault> for Fault {
 
     fn from(given: dob_value::Fault) -> Fault {
         match given {
-            dob_value::Fault::SetTooLarge => Fault::SetTooLarge,
             dob_value::Fault::TooDeep => Fault::TooDeep,
             dob_value::Fault::Memory => Fault::Memory,
         }

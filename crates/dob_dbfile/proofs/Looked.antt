@@ -30,7 +30,6 @@ pub front_cut : (stream : Stream) (given : Fault) → IsCut 20 0 stream given �
 front_cut stream fault.Truncated cut = inr (λ there. let le : 20 ≤ length stream.bytes = there in omega (arith, cut.0), cut.1)
 front_cut stream (fault.Io count) cut = inr (λ there. let le : 20 ≤ length stream.bytes = there in omega (arith, cut.0), cut.1, omega (arith, cut.2))
 front_cut stream fault.Memory cut = inl refl
-front_cut stream fault.SetTooLarge cut = absurd cut
 front_cut stream fault.Magic cut = absurd cut
 front_cut stream fault.SetByte cut = absurd cut
 front_cut stream fault.ClassCount cut = absurd cut
@@ -43,7 +42,6 @@ pub front_refused : (stream : Stream) (given : Fault) → HasHeader stream → (
 front_refused stream given there (inl none) = inl none
 front_refused stream fault.Magic there (inr wrong) = inr (there, wrong)
 front_refused stream fault.SetByte there (inr wrong) = inr (there, wrong)
-front_refused stream fault.SetTooLarge there (inr wrong) = inr (there, wrong)
 front_refused stream fault.ClassCount there (inr wrong) = inr (there, wrong)
 front_refused stream fault.Truncated there (inr wrong) = absurd wrong
 front_refused stream fault.Trailing there (inr wrong) = absurd wrong
@@ -58,7 +56,6 @@ record_cut stream class fault.Truncated cut known = (omega (arith, cut.0, length
 record_cut stream class (fault.Io count) cut known =
     (omega (arith, cut.0, length-drop (20 + 2 * class) stream.bytes), cut.1, cut.2)
 record_cut stream class fault.Memory cut known = known refl
-record_cut stream class fault.SetTooLarge cut known = cut
 record_cut stream class fault.Magic cut known = cut
 record_cut stream class fault.SetByte cut known = cut
 record_cut stream class fault.ClassCount cut known = cut
@@ -118,7 +115,7 @@ records_are_entries table class value is below has =
 
 -- and its header names its set alone
 pub table_set : (table : ClassTable) (set : PieceSet) → IsOfSet set (whole (bytes_of table)) → set ≡ table.family.set
-table_set table set is = same_set set table.family.set (take 20 (bytes_of table)) is.1.0.0 (names_set table)
+table_set table set is = same_set set table.family.set (take 20 (bytes_of table)) is.1.0 (names_set table)
 
 -- the record of one of the set's classes
 pub table_record : (table : ClassTable) (class : ℕ) (value : Value) → table.family.profile ≡ A → IsTable table.family table.values

@@ -7,9 +7,8 @@ use Rattle.dob_dbfile.specs.declared.fault.Fault.{Fault}
 use Rattle.dob_dbfile.specs.declared.fault.Fault.TheVariants as fault
 use Rattle.dob_dbfile.specs.Devices.{Stream}
 use Rattle.dob_dbfile.specs.Format.{set_bytes}
-use Rattle.dob_rank.specs.Limits.{IsSmall}
 use Rattle.dob_rank.proofs.Sets.{same_numbers}
-use Rattle.dob_dbfile.specs.Faults.{HasTitle, NamesSet, NamesSmallSet, CountsClasses, header, HasHeader, IsOfSet, IsWhole, IsNoLonger, Ends}
+use Rattle.dob_dbfile.specs.Faults.{HasTitle, NamesSet, CountsClasses, header, HasHeader, IsOfSet, IsWhole, IsNoLonger, Ends}
 use Rattle.dob_dbfile.specs.Faults.{HasDigest, HasReadFault}
 
 -- ---- one set
@@ -27,24 +26,22 @@ level s zero = Unit {0}
 level s (suc zero) = HasHeader s
 level s (suc (suc zero)) = HasHeader s × HasTitle (header s)
 level s (suc (suc (suc zero))) = HasHeader s × ((set : PieceSet) × NamesSet set (header s))
-level s (suc (suc (suc (suc zero)))) = HasHeader s × ((set : PieceSet) × NamesSmallSet set (header s))
-level s (suc (suc (suc (suc (suc zero))))) = (set : PieceSet) × IsOfSet set s
-level s (suc (suc (suc (suc (suc (suc zero)))))) = (set : PieceSet) × IsWhole set s
-level s (suc (suc (suc (suc (suc (suc (suc zero))))))) = (set : PieceSet) × IsNoLonger set s
-level s (suc (suc (suc (suc (suc (suc (suc (suc zero)))))))) = (set : PieceSet) × Ends set s
-level s (suc (suc (suc (suc (suc (suc (suc (suc (suc n))))))))) = (set : PieceSet) × HasDigest set s
+level s (suc (suc (suc (suc zero)))) = (set : PieceSet) × IsOfSet set s
+level s (suc (suc (suc (suc (suc zero))))) = (set : PieceSet) × IsWhole set s
+level s (suc (suc (suc (suc (suc (suc zero)))))) = (set : PieceSet) × IsNoLonger set s
+level s (suc (suc (suc (suc (suc (suc (suc zero))))))) = (set : PieceSet) × Ends set s
+level s (suc (suc (suc (suc (suc (suc (suc (suc n)))))))) = (set : PieceSet) × HasDigest set s
 
 down : (s : Stream) (n : ℕ) → level s (suc n) → level s n
 down s zero h = tt
 down s (suc zero) h = h.0
 down s (suc (suc zero)) h = (h.0, h.1.1.0)
-down s (suc (suc (suc zero))) h = (h.0, (h.1.0, h.1.1.0))
-down s (suc (suc (suc (suc zero)))) h = (h.1.0, (h.0, h.1.1.0))
+down s (suc (suc (suc zero))) h = (h.1.0, (h.0, h.1.1.0))
+down s (suc (suc (suc (suc zero)))) h = (h.0, h.1.0)
 down s (suc (suc (suc (suc (suc zero))))) h = (h.0, h.1.0)
 down s (suc (suc (suc (suc (suc (suc zero)))))) h = (h.0, h.1.0)
 down s (suc (suc (suc (suc (suc (suc (suc zero))))))) h = (h.0, h.1.0)
-down s (suc (suc (suc (suc (suc (suc (suc (suc zero)))))))) h = (h.0, h.1.0)
-down s (suc (suc (suc (suc (suc (suc (suc (suc (suc n))))))))) h = h
+down s (suc (suc (suc (suc (suc (suc (suc (suc n)))))))) h = h
 
 upto : (s : Stream) (m n : ℕ) → m ≤ n → level s n → level s m
 upto s m zero le h = (let none : zero ≡ m = omega arith in subst (level s) none h)
@@ -55,7 +52,7 @@ upto s m (suc n) le h = elim (cases_lt n m) [
 
 -- the test of that number is the first that fails
 record StopsAt (s : Stream) (n : ℕ) : Type 0 where
-  within : n ≤ 8
+  within : n ≤ 7
   passed : level s n
   fails : ¬ level s (suc n)
 
@@ -77,12 +74,11 @@ abbrev fault_at : Stream → ℕ → Fault
 fault_at s zero = cut_fault s.fails (length s.bytes)
 fault_at s (suc zero) = fault.Magic
 fault_at s (suc (suc zero)) = fault.SetByte
-fault_at s (suc (suc (suc zero))) = fault.SetTooLarge
-fault_at s (suc (suc (suc (suc zero)))) = fault.ClassCount
-fault_at s (suc (suc (suc (suc (suc zero))))) = cut_fault s.fails (length s.bytes)
-fault_at s (suc (suc (suc (suc (suc (suc zero)))))) = fault.Trailing
-fault_at s (suc (suc (suc (suc (suc (suc (suc zero))))))) = fault.Io (length s.bytes)
-fault_at s (suc (suc (suc (suc (suc (suc (suc (suc n)))))))) = fault.Digest
+fault_at s (suc (suc (suc zero))) = fault.ClassCount
+fault_at s (suc (suc (suc (suc zero)))) = cut_fault s.fails (length s.bytes)
+fault_at s (suc (suc (suc (suc (suc zero))))) = fault.Trailing
+fault_at s (suc (suc (suc (suc (suc (suc zero)))))) = fault.Io (length s.bytes)
+fault_at s (suc (suc (suc (suc (suc (suc (suc n))))))) = fault.Digest
 
 -- each fault has its place
 place_of : (s : Stream) (given : Fault) → HasReadFault s given → (n : ℕ) × StopsAt s n × (given ≡ fault_at s n)
@@ -91,50 +87,41 @@ place_of s fault.Truncated h =
     elim h.0 [
       | inl none ↦ (0, record { within = omega arith; passed = tt; fails = none }, is)
       | inr part ↦ (
-        5,
+        4,
         record {
           within = omega arith;
           passed = (part.0, part.1);
-          fails = λ x. part.2 (subst (λ (q : PieceSet). IsWhole q s) (same_set x.0 part.0 (header s) x.1.0.1.0.0 part.1.1.0.0) x.1);
+          fails = λ x. part.2 (subst (λ (q : PieceSet). IsWhole q s) (same_set x.0 part.0 (header s) x.1.0.1.0 part.1.1.0) x.1);
         },
         is,
       )
     ]
 place_of s fault.Magic h = (1, record { within = omega arith; passed = h.0; fails = λ x. h.1 x.1 }, refl)
 place_of s fault.SetByte h = (2, record { within = omega arith; passed = (h.0, h.1.0); fails = λ x. h.1.1 x.1.0 x.1.1 }, refl)
-place_of s fault.SetTooLarge h = (
+place_of s fault.ClassCount h = (
   3,
   record {
     within = omega arith;
     passed = (h.0, (h.1.0, h.1.1));
-    fails = λ x. h.1.2 (subst (λ (q : PieceSet). IsSmall q) (same_set x.1.0 h.1.0 (header s) x.1.1.0 h.1.1) x.1.1.1);
-  },
-  refl,
-)
-place_of s fault.ClassCount h = (
-  4,
-  record {
-    within = omega arith;
-    passed = (h.0, (h.1.0, h.1.1));
-    fails = λ x. h.1.2 (subst (λ (q : PieceSet). CountsClasses q (header s)) (same_set x.0 h.1.0 (header s) x.1.1.0.0 h.1.1.0) x.1.1);
+    fails = λ x. h.1.2 (subst (λ (q : PieceSet). CountsClasses q (header s)) (same_set x.0 h.1.0 (header s) x.1.1.0 h.1.1) x.1.1);
   },
   refl,
 )
 place_of s fault.Trailing h = (
-  6,
+  5,
   record {
     within = omega arith;
     passed = (h.0, h.1);
-    fails = λ x. h.2 (subst (λ (q : PieceSet). IsNoLonger q s) (same_set x.0 h.0 (header s) x.1.0.0.1.0.0 h.1.0.1.0.0) x.1);
+    fails = λ x. h.2 (subst (λ (q : PieceSet). IsNoLonger q s) (same_set x.0 h.0 (header s) x.1.0.0.1.0 h.1.0.1.0) x.1);
   },
   refl,
 )
 place_of s fault.Digest h = (
-  8,
+  7,
   record {
     within = omega arith;
     passed = (h.0, h.1);
-    fails = λ x. h.2 (subst (λ (q : PieceSet). HasDigest q s) (same_set x.0 h.0 (header s) x.1.0.0.0.0.1.0.0 h.1.0.0.0.1.0.0) x.1);
+    fails = λ x. h.2 (subst (λ (q : PieceSet). HasDigest q s) (same_set x.0 h.0 (header s) x.1.0.0.0.0.1.0 h.1.0.0.0.1.0) x.1);
   },
   refl,
 )
@@ -145,17 +132,17 @@ place_of s (fault.Io bytes) h =
       | inl short ↦ elim short [
         | inl none ↦ (0, record { within = omega arith; passed = tt; fails = none }, is)
         | inr part ↦ (
-          5,
+          4,
           record {
             within = omega arith;
             passed = (part.0, part.1);
-            fails = λ x. part.2 (subst (λ (q : PieceSet). IsWhole q s) (same_set x.0 part.0 (header s) x.1.0.1.0.0 part.1.1.0.0) x.1);
+            fails = λ x. part.2 (subst (λ (q : PieceSet). IsWhole q s) (same_set x.0 part.0 (header s) x.1.0.1.0 part.1.1.0) x.1);
           },
           is,
         )
       ]
       | inr end ↦ (
-        7,
+        6,
         record {
           within = omega arith;
           passed = (end.0, end.1);
@@ -177,8 +164,8 @@ one_fault s f g at_f at_g =
 pub no_fault : (s : Stream) (set : PieceSet) (f : Fault) → HasDigest set s → HasReadFault s f → ⊥
 no_fault s set f right at_f =
     let a = place_of s f at_f in
-    let all : level s 9 = (set, right) in
-    a.1.fails (upto s (suc a.0) 9 (omega (arith, a.1.within)) all)
+    let all : level s 8 = (set, right) in
+    a.1.fails (upto s (suc a.0) 8 (omega (arith, a.1.within)) all)
 
 -- what reading gives says so of each fault
 pub exact_as : {X : Type 0} (s : Stream) (result : Result X Fault) (Passes : X → PieceSet) → IfOk result (λ x. HasDigest (Passes x) s)

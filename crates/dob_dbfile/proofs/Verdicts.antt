@@ -30,7 +30,6 @@ header_cut stream fault.Truncated cut = inr (inl (λ there. let le : 20 ≤ leng
 header_cut stream (fault.Io count) cut =
     inr (omega (arith, cut.2), cut.1, inl (inl (λ there. let le : 20 ≤ length stream.bytes = there in omega (arith, cut.0))))
 header_cut stream fault.Memory cut = inl refl
-header_cut stream fault.SetTooLarge cut = absurd cut
 header_cut stream fault.Magic cut = absurd cut
 header_cut stream fault.SetByte cut = absurd cut
 header_cut stream fault.ClassCount cut = absurd cut
@@ -43,7 +42,6 @@ pub header_fault : (stream : Stream) (given : Fault) → HasHeader stream → (g
 header_fault stream given there (inl none) = inl none
 header_fault stream fault.Magic there (inr wrong) = inr (there, wrong)
 header_fault stream fault.SetByte there (inr wrong) = inr (there, wrong)
-header_fault stream fault.SetTooLarge there (inr wrong) = inr (there, wrong)
 header_fault stream fault.ClassCount there (inr wrong) = inr (there, wrong)
 header_fault stream fault.Truncated there (inr wrong) = absurd wrong
 header_fault stream fault.Trailing there (inr wrong) = absurd wrong
@@ -95,7 +93,6 @@ rest_fault stream set (fault.Io count) is wrong =
     )
 rest_fault stream set fault.Truncated is wrong = inr (cut_short stream set is wrong.0, wrong.1)
 rest_fault stream set fault.Memory is wrong = inl refl
-rest_fault stream set fault.SetTooLarge is wrong = absurd wrong
 rest_fault stream set fault.Magic is wrong = absurd wrong
 rest_fault stream set fault.SetByte is wrong = absurd wrong
 rest_fault stream set fault.ClassCount is wrong = absurd wrong
@@ -103,7 +100,7 @@ rest_fault stream set fault.ClassCount is wrong = absurd wrong
 -- the three parts of a header
 header_parts : (set : PieceSet) (front : List ℕ) → CountsClasses set front → front ≡ title ++ set_bytes set ++ count_bytes (classes_of set)
 header_parts set front counts =
-    let named = counts.0.0 in
+    let named = counts.0 in
     sym (take-append-drop 8 front)
     ∙ ap (λ (rest : List ℕ). take 8 front ++ rest) (sym (take-append-drop 4 (drop 8 front)))
     ∙ ap (λ (rest : List ℕ). take 8 front ++ (take 4 (drop 8 front) ++ rest)) (drop-drop 4 8 front ∙ counts.1)

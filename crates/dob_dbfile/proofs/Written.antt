@@ -21,7 +21,6 @@ use Rattle.dob_dbfile.specs.declared.fault.Fault.{Fault}
 use Rattle.dob_dbfile.specs.declared.fault.Fault.TheVariants as fault
 use Rattle.dob_dbfile.specs.Devices.{Stream, whole}
 use Rattle.dob_dbfile.specs.Format.{title, set_bytes, count_bytes, header_of, records, contents, bytes_of}
-use Rattle.dob_rank.specs.Limits.{IsSmall}
 use Rattle.dob_dbfile.specs.Faults.{CountsClasses, NamesSet, contents_len, HasDigest, HasReadFault}
 use Rattle.dob_dbfile.proofs.Decoded.{same_records, length-records}
 use Rattle.dob_dbfile.proofs.Places.{same_set, no_fault}
@@ -55,20 +54,20 @@ unfolding contents
 length-contents table = let body = length-records table.values in omega (arith, body)
 
 -- it names the set and counts its classes
-counts_front : (set : PieceSet) (count : ℕ) → IsSmall set → count ≡ classes_of set → CountsClasses set (title ++ set_bytes set ++ count_bytes count)
-counts_front set count few counted = (((refl, refl), few), ap count_bytes counted)
+counts_front : (set : PieceSet) (count : ℕ) → count ≡ classes_of set → CountsClasses set (title ++ set_bytes set ++ count_bytes count)
+counts_front set count counted = ((refl, refl), ap count_bytes counted)
 
--- the file of a table of a small set passes all tests
-pub file_passes : (table : ClassTable) → table.family.profile ≡ A → IsSmall table.family.set → IsTable table.family table.values
+-- the file of a table passes all tests
+pub file_passes : (table : ClassTable) → table.family.profile ≡ A → IsTable table.family table.values
     → HasDigest table.family.set (whole (bytes_of table))
-file_passes table rules few is =
+file_passes table rules is =
     let counted : length table.values ≡ classes_of table.family.set = table_classes table rules is in
     let digest : List ℕ = sha256 (contents table) in
     let body : length (contents table) ≡ contents_len table.family.set = length-contents table ∙ ap (λ (n : ℕ). 20 + 2 * n) counted in
     let last : length digest ≡ 32 = length-sha256 (contents table) in
     let all : length (contents table ++ digest) ≡ length (contents table) + length digest = length-append (contents table) digest in
     let counts : CountsClasses table.family.set (take 20 (bytes_of table)) =
-    subst (CountsClasses table.family.set) (sym (contents-front table)) (counts_front table.family.set (length table.values) few counted) in (
+    subst (CountsClasses table.family.set) (sym (contents-front table)) (counts_front table.family.set (length table.values) counted) in (
       (
         (((omega (arith, all, body, last), counts), omega (arith, all, body, last)), omega (arith, all, body, last)),
         refl,
@@ -123,20 +122,20 @@ same_files a b of_a of_b is_a is_b same =
     same_tables a.family b.family a.values b.values of_a (one_family a.family b.family of_a of_b one) is_a is_b same
 
 -- what reading the file of a table gives
-pub read_back : (table : ClassTable) (result : Result ClassTable Fault) → table.family.profile ≡ A → IsSmall table.family.set
+pub read_back : (table : ClassTable) (result : Result ClassTable Fault) → table.family.profile ≡ A
     → IsTable table.family table.values
     → IfOk result (λ found. (whole (bytes_of table) ≡ whole (bytes_of found)) × HasDigest found.family.set (whole (bytes_of table)))
     → IfOk result (λ found. IsTable found.family found.values)
     → IfOk result (λ found. found.family.profile ≡ A)
     → IfErr result (λ given. (given ≡ fault.Memory) ⊎ HasReadFault (whole (bytes_of table)) given)
     → MatchResult result (λ found. found ≡ table) (λ given. given ≡ fault.Memory)
-read_back table (Ok found) rules few is right good by_a wrong =
+read_back table (Ok found) rules is right good by_a wrong =
     let stream : Stream = whole (bytes_of table) in
-    let passes : HasDigest table.family.set stream = file_passes table rules few is in
+    let passes : HasDigest table.family.set stream = file_passes table rules is in
     let one : found.family.set ≡ table.family.set =
-    same_set found.family.set table.family.set (take 20 (bytes_of table)) right.1.0.0.0.0.1.0.0 passes.0.0.0.0.1.0.0 in
+    same_set found.family.set table.family.set (take 20 (bytes_of table)) right.1.0.0.0.0.1.0 passes.0.0.0.0.1.0 in
     same_tables found.family table.family found.values table.values by_a (one_family found.family table.family by_a rules one) good is
     (sym (ap (λ (s : Stream). s.bytes) right.0))
-read_back table (Err given) rules few is right good by_a (inl none) = none
-read_back table (Err given) rules few is right good by_a (inr at_given) =
-    absurd (no_fault (whole (bytes_of table)) table.family.set given (file_passes table rules few is) at_given)
+read_back table (Err given) rules is right good by_a (inl none) = none
+read_back table (Err given) rules is right good by_a (inr at_given) =
+    absurd (no_fault (whole (bytes_of table)) table.family.set given (file_passes table rules is) at_given)

@@ -2,10 +2,9 @@
 use Rattle.std.specs.Prelude.{◌≡◌, ℕ, ◌+◌, ◌*◌, ◌≤◌, ◌⊎◌, Bool, true, false, List, length, take, drop, Result, Ok, Err}
 use Rattle.sha2.specs.Sha256.{sha256}
 use Rattle.dob_pieces.specs.declared.piece_set.PieceSet.{PieceSet}
-use Rattle.dob_rank.specs.Limits.{IsSmall}
 use Rattle.dob_rank.specs.Marks.{classes_of}
 use Rattle.dob_dbfile.specs.declared.fault.Fault.{Fault}
-use Rattle.dob_dbfile.specs.declared.fault.Fault.TheVariants.{SetTooLarge, Truncated, Magic, SetByte, ClassCount, Trailing, Digest, Memory, Io}
+use Rattle.dob_dbfile.specs.declared.fault.Fault.TheVariants.{Truncated, Magic, SetByte, ClassCount, Trailing, Digest, Memory, Io}
 use Rattle.dob_dbfile.specs.Devices.{Stream}
 use Rattle.dob_dbfile.specs.Format.{title, set_bytes, count_bytes}
 
@@ -26,18 +25,14 @@ HasTitle header = take 8 header ≡ title
 abbrev pub NamesSet : PieceSet → List ℕ → Type 0
 NamesSet set header = HasTitle header × (take 4 (drop 8 header) ≡ set_bytes set)
 
-abbrev pub NamesSmallSet : PieceSet → List ℕ → Type 0
-NamesSmallSet set header = NamesSet set header × IsSmall set
-
 abbrev pub CountsClasses : PieceSet → List ℕ → Type 0
-CountsClasses set header = NamesSmallSet set header × (drop 12 header ≡ count_bytes (classes_of set))
+CountsClasses set header = NamesSet set header × (drop 12 header ≡ count_bytes (classes_of set))
 
 -- the first test that the header fails
 abbrev pub HasHeaderFault : List ℕ → Fault → Type 0
 HasHeaderFault header Magic = ¬ HasTitle header
 HasHeaderFault header SetByte = HasTitle header × ((set : PieceSet) → ¬ NamesSet set header)
-HasHeaderFault header SetTooLarge = (set : PieceSet) × NamesSet set header × ¬ IsSmall set
-HasHeaderFault header ClassCount = (set : PieceSet) × NamesSmallSet set header × ¬ CountsClasses set header
+HasHeaderFault header ClassCount = (set : PieceSet) × NamesSet set header × ¬ CountsClasses set header
 HasHeaderFault header _ = ⊥
 
 -- ---- the whole file
@@ -84,7 +79,6 @@ abbrev pub HasReadFault : Stream → Fault → Type 0
 HasReadFault stream Truncated = IsCutShort stream × (stream.fails ≡ false)
 HasReadFault stream Magic = HasHeader stream × HasHeaderFault (header stream) Magic
 HasReadFault stream SetByte = HasHeader stream × HasHeaderFault (header stream) SetByte
-HasReadFault stream SetTooLarge = HasHeader stream × HasHeaderFault (header stream) SetTooLarge
 HasReadFault stream ClassCount = HasHeader stream × HasHeaderFault (header stream) ClassCount
 HasReadFault stream Trailing = (set : PieceSet) × IsWhole set stream × ¬ IsNoLonger set stream
 HasReadFault stream Digest = (set : PieceSet) × Ends set stream × ¬ HasDigest set stream

@@ -5,7 +5,7 @@ use Rattle.dob_value.specs.declared.value.Value.{Value}
 use Rattle.dob_value.specs.Codes.{code_of_value}
 use Rattle.dob_value.specs.Follows.{ClassTable, IsEntry, IsTable}
 use Rattle.dob_dbfile.specs.declared.fault.Fault.{Fault}
-use Rattle.dob_dbfile.specs.declared.fault.Fault.TheVariants.{SetTooLarge, Truncated, Magic, SetByte, ClassCount, Io}
+use Rattle.dob_dbfile.specs.declared.fault.Fault.TheVariants.{Truncated, Magic, SetByte, ClassCount, Io}
 use Rattle.dob_dbfile.specs.Devices.{Stream, whole}
 use Rattle.dob_dbfile.specs.Format.{bytes_of}
 use Rattle.dob_dbfile.specs.Faults.{HasHeader, HasHeaderFault, header}
@@ -16,7 +16,6 @@ HasFrontFault stream Truncated = (¬ HasHeader stream) × (stream.fails ≡ fals
 HasFrontFault stream (Io bytes) = (¬ HasHeader stream) × (stream.fails ≡ true) × (bytes ≡ length stream.bytes)
 HasFrontFault stream Magic = HasHeader stream × HasHeaderFault (header stream) Magic
 HasFrontFault stream SetByte = HasHeader stream × HasHeaderFault (header stream) SetByte
-HasFrontFault stream SetTooLarge = HasHeader stream × HasHeaderFault (header stream) SetTooLarge
 HasFrontFault stream ClassCount = HasHeader stream × HasHeaderFault (header stream) ClassCount
 HasFrontFault stream _ = ⊥
 

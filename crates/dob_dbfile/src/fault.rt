@@ -10,8 +10,6 @@ use std::fmt;
 /// Why a file isn't read or written.
 #[derive(Clone, Copy, Debug, PartialEq, Eq)]
 pub enum Fault {
-    /// E8: the file's piece set has more than `MOST_PIECES` pieces besides the lions.
-    SetTooLarge,
     /// E15: the bytes end before the header, or before the records and the digest of the set that it names.
     Truncated,
     /// E16: the file doesn't begin as such files do.
@@ -37,7 +35,6 @@ impl fmt::Display for Fault {
 
     fn fmt<W: fmt::Write>(&self, f: &mut fmt::Formatter<W>) -> fmt::Result {
         match self {
-            Fault::SetTooLarge => write!(f, "{}", dob_rank::Fault::SetTooLarge),
             Fault::Truncated => write!(f, "E15 Truncated"),
             Fault::Magic => write!(f, "E16 Magic"),
             Fault::SetByte => write!(f, "E17 SetByte"),
@@ -73,18 +70,5 @@ impl<T: Drop> From<AllocFailed<T>> for Fault {
 
     fn from(_lower: AllocFailed<T>) -> Fault {
         Fault::Memory
-    }
-}
-
-impl From<dob_rank::Fault> for Fault {
-    ghost use Rattle.dob_dbfile.specs.FaultTexts.{fault_of_rank};
-
-    ghost from_gives = { λ lower given. given ≡ fault_of_rank lower };
-
-    fn from(lower: dob_rank::Fault) -> Fault {
-        match lower {
-            dob_rank::Fault::SetTooLarge => Fault::SetTooLarge,
-            dob_rank::Fault::Memory => Fault::Memory,
-        }
     }
 }

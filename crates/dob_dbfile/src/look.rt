@@ -18,7 +18,7 @@ use std::alloc::Global;
 /// The classes in profile A of the set that the file's header names. No more than the header is read.
 ///
 /// Errors, the first of these that holds: `Truncated`, fewer than 20 bytes, or `Io` where the source fails before them;
-/// `Magic`, `SetByte`, `SetTooLarge`, `ClassCount`, what the header says. `Memory` where none of them
+/// `Magic`, `SetByte`, `ClassCount`, what the header says. `Memory` where none of them
 /// holds. The source has lost what was read.
 pub fn read_classes<R: Source>(alloc: Global, source: &mut R) -> Result<FamilyClasses, Fault>
     requires { R.has_failed source.old ≡ false }

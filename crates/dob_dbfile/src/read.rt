@@ -8,7 +8,6 @@ ghost use Rattle.dob_dbfile.specs.declared.fault.Fault.{Fault as AnyFault};
 ghost use Rattle.sha2.specs.Hashers.{Holds256};
 ghost use Rattle.dob_dbfile.specs.Devices.{Stream, after, whole};
 ghost use Rattle.dob_dbfile.specs.Format.{bytes_of};
-ghost use Rattle.dob_rank.specs.Limits.{IsSmall};
 ghost use Rattle.dob_dbfile.specs.Faults.{is_io_error, NamesClasses, CountsClasses, HasHeaderFault, HasDigest, HasReadFault};
 ghost use Rattle.dob_dbfile.specs.Reading.{TakesBytes, IsCut, IsNoEnd, ReadsCodes, HashesNext, EndsWith, IsDigest, HasDigestFault, HasRestFault};
 
@@ -28,9 +27,8 @@ const DIGEST_LEN: usize = 32;
 
 /// Reads the table of a file, which is one of profile A: of just the bytes that `write_table` writes of it, up to the source's end.
 ///
-/// Errors, the first of these that holds: `Truncated`, fewer than 20 bytes; `Magic`, `SetByte`, `SetTooLarge`,
-/// `ClassCount`, what the header says; `Truncated`, fewer bytes than the set's records and digest have; `Trailing`, a byte
-/// more; `Digest`. `Io` only where the source fails in this call, with how many bytes it gave before. `Memory`, in place of
+/// Errors, the first of these that holds: `Truncated`, fewer than 20 bytes; `Magic`, `SetByte`, `ClassCount`,
+/// what the header says; `Truncated`, fewer bytes than the set's records and digest have; `Trailing`, a byte more; `Digest`. `Io` only where the source fails in this call, with how many bytes it gave before. `Memory`, in place of
 /// what is tested after `ClassCount`, or of the table. The source has lost what was read.
 pub fn read_table<R: Source>(alloc: Global, source: &mut R) -> Result<Table, Fault>
     requires { R.has_failed source.old ≡ false }
@@ -43,7 +41,7 @@ pub fn read_table<R: Source>(alloc: Global, source: &mut R) -> Result<Table, Fau
     ensures exact { (stream : Stream) (fault : AnyFault) → R.gives source.old stream → HasReadFault stream fault
         → MatchResult result (λ _. ⊥) (λ given. (given ≡ Fault.Memory) ⊎ (given ≡ fault)) }
     // The file of a table is read as that table, unless memory is refused.
-    ensures whole { (table : ClassTable) → table.family.profile ≡ A → IsSmall table.family.set → IsTable table.family table.values
+    ensures whole { (table : ClassTable) → table.family.profile ≡ A → IsTable table.family table.values
         → R.gives source.old (whole (bytes_of table))
         → MatchResult result (λ found. found ≡ table) (λ given. given ≡ Fault.Memory) }
     // Memory is wanted only once the header names a set with its number of classes.

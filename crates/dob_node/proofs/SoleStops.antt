@@ -96,14 +96,6 @@ fault_fits cause.Memory given family limit class is stopped same = cc
 fault_fits cause.Held given family limit class is stopped same = stopped
 fault_fits cause.Counts given family limit class is stopped same = stopped
 
-pub fault_small : (why : Cause) (given : Fault) (family : Family) (limit : ℕ) → IsFaultOf why given → HasStoppedAlone family limit why →
-    given ≡ fault.SetTooLarge → ⊥
-fault_small cause.TooDeep given family limit is stopped same = cc
-fault_small (cause.Contradiction other) given family limit is stopped same = stopped
-fault_small cause.Memory given family limit is stopped same = cc
-fault_small cause.Held given family limit is stopped same = stopped
-fault_small cause.Counts given family limit is stopped same = stopped
-
 -- ---- nothing left to do
 
 -- there is nobody to send to

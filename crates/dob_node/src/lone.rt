@@ -1,8 +1,7 @@
 // One node that owns all classes of a family, and makes its value table alone.
-ghost use Rattle.std.specs.Prelude.{◌≡◌, ℕ, ◌+◌, ◌<◌, ◌≤◌, ◌↔◌, ◌⊎◌, true, false, None, Err, IfOk, IfErr, IfSome, OnOk, IsErrOf};
+ghost use Rattle.std.specs.Prelude.{◌≡◌, ℕ, ◌+◌, ◌<◌, ◌≤◌, ◌⊎◌, true, false, None, Err, IfOk, IfErr, IfSome, OnOk, IsErrOf};
 ghost use Rattle.dob_pieces.specs.declared.profile.Family.{Family as Set};
 ghost use Rattle.dob_rank.specs.Families.{classes_in};
-ghost use Rattle.dob_rank.specs.Limits.{IsTooLarge};
 ghost use Rattle.dob_value.specs.Follows.{IsValueTable};
 ghost use Rattle.dob_share.specs.Shares.{IsOwn, HasValueNow};
 ghost use Rattle.dob_node.specs.Nodes.{IsSound};
@@ -13,18 +12,16 @@ use crate::cause::{Cause, Fault};
 use crate::node::Node;
 use crate::openings::opening;
 use dob_pieces::{Family, Memory};
-use dob_rank::{FamilyClasses, SegmentLength, is_too_large};
+use dob_rank::{FamilyClasses, SegmentLength};
 use dob_value::{Table, Value};
 use std::alloc::Global;
 
 /// The value table of a family, made by one node that owns all its classes in at most `limit` steps: each applies the
 /// first of its own items, or where it has none is an expansion. `None` where the node has something left to do after them.
 ///
-/// Errors: `SetTooLarge` where the family has more than six pieces besides the lions; `TooDeep` where a class came to a
-/// value with a distance above the greatest that is kept, which doesn't happen to a family of fewer than 65,535 classes;
-/// `Memory`. An item that doesn't fit its cell never comes.
+/// Errors: `TooDeep` where a class came to a value with a distance above the greatest that is kept, which doesn't happen to a
+/// family of fewer than 65,535 classes; `Memory`. An item that doesn't fit its cell never comes.
 pub fn alone(alloc: Global, family: Family, limit: u64) -> Result<Option<Table>, Fault>
-    ensures too_large { IsErrOf result Fault.SetTooLarge ↔ IsTooLarge family.set }
     ensures too_deep { result ≡ Err Fault.TooDeep → IsTooDeepWithin family limit }
     ensures few { classes_in family < 65535 → ¬ (result ≡ Err Fault.TooDeep) }
     ensures fits { (class : ℕ) → ¬ (result ≡ Err (Fault.Contradiction class)) }
@@ -33,9 +30,6 @@ pub fn alone(alloc: Global, family: Family, limit: u64) -> Result<Option<Table>,
     ensures none { result ≡ Ok None → IsUnderWay family limit }
     ensures done { IfOk result (λ given. IfSome given (λ table. IsDoneWithin family limit)) }
 {
-    if is_too_large(family.set) {
-        return Err(Fault::SetTooLarge);
-    }
     let classes = FamilyClasses::open(alloc, family)?;
     let node = begin(alloc, &classes, family)?;
     let Some(ended) = finish(node, &classes, limit)? else {
@@ -61,7 +55,6 @@ fn finish(mut node: Node, classes: &FamilyClasses, limit: u64) -> Result<Option<
     requires family { classes.now.family ≡ node.family }
     requires begun { HasMade 0 node }
     requires going { node.failed ≡ None }
-    ensures too_large { ¬ (result ≡ Err Fault.SetTooLarge) }
     ensures too_deep { result ≡ Err Fault.TooDeep → IsTooDeepWithin node.family limit }
     ensures fits { (class : ℕ) → ¬ (result ≡ Err (Fault.Contradiction class)) }
     ensures family { IfOk result (λ given. IfSome given (λ ended. ended.family ≡ node.family)) }

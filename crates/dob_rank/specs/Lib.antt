@@ -14,8 +14,6 @@ pub mod Places
 pub mod RunTables
 pub mod BlockTables
 pub mod Laws
-pub mod Limits
-pub mod Faults
 pub mod Segmented
 pub mod SegmentsLeft
 pub mod Stretches

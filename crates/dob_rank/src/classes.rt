@@ -1,6 +1,5 @@
 // The classes of a piece set, block by block.
-ghost use Rattle.std.specs.Prelude.{◌≡◌, ◌↔◌, ◌<◌, ◌≤◌, ◌+◌, ◌^◌, IfOk, IsErrOf, IfSome, MatchOption, vec_len};
-ghost use Rattle.dob_rank.specs.Limits.{IsTooLarge};
+ghost use Rattle.std.specs.Prelude.{◌≡◌, ◌<◌, ◌≤◌, ◌+◌, ◌^◌, IfOk, IfSome, MatchOption, vec_len};
 ghost use Rattle.dob_rank.specs.Order.{IsPositionOf, IsFirstOfTwo, IsRepresentative, HasClasses, HasClass, IsInClass};
 ghost use Rattle.dob_rank.specs.Numbers.{product, block_bases, start_of, rank_of};
 ghost use Rattle.dob_rank.specs.Marks.{marked, marks_below, classes_of, class_number};
@@ -12,11 +11,9 @@ ghost use Rattle.dob_rank.specs.BoardMasks.{AreMasks};
 use crate::bitboards::Bitboards;
 use crate::block;
 use crate::block_classes::BlockClasses;
-use crate::fault::Fault;
-use crate::limit::is_too_large;
 use crate::masks::{Masks, masks_of};
 use crate::ranks::{position_by, spot_by, spot_shown};
-use dob_pieces::{PieceSet, Position};
+use dob_pieces::{Memory, PieceSet, Position};
 use std::alloc::Global;
 
 /// The classes of a piece set, each with its number.
@@ -32,15 +29,12 @@ pub struct Classes {
 }
 
 impl Classes {
-    /// Opens the classes of a set of at most `MOST_PIECES` pieces besides the lions; E8 for more, E23 where no memory is
-    /// left.
-    pub fn open(alloc: Global, set: PieceSet) -> Result<Classes, Fault>
+    /// Opens the classes of a set.
+    ///
+    /// Error: `Memory`.
+    pub fn open(alloc: Global, set: PieceSet) -> Result<Classes, Memory>
         ensures set { IfOk result (λ classes. classes.set ≡ set) }
-        ensures too_large { IsErrOf result Fault.SetTooLarge ↔ IsTooLarge set }
     {
-        if is_too_large(set) {
-            return Err(Fault::SetTooLarge);
-        }
         let mut blocks = Vec::new(alloc);
         let mut count = 0;
         for number in 0..block::blocks(set) {

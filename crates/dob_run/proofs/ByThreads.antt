@@ -4,13 +4,12 @@ use Rattle.std.specs.Prelude.{IfOk, IfErr, OnOk, Some, slice_get}
 use Rattle.std.specs.List.{AllZip}
 use Rattle.dob_pieces.proofs.Elements.{some_at}
 use Rattle.dob_pieces.specs.declared.profile.Family.{Family}
-use Rattle.dob_rank.specs.Limits.{IsSmall}
 use Rattle.dob_update.specs.Batches.{BatchView}
 use Rattle.dob_board.specs.declared.board.Board.{Board}
 use Rattle.dob_chan.specs.Ends.{sent_by, taken_by}
 use Rattle.dob_node.specs.declared.cause.Cause.{Cause}
 use Rattle.dob_run.specs.declared.fault.Fault.{Fault}
-use Rattle.dob_run.specs.declared.fault.Fault.TheVariants.{SetTooLarge, Nodes, Sizes, Stopped, Memory}
+use Rattle.dob_run.specs.declared.fault.Fault.TheVariants.{Nodes, Sizes, Stopped, Memory}
 use Rattle.dob_run.specs.declared.build_end.Built.{Built}
 use Rattle.dob_run.specs.declared.hands.Outlet.{Outlet}
 use Rattle.dob_run.specs.declared.runner.Runner.{Runner}
@@ -44,21 +43,20 @@ module _ (No : ℕ → Type 0) (until : Until) (family : Family) (n size capacit
   still_crew = crew_kept board ran.old ended ran.opened.crew kept
 
   -- what is made of it is made within the limits
-  pub is_within : {A : Type 0} (result : Result A Fault) → OnOk result (IsSmall family.set × AreWithin n size capacity)
-  is_within (Ok made) = (ran.small, ran.within)
+  pub is_within : {A : Type 0} (result : Result A Fault) → OnOk result (AreWithin n size capacity)
+  is_within (Ok made) = ran.within
   is_within (Err why) = tt
 
   -- a runner that has failed is one of the crew
-  fault_by : (node : ℕ) (why : Cause) (runner : Runner) → slice_get ended node ≡ Some runner → HasBuildFault family n size capacity (Stopped node why)
+  fault_by : (node : ℕ) (why : Cause) (runner : Runner) → slice_get ended node ≡ Some runner → HasBuildFault n size capacity (Stopped node why)
   fault_by node why runner at =
       let low : node < n = omega (arith, crew_low board ended still_crew node runner at, ran.opened.nodes) in
-      (ran.small, ran.within, low)
+      (ran.within, low)
 
   -- ---- where it was closed after some turns
 
-  pub first_fault : (fault : Fault) → IsFirstFailed ended fault → HasBuildFault family n size capacity fault
+  pub first_fault : (fault : Fault) → IsFirstFailed ended fault → HasBuildFault n size capacity fault
   first_fault (Stopped node why) first = fault_by node why first.0 first.1
-  first_fault SetTooLarge first = absurd first
   first_fault Nodes first = absurd first
   first_fault Sizes first = absurd first
   first_fault Memory first = absurd first
@@ -175,7 +173,6 @@ unheld No family n size capacity never (Stopped node why) stops = λ held.
     let runner = stops.names.runner in
     let was = zip_at (Ends No until.Halted) stops.ran.old stops.ended node runner stops.ran.ends stops.names.at in
     never runner.endpoint.seat.node (subst (IsReasonFor No runner) held (was.2.2 why stops.names.cause))
-unheld No family n size capacity never SetTooLarge stops = tt
 unheld No family n size capacity never Nodes stops = tt
 unheld No family n size capacity never Sizes stops = tt
 unheld No family n size capacity never Memory stops = tt
@@ -188,27 +185,23 @@ if_unheld No family n size capacity (Err fault) stops never = unheld No family n
 module _ (No : ℕ → Type 0) (family : Family) (n size capacity : ℕ) (board : Board) (ended : List Runner)
     (ran : HasRun No until.Halted family n size capacity board ended) where
   pub have_stopped : HaveStopped family size ended
-  have_stopped = record {
-    small = ran.small;
-    each = λ k runner at.
-        let was = zip_at (Ends No until.Halted) ran.old ended k runner ran.ends at in
-        let is = ran.opened.each k was.0 was.1 in
-        record { family_is = was.2.0.family ∙ is.family_is; size_is = was.2.0.size ∙ is.size_is; halted = was.2.1 };
-  }
+  have_stopped = λ k runner at.
+      let was = zip_at (Ends No until.Halted) ran.old ended k runner ran.ends at in
+      let is = ran.opened.each k was.0 was.1 in
+      record { family_is = was.2.0.family ∙ is.family_is; size_is = was.2.0.size ∙ is.size_is; halted = was.2.1 }
 
   pub is_built : (result : Result Built Fault) →
       IfOk result (λ built. (m : ℕ) → HaveStopped family m ended → IsBuilt family board.nodes m built) → IfOk result (IsBuilt family n size)
   is_built (Ok built) is = subst (λ (k : ℕ). IsBuilt family k size built) ran.opened.nodes (is size have_stopped)
   is_built (Err why) is = tt
 
-  fault_for : (fault : Fault) → IsFailureOf ended fault → HasBuildFault family n size capacity fault
+  fault_for : (fault : Fault) → IsFailureOf ended fault → HasBuildFault n size capacity fault
   fault_for (Stopped node why) failure = fault_by No until.Halted family n size capacity board ended ran node why failure.runner failure.at
-  fault_for Memory failure = (ran.small, ran.within)
-  fault_for SetTooLarge failure = absurd failure
+  fault_for Memory failure = ran.within
   fault_for Nodes failure = absurd failure
   fault_for Sizes failure = absurd failure
 
-  pub has_fault : (result : Result Built Fault) → IfErr result (IsFailureOf ended) → IfErr result (HasBuildFault family n size capacity)
+  pub has_fault : (result : Result Built Fault) → IfErr result (IsFailureOf ended) → IfErr result (HasBuildFault n size capacity)
   has_fault (Ok built) failure = tt
   has_fault (Err fault) failure = fault_for fault failure
 

@@ -23,7 +23,7 @@ use Rattle.dob_node.specs.declared.cause.Cause.{Cause}
 use Rattle.dob_node.specs.declared.node.Node.{Node}
 use Rattle.dob_node.specs.Nodes.{IsIdle}
 use Rattle.dob_run.specs.declared.fault.Fault.{Fault}
-use Rattle.dob_run.specs.declared.fault.Fault.TheVariants.{SetTooLarge, Nodes, Sizes, Stopped, Memory}
+use Rattle.dob_run.specs.declared.fault.Fault.TheVariants.{Nodes, Sizes, Stopped, Memory}
 use Rattle.dob_run.specs.declared.hands.Outlet.{Outlet}
 use Rattle.dob_run.specs.declared.hands.Inlet.{Inlet}
 use Rattle.dob_run.specs.declared.runner.Runner.{Runner}
@@ -57,17 +57,17 @@ module _ (board : Board) (family : Family) (size : ℕ) (runners : List Runner) 
 
   -- the family of the first of them is that of all
   pub set_same : (s : Family) → ((runner : Runner) → slice_get runners 0 ≡ Some runner → s ≡ runner.family) → s ≡ family
-  set_same s is = let runner = there 0 board.some in is runner.0 runner.1 ∙ (stopped.each 0 runner.0 runner.1).family_is
+  set_same s is = let runner = there 0 board.some in is runner.0 runner.1 ∙ (stopped 0 runner.0 runner.1).family_is
 
   -- each seat knows the halt that the words say
   halt_is : (k : ℕ) (runner : Runner) → slice_get runners k ≡ Some runner → halt_word runner.endpoint.seat.halt ≡ slice_index words 2
-  halt_is k runner at = sym (are.halt_seen k runner.endpoint.seat (seat_there runners k runner at) (stopped.each k runner at).halted)
+  halt_is k runner at = sym (are.halt_seen k runner.endpoint.seat (seat_there runners k runner at) (stopped k runner at).halted)
 
   -- which isn't that the run goes on
   pub not_running : slice_index words 2 ≢ 0
   not_running none =
       let runner = there 0 board.some in
-      (stopped.each 0 runner.0 runner.1).halted (same_halt runner.0.endpoint.seat.halt Running (halt_is 0 runner.0 runner.1 ∙ none))
+      (stopped 0 runner.0 runner.1).halted (same_halt runner.0.endpoint.seat.halt Running (halt_is 0 runner.0 runner.1 ∙ none))
 
   -- ---- a run that failed
 
@@ -108,7 +108,6 @@ module _ (board : Board) (family : Family) (size : ℕ) (runners : List Runner) 
       cause = first.2;
       known = inr (λ k runner at. same_halt runner.endpoint.seat.halt Ended (halt_is k runner at ∙ ended), λ k runner low_k at. first.3 k runner low_k at);
     }
-    late_failure SetTooLarge first = absurd first
     late_failure Nodes first = absurd first
     late_failure Sizes first = absurd first
     late_failure Memory first = absurd first
@@ -119,7 +118,7 @@ module _ (board : Board) (family : Family) (size : ℕ) (runners : List Runner) 
 
     law : (k : ℕ) (runner : Runner) → slice_get runners k ≡ Some runner → IsLawfulRunner family size runner.node runner.endpoint
     law k runner at =
-        let is = stopped.each k runner at in
+        let is = stopped k runner at in
         subst (λ (p : Family × ℕ). IsLawfulRunner p.0 p.1 runner.node runner.endpoint) (λ q. (is.family_is q, is.size_is q)) (law_own k runner at)
 
     white : (k : ℕ) (runner : Runner) → slice_get runners k ≡ Some runner → runner.endpoint.seat.black ≡ false
@@ -168,7 +167,7 @@ module _ (board : Board) (family : Family) (size : ℕ) (runners : List Runner) 
         count = crew_many board runners crew;
         each = λ k runner at. record {
           seat = ((seat_at board runners crew k runner at).node, (seat_at board runners crew k runner at).nodes);
-          family_is = (stopped.each k runner at).family_is;
+          family_is = (stopped k runner at).family_is;
           lawful = law_own k runner at;
         };
         white = white;

@@ -12,7 +12,7 @@ use Rattle.dob_node.specs.declared.cause.Cause.TheVariants.{Held}
 use Rattle.dob_node.specs.declared.node.Node.{Node}
 use Rattle.dob_node.specs.Nodes.{outbox_to}
 use Rattle.dob_run.specs.declared.fault.Fault.{Fault}
-use Rattle.dob_run.specs.declared.fault.Fault.TheVariants.{SetTooLarge, Nodes, Sizes, Stopped, Memory}
+use Rattle.dob_run.specs.declared.fault.Fault.TheVariants.{Nodes, Sizes, Stopped, Memory}
 use Rattle.dob_run.specs.declared.hands.Outlet.{Outlet}
 use Rattle.dob_run.specs.declared.hands.Inlet.{Inlet}
 use Rattle.dob_run.specs.declared.runner.Runner.{Runner}
@@ -81,7 +81,6 @@ AreUnfailed runners = (k : ℕ) (runner : Runner) → slice_get runners k ≡ So
 abbrev pub IsFirstFailed : List Runner → Fault → Type 0
 IsFirstFailed runners (Stopped node why) = (runner : Runner) × (slice_get runners node ≡ Some runner) × (runner.failed ≡ Some why)
     × ((k : ℕ) (other : Runner) → k < node → slice_get runners k ≡ Some other → other.failed ≡ None)
-IsFirstFailed runners SetTooLarge = ⊥
 IsFirstFailed runners Nodes = ⊥
 IsFirstFailed runners Sizes = ⊥
 IsFirstFailed runners Memory = ⊥
@@ -96,7 +95,6 @@ pub record HasStoppedTurns (Names : List Runner → Fault → Type 0) (No : ℕ 
 -- where a node is named the crew has stopped so
 abbrev pub StopsSo : (List Runner → Fault → Type 0) → (ℕ → Type 0) → Until → Family → ℕ → ℕ → ℕ → Fault → Type 0
 StopsSo Names No until family n size capacity (Stopped node why) = HasStoppedTurns Names No until family n size capacity (Stopped node why)
-StopsSo Names No until family n size capacity SetTooLarge = ⊤
 StopsSo Names No until family n size capacity Nodes = ⊤
 StopsSo Names No until family n size capacity Sizes = ⊤
 StopsSo Names No until family n size capacity Memory = ⊤
@@ -104,7 +102,6 @@ StopsSo Names No until family n size capacity Memory = ⊤
 -- no node of it was held back
 abbrev pub IsUnheld : Fault → Type 0
 IsUnheld (Stopped node why) = why ≢ Held
-IsUnheld SetTooLarge = ⊤
 IsUnheld Nodes = ⊤
 IsUnheld Sizes = ⊤
 IsUnheld Memory = ⊤

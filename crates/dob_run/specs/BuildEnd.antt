@@ -1,7 +1,6 @@
 -- A crew whose runners have all stopped, and what is made of it.
 use Rattle.std.specs.Prelude.{◌≡◌, ◌≢◌, ⊤, ℕ, ◌<◌, ◌⊎◌, List, Option, None, Some, length, slice_get}
 use Rattle.dob_pieces.specs.declared.profile.Family.{Family}
-use Rattle.dob_rank.specs.Limits.{IsSmall}
 use Rattle.dob_rank.specs.Families.{classes_in}
 use Rattle.dob_value.specs.declared.value.Value.{Value}
 use Rattle.dob_value.specs.Follows.{IsEntry, AreGiven}
@@ -12,7 +11,7 @@ use Rattle.dob_board.specs.declared.halt.Halt.TheVariants.{Running, Ended, Faile
 use Rattle.dob_node.specs.declared.cause.Cause.{Cause}
 use Rattle.dob_node.specs.declared.node.Node.{Node}
 use Rattle.dob_run.specs.declared.fault.Fault.{Fault}
-use Rattle.dob_run.specs.declared.fault.Fault.TheVariants.{SetTooLarge, Nodes, Sizes, Stopped, Memory}
+use Rattle.dob_run.specs.declared.fault.Fault.TheVariants.{Nodes, Sizes, Stopped, Memory}
 use Rattle.dob_run.specs.declared.runner.Runner.{Runner}
 
 -- The runner works for that family with batches of at most that size, and its seat knows that the run ended or failed.
@@ -21,10 +20,9 @@ pub record IsStoppedRunner (family : Family) (size : ℕ) (runner : Runner) : Ty
   pub size_is : runner.size ≡ size
   pub halted : runner.endpoint.seat.halt ≢ Running
 
--- so has each of them, and the family is one that has classes
-pub record HaveStopped (family : Family) (size : ℕ) (runners : List Runner) : Type 0 where
-  pub small : IsSmall family.set
-  pub each : (k : ℕ) (runner : Runner) → slice_get runners k ≡ Some runner → IsStoppedRunner family size runner
+-- so has each of them
+abbrev pub HaveStopped : Family → ℕ → List Runner → Type 0
+HaveStopped family size runners = (k : ℕ) (runner : Runner) → slice_get runners k ≡ Some runner → IsStoppedRunner family size runner
 
 abbrev pub failed_of : Runner → Option Cause
 failed_of runner = runner.failed
@@ -49,7 +47,6 @@ pub record IsFailure (runners : List Runner) (node : ℕ) (why : Cause) : Type 0
 abbrev pub IsFailureOf : List Runner → Fault → Type 0
 IsFailureOf runners (Stopped node why) = IsFailure runners node why
 IsFailureOf runners Memory = ⊤
-IsFailureOf runners SetTooLarge = ⊥
 IsFailureOf runners Nodes = ⊥
 IsFailureOf runners Sizes = ⊥
 

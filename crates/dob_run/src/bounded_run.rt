@@ -1,6 +1,5 @@
 // A crew whose runners make a number of turns each, and what they leave.
 ghost use Rattle.std.specs.Prelude.{◌≡◌, ◌<◌, ◌≤◌, IfOk, IfErr, OnOk, map, length, Some, slice_get};
-ghost use Rattle.dob_rank.specs.Limits.{IsSmall};
 ghost use Rattle.dob_run.specs.CrewClose.{IsCrew, row_of};
 ghost use Rattle.dob_run.specs.CrewRunners.{endpoint_of, node_of};
 ghost use Rattle.dob_run.specs.Faults.{AreWithin, HasBuildFault};
@@ -59,8 +58,8 @@ pub fn run_turns<R: Threads + Wait + Sync, G: Gate + Sync>(
 ) -> Result<Turned, Fault>
     ensures turned { IfOk result (IsTurned family n batch) }
     ensures few { IfOk result (CarriesFew n turns) }
-    ensures within { OnOk result (IsSmall family.set × AreWithin n batch capacity) }
-    ensures fault { IfErr result (HasBuildFault family n batch capacity) }
+    ensures within { OnOk result (AreWithin n batch capacity) }
+    ensures fault { IfErr result (HasBuildFault n batch capacity) }
     ensures stopped { IfErr result (StopsSo IsFirstFailed (says_no (G.says gate.now)) (until_turns turns) family n batch capacity) }
 {
     let until = Until::Turns(turns);

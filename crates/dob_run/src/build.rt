@@ -1,6 +1,5 @@
 // A build by threads, from a family to its table.
 ghost use Rattle.std.specs.Prelude.{ℕ, ◌<◌, true, false, IfOk, IfErr, OnOk};
-ghost use Rattle.dob_rank.specs.Limits.{IsSmall};
 ghost use Rattle.dob_run.specs.Built.{IsBuilt};
 ghost use Rattle.dob_run.specs.BuildEnd.{IsFailureOf};
 ghost use Rattle.dob_run.specs.Faults.{AreWithin, HasBuildFault};
@@ -22,10 +21,9 @@ use std::thread::Threads;
 /// and inboxes that hold at most `capacity` batches: each asks the gate at the start of each turn, and the gate let each go on
 /// at least once. Its promises hold if it returns.
 ///
-/// Errors, tested in this order: `SetTooLarge` where the family has more than `MOST_PIECES` besides the lions; `Nodes` where `n`
-/// isn't 1 to 16; `Sizes` where `batch` isn't 1 to 4096 or `capacity` not 1 to 1024; `Stopped` with the node that failed
-/// first and its cause, which is `Held` only where the gate said no to it, and `Memory` where no thread could be made for it;
-/// `Memory`.
+/// Errors, tested in this order: `Nodes` where `n` isn't 1 to 16; `Sizes` where `batch` isn't 1 to 4096 or `capacity` not 1 to
+/// 1024; `Stopped` with the node that failed first and its cause, which is `Held` only where the gate said no to it, and
+/// `Memory` where no thread could be made for it; `Memory`.
 pub fn run_nodes<R: Threads + Wait + Sync, G: Gate + Sync>(
     rt: &R,
     alloc: Global,
@@ -38,8 +36,8 @@ pub fn run_nodes<R: Threads + Wait + Sync, G: Gate + Sync>(
     ensures built { IfOk result (IsBuilt family n batch) }
     ensures let_on { OnOk result ((node : ℕ) → node < n → G.says gate.now node true) }
     ensures unheld { ((node : ℕ) → ¬ G.says gate.now node false) → IfErr result IsUnheld }
-    ensures within { OnOk result (IsSmall family.set × AreWithin n batch capacity) }
-    ensures fault { IfErr result (HasBuildFault family n batch capacity) }
+    ensures within { OnOk result (AreWithin n batch capacity) }
+    ensures fault { IfErr result (HasBuildFault n batch capacity) }
     ensures stopped { IfErr result (StopsSo IsFailureOf (says_no (G.says gate.now)) until_halted family n batch capacity) }
 {
     let (classes, board, ended) = run_crew(

@@ -1,7 +1,6 @@
 // What a build by threads leaves, when its crew has come to its end.
 ghost use Rattle.std.specs.Prelude.{◌≡◌, ◌≢◌, ◌+◌, ◌<◌, ℕ, Some, IfOk, IfErr, OnOk, MatchOption, map, length, slice_get, slice_index};
 ghost use Rattle.dob_pieces.specs.declared.profile.Family.{Family};
-ghost use Rattle.dob_rank.specs.Limits.{IsSmall};
 ghost use Rattle.dob_rank.specs.Families.{classes_in};
 ghost use Rattle.dob_share.specs.Owners.{owner_of};
 ghost use Rattle.dob_share.specs.Shares.{IsOwn};

@@ -1,11 +1,10 @@
 // The limits of what a crew is opened for.
 ghost use Rattle.std.specs.Prelude.{◌≡◌, IfSome, IfNone, IfOk, IfErr, OnOk};
-ghost use Rattle.dob_rank.specs.Limits.{IsSmall};
-ghost use Rattle.dob_run.specs.Faults.{AreWithin, HasSizeFault, HasStartFault};
+ghost use Rattle.dob_run.specs.Faults.{AreWithin, HasSizeFault, HasCrewFault};
 
 use crate::fault::Fault;
 use dob_pieces::Family;
-use dob_rank::{FamilyClasses, is_too_large};
+use dob_rank::FamilyClasses;
 use dob_safra::is_size;
 use dob_update::are_sizes;
 use std::alloc::Global;
@@ -35,8 +34,7 @@ pub(crate) fn size_passed(n: usize, batch: usize, capacity: usize) -> Option<Fau
 
 /// The classes of the family, where a crew of these sizes may own them.
 ///
-/// Errors, tested in this order: `SetTooLarge` where the family has more than `MOST_PIECES` besides the lions; the limit that the
-/// sizes pass; `Memory`.
+/// Errors, tested in this order: the limit that the sizes pass; `Memory`.
 pub(crate) fn classes_within(
     alloc: Global,
     family: Family,
@@ -45,12 +43,9 @@ pub(crate) fn classes_within(
     capacity: usize,
 ) -> Result<FamilyClasses, Fault>
     ensures family { IfOk result (λ classes. classes.family ≡ family) }
-    ensures within { OnOk result (IsSmall family.set × AreWithin n batch capacity) }
-    ensures fault { IfErr result (HasStartFault family n batch capacity) }
+    ensures within { OnOk result (AreWithin n batch capacity) }
+    ensures fault { IfErr result (HasCrewFault n batch capacity) }
 {
-    if is_too_large(family.set) {
-        return Err(Fault::SetTooLarge);
-    }
     if let Some(fault) = size_passed(n, batch, capacity) {
         return Err(fault);
     }

@@ -1,7 +1,7 @@
 // A thread for each runner of a crew.
 ghost use Rattle.std.specs.Prelude.{◌≡◌, IfOk, IfErr};
 ghost use Rattle.std.specs.List.{AllZip};
-ghost use Rattle.dob_run.specs.Faults.{HasStartFault};
+ghost use Rattle.dob_run.specs.Faults.{HasCrewFault};
 ghost use Rattle.dob_run.specs.TurnLoop.{Suits, AllSuit, EndsBy, AreLetOn, HasRun};
 ghost use Rattle.dob_run.specs.Runners.{says_no};
 ghost use Rattle.dob_run.specs.Started.{IsStartOf, IsEndOf};
@@ -61,7 +61,7 @@ pub(crate) fn run_crew<R: Threads + Wait + Sync, G: Gate + Sync>(
     ensures family { IfOk result (λ ran. ran.0.family ≡ family) }
     ensures ran { IfOk result (λ ran. HasRun (says_no (G.says gate.now)) until.now family n batch capacity ran.1 ran.2.items) }
     ensures let_on { IfOk result (λ ran. AreLetOn (G.says gate.now) until.now ran.2.items) }
-    ensures fault { IfErr result (HasStartFault family n batch capacity) }
+    ensures fault { IfErr result (HasCrewFault n batch capacity) }
 {
     let classes = classes_within(alloc, family, n, batch, capacity)?;
     let openings = scan(rt, alloc, &classes, SegmentLength::longest())?;

@@ -1,8 +1,7 @@
 // The values of a whole family, and the value of one position.
-ghost use Rattle.std.specs.Prelude.{◌≡◌, ◌<◌, ◌↔◌, All, Some, IfOk, IsErrOf, length, slice_get};
+ghost use Rattle.std.specs.Prelude.{◌≡◌, ◌<◌, All, Some, IfOk, IsErrOf, length, slice_get};
 ghost use Rattle.dob_pieces.specs.Profiles.{IsAllowed};
 ghost use Rattle.dob_rank.specs.Families.{classes_in};
-ghost use Rattle.dob_rank.specs.Limits.{IsTooLarge, HasManyPieces};
 ghost use Rattle.dob_rank.specs.Families.{IsPositionIn};
 ghost use Rattle.dob_value.specs.Values.{HasValue};
 ghost use Rattle.dob_value.specs.Rosters.{SomeTooDeep, HasSamePieces};
@@ -15,23 +14,19 @@ use crate::sweep::{MAX_DISTANCE, sweep};
 use crate::table::Table;
 use crate::value::Value;
 use dob_pieces::{Family, Memory, Position, Profile};
-use dob_rank::{FamilyClasses, is_too_large};
+use dob_rank::FamilyClasses;
 use std::alloc::Global;
 
 /// The values of all positions of the family, by sweeps over its classes.
 ///
-/// Errors: `SetTooLarge` just where the family has more than `MOST_PIECES` pieces besides the lions; `TooDeep`, only where some
-/// position of the family is won or lost in more than `MAX_DISTANCE` plies, and the family has more classes than that; `Memory`.
+/// Errors: `TooDeep`, only where some position of the family is won or lost in more than `MAX_DISTANCE` plies, and the family
+/// has more classes than that; `Memory`.
 pub fn sweep_table(alloc: Global, family: Family) -> Result<Table, Fault>
     ensures family { IfOk result (λ table. table.family ≡ family) }
     ensures values { IfOk result (λ table. IsValueTable family table.values) }
-    ensures large { IsErrOf result Fault.SetTooLarge ↔ IsTooLarge family.set }
     ensures deep { IsErrOf result Fault.TooDeep → SomeTooDeep family.profile (IsPositionIn family) }
     ensures many { IsErrOf result Fault.TooDeep → MAX_DISTANCE < classes_in family }
 {
-    if is_too_large(family.set) {
-        return Err(Fault::SetTooLarge);
-    }
     let classes = FamilyClasses::open(alloc, family)?;
     let values = sweep(alloc, &classes)?;
     Ok(table_of(alloc, classes, &values)?)
@@ -54,13 +49,11 @@ fn table_of(alloc: Global, classes: FamilyClasses, values: &[Value]) -> Result<T
 /// The value of the position by the rules of the profile, by sweeps over all its positions with the same pieces. `sweep_table`
 /// gives the values of them all at once.
 ///
-/// Errors: `SetTooLarge` just where there are more than `MOST_PIECES` pieces besides the lions; `TooDeep`, only where some
-/// position with the same pieces is won or lost in more than `MAX_DISTANCE` plies, and these have more classes than that;
-/// `Memory`.
+/// Errors: `TooDeep`, only where some position with the same pieces is won or lost in more than `MAX_DISTANCE` plies, and these
+/// have more classes than that; `Memory`.
 pub fn sweep_value(alloc: Global, profile: Profile, position: &Position) -> Result<Value, Fault>
     requires { IsAllowed profile position.now.setup }
     ensures value { IfOk result (λ value. HasValue profile position.now.setup value) }
-    ensures large { IsErrOf result Fault.SetTooLarge ↔ HasManyPieces position.now.setup }
     ensures deep { IsErrOf result Fault.TooDeep → SomeTooDeep profile (HasSamePieces profile position.now.setup) }
     ensures many { IsErrOf result Fault.TooDeep → HasManyClasses profile position.now.setup }
 {

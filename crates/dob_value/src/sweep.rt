@@ -1,6 +1,6 @@
 // Sweeps over the classes of a graph: after n of them each entry is its class's value cut off at depth n, and a sweep
 // that changes nothing is the last.
-ghost use Rattle.std.specs.Prelude.{◌≡◌, ◌≢◌, ℕ, ◌+◌, ◌<◌, ◌≤◌, length, All, IfOk, map, slice_index_or, true, false};
+ghost use Rattle.std.specs.Prelude.{◌≡◌, ℕ, ◌+◌, ◌<◌, ◌≤◌, length, All, IfOk, map, slice_index_or, true, false};
 ghost use Rattle.std.specs.List.{list_any, list_all};
 ghost use Rattle.dob_rank.specs.Families.{IsPositionIn};
 ghost use Rattle.dob_rank.specs.Families.{classes_in};
@@ -148,7 +148,6 @@ fn settle(alloc: Global, graph: &Graph) -> Result<Vec<Value>, Fault>
     ensures short { IfOk result (λ values. All IsShort values.items) }
     ensures deep { result ≡ Err Fault.TooDeep → (n : ℕ) × (MAX_DISTANCE < n) × SomeHasDistance graph.now.family n }
     ensures many { result ≡ Err Fault.TooDeep → MAX_DISTANCE < classes_in graph.now.family }
-    ensures family { result ≢ Err Fault.SetTooLarge }
 {
     let mut values = first_values(alloc, &graph.statuses)?;
     let mut depth = 0;
@@ -169,7 +168,6 @@ pub(crate) fn sweep(alloc: Global, classes: &FamilyClasses) -> Result<Vec<Value>
     ensures entries { IfOk result (λ values. All IsEntry values.items) }
     ensures deep { result ≡ Err Fault.TooDeep → SomeTooDeep classes.now.family.profile (IsPositionIn classes.now.family) }
     ensures many { result ≡ Err Fault.TooDeep → MAX_DISTANCE < classes_in classes.now.family }
-    ensures family { result ≢ Err Fault.SetTooLarge }
 {
     let graph = graph_of(alloc, classes)?;
     settle(alloc, &graph)

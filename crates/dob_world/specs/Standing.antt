@@ -4,7 +4,6 @@ use Rattle.std.specs.Prelude.{◌≡◌, ◌≢◌, ℕ, ◌+◌, ◌*◌, ◌<�
 use Rattle.std.specs.List.{All}
 use Rattle.dob_pieces.specs.declared.profile.Family.{Family}
 use Rattle.dob_moves.specs.Statuses.{HasStatusIn}
-use Rattle.dob_rank.specs.Limits.{IsSmall}
 use Rattle.dob_rank.specs.Families.{class_setup_in}
 use Rattle.dob_share.specs.declared.opening.Opening.{Opening}
 use Rattle.dob_share.specs.Shares.{IsOwn, status_at}
@@ -26,7 +25,6 @@ use Rattle.dob_world.specs.Shown.{setting_of, world_shown, lane_at, ring_of, sta
 
 -- all are in their limits
 pub record IsSetting (k : Setting) : Type 0 where
-  pub small : IsSmall k.family.set
   pub nodes : IsSize k.n
   pub sizes : AreSizes k.batch k.capacity
 

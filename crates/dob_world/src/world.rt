@@ -1,6 +1,5 @@
 // The world: nodes that own the classes of a family, a lane from each to each, and what detects the end.
-ghost use Rattle.std.specs.Prelude.{◌≡◌, ◌+◌, ◌*◌, ◌^◌, ◌<◌, ◌≤◌, ◌↔◌, true, false, IfOk, IfErr, IfSome, OnOk, OnErr, Err, vec_len};
-ghost use Rattle.dob_rank.specs.Limits.{IsTooLarge};
+ghost use Rattle.std.specs.Prelude.{◌≡◌, ◌+◌, ◌*◌, ◌^◌, ◌<◌, ◌≤◌, true, false, IfOk, IfErr, IfSome, OnOk, OnErr, Err, vec_len};
 ghost use Rattle.dob_rank.specs.Families.{classes_in};
 
 use crate::detector::Detector;
@@ -12,7 +11,7 @@ use crate::step::Step;
 use crate::steps::{apply_own, post, receive};
 use dob_node::{Node, opening};
 use dob_pieces::Family;
-use dob_rank::{FamilyClasses, SegmentLength, is_too_large};
+use dob_rank::{FamilyClasses, SegmentLength};
 use dob_safra::is_size;
 use dob_update::are_sizes;
 use std::alloc::Global;
@@ -51,8 +50,8 @@ impl World {
     /// A world of `n` nodes before its first event, with batches of at most `batch` items and links with room for
     /// `capacity` batches.
     ///
-    /// Errors, tested in this order: `SetTooLarge` where the family has more than `MOST_PIECES` pieces besides the lions; `Nodes`
-    /// where `n` isn't 1 to 16; `Sizes` where `batch` isn't 1 to 4096 or `capacity` not 1 to 1024; `Memory`.
+    /// Errors, tested in this order: `Nodes` where `n` isn't 1 to 16; `Sizes` where `batch` isn't 1 to 4096 or `capacity` not
+    /// 1 to 1024; `Memory`.
     pub fn open(
         alloc: Global,
         family: Family,
@@ -60,15 +59,11 @@ impl World {
         batch: usize,
         capacity: usize,
     ) -> Result<World, Fault>
-        ensures too_large { result ≡ Err fault.SetTooLarge ↔ IsTooLarge family.set }
         ensures setting { IfOk result (λ world. setting_of world ≡ setting_by family n batch capacity) }
         ensures standing { IfOk result (λ world. IsStanding world × (world.failed ≡ None) × (world.steps ≡ 0)) }
         ensures opened { IfOk result (λ world. IsStart (setting_of world) (state_of world)) }
         ensures fault { IfErr result (λ fault. HasSettingFault (setting_by family n batch capacity) fault) }
     {
-        if is_too_large(family.set) {
-            return Err(Fault::SetTooLarge);
-        }
         if !is_size(n) {
             return Err(Fault::Nodes);
         }

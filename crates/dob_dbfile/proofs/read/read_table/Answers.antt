@@ -24,6 +24,6 @@ returns-clause-exact g c = λ stream fault gives holds.
     (c.read_file.ensures.fault stream gives) fault holds
 
 pub returns-clause-whole : goal.returns-clause-whole
-returns-clause-whole g c = λ table rules few is gives.
-    read_back table c.read_file.result rules few is (c.read_file.ensures.read (whole (bytes_of table)) gives)
+returns-clause-whole g c = λ table rules is gives.
+    read_back table c.read_file.result rules is (c.read_file.ensures.read (whole (bytes_of table)) gives)
     c.read_file.ensures.table c.read_file.ensures.rules (c.read_file.ensures.fault (whole (bytes_of table)) gives)

@@ -13,8 +13,8 @@ use Rattle.dob_run.proofs.bounded_run.run_turns.Goals as goal
 pub returns-in_err-board-clause-fault : goal.returns-in_err-board-clause-fault
 returns-in_err-board-clause-fault g c =
     let fault = c.in_err-board.field-0.0 in
-    carried (HasBuildFault c.args.family c.args.n c.args.batch c.args.capacity) c.from_residual.result fault c.from_residual.ensures.1
-    (unbegun_fault c.args.family c.args.n c.args.batch c.args.capacity fault c.in_err-board.ensures.fault)
+    carried (HasBuildFault c.args.n c.args.batch c.args.capacity) c.from_residual.result fault c.from_residual.ensures.1
+    (unbegun_fault c.args.n c.args.batch c.args.capacity fault c.in_err-board.ensures.fault)
 
 pub returns-in_err-board-clause-stopped : goal.returns-in_err-board-clause-stopped
 returns-in_err-board-clause-stopped g c =
@@ -25,7 +25,7 @@ returns-in_err-board-clause-stopped g c =
 pub returns-in_err-find_failed-clause-fault : goal.returns-in_err-find_failed-clause-fault
 returns-in_err-find_failed-clause-fault g c =
     let fault = c.in_err-find_failed.field-0.0 in
-    carried (HasBuildFault c.args.family c.args.n c.args.batch c.args.capacity) c.from_residual-in_err-find_failed.result fault
+    carried (HasBuildFault c.args.n c.args.batch c.args.capacity) c.from_residual-in_err-find_failed.result fault
     c.from_residual-in_err-find_failed.ensures.1
     (first_fault (says_no (g.G.Gate.says c.args.gate.now)) (Turns c.args.turns) c.args.family c.args.n c.args.batch c.args.capacity c.in_ok-board.board c.in_ok-board.ended.items c.in_ok-board.ensures.ran
     fault (subst (λ (l : List Runner). IsFirstFailed l fault) c.deref.ensures.value c.in_err-find_failed.ensures.first))
@@ -48,7 +48,7 @@ returns-clause-turned g c =
     c.in_ok-turned.turned (subst (λ (l : List Runner). AreUnfailed l) c.deref.ensures.value c.in_ok-find_failed.ensures.going) c.in_ok-turned.ensures
 
 pub returns-clause-within : goal.returns-clause-within
-returns-clause-within g c = (c.in_ok-board.ensures.ran.small, c.in_ok-board.ensures.ran.within)
+returns-clause-within g c = c.in_ok-board.ensures.ran.within
 
 pub returns-clause-few : goal.returns-clause-few
 returns-clause-few g c =

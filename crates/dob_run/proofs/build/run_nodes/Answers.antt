@@ -16,8 +16,8 @@ use Rattle.dob_run.proofs.build.run_nodes.Goals as goal
 pub returns-in_err-classes-clause-fault : goal.returns-in_err-classes-clause-fault
 returns-in_err-classes-clause-fault g c =
     let fault = c.in_err-classes.field-0.0 in
-    carried (HasBuildFault c.args.family c.args.n c.args.batch c.args.capacity) c.from_residual.result fault c.from_residual.ensures.1
-    (unbegun_fault c.args.family c.args.n c.args.batch c.args.capacity fault c.in_err-classes.ensures.fault)
+    carried (HasBuildFault c.args.n c.args.batch c.args.capacity) c.from_residual.result fault c.from_residual.ensures.1
+    (unbegun_fault c.args.n c.args.batch c.args.capacity fault c.in_err-classes.ensures.fault)
 
 pub returns-in_err-classes-clause-stopped : goal.returns-in_err-classes-clause-stopped
 returns-in_err-classes-clause-stopped g c =
@@ -59,7 +59,7 @@ returns-clause-stopped g c =
 pub returns-in_err-classes-clause-unheld : goal.returns-in_err-classes-clause-unheld
 returns-in_err-classes-clause-unheld g c = λ never.
     let fault = c.in_err-classes.field-0.0 in
-    carried IsUnheld c.from_residual.result fault c.from_residual.ensures.1 (unbegun_unheld c.args.family c.args.n c.args.batch c.args.capacity fault c.in_err-classes.ensures.fault)
+    carried IsUnheld c.from_residual.result fault c.from_residual.ensures.1 (unbegun_unheld c.args.n c.args.batch c.args.capacity fault c.in_err-classes.ensures.fault)
 
 pub returns-clause-let_on : goal.returns-clause-let_on
 returns-clause-let_on g c =

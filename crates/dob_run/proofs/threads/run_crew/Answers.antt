@@ -14,8 +14,7 @@ run_each-requires g c =
 
 pub returns-clause-ran : goal.returns-clause-ran
 returns-clause-ran g c = record {
-  small = c.in_ok-classes.ensures.within.0;
-  within = c.in_ok-classes.ensures.within.1;
+  within = c.in_ok-classes.ensures.within;
   old = c.in_ok-board.runners.items;
   opened = c.in_ok-board.ensures;
   ends = all_by (g.G.Gate.says c.args.gate.now) c.args.until.now c.in_ok-board.runners.items c.in_ok-ended.ended.items c.in_ok-ended.ensures;

@@ -1,6 +1,5 @@
 // Runners that are turned by hand, one after the other, in one thread.
 ghost use Rattle.std.specs.Prelude.{◌≡◌, IfOk, OnOk, None, ◌∷◌, []};
-ghost use Rattle.dob_rank.specs.Limits.{IsSmall};
 ghost use Rattle.dob_run.specs.CrewRunners.{IsNewCrew};
 ghost use Rattle.dob_run.specs.Runners.{KeepsRunner};
 
@@ -18,7 +17,6 @@ use std::test::Fail;
 
 // The classes of lions alone, and a crew of two nodes that own them, with batches of one item and inboxes for one batch.
 fn two_runners(rt: &(impl Wait + Abort), alloc: Global) -> (FamilyClasses, Board, Runner, Runner)
-    ensures small { IsSmall result.0.family.set }
     ensures first { result.0.family ≡ result.2.family }
     ensures second { result.0.family ≡ result.3.family }
     ensures crew { IsNewCrew result.0.family 2 1 1 result.1 (result.2 ∷ result.3 ∷ []) }

@@ -6,9 +6,6 @@ use Rattle.dob_rank.specs.Families.{classes_in}
 use Rattle.dob_value.specs.declared.sweep.TheConstants.{MAX_DISTANCE}
 use Rattle.dob_value.proofs.position_value.sweep_value.Goals as goal
 
-pub returns-in_err-table-clause-large : goal.returns-in_err-table-clause-large
-returns-in_err-table-clause-large c = search rules fits 100
-
 pub returns-in_err-table-clause-deep : goal.returns-in_err-table-clause-deep
 returns-in_err-table-clause-deep c = search rules fits 100
 

@@ -1,12 +1,10 @@
 -- The world as it is opened.
-use Rattle.std.proofs.Common.{◌<◌, refl, sym, subst, arith}
+use Rattle.std.proofs.Common.{◌<◌, refl, sym, subst}
 use Rattle.std.proofs.lemmas.Bool.{both_ways}
 use Rattle.dob_world.specs.Worlds.{Setting}
-use Rattle.dob_pieces.specs.declared.profile.Family.{Family}
 use Rattle.dob_world.specs.Shown.{world_shown, ring_of}
 use Rattle.dob_world.specs.Standing.{IsSetting}
 use Rattle.dob_world.specs.Start.{AreOpenedNodes}
-use Rattle.dob_rank.specs.Limits.{IsSmall}
 use Rattle.dob_world.proofs.Starts.{places_start, falls_shown, lawful_shown, linked_start, waits_start}
 use Rattle.dob_world.proofs.Cuts.{cuts_start}
 use Rattle.dob_world.proofs.Promise.{matches_start, few_start}
@@ -24,7 +22,6 @@ returns-clause-standing c =
     subst (λ st. AreOpenedNodes openings st c.args.n c.args.n nodes) (sym c.in_ok-classes.ensures.family)
     c.in_ok-nodes.ensures in
     let setting : IsSetting k = record {
-      small = subst (λ (st : Family). IsSmall st.set) (sym c.in_ok-classes.ensures.family) (c.is_too_large.ensures.small c.if-is_too_large.false);
       nodes = size;
       sizes = c.are_sizes.ensures.0 c.if-not-are_sizes.false;
     } in
@@ -49,14 +46,10 @@ returns-clause-standing c =
 
 pub returns-then-not-is_size-clause-fault : goal.returns-then-not-is_size-clause-fault
 returns-then-not-is_size-clause-fault c =
-    (c.is_too_large.ensures.small c.if-is_too_large.false, λ size. both_ways _ c.if-not-is_size.true (c.is_size.ensures.1 size))
+    λ size. both_ways _ c.if-not-is_size.true (c.is_size.ensures.1 size)
 
 pub returns-then-not-are_sizes-clause-fault : goal.returns-then-not-are_sizes-clause-fault
 returns-then-not-are_sizes-clause-fault c = (
-  c.is_too_large.ensures.small c.if-is_too_large.false,
   c.is_size.ensures.0 c.if-not-is_size.false,
   λ sizes. both_ways _ c.if-not-are_sizes.true (c.are_sizes.ensures.1 sizes),
 )
-
-pub returns-then-is_too_large-clause-fault : goal.returns-then-is_too_large-clause-fault
-returns-then-is_too_large-clause-fault c = λ small. let large = c.is_too_large.ensures.large c.if-is_too_large.true in absurd (omega (arith, large, small))

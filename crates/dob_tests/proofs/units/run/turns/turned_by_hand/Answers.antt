@@ -2,7 +2,6 @@
 use Rattle.std.proofs.Common.{◌≡◌, ◌≢◌, ◌∙◌, List, [], ◌∷◌, Some, None, sym, subst, arith, rules}
 use Rattle.std.specs.List.{AllZip}
 use Rattle.dob_pieces.specs.declared.profile.Family.{Family}
-use Rattle.dob_rank.specs.Limits.{IsSmall}
 use Rattle.dob_board.specs.declared.board.Board.{Board}
 use Rattle.dob_board.specs.declared.halt.Halt.TheVariants.{Running}
 use Rattle.dob_run.specs.declared.runner.Runner.{Runner}
@@ -18,11 +17,10 @@ use Rattle.dob_tests.proofs.units.run.turns.turned_by_hand.Goals.{In_ok-runners}
 reasoned : (runner : Runner) → runner.failed ≡ None → IsReasoned no_gate runner
 reasoned runner none why is = let never : Some why ≡ None = sym is ∙ none in absurd (cc)
 
-two_ran : (family : Family) (board : Board) (one other first second : Runner) (ended : List Runner) → IsSmall family.set → IsNewCrew family 2 1 1 board (one ∷ other ∷ []) →
+two_ran : (family : Family) (board : Board) (one other first second : Runner) (ended : List Runner) → IsNewCrew family 2 1 1 board (one ∷ other ∷ []) →
     KeepsRunner one first → KeepsRunner other second → first.endpoint.seat.halt ≢ Running → second.endpoint.seat.halt ≢ Running → first.failed ≡ None → second.failed ≡ None →
     ended ≡ first ∷ second ∷ [] → HasRun no_gate until_halted family 2 1 1 board ended
-two_ran family board one other first second ended small opened keeps_one keeps_other stopped_one stopped_other going_one going_other is = record {
-  small = small;
+two_ran family board one other first second ended opened keeps_one keeps_other stopped_one stopped_other going_one going_other is = record {
   within = ((omega arith, omega arith), (omega arith, omega arith, omega arith, omega arith));
   old = one ∷ other ∷ [];
   opened = opened;
@@ -35,7 +33,7 @@ ran g c =
     let made = c.two_runners-classes in
     let first : Runner = c.turn_to_the_end.new.first in
     let second : Runner = c.turn_once.new.runner in
-    two_ran made.result.0.family made.result.1 made.result.2 made.result.3 first second c.in_ok-runners.runners.items made.ensures.small made.ensures.crew
+    two_ran made.result.0.family made.result.1 made.result.2 made.result.3 first second c.in_ok-runners.runners.items made.ensures.crew
     c.turn_to_the_end.ensures.first (runner_trans made.result.3 c.turn_to_the_end.new.second second c.turn_to_the_end.ensures.second c.turn_once.ensures.keeps)
     (search rules) (search rules) (search rules) (search rules) c.in_ok-runners.ensures
 
