@@ -3,6 +3,7 @@ use Rattle.std.specs.Prelude.{◌≡◌, ◌≢◌, ⊤, ℕ, ◌<◌, ◌⊎◌
 use Rattle.dob_pieces.specs.declared.profile.Family.{Family}
 use Rattle.dob_rank.specs.Families.{classes_in}
 use Rattle.dob_value.specs.declared.value.Value.{Value}
+use Rattle.dob_value.specs.Codes.{value_of_code}
 use Rattle.dob_value.specs.Follows.{IsEntry, AreGiven}
 use Rattle.dob_share.specs.Owners.{owner_of}
 use Rattle.dob_share.specs.Shares.{IsOwn, HasValueNow}
@@ -63,6 +64,10 @@ AreOwners family n nodes = (k : ℕ) (node : Node) → slice_get nodes k ≡ Som
 -- the value is one that the class's owner, of n nodes, shows for it
 abbrev pub IsShown : ℕ → List Node → ℕ → Value → Type 0
 IsShown n nodes class value = (node : Node) → slice_get nodes (owner_of n class) ≡ Some node → HasValueNow node.share class value
+
+-- the code is one of 16 bits, of a value that the class's owner shows
+abbrev pub IsCodeShown : ℕ → List Node → ℕ → ℕ → Type 0
+IsCodeShown n nodes class code = (code < 65536) × IsShown n nodes class (value_of_code code)
 
 -- the values of the classes below a number are those that their owners show
 abbrev pub AreShownBelow : ℕ → ℕ → List Node → List Value → Type 0

@@ -5,7 +5,11 @@ use Rattle.dob_rank.specs.Families.{class_setup_in}
 use Rattle.dob_share.specs.declared.opening.Opening.{Opening}
 use Rattle.dob_node.specs.Openings.{IsOpening}
 
--- the openings of the classes from a number on, below another, in their order
-pub record AreOpeningsFrom (family : Family) (first upto : ℕ) (openings : List Opening) : Type 0 where
-  pub whole : first + length openings ≡ upto
-  pub each : (place : ℕ) (given : Opening) → slice_get openings place ≡ Some given → IsOpening family.profile (class_setup_in family (first + place)) given
+-- the items found of the classes from a number on, below another, in their order
+pub record AreFrom {X : Type 0} (IsFound : ℕ → X → Type 0) (first upto : ℕ) (items : List X) : Type 0 where
+  pub whole : first + length items ≡ upto
+  pub each : (place : ℕ) (item : X) → slice_get items place ≡ Some item → IsFound (first + place) item
+
+-- the openings of these classes
+abbrev pub AreOpeningsFrom : Family → ℕ → ℕ → List Opening → Type 0
+AreOpeningsFrom family first upto openings = AreFrom (λ class given. IsOpening family.profile (class_setup_in family class) given) first upto openings

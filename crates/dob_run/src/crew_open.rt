@@ -22,14 +22,17 @@ use dob_board::{Board, NodeSeat};
 use dob_node::{Node, Opening, opening};
 use dob_pieces::{Family, Memory};
 use dob_rank::{FamilyClasses, SegmentLength, Segments};
+use rayon::prelude::*;
 use std::alloc::Global;
+use std::thread::Threads;
 
 /// A board, and the runner of each of `n` nodes that own the classes, in order, before their first turn. They cut batches of
-/// at most `batch` items, and each one's inbox holds at most `capacity` batches.
+/// at most `batch` items, and each one's inbox holds at most `capacity` batches. The nodes are opened by threads, side by side.
 ///
 /// Errors, tested in this order: `Nodes` where `n` isn't 1 to 16; `Sizes` where `batch` isn't 1 to 4096 or `capacity` not 1
 /// to 1024; `Memory`.
 pub fn crew(
+    rt: &(impl Threads + Sync),
     alloc: Global,
     classes: &FamilyClasses,
     n: usize,
@@ -43,7 +46,7 @@ pub fn crew(
     if let Some(fault) = size_passed(n, batch, capacity) {
         return Err(fault);
     }
-    match open_crew(alloc, classes, n, batch, capacity) {
+    match open_crew(rt, alloc, classes, n, batch, capacity) {
         Ok(opened) => Ok(opened),
         Err(_) => Err(Fault::Memory),
     }
@@ -51,6 +54,7 @@ pub fn crew(
 
 // A crew as above, of sizes within their limits.
 fn open_crew(
+    rt: &(impl Threads + Sync),
     alloc: Global,
     classes: &FamilyClasses,
     n: usize,
@@ -61,13 +65,14 @@ fn open_crew(
     ensures { IfOk result (λ opened. IsNewCrew classes.now.family n batch capacity opened.0 opened.1.items) }
 {
     let openings = opening(alloc, classes, SegmentLength::longest())?;
-    crew_of(alloc, classes.family, openings, n, batch, capacity)
+    crew_of(rt, alloc, classes.family, openings, n, batch, capacity)
 }
 
 /// A crew as above, by what was found of each class of the family, which is given up.
 ///
 /// Error: `Memory`.
 pub(crate) fn crew_of(
+    rt: &(impl Threads + Sync),
     alloc: Global,
     family: Family,
     openings: Segments<Opening>,
@@ -80,12 +85,13 @@ pub(crate) fn crew_of(
     ensures { IfOk result (λ opened. IsNewCrew family n batch capacity opened.0 opened.1.items) }
 {
     let (board, endpoints) = open_endpoints(alloc, n, capacity)?;
-    let runners = runners_of(alloc, family, &openings, endpoints, batch)?;
+    let runners = runners_of(rt, alloc, family, &openings, endpoints, batch)?;
     Ok((board, runners))
 }
 
-// The runner of each endpoint.
+// The runner of each endpoint. As many nodes are opened side by side as there are processors.
 fn runners_of(
+    rt: &(impl Threads + Sync),
     alloc: Global,
     family: Family,
     openings: &Segments<Opening>,
@@ -98,12 +104,19 @@ fn runners_of(
     requires new { (capacity : ℕ) × AreNewEndpoints capacity endpoints.items }
     ensures { IfOk result (λ runners. AllZip (IsRunnerOf family size) endpoints.items runners.items) }
 {
-    let mut runners = Vec::with_capacity(alloc, endpoints.len())?;
-    for endpoint in endpoints {
-        let runner = open_runner(alloc, family, openings, endpoint, size)?;
-        runners.push(runner)?;
-    }
-    Ok(runners)
+    endpoints
+        .into_par_iter()
+        .with_min_len(1)
+        .map(
+            |endpoint: Endpoint| -> Result<Runner, Memory>
+                requires openings { AreOpenings family openings.now }
+                requires some { 0 < size }
+                requires at_most { size ≤ 4096 }
+                requires new { (capacity : ℕ) × IsNewEndpoint capacity endpoint }
+                ensures { IfOk result (IsRunnerOf family size endpoint) }
+            { open_runner(alloc, family, openings, endpoint, size) },
+        )
+        .collect::<Result<Vec<Runner>, Memory>>(rt, alloc)?
 }
 
 // The runner of an endpoint, with a node that is opened for its seat.

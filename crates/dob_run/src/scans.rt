@@ -14,7 +14,7 @@ use std::thread::Threads;
 
 // How many classes are gone over before their openings join the list: enough that the threads have work, and so few that what
 // stands beside the list is small.
-const AT_A_TIME: u64 = 1 << 20;
+pub(crate) const AT_A_TIME: u64 = 1 << 20;
 
 /// The status and the number of moves of each class, in the order of the classes: the list that `opening` gives, made by as
 /// many threads as there are processors.

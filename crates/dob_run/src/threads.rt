@@ -65,7 +65,7 @@ pub(crate) fn run_crew<R: Threads + Wait + Sync, G: Gate + Sync>(
 {
     let classes = classes_within(alloc, family, n, batch, capacity)?;
     let openings = scan(rt, alloc, &classes, SegmentLength::longest())?;
-    let (board, runners) = crew_of(alloc, family, openings, n, batch, capacity)?;
+    let (board, runners) = crew_of(rt, alloc, family, openings, n, batch, capacity)?;
     let ended = run_each(rt, alloc, runners, &classes, gate, until)?;
     Ok((classes, board, ended))
 }

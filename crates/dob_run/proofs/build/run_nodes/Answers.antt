@@ -26,11 +26,11 @@ returns-in_err-classes-clause-stopped g c =
     (unbegun_stops IsFailureOf (says_no (g.G.Gate.says c.args.gate.now)) Halted c.args.family c.args.n c.args.batch c.args.capacity fault c.in_err-classes.ensures.fault)
 
 pub finish-requires-clause-crew : goal.finish-requires-clause-crew
-finish-requires-clause-crew g c =
+finish-requires-clause-crew g c = λ κs lives.
     still_crew (says_no (g.G.Gate.says c.args.gate.now)) Halted c.args.family c.args.n c.args.batch c.args.capacity c.in_ok-classes.board c.in_ok-classes.ended.items c.in_ok-classes.ensures.ran
 
 pub finish-requires-clause-stopped : goal.finish-requires-clause-stopped
-finish-requires-clause-stopped g c = (
+finish-requires-clause-stopped g c = λ κs lives. (
   c.args.batch,
   subst (λ (s : Family). HaveStopped s c.args.batch c.in_ok-classes.ended.items) (sym c.in_ok-classes.ensures.family)
       (have_stopped (says_no (g.G.Gate.says c.args.gate.now)) c.args.family c.args.n c.args.batch c.args.capacity c.in_ok-classes.board c.in_ok-classes.ended.items c.in_ok-classes.ensures.ran),

@@ -42,7 +42,7 @@ returns-in-Err-clause-failed g c =
     (subst (λ (l : List Runner). IsFirstFailed l c.in-Err.fault) c.deref-2.ensures.value c.in-Err.ensures.first)
 
 pub table_of-requires-clause-owners : goal.table_of-requires-clause-owners
-table_of-requires-clause-owners g c =
+table_of-requires-clause-owners g c = λ κs lives.
     let here = (goal.at.table_of-requires-clause-owners g c).In_ok-nodes in
     let stopped = c.requires.stopped in
     let nodes = c.deref-3.result.now in

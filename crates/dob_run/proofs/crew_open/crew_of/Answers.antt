@@ -6,10 +6,10 @@ use Rattle.dob_run.proofs.CrewRunners.{endpoints_are, runners_are, runners_new}
 use Rattle.dob_run.proofs.crew_open.crew_of.Goals as goal
 
 pub runners_of-requires-clause-new : goal.runners_of-requires-clause-new
-runners_of-requires-clause-new c = (c.args.capacity, c.in_ok-board.ensures.new)
+runners_of-requires-clause-new g c = λ κs lives. (c.args.capacity, c.in_ok-board.ensures.new)
 
 pub returns : goal.returns
-returns c =
+returns g c =
     let family = c.args.family in
     let endpoints = c.in_ok-board.endpoints.items in
     let runners = c.in_ok-runners.runners.items in

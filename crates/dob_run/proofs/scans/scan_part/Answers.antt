@@ -7,7 +7,7 @@ use Rattle.dob_rank.specs.Families.{classes_in}
 use Rattle.dob_rank.specs.Families.{class_setup_in}
 use Rattle.dob_share.specs.declared.opening.Opening.{Opening}
 use Rattle.dob_node.specs.Openings.{IsOpening}
-use Rattle.dob_run.proofs.Scanned.{openings_are}
+use Rattle.dob_run.proofs.Scanned.{found_are}
 use Rattle.dob_run.specs.Scans.{AreOpeningsFrom}
 use Rattle.dob_run.proofs.scans.scan_part.Goals as goal
 
@@ -28,4 +28,4 @@ returns g c =
     let places = chain.1 ∙ (λ i. nat_range (ends.0 i) (ends.1 i)) in
     let are : AllZip (λ (class : ℕ) (given : Opening). IsOpening family.profile (class_setup_in family class) given) (range_with_len first (end - first)) done.0 =
     subst (λ (classes : List ℕ). AllZip (λ (class : ℕ) (given : Opening). IsOpening family.profile (class_setup_in family class) given) classes done.0) places chain.2 in
-    subst (AreOpeningsFrom family first end) (sym done.2) (openings_are family first end done.0 c.requires.order are)
+    subst (AreOpeningsFrom family first end) (sym done.2) (found_are (λ class given. IsOpening family.profile (class_setup_in family class) given) first end done.0 c.requires.order are)

@@ -14,15 +14,19 @@ use std::process::Abort;
 use std::sync::Wait;
 use std::sync::atomic::{AtomicUsize, Ordering};
 use std::test::Fail;
+use std::thread::Threads;
 
 // The classes of lions alone, and a crew of two nodes that own them, with batches of one item and inboxes for one batch.
-fn two_runners(rt: &(impl Wait + Abort), alloc: Global) -> (FamilyClasses, Board, Runner, Runner)
+fn two_runners(
+    rt: &(impl Threads + Wait + Abort + Sync),
+    alloc: Global,
+) -> (FamilyClasses, Board, Runner, Runner)
     ensures first { result.0.family ≡ result.2.family }
     ensures second { result.0.family ≡ result.3.family }
     ensures crew { IsNewCrew result.0.family 2 1 1 result.1 (result.2 ∷ result.3 ∷ []) }
 {
     let classes = FamilyClasses::open(alloc, lions(rt)).expect(rt, "classes");
-    let (board, mut runners) = crew(alloc, &classes, 2, 1, 1).expect(rt, "a crew");
+    let (board, mut runners) = crew(rt, alloc, &classes, 2, 1, 1).expect(rt, "a crew");
     let second = runners.pop().expect(rt, "the second runner");
     let first = runners.pop().expect(rt, "the first runner");
     assert!(rt; runners.is_empty());
