@@ -1,14 +1,10 @@
--- Each set is small, and the runners of a new crew are of its family.
+-- The runners of a new crew are of its family.
 use Rattle.std.proofs.Common.{◌≡◌, sym, [], ◌∷◌, refl, rules}
 use Rattle.dob_pieces.specs.declared.profile.Family.{Family}
 use Rattle.dob_board.specs.declared.board.Board.{Board}
 use Rattle.dob_run.specs.declared.runner.Runner.{Runner}
 use Rattle.dob_run.specs.CrewRunners.{IsNewCrew}
-use Rattle.dob_dbfile.proofs.HeaderFaults.{small}
 use Rattle.dob_tests.proofs.units.run.turns.two_runners.Goals as goal
-
-pub returns-clause-small : goal.returns-clause-small
-returns-clause-small g c = small c.expect-classes.result.family.set
 
 are_of : (family : Family) (board : Board) (one other : Runner) → IsNewCrew family 2 1 1 board (one ∷ other ∷ [])
     → (family ≡ one.family) × (family ≡ other.family)
