@@ -38,11 +38,11 @@ ran g c =
     (search rules) (search rules) (search rules) (search rules) c.in_ok-runners.ensures
 
 pub finish-requires-clause-crew : goal.finish-requires-clause-crew
-finish-requires-clause-crew g c = λ κs lives.
+finish-requires-clause-crew g c = λ κs.
     let made = c.two_runners-classes.result in
     still_crew no_gate until_halted made.0.family 2 1 1 made.1 c.in_ok-runners.runners.items (ran g (goal.at.finish-requires-clause-crew g c).In_ok-runners)
 
 pub finish-requires-clause-stopped : goal.finish-requires-clause-stopped
-finish-requires-clause-stopped g c = λ κs lives.
+finish-requires-clause-stopped g c = λ κs.
     let made = c.two_runners-classes.result in
     (1, have_stopped no_gate made.0.family 2 1 1 made.1 c.in_ok-runners.runners.items (ran g (goal.at.finish-requires-clause-stopped g c).In_ok-runners))
