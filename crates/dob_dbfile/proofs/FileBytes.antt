@@ -8,7 +8,7 @@ use Rattle.dob_pieces.specs.declared.profile.Profile.TheVariants.{A}
 use Rattle.dob_value.specs.Follows.{ClassTable}
 use Rattle.dob_dbfile.specs.declared.header.Format.{Format}
 use Rattle.dob_dbfile.specs.declared.header.Format.TheVariants.{First, Second}
-use Rattle.dob_dbfile.specs.Format.{title, set_bytes, profile_bytes, count_bytes, header_in, records, contents_in, bytes_in, bytes_of, bytes1, IsFile}
+use Rattle.dob_dbfile.specs.Format.{title, set_bytes, profile_bytes, count_bytes, header_in, records, contents_in, bytes_in, IsFile}
 use Rattle.dob_dbfile.specs.Faults.{header_len}
 use Rattle.dob_dbfile.proofs.Decoded.{length-records}
 

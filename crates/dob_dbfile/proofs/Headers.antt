@@ -1,19 +1,19 @@
 -- What the tests say of the first bytes they say of all of them.
-use Rattle.std.proofs.Common.{◌≡◌, ℕ, ◌+◌, ◌-◌, ◌≤◌, ◌<◌, List, [], ◌∷◌, ◌++◌, take, drop, length, arith, inr, refl, sym, ap, subst, ◌∙◌, length-take-le, length-drop, take_all}
+use Rattle.std.proofs.Common.{◌≡◌, ℕ, ◌+◌, ◌-◌, ◌≤◌, List, ◌++◌, take, drop, length, arith, inr, refl, sym, ap, subst, ◌∙◌, length-take-le, length-drop, take_all}
 use Rattle.std.proofs.lemmas.List.{drop-take, take-take, length-append, take_at, drop_at}
 use borrow.Rule.Slice.PartMut.{put_mid}
 use Rattle.dob_pieces.specs.declared.piece_set.PieceSet.{PieceSet}
 use Rattle.dob_pieces.specs.declared.profile.Family.{Family}
 use Rattle.dob_pieces.specs.declared.profile.Profile.{Profile}
-use Rattle.dob_rank.specs.Families.{family_of, classes_in}
+use Rattle.dob_rank.specs.Families.{family_of}
 use Rattle.dob_rank.specs.Limits.{IsSmall}
 use Rattle.dob_dbfile.specs.declared.fault.Fault.{Fault}
 use Rattle.dob_dbfile.specs.declared.fault.Fault.TheVariants as fault
 use Rattle.dob_dbfile.specs.declared.header.Format.{Format}
 use Rattle.dob_dbfile.specs.declared.header.Format.TheVariants.{First, Second}
 use Rattle.dob_dbfile.specs.Devices.{Stream, after, GivesFirst}
-use Rattle.dob_dbfile.specs.Faults.{count_place, header_len, HasFront, HasTitle, NamesSet, HasHeader, SaysProfile, NamesFamily, NamesSmallFamily}
-use Rattle.dob_dbfile.specs.Faults.{CountsClasses, HasHeaderFault, IsHeaderShort, HasReadFault}
+use Rattle.dob_dbfile.specs.Faults.{count_place, header_len, HasTitle, NamesSet, HasHeader, SaysProfile, NamesFamily}
+use Rattle.dob_dbfile.specs.Faults.{CountsClasses, HasHeaderFault}
 use Rattle.dob_dbfile.specs.Looking.{HasFrontFault}
 use Rattle.dob_dbfile.specs.Reading.{IsCut, TakesBytes}
 use Rattle.dob_dbfile.proofs.Filled.{filled_more}

@@ -1,6 +1,6 @@
 -- What was read by place, and the record of a class in the file of a table.
-use Rattle.std.proofs.Common.{◌≡◌, ◌∙◌, ◌⊎◌, ℕ, zero, suc, ◌+◌, ◌*◌, ◌≤◌, ◌<◌, List, [], ◌∷◌, ◌++◌, take, drop, length, arith, inl, inr, refl, sym, subst, ap}
-use Rattle.std.proofs.Common.{Some, slice_get, slice_index, length-drop, take_all}
+use Rattle.std.proofs.Common.{◌≡◌, ◌∙◌, ℕ, zero, suc, ◌*◌, ◌<◌, List, [], ◌∷◌, ◌++◌, take, drop, length, arith, sym, subst, ap}
+use Rattle.std.proofs.Common.{Some, slice_get, slice_index, take_all}
 use Rattle.std.specs.Prelude.{unwrap_or}
 use Rattle.std.proofs.lemmas.List.{drop-drop}
 use Rattle.std.proofs.lemmas.List.Elements.{All-tail}
@@ -12,34 +12,17 @@ use Rattle.dob_rank.specs.Families.{classes_in}
 use Rattle.dob_value.specs.declared.value.Value.{Value}
 use Rattle.dob_value.specs.Codes.{code_of_value, value_of_code}
 use Rattle.dob_value.specs.Follows.{ClassTable, IsEntry, IsTable}
-use Rattle.dob_dbfile.specs.declared.fault.Fault.{Fault}
-use Rattle.dob_dbfile.specs.declared.fault.Fault.TheVariants as fault
 use Rattle.dob_dbfile.specs.declared.header.Format.{Format}
 use Rattle.dob_dbfile.specs.Devices.{Stream, after, whole}
-use Rattle.dob_dbfile.specs.Format.{IsFile, bytes_in, contents_in, records}
+use Rattle.dob_dbfile.specs.Format.{IsFile, contents_in, records}
 use Rattle.dob_dbfile.specs.Faults.{CountsClasses, header_len}
-use Rattle.dob_dbfile.specs.Looking.{HasRecord, HasRecordFault, RecordsAreEntries, place_of}
-use Rattle.dob_dbfile.specs.Reading.{IsCut, TakesBytes}
+use Rattle.dob_dbfile.specs.Looking.{HasRecord, RecordsAreEntries, place_of}
+use Rattle.dob_dbfile.specs.Reading.{TakesBytes}
 use Rattle.dob_dbfile.proofs.CodeBytes.{code_of_code, pair_back}
 use Rattle.dob_dbfile.proofs.Decoded.{same_records}
 use Rattle.dob_dbfile.proofs.FileBytes.{behind_header, format_of}
 use Rattle.dob_dbfile.proofs.Places.{same_head}
 use Rattle.dob_dbfile.proofs.Written.{counts_file, table_classes}
-
--- a record that is cut short
-pub record_cut : (stream : Stream) (format : Format) (class : ℕ) (given : Fault) → IsCut 2 (place_of format class) (after (place_of format class) stream) given
-    → (given ≡ fault.Memory → ⊥) → HasRecordFault stream format class given
-record_cut stream format class fault.Truncated cut known = (omega (arith, cut.0, length-drop (place_of format class) stream.bytes), cut.1)
-record_cut stream format class (fault.Io count) cut known =
-    (omega (arith, cut.0, length-drop (place_of format class) stream.bytes), cut.1, cut.2)
-record_cut stream format class fault.Memory cut known = known refl
-record_cut stream format class fault.SetTooLarge cut known = cut
-record_cut stream format class fault.Magic cut known = cut
-record_cut stream format class fault.SetByte cut known = cut
-record_cut stream format class fault.ProfileByte cut known = cut
-record_cut stream format class fault.ClassCount cut known = cut
-record_cut stream format class fault.Trailing cut known = cut
-record_cut stream format class fault.Digest cut known = cut
 
 -- the value of two bytes has them as its record
 pub record_of : (code : ℕ) (bytes : List ℕ) (value : Value) → length bytes ≡ 2 → ((i : ℕ) → slice_index bytes i < 256)

@@ -1,5 +1,5 @@
 -- What the steps of reading say of the whole stream.
-use Rattle.std.proofs.Common.{◌≡◌, ℕ, ◌+◌, ◌*◌, ◌≤◌, ◌<◌, ◌⊎◌, false, List, ◌++◌, take, drop, length, arith, inl, inr, refl, sym}
+use Rattle.std.proofs.Common.{◌≡◌, ℕ, ◌+◌, ◌*◌, ◌≤◌, ◌<◌, ◌⊎◌, List, ◌++◌, take, drop, length, arith, inl, inr, refl, sym}
 use Rattle.std.proofs.Common.{subst, ap, ◌∙◌, length-drop, length-take-le, take-add, append_assoc}
 use Rattle.std.proofs.lemmas.Bool.{cases_lt}
 use Rattle.std.proofs.lemmas.List.{take-append-drop, drop-drop, length-map}
@@ -14,7 +14,7 @@ use Rattle.dob_dbfile.specs.declared.fault.Fault.TheVariants as fault
 use Rattle.dob_dbfile.specs.declared.header.Format.{Format}
 use Rattle.dob_dbfile.specs.declared.header.Format.TheVariants.{First, Second}
 use Rattle.dob_dbfile.specs.Devices.{Stream, after}
-use Rattle.dob_dbfile.specs.Format.{title, set_bytes, profile_byte, profile_bytes, count_bytes, records, header_in, contents_in, bytes_in, IsFile}
+use Rattle.dob_dbfile.specs.Format.{title, set_bytes, profile_bytes, count_bytes, records, header_in, contents_in, bytes_in, IsFile}
 use Rattle.dob_dbfile.specs.Faults.{header_len, SaysProfile, CountsClasses, contents_len, file_len, IsNoLonger, HasDigest, IsCutShort, HasReadFault}
 use Rattle.dob_dbfile.specs.Looking.{HasFrontFault}
 use Rattle.dob_dbfile.specs.Reading.{EndsWith, HasRestFault, TakesBytes}

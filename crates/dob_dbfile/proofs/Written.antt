@@ -1,5 +1,5 @@
 -- A file of a table passes all tests, and is that of no other table.
-use Rattle.std.proofs.Common.{◌≡◌, ℕ, ◌+◌, ◌*◌, ◌<◌, ◌≤◌, ◌⊎◌, Bool, false, List, ◌++◌, take, drop, length, arith, inl, inr, refl, sym, subst, ap, ◌∙◌, Result, Ok, Err}
+use Rattle.std.proofs.Common.{◌≡◌, ℕ, ◌+◌, ◌*◌, ◌<◌, ◌≤◌, ◌⊎◌, false, List, take, drop, length, arith, inl, inr, refl, sym, subst, ap, ◌∙◌, Result, Ok, Err}
 use Rattle.std.proofs.Common.{length-take, min}
 use Rattle.std.proofs.Math.Nat.{min-le_right}
 use Rattle.std.specs.Result.{IfOk, IfErr, MatchResult}
@@ -8,7 +8,6 @@ use Rattle.std.proofs.lemmas.List.{length-append, length-map, take_at, drop_at}
 use Rattle.sha2.specs.Sha256.{sha256}
 use Rattle.sha2.proofs.Facts256.{length-sha256}
 use Rattle.dob_pieces.specs.declared.profile.Family.{Family}
-use Rattle.dob_pieces.specs.declared.profile.Profile.{Profile}
 use Rattle.dob_rank.specs.Families.{IsRepresentativeIn, HasClassesIn, classes_in}
 use Rattle.dob_rank.proofs.Present.{HasClassesIn-classes_in}
 use Rattle.dob_value.specs.declared.value.Value.{Value}
@@ -20,7 +19,7 @@ use Rattle.dob_dbfile.specs.declared.fault.Fault.{Fault}
 use Rattle.dob_dbfile.specs.declared.fault.Fault.TheVariants as fault
 use Rattle.dob_dbfile.specs.declared.header.Format.{Format}
 use Rattle.dob_dbfile.specs.declared.header.Format.TheVariants.{First, Second}
-use Rattle.dob_dbfile.specs.Devices.{Stream, whole}
+use Rattle.dob_dbfile.specs.Devices.{whole}
 use Rattle.dob_dbfile.specs.Format.{count_bytes, header_in, records, contents_in, bytes_in, IsFile}
 use Rattle.dob_dbfile.specs.Faults.{count_place, header_len, SaysProfile, NamesFamily, CountsClasses, contents_len, HasDigest, PassesAll, HasReadFault}
 use Rattle.dob_dbfile.proofs.Decoded.{same_records}

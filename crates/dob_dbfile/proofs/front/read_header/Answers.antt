@@ -1,10 +1,9 @@
 -- The two pieces are the header, and what it is refused for is a fault of the stream.
-use Rattle.std.proofs.Common.{◌≡◌, ◌∙◌, ◌+◌, ◌-◌, ◌≤◌, ◌++◌, ℕ, List, arith, sym, subst, ap, length, take, drop, rules, length-take-le}
+use Rattle.std.proofs.Common.{◌≡◌, ◌∙◌, ◌+◌, ◌-◌, ◌++◌, ℕ, List, arith, subst, ap, length, take, drop, rules}
 use Rattle.std.proofs.lemmas.Result.{err_from_is_err_and}
 use borrow.Rule.Slice.PartMut.{put_mid}
 use Rattle.dob_dbfile.specs.Devices.{after}
 use Rattle.dob_dbfile.specs.Faults.{CountsClasses, HasHeaderFault, NamesSet, header_len}
-use Rattle.dob_dbfile.specs.Reading.{IsCut, TakesBytes}
 use Rattle.dob_dbfile.proofs.Filled.{after-after}
 use Rattle.dob_dbfile.proofs.Headers.{counts_lifts, fault_lifts, front_cut, front_refused, header_came, header_long, set_lifts, takes_front}
 use Rattle.dob_dbfile.proofs.front.read_header.Goals as goal

@@ -1,5 +1,5 @@
 -- The header says no profile, or has another number than that of the family's classes.
-use Rattle.std.proofs.Common.{◌≡◌, ◌∙◌, ◌-◌, ◌+◌, ℕ, List, arith, rules, sym, ap, true, false, length, take, drop}
+use Rattle.std.proofs.Common.{◌≡◌, ◌∙◌, ◌-◌, ◌+◌, ℕ, List, arith, sym, ap, true, false, length, take, drop}
 use Rattle.dob_rank.specs.Families.{family_of}
 use Rattle.dob_dbfile.specs.Format.{count_bytes}
 use Rattle.dob_dbfile.specs.Faults.{count_place, header_len}

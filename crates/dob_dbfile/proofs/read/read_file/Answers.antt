@@ -1,11 +1,10 @@
 -- Each part of the file that is read tells its faults, and the last one the values.
-use Rattle.std.proofs.Common.{◌≡◌, ◌∙◌, ℕ, List, sym, subst, ap, length, take, false}
+use Rattle.std.proofs.Common.{◌≡◌, ◌∙◌, ℕ, List, sym, subst, ap, length, false}
 use Rattle.std.proofs.lemmas.Result.{err_from_is_err_and}
 use Rattle.dob_pieces.specs.declared.profile.Family.{Family}
 use Rattle.dob_rank.specs.Families.{classes_in}
 use Rattle.dob_value.specs.Codes.{values_of_codes}
 use Rattle.dob_value.specs.Follows.{ClassTable, class_table}
-use Rattle.dob_dbfile.specs.declared.fault.Fault.TheVariants as fault
 use Rattle.dob_dbfile.specs.Devices.{Stream, after}
 use Rattle.dob_dbfile.specs.Format.{IsFile}
 use Rattle.dob_dbfile.specs.Faults.{PassesAll, header_len}

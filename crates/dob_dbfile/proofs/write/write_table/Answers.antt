@@ -1,6 +1,4 @@
 -- The piece is the header, and has room for a piece of records.
-use Rattle.std.proofs.Common.{ap}
-use Rattle.dob_pieces.specs.declared.profile.Family.{Family}
 use Rattle.dob_dbfile.proofs.FileBytes.{header_is}
 use Rattle.dob_dbfile.proofs.write.write_table.Goals as goal
 
