@@ -1,5 +1,6 @@
 -- What the tests say of the first bytes they say of all of them.
-use Rattle.std.proofs.Common.{◌≡◌, ℕ, ◌+◌, ◌-◌, ◌≤◌, List, ◌++◌, take, drop, length, arith, inr, refl, sym, ap, subst, ◌∙◌, length-take-le, length-drop, take_all}
+use Rattle.std.proofs.Common.{◌≡◌, ℕ, ◌+◌, ◌-◌, ◌≤◌, List, ◌++◌, take, drop, length, arith, inr, refl, sym, ap, subst, ◌∙◌}
+use Rattle.std.proofs.Common.{length-take-le, length-drop, take_all}
 use Rattle.std.proofs.lemmas.List.{drop-take, take-take, length-append, take_at, drop_at}
 use borrow.Rule.Slice.PartMut.{put_mid}
 use Rattle.dob_pieces.specs.declared.piece_set.PieceSet.{PieceSet}
@@ -182,7 +183,8 @@ filled : (stream : Stream) (size k : ℕ) (front rest more : List ℕ) → lengt
     → (size ≤ length stream.bytes) × (take size (put_mid 20 k (front ++ rest) more) ≡ take size stream.bytes)
 filled stream size k front rest more twenty first second sum =
     let there : 20 ≤ length stream.bytes = omega (arith, twenty, first.within) in
-    let room : 20 ≤ length (front ++ rest) = (let all : length (front ++ rest) ≡ length front + length rest = length-append front rest in omega (arith, all, twenty)) in
+    let all : length (front ++ rest) ≡ length front + length rest = length-append front rest in
+    let room : 20 ≤ length (front ++ rest) = omega (arith, all, twenty) in
     let gave : GivesFirst (after 20 stream) (length more) more = record {
       within = second.within;
       same = take_all (length more) more (omega arith) ∙ second.same;

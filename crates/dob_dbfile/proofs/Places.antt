@@ -1,6 +1,6 @@
 -- Of a stream one fault holds at most, and none where it passes all tests.
-use Rattle.std.proofs.Common.{◌≡◌, ℕ, zero, suc, ◌≤◌, ◌⊎◌, Bool, cond, false, true, List, ◌∷◌, [], length, slice_index, arith, inl, inr, refl, sym, subst, ap, ◌∙◌}
-use Rattle.std.proofs.Common.{Result, Ok, Err}
+use Rattle.std.proofs.Common.{◌≡◌, ℕ, zero, suc, ◌≤◌, ◌⊎◌, Bool, cond, false, true, List, ◌∷◌, [], length, slice_index, arith, inl, inr}
+use Rattle.std.proofs.Common.{refl, sym, subst, ap, ◌∙◌, Result, Ok, Err}
 use Rattle.std.specs.Result.{IfOk, IfErr, MatchResult}
 use Rattle.std.proofs.lemmas.Bool.{cases_lt, cases_order}
 use Rattle.dob_pieces.specs.declared.piece_set.PieceSet.{PieceSet}

@@ -47,8 +47,10 @@ says Second table tells = refl
 
 -- and names its family
 names_front : (format : Format) (table : ClassTable) → Tells format table.family.profile → NamesFamily format table.family (header_in format table)
-names_front First table tells = ((((omega (arith, length-header First table), refl), refl), omega (arith, length-header First table)), says First table tells)
-names_front Second table tells = ((((omega (arith, length-header Second table), refl), refl), omega (arith, length-header Second table)), says Second table tells)
+names_front First table tells =
+    let long = length-header First table in ((((omega (arith, long), refl), refl), omega (arith, long)), says First table tells)
+names_front Second table tells =
+    let long = length-header Second table in ((((omega (arith, long), refl), refl), omega (arith, long)), says Second table tells)
 
 count_front : (format : Format) (table : ClassTable) → take 8 (drop (count_place format) (header_in format table)) ≡ count_bytes (length table.values)
 count_front First table = refl

@@ -31,7 +31,8 @@ returns-in_err-family-clause-fault g c = λ stream gives.
     c.header_len.ensures c.fill.auto.room first.0 second.0 in
     let given = c.in_err-family.field-0.0 in
     rw (p.1, p.2) (front_refused stream given (fault_lifts (header_len format) stream.bytes (header_long format) came.there given
-    (subst (λ (h : List ℕ). HasHeaderFault h given) (ap (λ (n : ℕ). take n (put_mid 20 (c.header_len.result - 20) (c.read_front.new.room ++ drop 20 c.args.room.now)
+    (subst (λ (h : List ℕ). HasHeaderFault h given) (ap (λ (n : ℕ). take n (put_mid 20 (c.header_len.result - 20)
+    (c.read_front.new.room ++ drop 20 c.args.room.now)
     c.fill.new.room)) c.header_len-2.ensures ∙ came.same) c.in_err-family.ensures.fault)))
 
 pub returns-clause-counted : goal.returns-clause-counted

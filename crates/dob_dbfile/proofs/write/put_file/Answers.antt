@@ -68,7 +68,9 @@ returns-clause-part g c =
     (writes_more (g.W.Sink.state c.args.sink.now) (g.W.Sink.state c.write_hashed.new.sink) (g.W.Sink.state c.write_records.new.sink) piece
     (records table.values) c.in_ok-write_hashed.ensures.done c.in_ok-write_records.ensures.done) in
     let counted = c.class_count-count.ensures.number ∙ ap classes_in c.classes.ensures.family ∙ c.classes.ensures.count in
-    let long : length (contents_in Second table) ≡ 21 + 2 * c.class_count-count.result = length-contents Second table ∙ ap (λ (n : ℕ). 21 + 2 * n) (sym counted) in
+    let long : length (contents_in Second table) ≡ 21 + 2 * c.class_count-count.result
+    = length-contents Second table ∙ ap (λ (n : ℕ). 21 + 2 * n) (sym counted) in
     IfErr-weaker c.put_digest.result _ _
     (λ failed. stops_last (g.W.Sink.state c.args.sink.now) (g.W.Sink.state c.write_records.new.sink) (g.W.Sink.state c.put_digest.new.sink)
-    (21 + 2 * c.class_count-count.result) (contents_in Second table) digest (bytes_of table) failed wrote long refl) (c.put_digest.ensures.part (contents_in Second table) holds)
+    (21 + 2 * c.class_count-count.result) (contents_in Second table) digest (bytes_of table) failed wrote long refl)
+    (c.put_digest.ensures.part (contents_in Second table) holds)
