@@ -38,7 +38,10 @@ pub enum Order<'a> {
         position: &'a str,
     },
     /// To print the numbers of positions and of classes of the piece set that the text names, by the rules of the profile.
-    Count { profile: Profile, set: &'a str },
+    Count {
+        profile: Profile,
+        set: &'a str,
+    },
     /// To build the table of the piece set that the text names, by the rules of the profile and by so many nodes, and to keep
     /// it under the name.
     Build {
@@ -80,7 +83,10 @@ pub enum Order<'a> {
     /// To print how many classes of the file's table have which value.
     Stats(&'a str),
     /// To keep the table of the file under the other name, in the format that is written.
-    Migrate { file: &'a str, out: &'a str },
+    Migrate {
+        file: &'a str,
+        out: &'a str,
+    },
 }
 
 /// What the words come to.
@@ -392,11 +398,8 @@ fn bare_command<'a>(alloc: Global) -> Result<Command<'a>, AllocError>
 }
 
 // The subcommand `value`.
-fn value_command<'a>(
-    alloc: Global,
-    profiles: &'a [&'a str],
-) -> Result<Command<'a>, AllocError>
-    ensures { IfOk result (HasShape (form_app profiles value_form)) }
+fn value_command<'a>(alloc: Global, profiles: &'a [&'a str]) -> Result<Command<'a>, AllocError>
+    ensures { IfOk result (HasShape (form_app profiles.entry value_form)) }
 {
     let command = Command::new(alloc, "value")
         .about("Prints the value of a position")
@@ -406,11 +409,8 @@ fn value_command<'a>(
 }
 
 // The subcommand `count`.
-fn count_command<'a>(
-    alloc: Global,
-    profiles: &'a [&'a str],
-) -> Result<Command<'a>, AllocError>
-    ensures { IfOk result (HasShape (form_app profiles count_form)) }
+fn count_command<'a>(alloc: Global, profiles: &'a [&'a str]) -> Result<Command<'a>, AllocError>
+    ensures { IfOk result (HasShape (form_app profiles.entry count_form)) }
 {
     let command = Command::new(alloc, "count")
         .about("Prints how many positions and classes a piece set has, as `count --set 100`")
@@ -420,11 +420,8 @@ fn count_command<'a>(
 }
 
 // The subcommand `build`.
-fn build_command<'a>(
-    alloc: Global,
-    profiles: &'a [&'a str],
-) -> Result<Command<'a>, AllocError>
-    ensures { IfOk result (HasShape (form_app profiles build_form)) }
+fn build_command<'a>(alloc: Global, profiles: &'a [&'a str]) -> Result<Command<'a>, AllocError>
+    ensures { IfOk result (HasShape (form_app profiles.entry build_form)) }
 {
     let command = Command::new(alloc, "build")
         .about(
@@ -545,9 +542,10 @@ fn set_argument<'a>(alloc: Global) -> Arg<'a>
 
 // The option `--rules PROFILE`.
 fn rules_argument<'a>(alloc: Global, profiles: &'a [&'a str]) -> Arg<'a>
-    ensures { IsRead (option_rule profiles value_form rules_option) result }
+    ensures { IsRead (option_rule profiles.entry value_form rules_option) result }
 {
-    let help = "The rules: B lets no chick be dropped on its far row, A does; A where it is left out";
+    let help =
+        "The rules: B lets no chick be dropped on its far row, A does; A where it is left out";
     option_argument(alloc, "rules", "PROFILE", help).value_parser(profiles)
 }
 
@@ -574,7 +572,8 @@ fn out_argument<'a>(alloc: Global) -> Arg<'a>
 fn new_file_argument<'a>(alloc: Global) -> Arg<'a>
     ensures { IsRead (option_rule no_names migrate_form new_file_option) result }
 {
-    let help = "The database file to be written, made anew or overwritten; it may be the one that is read";
+    let help =
+        "The database file to be written, made anew or overwritten; it may be the one that is read";
     option_argument(alloc, "out", "OUT", help).required(true)
 }
 

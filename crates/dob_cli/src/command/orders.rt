@@ -136,12 +136,6 @@ fn profile_named(rules: Option<&str>) -> Profile
 {
     match rules {
         None => Profile::A,
-        Some(name) => {
-            if name == "B" {
-                Profile::B
-            } else {
-                Profile::A
-            }
-        }
+        Some(name) => { if name == "B" { Profile::B } else { Profile::A } }
     }
 }

@@ -27,3 +27,9 @@ returns-in-Show-clause-ok g c = rw c.in-Show.is c.answer_show.ensures.ok
 
 pub returns-in-Stats-clause-ok : goal.returns-in-Stats-clause-ok
 returns-in-Stats-clause-ok g c = rw c.in-Stats.is c.answer_stats.ensures.ok
+
+pub returns-in-Migrate-clause-ok : goal.returns-in-Migrate-clause-ok
+returns-in-Migrate-clause-ok g c = rw c.in-Migrate.is c.answer_migrate.ensures.ok
+
+pub returns-in-Migrate-clause-err : goal.returns-in-Migrate-clause-err
+returns-in-Migrate-clause-err g c = rw c.in-Migrate.is c.answer_migrate.ensures.err
