@@ -1,8 +1,8 @@
-// Answers about a piece set. Where the set has no such rank or class, the answer is `none`.
+// Answers about a piece set by the rules of a profile. Where it has no such rank or class, the answer is `none`.
 use crate::opened::Opened;
 use crate::question::{OfClasses, OfSet};
 use dob_pieces::{Family, Memory};
-use dob_rank::{FamilyClasses, size, unrank};
+use dob_rank::{FamilyClasses, size_in, unrank_in};
 use dob_text::write_position;
 use dob_unmove::back;
 use dob_value::Fault;
@@ -41,15 +41,15 @@ fn about_classes(
 
 /// The text of the position of that rank.
 fn tell_unranked(alloc: Global, family: Family, rank: u64) -> Result<String, Memory> {
-    if rank >= size(family.set) {
+    if rank >= size_in(family) {
         return Ok(none(alloc)?);
     }
-    write_position(alloc, &unrank(family.set, rank))
+    write_position(alloc, &unrank_in(family, rank))
 }
 
 /// `positions N classes N`.
 fn tell_size(alloc: Global, classes: &FamilyClasses) -> Result<String, AllocError> {
-    let positions = size(classes.family.set);
+    let positions = size_in(classes.family);
     let classes = classes.class_count();
     format!(in alloc; "positions {positions} classes {classes}")
 }

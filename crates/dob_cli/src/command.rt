@@ -19,7 +19,7 @@ ghost use Rattle.dob_cli.specs.Forms.{moves_form, show_form, value_form, file_op
 ghost use Rattle.dob_cli.specs.Forms.{plain_form, rules_option, set_option, stats_form};
 ghost use Rattle.dob_cli.specs.Lines.{IsAmong, IsLine};
 ghost use Rattle.dob_cli.specs.Words.{asks, has_topic, is_topic, is_version, meaning_of, meaning_of_topic, names_subcommand};
-ghost use Rattle.dob_cli.specs.Shapes.{Finds, HasShape, IsProgram, IsRead, bare_app, flag_rule, form_app, no_names, option_rule, text_rule};
+ghost use Rattle.dob_cli.specs.Shapes.{AreProfiles, Finds, HasShape, IsProgram, IsRead, bare_app, flag_rule, form_app, no_names, option_rule, text_rule};
 ghost use Rattle.dob_cli.specs.Readings.{ComesFromLine, IsOrder, IsReadingOf, IsReadingOfKind};
 
 mod orders;
@@ -357,7 +357,7 @@ fn names_subcommand(name: &str) -> bool
 fn dobutsu_command<'a>(alloc: Global) -> Result<Command<'a>, AllocError>
     ensures { IfOk result IsProgram }
 {
-    let profiles: &'a [&'a str] = PROFILES;
+    let profiles = profile_names();
     let command = bare_command(alloc);
     let command = add_subcommand(command, value_command(alloc, profiles));
     let command = add_subcommand(command, count_command(alloc, profiles));
@@ -382,6 +382,13 @@ fn add_subcommand<'a>(
         → IfOk result (HasShape (with_subcommand outer inner.top)) }
 {
     command?.subcommand(subcommand?)
+}
+
+// What `--rules` takes.
+fn profile_names<'a>() -> &'a [&'a str]
+    ensures { AreProfiles result }
+{
+    PROFILES
 }
 
 // The program's command without its subcommands.

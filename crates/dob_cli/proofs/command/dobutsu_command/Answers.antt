@@ -1,5 +1,4 @@
 -- The subcommands join the program, one after the other.
-use Rattle.std.proofs.Common.{refl}
 use Rattle.std.proofs.lemmas.Result.{IfOk-weaker}
 use Rattle.clap.specs.Words.{App, with_subcommand}
 use Rattle.dob_cli.specs.Forms.{build_form, check_form, count_form, line_form, look_form, migrate_form, moves_form, probe_form, show_form, stats_form, value_form}
@@ -39,7 +38,7 @@ with_stats profiles = with_subcommand (with_moves profiles) (form_app profiles s
 
 pub returns : goal.returns
 returns c =
-    let p : ProfileNames = c.profiles in
+    let p : ProfileNames = c.profile_names-profiles.result in
     let value = c.add_subcommand-command.ensures bare_app (form_app p value_form) c.bare_command-command.ensures c.value_command.ensures in
     let count = c.add_subcommand-command-2.ensures (with_value p) (form_app p count_form) value c.count_command.ensures in
     let build = c.add_subcommand-command-3.ensures (with_count p) (form_app p build_form) count c.build_command.ensures in
@@ -50,5 +49,5 @@ returns c =
     let show = c.add_subcommand-command-8.ensures (with_look p) (form_app p show_form) look c.show_command.ensures in
     let moves = c.add_subcommand-command-9.ensures (with_show p) (form_app p moves_form) show c.moves_command.ensures in
     let stats = c.add_subcommand-command-10.ensures (with_moves p) (form_app p stats_form) moves c.stats_command.ensures in
-    IfOk-weaker c.add_subcommand.result _ _ (λ r shape. (p, (refl, shape)))
+    IfOk-weaker c.add_subcommand.result _ _ (λ r shape. (p, (c.profile_names-profiles.ensures, shape)))
     (c.add_subcommand.ensures (with_stats p) (form_app p migrate_form) stats c.migrate_command.ensures)
