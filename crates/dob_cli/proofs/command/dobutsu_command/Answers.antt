@@ -49,5 +49,5 @@ returns c =
     let show = c.add_subcommand-command-8.ensures (with_look p) (form_app p show_form) look c.show_command.ensures in
     let moves = c.add_subcommand-command-9.ensures (with_show p) (form_app p moves_form) show c.moves_command.ensures in
     let stats = c.add_subcommand-command-10.ensures (with_moves p) (form_app p stats_form) moves c.stats_command.ensures in
-    IfOk-weaker c.add_subcommand.result _ _ (λ r shape. (p, (c.profile_names-profiles.ensures, shape)))
+    IfOk-weaker c.add_subcommand.result _ _ (λ r shape. (p, c.profile_names-profiles.ensures, shape))
     (c.add_subcommand.ensures (with_stats p) (form_app p migrate_form) stats c.migrate_command.ensures)

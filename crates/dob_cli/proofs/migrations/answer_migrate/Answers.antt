@@ -1,8 +1,9 @@
 -- The table is the file's, and what is kept under the other name is its file in the second format.
-use Rattle.std.proofs.Common.{Bool, ◌∙◌, subst, sym}
+use Rattle.std.proofs.Common.{Bool, ℕ, ◌∙◌, ap, codes, subst, sym}
 use Rattle.std.specs.Prelude.{IsTrue}
 use Rattle.std.proofs.lemmas.Result.{err_from_is_err_and}
 use Rattle.dob_cli.specs.Shelves.{shelf_change}
+use Rattle.dob_cli.specs.Sizes.{count_line}
 use Rattle.dob_cli.proofs.Migrating.{keeping_migrates, opening_migrates}
 use Rattle.dob_cli.proofs.migrations.answer_migrate.Goals as goal
 
@@ -29,5 +30,5 @@ returns-clause-ok g c = record {
   table = c.in_ok-table.table;
   read = c.in_ok-table.ensures.table;
   kept = λ tells. c.in_ok-keep_table.ensures.kept (subst (λ (b : Bool). IsTrue b) (sym c.in_ok-table.ensures.told) tells);
-  same = c.in_ok-line.ensures;
+  same = c.in_ok-line.ensures ∙ ap (λ (n : ℕ). count_line (codes "classes ") n) c.class_count.ensures.length;
 }
