@@ -1,6 +1,12 @@
 -- Each subcommand's answer is the order's.
 use Rattle.dob_cli.proofs.program.answer.Goals as goal
 
+pub returns-in-Count-clause-ok : goal.returns-in-Count-clause-ok
+returns-in-Count-clause-ok g c = rw c.in-Count.is c.answer_count.ensures.ok
+
+pub returns-in-Count-clause-err : goal.returns-in-Count-clause-err
+returns-in-Count-clause-err g c = rw c.in-Count.is c.answer_count.ensures.err
+
 pub returns-in-Probe-clause-ok : goal.returns-in-Probe-clause-ok
 returns-in-Probe-clause-ok g c = rw c.in-Probe.is c.answer_probe.ensures.ok
 
