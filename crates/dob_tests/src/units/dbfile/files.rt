@@ -1,4 +1,6 @@
 // Files of the set of lions alone, in both formats: what is in them, and what is read of files that are spoilt.
+ghost use Rattle.std.specs.Prelude.{◌<◌};
+
 use crate::sets::{family, family_of, is_same_table};
 use dob_dbfile::{
     Fault, Format, MemSink, MemSource, Sink, Source, read_classes, read_table, read_value,
@@ -56,11 +58,12 @@ pub(crate) fn file(rt: &(impl Abort + AllocGlobal)) -> Vec<u8> {
 /// The file of the first format: the same records behind the header of that format, with the digest that others made.
 pub(crate) fn first_file(rt: &(impl Abort + AllocGlobal)) -> Vec<u8> {
     let mut bytes = Vec::new(rt.alloc());
-    let records = file(rt);
+    let written = file(rt);
+    let records = written.get(21..CONTENTS_LEN).expect(rt, "records");
     for part in [
         b"DOBUTSU1".as_slice(),
         [0, 0, 0, 2, 54, 0, 0, 0, 0, 0, 0, 0].as_slice(),
-        &records[21..CONTENTS_LEN],
+        records,
         FIRST_DIGEST.as_slice(),
     ] {
         bytes.extend_from_slice(part).expect(rt, "memory");
@@ -106,7 +109,7 @@ fn has_profile(rt: &(impl Abort + AllocGlobal), profile: Profile, byte: u8, dige
     assert!(rt; bytes[..8] == b"DOBUTSU2"[..]);
     assert!(rt; bytes[8..21] == [0, 0, 0, 2, byte, 54, 0, 0, 0, 0, 0, 0, 0]);
     assert!(rt; bytes[21..31] == [2, 0, 1, 0, 2, 0, 2, 0, 3, 0]);
-    assert!(rt; bytes[21..CONTENTS_LEN] == file(rt)[21..CONTENTS_LEN]);
+    assert!(rt; bytes.get(21..CONTENTS_LEN) == file(rt).get(21..CONTENTS_LEN));
     assert!(rt; &bytes[CONTENTS_LEN..] == digest);
 }
 
@@ -293,7 +296,9 @@ fn a_wrong_record_is_read_as_it_is(rt: HostRuntime) {
 }
 
 // The records of three classes in a file of that format.
-fn has_records(rt: &(impl Abort + AllocGlobal), bytes: Vec<u8>, format: Format, longest: usize) {
+fn has_records(rt: &(impl Abort + AllocGlobal), bytes: Vec<u8>, format: Format, longest: usize)
+    requires { 0 < longest }
+{
     let mut source = MemSource::new(bytes).in_pieces(longest);
     assert!(rt; read_value(&mut source, format, 28) == Ok(Value::Win(3)));
     assert!(rt; read_value(&mut source, format, 4) == Ok(Value::Loss(2)));
