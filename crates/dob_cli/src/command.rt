@@ -106,7 +106,8 @@ pub enum Reading<'a> {
 const PROFILES: &[&str] = &["A", "B"];
 
 const PROGRAM_HELP: &str =
-    "`dobutsu value --help` says how a position is written, `dobutsu count --help` how a piece set is.
+    "`dobutsu value --help` says how a position is written and what the rules A and B are, `dobutsu count --help` how a
+piece set is.
 
 A fault is one line on standard error. The status is 1, and 3 for E12, E14, E23 and E24:
 
@@ -134,6 +135,9 @@ A fault is one line on standard error. The status is 1, and 3 for E12, E14, E23 
   E23 Memory       no memory is left
   E24 Io           standard output or the file failed
   E25 SetText      the piece set isn't three digits, each 0, 1 or 2
+  E26 FarChick     by rules B, or of a file of rules B: a chick stands on its own far row. So
+                   `dobutsu value --rules B \"C.l/.../.../L.. - -\"` is told
+  E27 ProfileByte  byte 12 of the file says other rules than A and B
 
 Words that the program doesn't know are told with status 2.";
 
@@ -145,30 +149,40 @@ Letters: L lion, G giraffe, E elephant, C chick, H hen, upper case for the side 
 lower case for the other side; `.` is an empty square. A hand is `-`, or letters of C, E, G in
 that order with repeats, upper case for the side to move and lower case for the other side.
 
+Rules: both follow those that the Japanese women professionals published, and differ in one choice that these leave
+open. By A, the default, a chick may be dropped on its far row, where it has no move; by B it may not, and a position
+with a chick on its own far row, row 4 for the side to move and row 1 for the other side, is none (E26).
+
 Answers: `win D`, `loss D` or `draw`, where D is the distance in plies.
 
-Example: dobutsu value \"..l/.../L../... - -\" prints `win 3`.";
+Example: dobutsu value \"..l/.../L../... - -\" prints `win 3`.
+dobutsu value --rules B \"C.l/.../.../L.. - -\" is told `E26 FarChick`: its chick stands on row 4. By rules A it is a `draw`.";
 
 const SET_HELP: &str =
     "A piece set: three digits CEG, each 0, 1 or 2: how many chicks (hens counted with them), elephants
 and giraffes there are besides the lions, on the board and in the hands together. `222` is the whole
 game.
 
-Answers: `positions N` and `classes N`, where a class is a position with its mirror image.
+Answers: `positions N` and `classes N`, where a class is a position with its mirror image. `dobutsu value --help` says what
+the rules A and B are; by B a set with chicks has fewer positions.
 
-Example: dobutsu count --set 100 prints `positions 4158` and `classes 2124`.";
+Example: dobutsu count --set 100 prints `positions 4158` and `classes 2124`, and with `--rules B` 3648 and 1864.";
 
 const BUILD_HELP: &str =
     "A piece set: three digits CEG, as `dobutsu count --help` says. Nodes: 1 to 16. Each works in a thread of
 its own and owns a part of the positions; with more nodes than processors it works too, only slower.
 The file is the same whatever their number.
 
-The file has 2 bytes a class and 52 more, and its build takes some 26 bytes of memory a class.
+The file has 2 bytes a class and 53 more, and its build takes some 26 bytes of memory a class.
 `dobutsu count --set 111` gives the classes of a set: 765360 of three pieces, which take a second or two.
 The whole game, `222`, has 588021930, which take a quarter of an hour, 16 GB of memory and 1.2 GB of disk.
 
 The table is written to FILE with `.part` behind it, and takes the place of FILE when it is whole and on
 the disk: until then FILE is as it was, whatever happens. A pipe, a device or a link is written where it is.
+
+The file says by which rules its values are, so that `dobutsu probe` and the others need no `--rules`. They read a position
+by rules A, and of a file of rules B one with a chick on its own far row is told E26. `dobutsu value --help` says what the
+rules are.
 
 Answers: `classes N`, `win N`, `loss N` and `draw N`, where a class is a position with its mirror image.
 
@@ -204,7 +218,7 @@ Answers: `consistent`; or `E21 Inconsistent class N` with the first class whose 
 Example: dobutsu check --db 000.db prints `consistent`.";
 
 const LOOK_HELP: &str =
-    "Of the file only its first 20 bytes and the 2 bytes of the position are read, each by its place, so that
+    "Of the file only its first 21 bytes and the 2 bytes of the position are read, each by its place, so that
 a file of any size is asked at once. Its digest isn't read: damage isn't found, nor whether the file is
 too long or too short. `dobutsu probe` reads and tests it all.
 
