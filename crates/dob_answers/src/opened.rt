@@ -33,10 +33,7 @@ impl Opened {
     ) -> Result<&FamilyClasses, Memory>
         ensures { IfOk result (λ classes. classes.now.family ≡ family) }
     {
-        let classes = match self.classes.take() {
-            Some(classes) if classes.family == family => classes,
-            _ => FamilyClasses::open(alloc, family)?,
-        };
+        let classes = classes_for(alloc, self.classes.take(), family)?;
         Ok(self.classes.insert(classes))
     }
 
@@ -50,10 +47,35 @@ impl Opened {
     ) -> Result<&Table, dob_value::Fault>
         ensures { IfOk result (λ table. table.now.family ≡ family) }
     {
-        let table = match self.table.take() {
-            Some(table) if table.family() == family => table,
-            _ => sweep_table(alloc, family)?,
-        };
+        let table = table_for(alloc, self.table.take(), family)?;
         Ok(self.table.insert(table))
     }
+}
+
+// The classes of the family: those that are kept, where they are its own.
+fn classes_for(
+    alloc: Global,
+    kept: Option<FamilyClasses>,
+    family: Family,
+) -> Result<FamilyClasses, Memory>
+    ensures { IfOk result (λ classes. classes.family ≡ family) }
+{
+    if let Some(classes) = kept {
+        if classes.family == family {
+            return Ok(classes);
+        }
+    }
+    FamilyClasses::open(alloc, family)
+}
+
+// Its values: those that are kept, where they are its own.
+fn table_for(alloc: Global, kept: Option<Table>, family: Family) -> Result<Table, dob_value::Fault>
+    ensures { IfOk result (λ table. table.family ≡ family) }
+{
+    if let Some(table) = kept {
+        if table.family() == family {
+            return Ok(table);
+        }
+    }
+    sweep_table(alloc, family)
 }
