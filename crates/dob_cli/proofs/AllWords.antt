@@ -15,7 +15,7 @@ use Rattle.clap.specs.declared.error.kind.ErrorKind.TheVariants as kind
 use Rattle.clap.proofs.FaultLemmas.{stopped_fault}
 use Rattle.clap.proofs.WalkLemmas.{walk_stopped}
 use Rattle.std.proofs.Math.Bool.{or-false}
-use Rattle.dob_cli.specs.Forms.{Form, Text, build_form, check_form, count_form, forms, line_form, look_form, moves_form, probe_form, show_form, stats_form, value_form}
+use Rattle.dob_cli.specs.Forms.{Form, Text, build_form, check_form, count_form, forms, line_form, look_form, moves_form, probe_form, puzzles_form, show_form, stats_form, value_form}
 use Rattle.dob_cli.specs.Words.{Meaning, asks, help, is_dashes, is_help_flag, is_text, meaning_of_command, meaning_of_form, meaning_of_other, usage}
 use Rattle.dob_cli.specs.Words.{is_topic, version}
 use Rattle.dob_cli.specs.Shapes.{Finds, dobutsu_app}
@@ -23,8 +23,8 @@ use Rattle.dob_cli.proofs.Lexing.{flip_bytes}
 use Rattle.dob_cli.proofs.Turns.{KnowsHelp, help_flag, is_usage, none, or_else_usage}
 use Rattle.dob_cli.proofs.Steps.{help_turn, open_at, other_turn, text_turn}
 use Rattle.dob_cli.proofs.FormWords.{Comes, IsTaken, form_comes, shape_of}
-use Rattle.dob_cli.proofs.Lines.{IsSpelled, build_spelled, check_spelled, count_spelled, form_line, line_fits, line_spelled, look_spelled, moves_spelled, probe_spelled, show_spelled, stats_spelled, value_spelled}
-use Rattle.dob_cli.proofs.Taken.{build_taken, check_taken, count_taken, line_taken, look_taken, moves_taken, probe_taken, show_taken, stats_taken, value_taken}
+use Rattle.dob_cli.proofs.Lines.{IsSpelled, build_spelled, check_spelled, count_spelled, form_line, line_fits, line_spelled, look_spelled, moves_spelled, probe_spelled, puzzles_spelled, show_spelled, stats_spelled, value_spelled}
+use Rattle.dob_cli.proofs.Taken.{build_taken, check_taken, count_taken, line_taken, look_taken, moves_taken, probe_taken, puzzles_taken, show_taken, stats_taken, value_taken}
 
 -- the program's command, built
 abbrev program : App
@@ -134,6 +134,10 @@ stats_entered : IsEntered stats_form
 unfolding walked defaults_fault
 stats_entered = record { walks = refl; turns = refl; ends = λ rest. refl; enters = λ rest. refl }
 
+puzzles_entered : IsEntered puzzles_form
+unfolding walked defaults_fault
+puzzles_entered = record { walks = refl; turns = refl; ends = λ rest. refl; enters = λ rest. refl }
+
 -- the subcommand that was met is one of these, and has this name and these texts
 abbrev pub IsMet : List Form → Text → List (Option Text) → Option (Text × List Row) → Type 0
 IsMet [] name texts met = ⊥
@@ -204,7 +208,10 @@ all_fit = (
                   form_fits moves_form moves_taken moves_entered moves_spelled (λ name texts met h. inr (inr (inr (inr (inr (inr (inr (inr (inl h))))))))),
                   (
                     form_fits stats_form stats_taken stats_entered stats_spelled (λ name texts met h. inr (inr (inr (inr (inr (inr (inr (inr (inr (inl h)))))))))),
-                    tt,
+                    (
+                      form_fits puzzles_form puzzles_taken puzzles_entered puzzles_spelled (λ name texts met h. inr (inr (inr (inr (inr (inr (inr (inr (inr (inr (inl h))))))))))),
+                      tt,
+                    ),
                   ),
                 ),
               ),

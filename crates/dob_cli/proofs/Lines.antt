@@ -9,7 +9,7 @@ use Rattle.std.proofs.lemmas.Slice.Eq.{bytes_eq-Decides}
 use Rattle.std.proofs.lemmas.Bool.Decides.{Decides-eqb}
 use Rattle.clap.specs.Lexer.{has_byte}
 use Rattle.dob_cli.specs.Forms.{is_among, is_needed}
-use Rattle.dob_cli.specs.Forms.{Form, Text, build_form, check_form, count_form, forms, labels, line_form, look_form, moves_form, probe_form, show_form, stats_form, value_form}
+use Rattle.dob_cli.specs.Forms.{Form, Text, build_form, check_form, count_form, forms, labels, line_form, look_form, moves_form, probe_form, puzzles_form, show_form, stats_form, value_form}
 use Rattle.dob_cli.specs.Words.{Given, Meaning, Stand, after_dashes, after_part, after_word, asked, asks, at_end, behind, between, call, dashes}
 use Rattle.dob_cli.specs.Words.{ended, fits, flag, has_topic, help, kept, meaning_of_topic, named_part}
 use Rattle.dob_cli.specs.Words.{is_dashes, is_help_flag, is_text, label_of, meaning_of, meaning_of_form, meaning_of_other, name_in, option}
@@ -430,6 +430,13 @@ stats_spelled = record {
   by_flag = tt;
 }
 
+pub puzzles_spelled : IsSpelled puzzles_form
+puzzles_spelled = record {
+  by_name = (long_part puzzles_form 100 (codes "b") refl, (long_part puzzles_form 112 (codes "lies") refl, (long_part puzzles_form 99 (codes "ount") refl, tt)));
+  by_value = (λ t. long_part puzzles_form 100 (codes "b=" ++ t) refl, (λ t. long_part puzzles_form 112 (codes "lies=" ++ t) refl, (λ t. long_part puzzles_form 99 (codes "ount=" ++ t) refl, tt)));
+  by_flag = tt;
+}
+
 abbrev EachForm : (Form → Type 0) → List Form → Type 0
 EachForm P [] = Unit {0}
 EachForm P (f ∷ fs) = P f × (EachForm P fs)
@@ -444,7 +451,7 @@ all_known = (
     (count_spelled, λ rest. refl),
     (
       (build_spelled, λ rest. refl),
-      ((probe_spelled, λ rest. refl), ((line_spelled, λ rest. refl), ((check_spelled, λ rest. refl), ((look_spelled, λ rest. refl), ((show_spelled, λ rest. refl), ((moves_spelled, λ rest. refl), ((stats_spelled, λ rest. refl), tt))))))),
+      ((probe_spelled, λ rest. refl), ((line_spelled, λ rest. refl), ((check_spelled, λ rest. refl), ((look_spelled, λ rest. refl), ((show_spelled, λ rest. refl), ((moves_spelled, λ rest. refl), ((stats_spelled, λ rest. refl), ((puzzles_spelled, λ rest. refl), tt)))))))),
     ),
   ),
 )

@@ -4,7 +4,7 @@ use Rattle.std.specs.Borrow.{Bor}
 use Rattle.std.specs.Str.{bytes_eq}
 use Rattle.dob_cli.specs.Forms.{Text}
 use Rattle.dob_cli.specs.declared.command.Order.{Order}
-use Rattle.dob_cli.specs.declared.command.Order.TheVariants.{Value, Count, Build, Probe, Line, Check, Look, Show, Moves, Stats}
+use Rattle.dob_cli.specs.declared.command.Order.TheVariants.{Value, Count, Build, Probe, Line, Check, Look, Show, Moves, Stats, Puzzles}
 use Rattle.dob_cli.specs.Endings.{Ending}
 use Rattle.dob_cli.specs.Shelves.{SameFiles, SameOthers, ShelfChange}
 use Rattle.dob_cli.specs.Words.{Meaning, asks, build, flag_text, help, number_of, show, usage, version}
@@ -18,6 +18,7 @@ use Rattle.dob_cli.specs.Looks.{AnswersLook}
 use Rattle.dob_cli.specs.Choices.{AnswersMoves}
 use Rattle.dob_cli.specs.Shows.{AnswersShow, KeepsButPicture}
 use Rattle.dob_cli.specs.Stats.{AnswersStats}
+use Rattle.dob_cli.specs.Puzzles.{AnswersPuzzles}
 use Rattle.dob_cli.specs.Tables.{AnswersCheck, AnswersLine, AnswersProbe}
 
 -- two names that differ aren't one
@@ -110,6 +111,15 @@ module _ (c : ShelfChange) (e : Ending) where
   done_stats (Stats f) file is answers = subst (λ (x : Text). AnswersStats c x e) (one_text f.now file is.1) answers
   done_stats o file is answers = absurd (differs (name_of_order o) (codes "stats") refl refl is.0)
 
+  pub done_puzzles : (o : Order) (file plies count : Text) → IsOrder (codes "puzzles") (Some file ∷ Some plies ∷ Some count ∷ []) o → AnswersOrder c o e
+      → AnswersPuzzles c file (number_of plies) (number_of count) e
+  done_puzzles (Puzzles f d n) file plies count is answers =
+      let same = three_texts f.now is.1.0 is.1.1 file plies count is.1.2 in
+      subst (λ (x : Text). AnswersPuzzles c x (number_of plies) (number_of count) e) same.0
+      (subst (λ (k : ℕ). AnswersPuzzles c f.now k (number_of count) e) (is.1.4 ∙ ap number_of same.1)
+      (subst (λ (k : ℕ). AnswersPuzzles c f.now d k e) (is.1.6 ∙ ap number_of same.2) answers))
+  done_puzzles o file plies count is answers = absurd (differs (name_of_order o) (codes "puzzles") refl refl is.0)
+
 -- ---- files
 
 module _ (c : ShelfChange) where
@@ -157,3 +167,4 @@ module _ (c : ShelfChange) where
   kept_files m (Look f t) is none undrawn keeps = keeps
   kept_files m (Moves f t) is none undrawn keeps = keeps
   kept_files m (Stats f) is none undrawn keeps = keeps
+  kept_files m (Puzzles f d n) is none undrawn keeps = keeps

@@ -17,7 +17,7 @@ use Rattle.dob_cli.specs.Runs.{Ran, RanOn}
 use Rattle.dob_cli.proofs.Shelves.{others_kept}
 use Rattle.dob_cli.proofs.TableFaults.{moves_right, probe_right}
 use Rattle.dob_cli.proofs.ByPlace.{look_right}
-use Rattle.dob_cli.proofs.Orders.{done_build, done_check, done_count, done_line, done_look, done_moves, done_probe, done_show, done_stats, done_value, kept_but_picture, kept_files, kept_others}
+use Rattle.dob_cli.proofs.Orders.{done_build, done_check, done_count, done_line, done_look, done_moves, done_probe, done_puzzles, done_show, done_stats, done_value, kept_but_picture, kept_files, kept_others}
 
 -- ---- the streams are those that they were
 
@@ -63,6 +63,7 @@ module _ (c : ShelfChange) (words : List Text) (e : Ending) where
     moves_right = λ file text _ _. memory_answered _ _ e (tt, works) told;
     moves = λ file text _. memory_answered _ _ e (tt, works) told;
     stats = λ file _. memory_answered _ _ e (tt, works) told;
+    puzzles = λ file plies count _. memory_answered _ _ e (tt, works) told;
     help = λ _. inr told;
     version = λ _. inr told;
     usage = λ _. inr told;
@@ -92,6 +93,7 @@ module _ (c : ShelfChange) (words : List Text) (e : Ending) where
     moves_right = λ file text is right. moves_right c file text e right (done_moves c e o file text (asked (reading.Order o) read _ is) answers);
     moves = λ file text is. done_moves c e o file text (asked (reading.Order o) read _ is) answers;
     stats = λ file is. done_stats c e o file (asked (reading.Order o) read _ is) answers;
+    puzzles = λ file plies count is. done_puzzles c e o file plies count (asked (reading.Order o) read _ is) answers;
     look_right = λ file text is right. look_right c file text e right (done_look c e o file text (asked (reading.Order o) read _ is) answers);
     help = λ is. absurd (asked (reading.Order o) read _ is);
     version = λ is. absurd (asked (reading.Order o) read _ is);
@@ -117,6 +119,7 @@ module _ (c : ShelfChange) (words : List Text) (e : Ending) where
     moves_right = λ file text is. absurd (asked reading.Version read _ is);
     moves = λ file text is. absurd (asked reading.Version read _ is);
     stats = λ file is. absurd (asked reading.Version read _ is);
+    puzzles = λ file plies count is. absurd (asked reading.Version read _ is);
     look_right = λ file text is. absurd (asked reading.Version read _ is);
     help = λ is. absurd (asked reading.Version read _ is);
     version = λ _. inl told;

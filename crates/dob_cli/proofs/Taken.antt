@@ -1,6 +1,6 @@
 -- `clap` takes the words of each form so: what `proofs/FormWords.antt` asks of a form holds by computing.
 use Rattle.std.proofs.Common.{refl}
-use Rattle.dob_cli.specs.Forms.{build_form, check_form, count_form, line_form, look_form, moves_form, probe_form, show_form, stats_form, value_form}
+use Rattle.dob_cli.specs.Forms.{build_form, check_form, count_form, line_form, look_form, moves_form, probe_form, puzzles_form, show_form, stats_form, value_form}
 use Rattle.dob_cli.proofs.FormWords.{IsTaken}
 
 pub value_taken : IsTaken value_form
@@ -110,5 +110,16 @@ stats_taken = record {
   no_help = (refl, refl);
   no_empty = (refl, refl);
   defaults = (refl, (refl, tt));
+  required = λ rows. refl;
+}
+
+pub puzzles_taken : IsTaken puzzles_form
+puzzles_taken = record {
+  options = (refl, (refl, (refl, tt)));
+  positions = refl;
+  flags = tt;
+  no_help = (refl, refl);
+  no_empty = (refl, refl);
+  defaults = (refl, (refl, (refl, (refl, tt))));
   required = λ rows. refl;
 }

@@ -98,6 +98,17 @@ check_form = plain_form (codes "check") (file_option ∷ []) []
 abbrev pub stats_form : Form
 stats_form = plain_form (codes "stats") (file_option ∷ []) []
 
+-- the options `--plies D` and `--count N`
+abbrev pub plies_option : Text × Text
+plies_option = (codes "plies", codes "D")
+
+abbrev pub number_option : Text × Text
+number_option = (codes "count", codes "N")
+
+-- `puzzles --db FILE --plies D --count N`
+abbrev pub puzzles_form : Form
+puzzles_form = record (plain_form (codes "puzzles") (file_option ∷ plies_option ∷ number_option ∷ []) []) { numbers = codes "D" ∷ codes "N" ∷ [] }
+
 -- the options `--nodes N` and `--out FILE`
 abbrev pub nodes_option : Text × Text
 nodes_option = (codes "nodes", codes "N")
@@ -111,4 +122,4 @@ build_form = record (plain_form (codes "build") (set_option ∷ nodes_option ∷
 
 -- the subcommands, in the order of the help
 abbrev pub forms : List Form
-forms = value_form ∷ count_form ∷ build_form ∷ probe_form ∷ line_form ∷ check_form ∷ look_form ∷ show_form ∷ moves_form ∷ stats_form ∷ []
+forms = value_form ∷ count_form ∷ build_form ∷ probe_form ∷ line_form ∷ check_form ∷ look_form ∷ show_form ∷ moves_form ∷ stats_form ∷ puzzles_form ∷ []

@@ -14,6 +14,7 @@ pub mod Choices
 pub mod Sizes
 pub mod Builds
 pub mod Stats
+pub mod Puzzles
 pub mod Orders
 pub mod Runs
 pub mod Laws

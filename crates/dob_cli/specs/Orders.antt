@@ -2,7 +2,7 @@
 use Rattle.std.specs.Prelude.{ℕ, List}
 use Rattle.dob_cli.specs.declared.fault.Fault.{Fault}
 use Rattle.dob_cli.specs.declared.command.Order.{Order}
-use Rattle.dob_cli.specs.declared.command.Order.TheVariants.{Value, Count, Build, Probe, Line, Check, Look, Show, Moves, Stats}
+use Rattle.dob_cli.specs.declared.command.Order.TheVariants.{Value, Count, Build, Probe, Line, Check, Look, Show, Moves, Stats, Puzzles}
 use Rattle.dob_cli.specs.Endings.{AnswersOver, Ending}
 use Rattle.dob_cli.specs.Shelves.{SameFiles, SameOthers, ShelfChange}
 use Rattle.dob_cli.specs.Program.{IsFaultOf, IsValueLineOf}
@@ -12,6 +12,7 @@ use Rattle.dob_cli.specs.Looks.{IsLookFault, IsLookLine}
 use Rattle.dob_cli.specs.Choices.{AreChoiceLines}
 use Rattle.dob_cli.specs.Readings.{text_given}
 use Rattle.dob_cli.specs.Shows.{AreShowLines, IsShowFault, KeepsButPicture}
+use Rattle.dob_cli.specs.Puzzles.{ArePuzzleLines, IsPuzzlesFault}
 use Rattle.dob_cli.specs.Stats.{AreStatsLines, IsStatsFault}
 use Rattle.dob_cli.specs.Tables.{IsCheckFault, IsCheckLine, AreMovesLines, IsPositionFault, IsProbeLine}
 
@@ -27,6 +28,7 @@ AreLinesFor c (Look file position) = IsLookLine (c.before.has file.now) position
 AreLinesFor c (Show file picture position) = AreShowLines c (text_given file) (text_given picture) position.now
 AreLinesFor c (Moves file position) = AreChoiceLines (c.before.has file.now) position.now
 AreLinesFor c (Stats file) = AreStatsLines (c.before.has file.now)
+AreLinesFor c (Puzzles file plies count) = ArePuzzleLines (c.before.has file.now) plies count
 
 -- the fault holds of the order
 abbrev pub IsFaultFor : ShelfChange → Order → Fault → Type 0
@@ -40,6 +42,7 @@ IsFaultFor c (Look file position) = IsLookFault (c.before.has file.now) position
 IsFaultFor c (Show file picture position) = IsShowFault c (text_given file) (text_given picture) position.now
 IsFaultFor c (Moves file position) = IsPositionFault (c.before.has file.now) position.now
 IsFaultFor c (Stats file) = IsStatsFault (c.before.has file.now)
+IsFaultFor c (Puzzles file plies count) = IsPuzzlesFault (c.before.has file.now) plies
 
 -- the order leaves each file what it had, but for the one that it names to be made
 abbrev pub KeepsFiles : ShelfChange → Order → Type 0

@@ -23,6 +23,7 @@ name_of_order (order.Look _ _) = codes "look"
 name_of_order (order.Show _ _ _) = codes "show"
 name_of_order (order.Moves _ _) = codes "moves"
 name_of_order (order.Stats _) = codes "stats"
+name_of_order (order.Puzzles _ _ _) = codes "puzzles"
 
 -- the text that may be left out
 abbrev pub text_given : Option (Bor Text) → Option Text
@@ -42,6 +43,9 @@ HasTexts texts (order.Look file position) = Some file.now ∷ Some position.now 
 HasTexts texts (order.Show file picture position) = text_given file ∷ text_given picture ∷ Some position.now ∷ [] ≡ texts
 HasTexts texts (order.Moves file position) = Some file.now ∷ Some position.now ∷ [] ≡ texts
 HasTexts texts (order.Stats file) = Some file.now ∷ [] ≡ texts
+HasTexts texts (order.Puzzles file plies count) =
+    (d n : Text) × (Some file.now ∷ Some d ∷ Some n ∷ [] ≡ texts) × (is_number d ≡ true) × (plies ≡ number_of d) × (is_number n ≡ true)
+    × (count ≡ number_of n)
 
 -- the order is for this subcommand and these texts
 abbrev pub IsOrder : Text → List (Option Text) → Order → Type 0

@@ -1,7 +1,7 @@
 -- What the program does with its words, whatever they are.
 use Rattle.std.specs.Prelude.{◌≡◌, ◌≢◌, ◌⊎◌, ℕ, Bool, false, List, [], ◌∷◌, ◌++◌, Option, Some, codes}
 use Rattle.dob_dbfile.specs.Sinks.{Change, IsSame, IsUntouched, Says}
-use Rattle.dob_cli.specs.Words.{Text, build, check, count, help, line, look, meaning_of, moves, number_of, probe, show, stats, usage, value, version}
+use Rattle.dob_cli.specs.Words.{Text, build, check, count, help, line, look, meaning_of, moves, number_of, probe, puzzles, show, stats, usage, value, version}
 use Rattle.dob_pieces.specs.Bytes.{line_feed}
 use Rattle.dob_cli.specs.Endings.{AnswersHelp, AnswersUsage, AnswersVersion, Ending, TellsMemory, ended}
 use Rattle.dob_cli.specs.Shelves.{SameFiles, SameOthers, ShelfChange}
@@ -12,6 +12,7 @@ use Rattle.dob_cli.specs.Looks.{AnswersLook, AnswersLookRight}
 use Rattle.dob_cli.specs.Choices.{AnswersMoves, AnswersMovesRight}
 use Rattle.dob_cli.specs.Shows.{AnswersShow}
 use Rattle.dob_cli.specs.Stats.{AnswersStats}
+use Rattle.dob_cli.specs.Puzzles.{AnswersPuzzles}
 use Rattle.dob_cli.specs.Tables.{AnswersCheck, AnswersLine, AnswersProbe, AnswersProbeRight, HasValueFile}
 
 -- It does what these words ask for, over a shelf that changes so.
@@ -39,6 +40,7 @@ pub record Ran (c : ShelfChange) (words : List Text) (e : Ending) : Type 0 where
   pub moves_right : (file position : Text) → meaning_of words ≡ moves file position → HasValueFile (c.before.has file) → AnswersMovesRight c file position e
   pub moves : (file position : Text) → meaning_of words ≡ moves file position → AnswersMoves c file position e
   pub stats : (file : Text) → meaning_of words ≡ stats file → AnswersStats c file e
+  pub puzzles : (file plies count : Text) → meaning_of words ≡ puzzles file plies count → AnswersPuzzles c file (number_of plies) (number_of count) e
   pub help : meaning_of words ≡ help → AnswersHelp e
   pub version : meaning_of words ≡ version → AnswersVersion e
   pub usage : meaning_of words ≡ usage → AnswersUsage e

@@ -271,3 +271,7 @@ moves file position = asks_all (codes "moves") (file ∷ position ∷ [])
 -- how many classes of the file's table have which value
 abbrev pub stats : Text → Meaning
 stats file = asks_all (codes "stats") (file ∷ [])
+
+-- the first positions, so many, that the file's table says are won in so many plies by one move alone
+abbrev pub puzzles : Text → Text → Text → Meaning
+puzzles file plies count = asks_all (codes "puzzles") (file ∷ plies ∷ count ∷ [])

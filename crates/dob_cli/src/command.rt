@@ -16,7 +16,7 @@ ghost use Rattle.std.specs.Prelude.{◌≡◌, [], IfOk, IsSomeAnd, List, Option
 ghost use Rattle.clap.specs.Words.{App, Rule, kind_of, subcommand_rows_of, with_rule, with_subcommand};
 ghost use Rattle.dob_cli.specs.Forms.{Form, Text, build_form, check_form, count_form, forms, line_form, look_form, probe_form};
 ghost use Rattle.dob_cli.specs.Forms.{moves_form, show_form, value_form, file_option, nodes_option, numbered_flag, out_option, picture_option};
-ghost use Rattle.dob_cli.specs.Forms.{plain_form, set_option, stats_form};
+ghost use Rattle.dob_cli.specs.Forms.{number_option, plain_form, plies_option, puzzles_form, set_option, stats_form};
 ghost use Rattle.dob_cli.specs.Lines.{IsAmong, IsLine};
 ghost use Rattle.dob_cli.specs.Words.{asks, has_topic, is_topic, is_version, meaning_of, meaning_of_topic, names_subcommand};
 ghost use Rattle.dob_cli.specs.Shapes.{Finds, HasShape, IsRead, bare_app, dobutsu_app, flag_rule, form_app, option_rule, text_rule};
@@ -73,6 +73,12 @@ pub enum Order<'a> {
     },
     /// To print how many classes of the file's table have which value.
     Stats(&'a str),
+    /// To print the first positions of the file's table, so many, that are won in so many plies by one move alone.
+    Puzzles {
+        file: &'a str,
+        plies: u64,
+        count: u64,
+    },
 }
 
 /// What the words come to.
@@ -229,6 +235,17 @@ each with the first class of that distance, where there are wins and losses.
 
 Example: dobutsu stats --db 000.db prints `classes 54` first.";
 
+const PUZZLES_HELP: &str =
+    "Exercises for a class: positions in which the side to move wins, and just one move wins soonest. All other moves are
+slower, or don't win. D counts the plies of both sides up to the catch of the lion or the lion's safe arrival, so `3` is: move,
+answer, win. A file that `dobutsu check` calls consistent holds the values by definition.
+
+Answers: a line for each position, `POSITION  MOVE`, its text, two spaces and that move, in the order of the file, the first N of them; or
+`none`. Of a position and its mirror image only the one that stands first is told. `dobutsu show POSITION` draws it, and
+`dobutsu line --numbered --db FILE POSITION` plays it to its end. Where D is even or below 3, that is said with status 2.
+
+Example: dobutsu puzzles --db 000.db --plies 3 --count 1 prints `..l/.../L../... - -  La2-a3`.";
+
 /// Reads the words after the program's name. `--help`, `-h` and the subcommand `help`, alone or with the name of another
 /// one, give a help. As the first word `--version` asks for the version. A word that begins with `-` is an option, but for a lone `-`,
 /// the first `--` and what follows it.
@@ -320,6 +337,7 @@ fn names_subcommand(name: &str) -> bool
             | "show"
             | "moves"
             | "stats"
+            | "puzzles"
     )
 }
 
@@ -337,7 +355,8 @@ fn dobutsu_command<'a>(alloc: Global) -> Result<Command<'a>, AllocError>
     let command = add_subcommand(command, look_command(alloc));
     let command = add_subcommand(command, show_command(alloc));
     let command = add_subcommand(command, moves_command(alloc));
-    add_subcommand(command, stats_command(alloc))
+    let command = add_subcommand(command, stats_command(alloc));
+    add_subcommand(command, puzzles_command(alloc))
 }
 
 // The command with the subcommand, where memory was left for both. It takes their results, since a chain of `?` is slow
@@ -476,6 +495,18 @@ fn stats_command<'a>(alloc: Global) -> Result<Command<'a>, AllocError>
         .arg(file_argument(alloc))
 }
 
+// The subcommand `puzzles`.
+fn puzzles_command<'a>(alloc: Global) -> Result<Command<'a>, AllocError>
+    ensures { IfOk result (HasShape (form_app puzzles_form)) }
+{
+    let command = Command::new(alloc, "puzzles")
+        .about("Prints positions of a database file that just one move wins soonest")
+        .after_help(PUZZLES_HELP)
+        .arg(file_argument(alloc));
+    let command = add_argument(command, plies_argument(alloc));
+    add_argument(command, number_argument(alloc))
+}
+
 // The command with a further argument, where memory was left for it so far. It takes a result, as `add_subcommand` does.
 fn add_argument<'a>(
     command: Result<Command<'a>, AllocError>,
@@ -501,6 +532,27 @@ fn nodes_argument<'a>(alloc: Global) -> Arg<'a>
     let number = value_parser!(u64);
     let help = "The number of nodes, 1 to 16";
     option_argument(alloc, "nodes", "N", help)
+        .required(true)
+        .value_parser(number)
+}
+
+// The option `--plies D`.
+fn plies_argument<'a>(alloc: Global) -> Arg<'a>
+    ensures { IsRead (option_rule puzzles_form plies_option) result }
+{
+    let number = value_parser!(u64);
+    let help = "In how many plies they are won: an odd number of at least 3";
+    option_argument(alloc, "plies", "D", help)
+        .required(true)
+        .value_parser(number)
+}
+
+// The option `--count N`.
+fn number_argument<'a>(alloc: Global) -> Arg<'a>
+    ensures { IsRead (option_rule puzzles_form number_option) result }
+{
+    let number = value_parser!(u64);
+    option_argument(alloc, "count", "N", "How many of them at most")
         .required(true)
         .value_parser(number)
 }
@@ -588,6 +640,7 @@ fn order_of<'a>(matches: &ArgMatches<'a>) -> Option<Order<'a>>
         "show" => orders::show_order(inner),
         "moves" => orders::moves_order(inner),
         "stats" => orders::stats_order(inner),
+        "puzzles" => orders::puzzles_order(inner),
         _ => None,
     }
 }

@@ -28,6 +28,8 @@ pub enum Fault {
     File(dob_dbfile::Fault),
     /// E7, E21, E23: the table has no answer.
     Table(dob_probe::Fault),
+    /// No puzzle has so many plies: an even number, or less than 3.
+    PuzzlePlies,
     /// E23: a growth was refused for lack of memory.
     Memory,
     /// E24: standard output failed, or the file couldn't be opened or made.
@@ -37,12 +39,13 @@ pub enum Fault {
 impl Fault {
     ghost use Rattle.dob_cli.specs.Faults.{status_of};
 
-    /// The exit status: 1 where what was asked is refused, 3 where the program failed.
+    /// The exit status: 1 where what was asked is refused, 2 where the words make no sense, 3 where the program failed.
     pub fn status(self) -> u8
         ensures { result ≡ status_of self }
     {
         match self {
             Fault::Text(_) | Fault::SetText | Fault::SetTooLarge => 1,
+            Fault::PuzzlePlies => 2,
             Fault::TooDeep | Fault::Memory | Fault::Io => 3,
             Fault::Run(dob_run::Fault::Stopped { .. } | dob_run::Fault::Memory) => 3,
             Fault::Run(_) => 1,
@@ -68,6 +71,7 @@ impl fmt::Display for Fault {
             Fault::Run(fault) => write!(f, "{fault}"),
             Fault::File(fault) => write!(f, "{fault}"),
             Fault::Table(fault) => write!(f, "{fault}"),
+            Fault::PuzzlePlies => write!(f, "--plies is an odd number of at least 3"),
             Fault::Memory => write!(f, "{Memory}"),
             Fault::Io => write!(f, "{}", dob_dbfile::Fault::Io(0)),
         }

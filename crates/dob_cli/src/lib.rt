@@ -10,6 +10,7 @@ mod fault;
 pub mod laws;
 mod looks;
 mod program;
+mod puzzles;
 mod shelf;
 mod shows;
 mod stats;

@@ -18,6 +18,7 @@ use crate::command::{Order, Reading, read_words};
 use crate::counts::answer_count;
 use crate::fault::Fault;
 use crate::looks::answer_look;
+use crate::puzzles::answer_puzzles;
 use crate::shelf::Shelf;
 use crate::shows::answer_show;
 use crate::stats::answer_stats;
@@ -143,6 +144,7 @@ fn answer<S: Shelf>(
         } => answer_show(alloc, shelf, file, picture, position),
         Order::Moves { file, position } => answer_moves(alloc, shelf, file, position),
         Order::Stats(file) => answer_stats(alloc, shelf, file),
+        Order::Puzzles { file, plies, count } => answer_puzzles(alloc, shelf, file, plies, count),
     }
 }
 

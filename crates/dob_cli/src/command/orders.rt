@@ -2,7 +2,7 @@
 ghost use Rattle.std.specs.Prelude.{IsSomeAnd, List, Option, Some, codes};
 ghost use Rattle.clap.specs.Words.{found_of, rows_of};
 ghost use Rattle.dob_cli.specs.Forms.{Text, build_form, check_form, count_form, line_form, look_form, probe_form, show_form};
-ghost use Rattle.dob_cli.specs.Forms.{moves_form, stats_form, value_form};
+ghost use Rattle.dob_cli.specs.Forms.{moves_form, puzzles_form, stats_form, value_form};
 ghost use Rattle.dob_cli.specs.Shapes.{Finds};
 ghost use Rattle.dob_cli.specs.Readings.{IsOrder};
 
@@ -108,4 +108,16 @@ pub(super) fn stats_order<'a>(inner: &ArgMatches<'a>) -> Option<Order<'a>>
         → IsSomeAnd result (IsOrder (codes "stats") texts) }
 {
     Some(Order::Stats(inner.get_str("FILE")?))
+}
+
+/// What the matches of `puzzles` ask for.
+pub(super) fn puzzles_order<'a>(inner: &ArgMatches<'a>) -> Option<Order<'a>>
+    ensures { (texts : List (Option Text)) → Finds puzzles_form texts (Some (codes "puzzles", rows_of (found_of inner.now)))
+        → IsSomeAnd result (IsOrder (codes "puzzles") texts) }
+{
+    Some(Order::Puzzles {
+        file: inner.get_str("FILE")?,
+        plies: inner.get_str("D")?.parse().ok()?,
+        count: inner.get_str("N")?.parse().ok()?,
+    })
 }

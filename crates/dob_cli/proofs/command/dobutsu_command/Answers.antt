@@ -1,6 +1,6 @@
 -- The subcommands join the program, one after the other.
 use Rattle.clap.specs.Words.{App, with_subcommand}
-use Rattle.dob_cli.specs.Forms.{build_form, check_form, count_form, line_form, look_form, moves_form, probe_form, show_form, stats_form, value_form}
+use Rattle.dob_cli.specs.Forms.{build_form, check_form, count_form, line_form, look_form, moves_form, probe_form, puzzles_form, show_form, stats_form, value_form}
 use Rattle.dob_cli.specs.Shapes.{bare_app, form_app}
 use Rattle.dob_cli.proofs.command.dobutsu_command.Goals as goal
 
@@ -32,6 +32,9 @@ with_show = with_subcommand with_look (form_app show_form).top
 abbrev with_moves : App
 with_moves = with_subcommand with_show (form_app moves_form).top
 
+abbrev with_stats : App
+with_stats = with_subcommand with_moves (form_app stats_form).top
+
 pub returns : goal.returns
 returns c =
     let value = c.add_subcommand-command.ensures bare_app (form_app value_form) c.bare_command-command.ensures c.value_command.ensures in
@@ -43,4 +46,5 @@ returns c =
     let look = c.add_subcommand-command-7.ensures with_check (form_app look_form) check c.look_command.ensures in
     let show = c.add_subcommand-command-8.ensures with_look (form_app show_form) look c.show_command.ensures in
     let moves = c.add_subcommand-command-9.ensures with_show (form_app moves_form) show c.moves_command.ensures in
-    c.add_subcommand.ensures with_moves (form_app stats_form) moves c.stats_command.ensures
+    let stats = c.add_subcommand-command-10.ensures with_moves (form_app stats_form) moves c.stats_command.ensures in
+    c.add_subcommand.ensures with_stats (form_app puzzles_form) stats c.puzzles_command.ensures

@@ -27,3 +27,9 @@ returns-in-Show-clause-ok g c = rw c.in-Show.is c.answer_show.ensures.ok
 
 pub returns-in-Stats-clause-ok : goal.returns-in-Stats-clause-ok
 returns-in-Stats-clause-ok g c = rw c.in-Stats.is c.answer_stats.ensures.ok
+
+pub returns-in-Puzzles-clause-ok : goal.returns-in-Puzzles-clause-ok
+returns-in-Puzzles-clause-ok g c = rw c.in-Puzzles.is c.answer_puzzles.ensures.ok
+
+pub returns-in-Puzzles-clause-err : goal.returns-in-Puzzles-clause-err
+returns-in-Puzzles-clause-err g c = rw c.in-Puzzles.is c.answer_puzzles.ensures.err
