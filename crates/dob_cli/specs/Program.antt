@@ -12,7 +12,7 @@ use Rattle.dob_value.specs.declared.value.Value.TheVariants.{Win, Loss, Draw}
 use Rattle.dob_value.specs.Values.{HasValue}
 use Rattle.dob_value.specs.Rosters.{SomeTooDeep, HasSamePieces}
 use Rattle.dob_cli.specs.declared.fault.Fault.{Fault}
-use Rattle.dob_cli.specs.declared.fault.Fault.TheVariants.{Text, SetText, SetTooLarge, TooDeep, Run, File, Table, Memory, Io}
+use Rattle.dob_cli.specs.declared.fault.Fault.TheVariants.{Text, SetText, SetTooLarge, TooDeep, Run, File, Table, PuzzlePlies, Memory, Io}
 use Rattle.dob_pieces.specs.Bytes.{line_feed}
 use Rattle.dob_cli.specs.Endings.{AnswersOver, Ending}
 use Rattle.dob_cli.specs.Shelves.{ShelfChange}
@@ -43,6 +43,7 @@ IsFaultOf text TooDeep = (position : Setup) × IsLegal position × Spells text p
 IsFaultOf text (Run fault) = ⊥
 IsFaultOf text (File fault) = ⊥
 IsFaultOf text (Table fault) = ⊥
+IsFaultOf text PuzzlePlies = ⊥
 IsFaultOf text Memory = Unit {0}
 IsFaultOf text Io = ⊥
 

@@ -244,7 +244,7 @@ Answers: a line for each position, `POSITION  MOVE`, its text, two spaces and th
 `none`. Of a position and its mirror image only the one that stands first is told. `dobutsu show POSITION` draws it, and
 `dobutsu line --numbered --db FILE POSITION` plays it to its end. Where D is even or below 3, that is said with status 2.
 
-Example: dobutsu puzzles --db 000.db --plies 3 --count 1 prints `..l/.../L../... - -  La2-a3`.";
+Example: dobutsu puzzles --db 000.db --plies 3 --count 1 prints `.../..l/L../... - -  La2-a3`.";
 
 /// Reads the words after the program's name. `--help`, `-h` and the subcommand `help`, alone or with the name of another
 /// one, give a help. As the first word `--version` asks for the version. A word that begins with `-` is an option, but for a lone `-`,
