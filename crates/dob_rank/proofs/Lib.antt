@@ -71,6 +71,7 @@ pub mod FamilyRepresentatives  -- one representative and one number a class of a
 pub mod FamilyTables  -- the tables of runs of a family grow and are read
 pub mod FamilyBlocks  -- the blocks of a family
 pub mod FamilySums  -- the classes of a block of a family as a sum over runs
+pub mod ClassesBefore  -- the classes before a run and before a place of one
 pub mod ClassBounds  -- how many positions and classes a set has at most
 -- Long lists.
 pub mod Segmentation  -- lists in segments

@@ -11,6 +11,7 @@ mod bitboards;
 mod block;
 mod block_classes;
 mod class_counts;
+mod class_numbers;
 mod classes;
 mod family_blocks;
 mod family_classes;
@@ -38,6 +39,7 @@ mod stretches;
 
 pub use bitboards::Bitboards;
 pub use class_counts::count_classes;
+pub use class_numbers::class_number;
 pub use classes::Classes;
 pub use family_classes::FamilyClasses;
 pub use family_counts::count_classes_in;

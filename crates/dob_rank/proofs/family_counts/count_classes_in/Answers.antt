@@ -1,35 +1,23 @@
--- Each block adds its own classes, and all of them are the family's.
-use Rattle.std.proofs.Common.{◌≡◌, ◌+◌, arith, sym, ap, ◌∙◌, subst}
+-- The classes before the end of the last block are the family's.
+use Rattle.std.proofs.Common.{sym, subst, arith}
 use Rattle.dob_rank.specs.Families.{HasClassesIn}
-use Rattle.dob_rank.specs.Numbers.{product, block_bases}
 use Rattle.dob_rank.proofs.Present.{HasClassesIn-classes_in}
-use Rattle.dob_rank.proofs.FamilyBlocks.{classes_all_in, no_classes_yet_in, classes_few_in}
+use Rattle.dob_rank.proofs.FamilyBlocks.{classes_all_in, classes_few_in}
 use Rattle.dob_rank.proofs.family_counts.count_classes_in.Goals as goal
 
-pub loop-block-init : goal.loop-block-init
-loop-block-init c = no_classes_yet_in c.args.family
-
-pub loop-block-preserved : goal.loop-block-preserved
-loop-block-preserved c = ap (λ n. n + c.count_in_block-count.result) c.loop-block.invariant ∙ c.count_in_block-count.ensures
-
-pub overflow_add-count : goal.overflow_add-count
-overflow_add-count c =
-    let few = classes_few_in c.args.family (c.loop-block.block + 1) (omega (arith, c.blocks-block-end.ensures.value, c.loop-block-test.true)) in
-    omega (arith, few, c.loop-block.invariant, c.count_in_block-count.ensures)
+pub classes_before_block-requires : goal.classes_before_block-requires
+classes_before_block-requires c = omega (arith, c.blocks-end.ensures.value)
 
 pub returns-clause-count : goal.returns-clause-count
 returns-clause-count c =
-    let number : c.loop-block.block ≡ product (block_bases c.args.family.set) =
-    omega (arith, c.blocks-block-end.ensures.value, c.loop-block.auto.block-end, c.loop-block-test.false) in
-    subst (HasClassesIn c.args.family) (sym (classes_all_in c.args.family c.loop-block.block c.loop-block.count number c.loop-block.invariant)) (HasClassesIn-classes_in c.args.family)
+    subst (HasClassesIn c.args.family)
+    (sym (classes_all_in c.args.family c.blocks-end.result c.classes_before_block.result c.blocks-end.ensures.value c.classes_before_block.ensures))
+    (HasClassesIn-classes_in c.args.family)
 
 pub returns-clause-number : goal.returns-clause-number
-returns-clause-number c =
-    let number : c.loop-block.block ≡ product (block_bases c.args.family.set) =
-    omega (arith, c.blocks-block-end.ensures.value, c.loop-block.auto.block-end, c.loop-block-test.false) in
-    classes_all_in c.args.family c.loop-block.block c.loop-block.count number c.loop-block.invariant
+returns-clause-number c = classes_all_in c.args.family c.blocks-end.result c.classes_before_block.result c.blocks-end.ensures.value c.classes_before_block.ensures
 
 pub returns-clause-bound : goal.returns-clause-bound
 returns-clause-bound c =
-    let few = classes_few_in c.args.family c.loop-block.block (omega (arith, c.blocks-block-end.ensures.value, c.loop-block.auto.block-end)) in
-    omega (arith, few, c.loop-block.invariant)
+    let few = classes_few_in c.args.family c.blocks-end.result (omega (arith, c.blocks-end.ensures.value)) in
+    omega (arith, few, c.classes_before_block.ensures)

@@ -2,7 +2,7 @@
 use crate::positions::position;
 use crate::sets::set_of;
 use dob_pieces::{Family, Position, Profile};
-use dob_rank::{FamilyClasses, count_classes_in, representative};
+use dob_rank::{FamilyClasses, class_number, count_classes_in, representative};
 use std::alloc::Global;
 use std::process::Abort;
 
@@ -87,6 +87,7 @@ fn has_class_in_b(rt: &impl Abort, alloc: Global, seen: &Position, want: u64) {
     let classes = FamilyClasses::open(alloc, family).expect(rt, "classes");
     assert!(rt; seen.is_allowed(Profile::B), "class {want}");
     assert!(rt; classes.class_of(seen) == want, "class {want}");
+    assert!(rt; class_number(family, seen) == want, "class {want}");
     assert!(rt; want < classes.class_count());
     let first = classes.class_at(want);
     assert!(rt; first == representative(seen), "class {want}");
