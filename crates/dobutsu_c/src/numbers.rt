@@ -1,0 +1,7 @@
+// The numbers of faults, as the program prints them.
+
+/// E25: the numbers of pieces are those of no set.
+pub(crate) const SET_TEXT: u32 = 25;
+
+/// E27: the number is that of no profile.
+pub(crate) const PROFILE_BYTE: u32 = 27;
