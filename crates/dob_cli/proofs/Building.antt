@@ -129,6 +129,7 @@ module _ (c : ShelfChange) (name : List ℕ) (table : ClassTable) where
   stopped_keeping sink file_fault.ClassCount empty stops = absurd stops
   stopped_keeping sink file_fault.Trailing empty stops = absurd stops
   stopped_keeping sink file_fault.Digest empty stops = absurd stops
+  stopped_keeping sink file_fault.ProfileByte empty stops = absurd stops
 
   -- a fault of keeping the text's table is one of building it
   pub keeping_holds : (text : List ℕ) (nodes : ℕ) (fault : Fault) → IsTableFor text nodes table → IsKeepingFault c name table fault

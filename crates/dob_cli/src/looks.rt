@@ -44,13 +44,13 @@ fn look<R: PlacedSource>(alloc: Global, source: &mut R, position: &Position) -> 
     ensures fault { IfErr result (IsFaultOfLook (λ stream. R.gives source.old stream × R.shows source.old stream) position.now.setup) }
     ensures failed { R.has_failed source.new ≡ is_io_error result }
 {
-    let classes = read_classes(alloc, source)?;
+    let (format, classes) = read_classes(alloc, source)?;
     if !is_in_family(position, classes.family) {
         return Err(Fault::from(OtherSet));
     }
     // That there are no more classes than positions bounds the record's place.
     let _positions = size(classes.family.set);
-    let value = read_value(source, classes.class_of(position))?;
+    let value = read_value(source, format, classes.class_of(position))?;
     Ok(value)
 }
 
