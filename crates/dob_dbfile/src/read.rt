@@ -23,7 +23,7 @@ use sha2::{Digest, Sha256};
 use std::alloc::Global;
 
 /// How many bytes the digest has.
-const DIGEST_LEN: usize = 32;
+pub(crate) const DIGEST_LEN: usize = 32;
 
 /// Reads the table of a file: of just the bytes that are a file of it, in either format, up to the source's end.
 ///

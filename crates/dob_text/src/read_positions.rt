@@ -31,11 +31,16 @@ fn position_of(profile: Profile, setup: Setup) -> Result<Position, TextFault>
     }
 }
 
-/// The position of that profile that the bytes spell.
-fn read_bytes(profile: Profile, text: &[u8]) -> Result<Position, TextFault>
-    ensures { MatchResult result
+/// The position of that profile that the bytes spell, which needn't be UTF-8. It takes no memory.
+///
+/// # Errors
+///
+/// Those of [`read_position_in`].
+pub fn read_position_bytes(profile: Profile, text: &[u8]) -> Result<Position, TextFault>
+    ensures read { MatchResult result
         (λ position. IsLegal position.setup × IsAllowed profile position.setup × Spells text.now position.setup)
         (λ fault. HasFaultIn profile text.now fault) }
+    ensures fault { (fault : TextFault) → IsErrOf result fault ↔ HasFaultIn profile text.now fault }
 {
     let setup = read_setup(text)?;
     position_of(profile, setup)
@@ -57,7 +62,7 @@ pub fn read_position_in(profile: Profile, text: &str) -> Result<Position, TextFa
         → IsOkAnd result (λ position. position.setup ≡ setup) }
     ensures fault { (fault : TextFault) → IsErrOf result fault ↔ HasFaultIn profile text.now fault }
 {
-    read_bytes(profile, text.as_bytes())
+    read_position_bytes(profile, text.as_bytes())
 }
 
 /// The position of profile A of which this is the text: any position, so that it never fails with `FarChick`.

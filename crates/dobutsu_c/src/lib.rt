@@ -3,5 +3,8 @@
 #![tactic(auto)]
 
 mod counts;
+mod fault;
 mod numbers;
+mod probes;
+mod value;
 mod version;

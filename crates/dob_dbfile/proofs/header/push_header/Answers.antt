@@ -1,5 +1,5 @@
 -- The three pieces, one after the other.
-use Rattle.std.proofs.Common.{◌≡◌, ◌∙◌, ◌++◌, List, ℕ, ap, append_assoc, rules}
+use Rattle.std.proofs.Common.{◌∷◌, [], ◌≡◌, ◌∙◌, ◌++◌, List, ℕ, ap, append_assoc, rules}
 use Rattle.dob_dbfile.specs.declared.header.Format.TheVariants.{Second}
 use Rattle.dob_dbfile.specs.Format.{title, set_bytes, profile_bytes, count_bytes}
 use Rattle.dob_dbfile.proofs.header.push_header.Goals as goal
@@ -12,4 +12,8 @@ pub returns-clause-items : goal.returns-clause-items
 returns-clause-items c =
     pieces c.args.bytes.now.items c.extend_from_slice.new.self.items c.extend_from_slice-2.new.self.items c.extend_from_slice-3.new.self.items
     (title Second) (set_bytes c.args.family.set ++ profile_bytes Second c.args.family.profile) (count_bytes c.args.count)
-    c.in_ok-extend_from_slice.ensures.items c.in_ok-extend_from_slice-2.ensures.items (search rules)
+    c.in_ok-extend_from_slice.ensures.items
+    (c.in_ok-extend_from_slice-2.ensures.items
+    ∙ ap (λ (p : ℕ). c.extend_from_slice.new.self.items ++ (c.args.family.set.chicks ∷ c.args.family.set.elephants ∷ c.args.family.set.giraffes ∷ 2 ∷ p ∷ []))
+    c.profile_byte-profile.ensures)
+    (search rules)

@@ -6,8 +6,8 @@ use Rattle.dob_text.proofs.read_positions.read_position_in.Goals as goal
 pub returns : goal.returns
 returns c =
     let profile = c.args.profile in
-    let reads : Reads profile c.args.text.now c.read_bytes.result
-    = subst (λ (text : List ℕ). Reads profile text c.read_bytes.result) c.as_bytes.ensures.value c.read_bytes.ensures in
+    let reads : Reads profile c.args.text.now c.read_position_bytes.result
+    = subst (λ (text : List ℕ). Reads profile text c.read_position_bytes.result) c.as_bytes.ensures.value c.read_position_bytes.ensures.read in
     record {
       read = read_as profile _ _ reads;
       allowed = allowed_as profile _ _ reads;
