@@ -149,12 +149,12 @@ pub front_cut : (stream : Stream) (format : Format) (set : PieceSet) (wanted : �
 front_cut stream format set wanted fault.Truncated names fits cut known =
     let there : 20 ≤ length stream.bytes = names.0.0 in
     let none : ¬ HasHeader format set stream.bytes = λ has.
-        let le : header_len format ≤ length stream.bytes = has.1 in omega (arith, le, fits, cut.0, there, length-drop 20 stream.bytes) in
+    let le : header_len format ≤ length stream.bytes = has.1 in omega (arith, le, fits, cut.0, there, length-drop 20 stream.bytes) in
     (inr (format, set, names, none), cut.1)
 front_cut stream format set wanted (fault.Io count) names fits cut known =
     let there : 20 ≤ length stream.bytes = names.0.0 in
     let none : ¬ HasHeader format set stream.bytes = λ has.
-        let le : header_len format ≤ length stream.bytes = has.1 in omega (arith, le, fits, cut.0, there, length-drop 20 stream.bytes) in
+    let le : header_len format ≤ length stream.bytes = has.1 in omega (arith, le, fits, cut.0, there, length-drop 20 stream.bytes) in
     (inr (format, set, names, none), cut.1, omega (arith, cut.2, there, length-drop 20 stream.bytes))
 front_cut stream format set wanted fault.Memory names fits cut known = absurd (known refl)
 front_cut stream format set wanted fault.SetTooLarge names fits cut known = absurd cut

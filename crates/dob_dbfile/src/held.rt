@@ -49,7 +49,10 @@ fn held_header(bytes: &[u8]) -> Result<(Format, Family), Fault>
     if bytes.len() < format.header_len() {
         return Err(Fault::Truncated);
     }
-    Ok((format, family_counted(format, set, &bytes[..format.header_len()])?))
+    Ok((
+        format,
+        family_counted(format, set, &bytes[..format.header_len()])?,
+    ))
 }
 
 /// The value that the class's record says, in a file of that format.

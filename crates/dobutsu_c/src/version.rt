@@ -1,7 +1,6 @@
 // The version, which is the program's.
 ghost use Rattle.std.specs.Prelude.{◌≡◌};
 
-
 /// A version of the library, by its three numbers.
 #[repr(C)]
 pub struct DobutsuVersion {

@@ -8,9 +8,13 @@ pub returns-then-bytes-wanted-clause-fault : goal.returns-then-bytes-wanted-clau
 returns-then-bytes-wanted-clause-fault c =
     let format = c.in_ok-format.format in
     let family = c.in_ok-format.family in (
-      inr (format, family, c.in_ok-format.ensures.counted,
-      λ is. let le : file_len format family ≤ length c.args.bytes.now = is.1 in
-      omega (arith, le, c.header_len.ensures, c.count_classes_in.ensures.number, c.if-bytes-wanted.true)),
+      inr (
+        format,
+        family,
+        c.in_ok-format.ensures.counted,
+        λ is. let le : file_len format family ≤ length c.args.bytes.now = is.1 in
+            omega (arith, le, c.header_len.ensures, c.count_classes_in.ensures.number, c.if-bytes-wanted.true),
+      ),
       refl,
     )
 
@@ -22,5 +26,5 @@ returns-then-wanted-bytes-clause-fault c =
       family,
       (c.in_ok-format.ensures.counted, omega (arith, c.header_len.ensures, c.count_classes_in.ensures.number, c.if-wanted-bytes.true)),
       λ is. let le : length c.args.bytes.now ≤ file_len format family = is.1 in
-      omega (arith, le, c.header_len.ensures, c.count_classes_in.ensures.number, c.if-wanted-bytes.true),
+          omega (arith, le, c.header_len.ensures, c.count_classes_in.ensures.number, c.if-wanted-bytes.true),
     )
