@@ -1,9 +1,0 @@
-pub mod Words
-pub mod Views
-pub mod Histories
-pub mod Rule
-pub mod Plays
-pub mod Seats
-pub mod Boards
-pub mod Props
-pub mod Faults

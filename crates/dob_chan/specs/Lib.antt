@@ -1,3 +1,0 @@
-pub mod Inboxes
-pub mod Ends
-pub mod Rooms

@@ -1,9 +1,0 @@
--- The lemmas, in the order in which they are read. First entries and lines, then the check of a table.
-pub mod Entries  -- each entry is that of a class, and a position has one
-pub mod Ways  -- lines as they grow, and where they break off
-pub mod Best  -- by the value table lines are the best lines, and none breaks off
-pub mod Kept  -- what is kept of a list of values, as the list grows
-pub mod Following  -- the one value that follows from the successors' values
-pub mod Verdicts  -- the first fault among the verdicts of all classes
-pub mod ByValue  -- moves with their values, best first, as the list grows
-pub mod Slotted  -- what is counted of each code, and the groups that are there

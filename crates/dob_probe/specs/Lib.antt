@@ -1,8 +1,0 @@
-pub mod Lines
-pub mod Checks
-pub mod Sums
-pub mod Choices
-pub mod Statistics
-pub mod Slots
-pub mod Faults
-pub mod Laws

@@ -1,8 +1,0 @@
--- None so far has failed.
-use Rattle.std.proofs.Common.{◌≡◌, ℕ, ◌<◌, Some, None}
-use Rattle.std.specs.Prelude.{slice_get}
-use Rattle.dob_run.specs.declared.runner.Runner.{Runner}
-use Rattle.dob_run.proofs.bounded_run.find_failed.Given as goal
-
-abbrev pub invariant-loop-node : goal.invariant-loop-node
-invariant-loop-node l = (k : ℕ) (runner : Runner) → k < l.node → slice_get l.runners k ≡ Some runner → runner.failed ≡ None

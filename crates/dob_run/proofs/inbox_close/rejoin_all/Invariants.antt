@@ -1,8 +1,0 @@
--- The inboxes of the rows gone over are ended, their links stand in the rows of their senders, and the other ends are left.
-use Rattle.std.proofs.Common.{vec_len}
-use Rattle.std.specs.Vec.Iter.{into_iter_items}
-use Rattle.dob_run.proofs.InboxesClosed.{AreOn}
-use Rattle.dob_run.proofs.inbox_close.rejoin_all.Given as goal
-
-abbrev pub invariant-loop-row : goal.invariant-loop-row
-invariant-loop-row g l = AreOn (vec_len l.fn.takes) l.fn.sends.items l.fn.takes.items (into_iter_items l.row-iterator) (into_iter_items l.left) l.rows.items

@@ -1,4 +1,0 @@
-pub mod Faults
-pub mod Tokens
-pub mod Rings
-pub mod Laws

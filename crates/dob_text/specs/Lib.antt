@@ -1,7 +1,0 @@
-pub mod Letters
-pub mod MoveText
-pub mod PositionText
-pub mod Drawings
-pub mod Pictures
-pub mod Faults
-pub mod Readings

@@ -1,9 +1,0 @@
--- Turned setups, and the representatives of classes as dob_rank defines them.
-use Rattle.std.specs.Prelude.{◌≡◌}
-use Rattle.dob_pieces.specs.declared.setup.Setup.{Setup}
-use Rattle.dob_pieces.specs.Setups.{turned}
-pub use Rattle.dob_rank.specs.Families.{RepresentsClassIn}
-
--- it is such a setup, seen from the other side
-abbrev pub IsTurned : (Setup → Type 0) → Setup → Type 0
-IsTurned Is after = (q : Setup) × Is q × (after ≡ turned q)

@@ -1,9 +1,0 @@
-pub mod Undoes
-pub mod Changes
-pub mod Walks
-pub mod Unmoves
-pub mod Edges
-pub mod Gathers
-pub mod Classes
-pub mod Threats
-pub mod Ways

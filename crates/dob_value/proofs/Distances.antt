@@ -1,9 +1,0 @@
--- A win, or a loss, has one distance.
-use Rattle.std.proofs.Common.{◌≡◌, ℕ}
-use Rattle.dob_value.specs.declared.value.Value.TheVariants.{Win, Loss}
-
-pub same_win : (a b : ℕ) → Win a ≡ Win b → a ≡ b
-same_win a b e = cc
-
-pub same_loss : (a b : ℕ) → Loss a ≡ Loss b → a ≡ b
-same_loss a b e = cc

@@ -1,3 +1,0 @@
--- The classes of a family in a row, as dob_rank defines them.
-pub use Rattle.dob_rank.specs.ClassRows.{marked_place}
-unfoldable pub use Rattle.dob_rank.specs.Families.{class_setup_in}

@@ -1,6 +1,0 @@
--- The nodes so far are opened.
-use Rattle.dob_world.specs.Start.{AreOpenedNodes}
-use Rattle.dob_world.proofs.parts.open_nodes.Given as goal
-
-abbrev pub invariant-loop-id : goal.invariant-loop-id
-invariant-loop-id l = AreOpenedNodes l.openings l.family l.n l.id l.nodes.items
