@@ -20,4 +20,5 @@ pub mod Appends  -- moves appended piece by piece
 pub mod PlainLists  -- the same in the plain program
 pub mod ProfileMoves  -- what moves by a profile lead to, and their mirror images
 pub mod MoveLists  -- the list has just the moves
+pub mod OwnKinds  -- the mover's piece on a square, by the masks
 pub mod MoveCounts  -- moves counted without a list

@@ -1,8 +1,9 @@
 -- What the searches say of a position.
-use Rattle.std.proofs.Common.{refl, ◌≡◌, ◌≢◌, ◌+◌, List, [], ◌++◌, Contains, inl, inr, subst, arith, Bool, true, false, Option, Some, None}
+use Rattle.std.proofs.Common.{refl, ℕ, ◌∷◌, ◌≡◌, ◌≢◌, ◌+◌, List, [], ◌++◌, Contains, inl, inr, subst, arith, Bool, true, false, Option, Some, None}
 use Rattle.std.proofs.Common.{MatchOption, length, sym, ◌∙◌}
 use Rattle.std.specs.Bool.{IsTrue}
 use Rattle.std.specs.Option.{is_some}
+use Rattle.std.proofs.lemmas.Bool.{cases_eq}
 use Rattle.dob_pieces.specs.declared.profile.Profile.{Profile}
 use Rattle.dob_pieces.specs.declared.profile.Profile.TheVariants.{A}
 use Rattle.dob_pieces.specs.declared.setup.Setup.{Setup}
@@ -35,6 +36,27 @@ pub drop_answer : (p : Setup) (b : Bool) (o drop : Option Move) → length p.boa
 drop_answer p b o None len e h d t =
     (λ (yes : IsTrue b). cc, λ (w : (move : Move) × CanGo A p move). absurd (no_move p len (sym e ∙ none_from o h) (sym d) w.0 w.1))
 drop_answer p b o (Some m) len e h d t = (λ _. (m, drop_goes p m (sym d)), λ _. t)
+
+-- by how many there are
+first_of_none : (moves : List Move) → 0 ≡ length moves → first moves ≡ None
+first_of_none [] h = refl
+first_of_none (m ∷ moves) h = absurd (omega arith)
+
+first_of_some : (moves : List Move) → (0 ≡ length moves → ⊥) → (m : Move) × (first moves ≡ Some m)
+first_of_some [] h = absurd (h refl)
+first_of_some (m ∷ moves) h = (m, refl)
+
+pub some_move : (p : Setup) (steps drops : ℕ) → steps ≡ length (all_steps Elsewhere p) → drops ≡ length (all_drops A p) → (steps + drops ≡ 0 → ⊥)
+    → (move : Move) × CanGo A p move
+some_move p steps drops e d some = elim (cases_eq steps 0) [
+  | inl none ↦ (let found = first_of_some (all_drops A p) (λ h. some (omega (arith, none, d, h))) in (found.0, drop_goes p found.0 found.1))
+  | inr are ↦ (let found = first_of_some (all_steps Elsewhere p) (λ h. are (omega (arith, e, h))) in (found.0, step_goes p found.0 found.1))
+]
+
+pub no_moves : (p : Setup) (steps drops : ℕ) → length p.board ≡ 12 → steps ≡ length (all_steps Elsewhere p) → drops ≡ length (all_drops A p)
+    → steps + drops ≡ 0 → ((move : Move) × CanGo A p move) → ⊥
+no_moves p steps drops len e d none w =
+    no_move p len (first_of_none (all_steps Elsewhere p) (omega (arith, e, none))) (first_of_none (all_drops A p) (omega (arith, d, none))) w.0 w.1
 
 -- ---- the list of the moves
 

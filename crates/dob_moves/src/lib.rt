@@ -13,7 +13,7 @@ mod position_status;
 mod status_of;
 
 pub use applying::apply;
-pub use count::{count_moves, status_and_count};
+pub use count::{count_moves, status_and_count, status_and_count_shown};
 pub use game_move::Move;
 pub use listing::{moves, moves_into};
 pub use position_status::Status;

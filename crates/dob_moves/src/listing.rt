@@ -129,7 +129,7 @@ pub fn moves_into(
 {
     moves.clear();
     let masks = Masks::of(&position.setup);
-    match status_by(position, &masks) {
+    match status_by(position, &masks, position.setup.hands.mover) {
         Status::Open => {
             let Ok(()) = push_moves(moves, profile, &position.setup, &masks) else {
                 moves.clear();

@@ -7,10 +7,11 @@ ghost use Rattle.dob_moves.specs.Moves.{CanGo, grows_at};
 ghost use Rattle.dob_moves.specs.Statuses.{CanCatch, HasStatus, IsFirstCatch};
 ghost use Rattle.dob_moves.specs.declared.game_move.Move.{Move as Moved};
 
+use crate::count::has_move;
 use crate::first_moves::{Aim, first_drop, first_step, grows_at, own_kind};
 use crate::game_move::Move;
 use crate::position_status::Status;
-use dob_pieces::{Kind, Masks, Position, Profile, Side, Square, lowest_square};
+use dob_pieces::{Hand, Kind, Masks, Position, Profile, Side, Square, lowest_square};
 
 /// The enemy lion's square.
 fn enemy_lion(position: &Position, masks: &Masks) -> Square
@@ -76,11 +77,12 @@ pub(crate) fn finds_move(position: &Position) -> bool
 }
 
 /// Whether the mover has a move while its steps onto the enemy lion aren't counted.
-fn can_move(position: &Position, masks: &Masks) -> bool
-    requires { AreMasks position.now.setup masks.now }
+fn can_move(position: &Position, masks: &Masks, hand: Hand) -> bool
+    requires masks { AreMasks position.now.setup masks.now }
+    requires hand { hand ≡ position.now.setup.hands.mover }
     ensures { IsTrue result ↔ ((move : Moved) × CanGo A position.now.setup move) }
 {
-    lion_can_step(position, masks) || finds_move(position)
+    lion_can_step(position, masks) || has_move(position, masks, hand)
 }
 
 /// The status of the position by the rules of the profile: a catch is looked for first, then a try, then a move. Each
@@ -88,13 +90,15 @@ fn can_move(position: &Position, masks: &Masks) -> bool
 pub fn status(profile: Profile, position: &Position) -> Status
     ensures { HasStatus profile position.now.setup result }
 {
-    status_by(position, &Masks::of(&position.setup))
+    let masks = Masks::of(&position.setup);
+    status_by(position, &masks, position.setup.hands.mover)
 }
 
-/// The status of a position with those masks.
+/// The status of a position with those masks and that hand of the mover.
 #[tactic(auto, using(crate::proofs::Masked::tried_by))]
-pub(crate) fn status_by(position: &Position, masks: &Masks) -> Status
-    requires { AreMasks position.now.setup masks.now }
+pub(crate) fn status_by(position: &Position, masks: &Masks, hand: Hand) -> Status
+    requires masks { AreMasks position.now.setup masks.now }
+    requires hand { hand ≡ position.now.setup.hands.mover }
     ensures { HasStatus A position.now.setup result }
 {
     let lion = enemy_lion(position, masks);
@@ -102,7 +106,7 @@ pub(crate) fn status_by(position: &Position, masks: &Masks) -> Status
         Status::Caught
     } else if lion.row() == 0 {
         Status::Tried
-    } else if can_move(position, masks) {
+    } else if can_move(position, masks, hand) {
         Status::Open
     } else {
         Status::Stuck

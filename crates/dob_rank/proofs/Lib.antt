@@ -27,6 +27,9 @@ pub mod Planes  -- masks of layers and what their bits count
 pub mod BoardMasks  -- what the masks of a position say
 pub mod BitPlanes  -- sets of squares in one pass over a board
 pub mod BitSquares  -- layers and forms by sets of squares
+pub mod BitChanges  -- sets of squares when one square changes
+pub mod BitPlaced  -- sets of squares with a piece more, seen from either side
+pub mod BitMasks  -- the masks of a setup by its sets of squares
 pub mod BitNumbers  -- the digits of a position that sets of squares show
 -- Classes.
 pub mod Marks  -- marked ranks are representatives

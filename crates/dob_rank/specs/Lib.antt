@@ -7,6 +7,8 @@ pub mod Marks
 pub mod ClassRows
 pub mod Families
 pub mod Bitboards
+pub mod Changes
+pub mod Views
 pub mod BoardDigits
 pub mod Runs
 pub mod Weights

@@ -2,6 +2,7 @@
 ghost use Rattle.std.specs.Prelude.{◌≡◌, ◌<◌, ◌≤◌, ◌/◌, ◌%◌, length};
 ghost use Rattle.std.specs.Int.{bit_at};
 ghost use Rattle.dob_pieces.specs.declared.setup.Setup.{Setup};
+ghost use Rattle.dob_pieces.specs.Masks.{AreMasks as AreSetupMasks};
 ghost use Rattle.dob_pieces.specs.Setups.{at, setup_of, turned};
 ghost use Rattle.dob_rank.specs.Bitboards.{AreBitboards, HasOfLayer};
 ghost use Rattle.dob_rank.specs.BoardMasks.{AreMasks};
@@ -29,6 +30,9 @@ pub struct Bitboards {
     pub enemies: u16,
     pub hands: Hands,
 }
+
+// All squares of the board.
+const ALL: u16 = 0b111_111_111_111;
 
 // The lowest bits of five planes of a word: the lions of both, ..
 const LIONS: u64 = 1;
@@ -94,6 +98,25 @@ impl Bitboards {
                 mover: hands.enemy,
                 enemy: hands.mover,
             },
+        }
+    }
+
+    /// The masks of the setup.
+    pub fn masks(&self) -> dob_pieces::Masks
+        ensures { (setup : Setup) → AreBitboards setup self.now → AreSetupMasks setup result }
+    {
+        let pieces = self.chicks | self.elephants | self.giraffes;
+        let empty = ALL & !(self.own_lion | self.enemy_lion | pieces);
+        dob_pieces::Masks {
+            lion: self.own_lion,
+            giraffes: self.giraffes & !self.enemies,
+            elephants: self.elephants & !self.enemies,
+            chicks: self.chicks & !(self.hens | self.enemies),
+            hens: self.hens & !self.enemies,
+            own: self.own_lion | pieces & !self.enemies,
+            ends: empty | self.enemies,
+            empty,
+            enemy_lion: self.enemy_lion,
         }
     }
 

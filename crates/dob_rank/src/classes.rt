@@ -6,16 +6,18 @@ ghost use Rattle.dob_rank.specs.Numbers.{product, block_bases, start_of, rank_of
 ghost use Rattle.dob_rank.specs.Marks.{marks_below};
 ghost use Rattle.dob_rank.specs.BlockTables.{AreBlocks};
 ghost use Rattle.dob_pieces.specs.declared.setup.Setup.{Setup};
-ghost use Rattle.dob_rank.specs.Bitboards.{IsShown};
+ghost use Rattle.dob_rank.specs.Bitboards.{AreBitboards, IsShown};
+ghost use Rattle.dob_rank.specs.Views.{seen_by};
 ghost use Rattle.dob_rank.specs.BoardMasks.{AreMasks};
 
 use crate::bitboards::Bitboards;
 use crate::block;
 use crate::block_classes::BlockClasses;
 use crate::masks::{Masks, masks_of};
-use crate::set_ranks::position_by;
+use crate::set_ranks::{position_by, shown_by};
+use crate::shown::Shown;
 use crate::spots::{spot_in, spot_shown_in};
-use dob_pieces::{Family, Memory, Position};
+use dob_pieces::{Family, Memory, Position, Side};
 use std::alloc::Global;
 
 /// The classes of a family, each with its number.
@@ -129,6 +131,26 @@ impl Classes {
             &block.on_board,
             &block.choices,
             block.spot_at(class),
+        )
+    }
+
+    /// The same with the sets of squares that the side sees of the representative: the mover those of the setup, the enemy those of the
+    /// turned one. They are found without its board, which isn't made where it isn't read.
+    #[inline(always)]
+    pub fn shown_at(&self, class: u64, side: Side) -> Shown
+        requires { class < classes_of self.now.family }
+        ensures representative { IsRepresentative self.now.family result.position.setup }
+        ensures class { HasClass self.now.family result.position.setup class }
+        ensures number { class_number self.now.family result.position.setup ≡ class }
+        ensures bits { AreBitboards (seen_by side result.position.setup) result.bits }
+    {
+        let block = &self.blocks[self.block_at(class)];
+        shown_by(
+            self.family.set,
+            &block.on_board,
+            &block.choices,
+            block.spot_at(class),
+            side,
         )
     }
 

@@ -7,6 +7,7 @@
 // block a position is a number in mixed radix, with a digit for each further part of the key.
 #![tactic(auto)]
 
+mod bit_placing;
 mod bitboards;
 mod block;
 mod block_classes;
@@ -28,6 +29,7 @@ mod runs;
 mod segment_length;
 mod segmented;
 mod set_ranks;
+mod shown;
 mod spots;
 mod starts;
 mod stretch_tables;
@@ -41,3 +43,4 @@ pub use limit::{MOST_PIECES, is_too_large};
 pub use ranks::{rank, representative, size, unrank};
 pub use segment_length::SegmentLength;
 pub use segmented::{Segments, SegmentsIter};
+pub use shown::Shown;

@@ -3,7 +3,8 @@
 ghost use Rattle.std.specs.Prelude.{◌≡◌, ◌<◌, ◌≤◌, ◌+◌, ◌*◌, ◌^◌};
 ghost use Rattle.dob_pieces.specs.Setups.{total};
 ghost use Rattle.dob_pieces.specs.declared.setup.Setup.{Setup};
-ghost use Rattle.dob_rank.specs.Bitboards.{IsShownOfSet};
+ghost use Rattle.dob_rank.specs.Bitboards.{AreBitboards, IsShownOfSet};
+ghost use Rattle.dob_rank.specs.Views.{seen_by};
 ghost use Rattle.dob_rank.specs.BoardDigits.{ArePartsOf, AreNumbersOf};
 ghost use Rattle.dob_rank.specs.BoardMasks.{AreMasks};
 ghost use Rattle.dob_rank.specs.Order.{IsPositionOfSet};
@@ -12,13 +13,15 @@ ghost use Rattle.dob_rank.specs.Numbers.{HasBlock, bases_by, on_board as on_boar
 ghost use Rattle.dob_rank.specs.Numbers.{HasDigits};
 ghost use Rattle.dob_rank.specs.Runs.{runs_in, run_size, run_bases, square_bases, local_bases, run_of, local_of};
 
+use crate::bit_placing::bits_by;
 use crate::bitboards::Bitboards;
 use crate::block::{self, DIGITS, EachKind};
 use crate::layers::Layer;
 use crate::masks::{self, Masks};
 use crate::runs::Spot;
+use crate::shown::Shown;
 use crate::{placing, radix, starts};
-use dob_pieces::{Hand, HandKind, Hands, PieceSet, Position, Setup};
+use dob_pieces::{Hand, HandKind, Hands, PieceSet, Position, Setup, Side};
 
 /// How many positions the piece set has.
 pub(crate) fn size_of_set(set: PieceSet) -> u64
@@ -165,6 +168,32 @@ pub(crate) fn position_by(
 {
     let digits = block::digits_in(set, on_board, choices, spot);
     Position::new(setup_of(set, on_board, &digits))
+}
+
+/// The same with the sets of squares that the side sees of it.
+#[inline(always)]
+pub(crate) fn shown_by(
+    set: PieceSet,
+    on_board: &EachKind,
+    choices: &EachKind,
+    spot: Spot,
+    side: Side,
+) -> Shown
+    requires on_board { HasDigits (block_bases set) on_board.now }
+    requires choices { choices.now ≡ square_bases on_board.now }
+    requires run { spot.run < product (run_bases set on_board.now) }
+    requires local { spot.local < product (local_bases on_board.now) }
+    ensures position { HasBlock set (number_of (block_bases set) on_board.now)
+        (spot.run * product (local_bases on_board.now) + spot.local) result.position.setup }
+    ensures bits { AreBitboards (seen_by side result.position.setup) result.bits }
+{
+    let digits = block::digits_in(set, on_board, choices, spot);
+    let places = placing::places_by(on_board, &[digits[5], digits[6], digits[7]]);
+    let hands = hands_of(set, on_board, &digits);
+    Shown {
+        position: Position::new(setup_of(set, on_board, &digits)),
+        bits: bits_by(side, on_board, &digits, &places, hands),
+    }
 }
 
 /// How many chicks, elephants and giraffes stand on the board.

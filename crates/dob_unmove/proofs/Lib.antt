@@ -24,7 +24,5 @@ pub mod Standing  -- which ways a piece can have made
 pub mod WayMasks  -- the masks of the ways
 pub mod OwnImages  -- positions that are their own mirror images
 pub mod ImageMasks  -- masks of mirror images
-pub mod BitChanges  -- sets of squares when one square changes
 pub mod BitUndone  -- and when a move is taken back
-pub mod BitImages  -- masks and mirror images of sets of squares
 pub mod OwnKinds  -- the mover's piece on a square

@@ -1,5 +1,4 @@
 pub mod Undoes
-pub mod Changes
 pub mod Walks
 pub mod Unmoves
 pub mod Edges

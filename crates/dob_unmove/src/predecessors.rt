@@ -6,7 +6,7 @@ ghost use Rattle.dob_pieces.specs.Pieces.{kind_on_board};
 ghost use Rattle.dob_pieces.specs.Setups.{at, piece_of, turned, mirrored, HasLionOffFarRow};
 ghost use Rattle.dob_pieces.specs.declared.kind.Kind.{Kind};
 ghost use Rattle.dob_pieces.specs.declared.kind.Side.TheVariants.{Mover};
-ghost use Rattle.dob_rank.specs.Bitboards.{IsShown};
+ghost use Rattle.dob_rank.specs.Bitboards.{AreBitboards, IsShown};
 ghost use Rattle.dob_rank.specs.Families.{classes_of};
 ghost use Rattle.dob_unmove.specs.declared.undo.Undo.{Undo};
 ghost use Rattle.dob_unmove.specs.Undoes.{arrives_at as arrival, CanUndo, earlier};
@@ -22,11 +22,12 @@ ghost use Rattle.dob_unmove.specs.Ends.{CanWalk, CanEnd, Collects};
 use crate::bits_before::bits_before;
 use crate::earlier::may_give_back;
 use crate::images::mirrored_bits;
-use crate::plain::class_if_representative;
 use crate::undo::Undo;
 use crate::ways::Ways;
-use dob_pieces::{HandKind, Kind, Memory, Position, Setup, Square, lowest_square, without_square};
-use dob_rank::{Bitboards, Classes};
+use dob_pieces::{
+    HandKind, Kind, Memory, Position, Setup, Side, Square, lowest_square, without_square,
+};
+use dob_rank::{Bitboards, Classes, Shown};
 use std::alloc::Global;
 
 /// A walk over the ways to take the move back that left a setup, in which the side that made it is the mover.
@@ -236,36 +237,43 @@ fn class_if_shown(classes: &Classes, bits: &Bitboards) -> Option<u64>
     classes.class_of_shown(bits)
 }
 
-/// Whether the representative is its own mirror image. What is known of the turned setup says mostly that it isn't.
-fn is_own_image(classes: &Classes, representative: &Position, ways: &Ways) -> bool
-    requires representative { (class : ℕ) × RepresentsClass classes.now.family representative.now.setup class }
+/// Whether the representative of the class is its own mirror image. What is known of the turned setup says mostly that it isn't. The
+/// representative only says of what is asked.
+fn is_own_image(classes: &Classes, class: u64, representative: &Position, ways: &Ways) -> bool
+    requires class { class < classes_of classes.now.family }
+    requires representative { RepresentsClass classes.now.family representative.now.setup class }
     requires ways { AreWays (turned representative.now.setup) ways.now }
     ensures { IsTrue result ↔ (mirrored representative.now.setup ≡ representative.now.setup) }
 {
+    let _ = representative;
     if ways.has_lions_on_b() {
-        return class_if_representative(classes, &representative.mirrored()).is_some();
+        let shown = classes.shown_at(class, Side::Mover);
+        return class_if_shown(classes, &mirrored_bits(&shown.bits)).is_some();
     }
     false
 }
 
-/// The classes from which moves lead to the representative of a class or to its mirror image, in the order of the walk, in
-/// the room of that list. What the walks need of the setups are the sets of squares; the boards of the turned setup and of its
-/// image only say of what the sets are, and are not made when the program runs.
-fn gather(room: Vec<u64>, classes: &Classes, representative: &Position) -> Result<Vec<u64>, Memory>
-    requires { (class : ℕ) × RepresentsClass classes.now.family representative.now.setup class }
-    ensures { IfOk result (λ list. CountEdges A (RepresentsClass classes.now.family) representative.now.setup list.items) }
+/// The classes from which moves lead to the representative of the class or to its mirror image, in the order of the walk, in
+/// the room of that list. What the walks need of the setups are the sets of squares that the enemy sees of the representative; its
+/// board, and those of the turned setup and of its image, only say of what the sets are, and are not made when the program runs.
+#[inline(always)]
+fn gather(room: Vec<u64>, classes: &Classes, class: u64, shown: &Shown) -> Result<Vec<u64>, Memory>
+    requires class { class < classes_of classes.now.family }
+    requires representative { RepresentsClass classes.now.family shown.now.position.setup class }
+    requires bits { AreBitboards (turned shown.now.position.setup) shown.now.bits }
+    ensures { IfOk result (λ list. CountEdges A (RepresentsClass classes.now.family) shown.now.position.setup list.items) }
 {
     let mut found = room;
     found.clear();
-    let after = representative.turned();
-    let ways = Ways::by(&after, Bitboards::turned(&representative.setup));
+    let after = shown.position.turned();
+    let ways = Ways::by(&after, shown.bits);
     let walk = Walk {
         classes,
         after: &after,
         ways: &ways,
     };
     walk.gather_all(&mut found)?;
-    if is_own_image(classes, representative, &ways) {
+    if is_own_image(classes, class, &shown.position, &ways) {
         return Ok(found);
     }
     let image = after.mirrored();
@@ -296,7 +304,7 @@ pub fn back_into(room: Vec<u64>, classes: &Classes, class: u64) -> Result<Vec<u6
     ensures counts { IfOk result (λ list. (q : Setup) → RepresentsClass classes.now.family q class → ArePredecessors classes.now.family.profile (RepresentsClass classes.now.family) q list.items) }
     ensures list { IfOk result (λ list. list.items ≡ predecessors classes.now.family class) }
 {
-    let mut numbers = gather(room, classes, &classes.class_at(class))?;
+    let mut numbers = gather(room, classes, class, &classes.shown_at(class, Side::Enemy))?;
     numbers.sort_unstable();
     Ok(numbers)
 }

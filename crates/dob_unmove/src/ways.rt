@@ -11,7 +11,6 @@ ghost use Rattle.dob_unmove.specs.Ways.{is_home, comes_home, may_come, AreWays, 
 ghost use Rattle.dob_unmove.specs.Walks.{holds_caught};
 
 use crate::attackers::{Attackers, Threat};
-use crate::images::masks_of;
 use crate::walk::holds_caught;
 use dob_pieces::{Kind, Masks, Setup, Square};
 use dob_rank::Bitboards;
@@ -75,7 +74,7 @@ impl Ways {
         requires bits { AreBitboards after.now bits }
         ensures { AreWays after.now result }
     {
-        let masks = masks_of(&bits);
+        let masks = bits.masks();
         let threat = Threat::by(after, &masks);
         let homes = homes_of(threat.lion);
         let calm = masks.own & calm_ends(threat.attackers);

@@ -10,5 +10,5 @@ pub returns : goal.returns
 returns c =
     let family = c.args.classes.now.family in
     subst (λ p. IsOpening c.args.classes.now.family.profile p c.opening_of.result)
-    (class_setup_only family c.class_at.result.setup c.args.class (classes_of family) (HasClasses-classes_of family) c.requires
-    c.class_at.ensures.representative c.class_at.ensures.class) c.opening_of.ensures
+    (class_setup_only family c.shown_at.result.position.setup c.args.class (classes_of family) (HasClasses-classes_of family) c.requires
+    c.shown_at.ensures.representative c.shown_at.ensures.class) c.opening_of.ensures

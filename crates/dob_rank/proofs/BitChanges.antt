@@ -18,7 +18,7 @@ use Rattle.dob_pieces.specs.Setups.{Cell, at, piece_of}
 use Rattle.dob_pieces.proofs.MaskBits.{bit_if, IsMask-same}
 use Rattle.dob_rank.specs.declared.bitboards.Bitboards.{Bitboards}
 use Rattle.dob_rank.specs.Bitboards.{is_own_lion, is_enemy_lion, is_chick, is_elephant, is_giraffe, is_hen, is_enemy, AreBitboards}
-use Rattle.dob_unmove.specs.Changes.{IsWith}
+use Rattle.dob_rank.specs.Changes.{IsWith}
 
 -- ---- one set
 
