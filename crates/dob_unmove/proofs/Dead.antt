@@ -16,6 +16,7 @@ use Rattle.dob_pieces.proofs.Attacks.{lion_at}
 use Rattle.dob_pieces.proofs.Boards.{within-from_piece}
 use Rattle.dob_rank.specs.Families.{RepresentsClass}
 use Rattle.dob_unmove.specs.declared.attackers.Threat.{Threat}
+use Rattle.dob_unmove.specs.declared.predecessors.Walk.{Walk}
 use Rattle.dob_unmove.specs.declared.undo.Undo.{Undo}
 use Rattle.dob_unmove.specs.declared.undo.Undo.TheVariants.{Unstep, Unput}
 use Rattle.dob_unmove.specs.declared.ways.Ways.{Ways}
@@ -23,7 +24,8 @@ use Rattle.dob_unmove.specs.Classes.{IsTurned}
 use Rattle.dob_unmove.specs.Undoes.{arrives_at, earlier, CanUndo, CanUnstep}
 use Rattle.dob_unmove.specs.Threats.{elsewhere, stood_before}
 use Rattle.dob_unmove.specs.Walks.{stands, uncatch, unsteps_between, unsteps_from, unsteps, undoes_at}
-use Rattle.dob_unmove.specs.Ways.{is_home, may_end, comes_home, may_come, CanWalk}
+use Rattle.dob_unmove.specs.Ends.{CanWalk}
+use Rattle.dob_unmove.specs.Ways.{is_home, may_end, comes_home, may_come}
 use Rattle.dob_unmove.proofs.Kept.{legal_turned}
 use Rattle.dob_unmove.proofs.Homes.{representative_home}
 use Rattle.dob_unmove.proofs.Listed.{at_sound, from_sound, stands-true, free_step}
@@ -36,9 +38,18 @@ use Rattle.dob_unmove.proofs.Gathered.{IsDead, AreDead, gathers_cons, gathers_ap
 abbrev own_lion : Cell
 own_lion = Some (piece_of Mover Lion)
 
-module _ (family : Family) (after : Setup) (ways : Ways) (w : CanWalk family after ways) where
+module _ (walk : Walk) (w : CanWalk walk) where
+  abbrev family : Family
+  family = walk.classes.now.family
+
+  abbrev after : Setup
+  after = walk.after.value
+
+  abbrev ways : Ways
+  ways = walk.ways.now
+
   abbrev threat : Threat
-  threat = ways.threat
+  threat = walk.ways.now.threat
 
   legal : IsTurned IsLegal after
   legal = legal_turned family after w.of_set

@@ -7,3 +7,4 @@ pub mod Gathers
 pub mod Classes
 pub mod Threats
 pub mod Ways
+pub mod Ends
