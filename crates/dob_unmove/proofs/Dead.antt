@@ -43,7 +43,7 @@ module _ (walk : Walk) (w : CanWalk walk) where
   family = walk.classes.now.family
 
   abbrev after : Setup
-  after = walk.after.now
+  after = walk.after.value
 
   abbrev ways : Ways
   ways = walk.ways.now

@@ -11,15 +11,15 @@ use Rattle.dob_unmove.specs.Ways.{HasLionHome, AreWays}
 
 -- the setup stands after a move of positions of the family, and the ways are those that lead to it
 pub record CanWalk (walk : Walk) : Type 0 where
-  pub of_set : IsTurned (IsPositionOf walk.classes.now.family) walk.after.now
-  pub ways_are : AreWays walk.after.now walk.ways.now
+  pub of_set : IsTurned (IsPositionOf walk.classes.now.family) walk.after.value
+  pub ways_are : AreWays walk.after.value walk.ways.now
 
 -- no piece on another square attacks the enemy lion, and the mover's lion came there or stands at home
 pub record CanEnd (end : End) : Type 0 where
-  pub walk : CanWalk end.walk
-  pub calm : elsewhere end.walk.ways.now.threat.attackers end.to ≡ false
-  pub home : HasLionHome end.walk.after.now end.walk.ways.now.threat.lion end.to
+  pub walk : CanWalk end.walk.now
+  pub calm : elsewhere end.walk.now.ways.now.threat.attackers end.to ≡ false
+  pub home : HasLionHome end.walk.now.after.value end.walk.now.ways.now.threat.lion end.to
 
 -- what the ways, one after the other, add to the classes that the walk has found
 abbrev pub Collects : Walk → List Undo → List ℕ → List ℕ → Type 0
-Collects walk undoes old new = Gathers (RepresentsClass walk.classes.now.family) walk.after.now undoes old new
+Collects walk undoes old new = Gathers (RepresentsClass walk.classes.now.family) walk.after.value undoes old new

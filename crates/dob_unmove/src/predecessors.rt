@@ -29,19 +29,21 @@ use dob_pieces::{
 };
 use dob_rank::{Bitboards, Classes, Shown};
 use std::alloc::Global;
+use std::snapshot::Snapshot;
 
-/// A walk over the ways to take the move back that left a setup, in which the side that made it is the mover.
-#[derive(Clone, Copy)]
+/// A walk over the ways to take the move back that left a setup, in which the side that made it is the mover. The sets of
+/// squares tell all that a walk asks of the setup, which is known of and not made.
+#[derive(Drop)]
 struct Walk<'a> {
     classes: &'a Classes,
-    after: &'a Setup,
+    after: Snapshot<Setup>,
     ways: &'a Ways,
 }
 
 /// A square on which the move may have ended.
 #[derive(Clone, Copy)]
 struct End<'a> {
-    walk: Walk<'a>,
+    walk: &'a Walk<'a>,
     to: Square,
 }
 
@@ -49,12 +51,12 @@ impl Walk<'_> {
     /// Appends the classes of the open representatives that stood before the setup.
     fn gather_all(&self, found: &mut Vec<u64>) -> Result<(), Memory>
         requires { CanWalk self.now }
-        ensures { OnOk result (Collects self.now (undoes self.now.after.now) found.old.items found.new.items) }
+        ensures { OnOk result (Collects self.now (undoes self.now.after.value) found.old.items found.new.items) }
     {
         let mut left = self.ways.ends;
         while left != 0 {
             let to = lowest_square(left);
-            let end = End { walk: *self, to };
+            let end = End { walk: &*self, to };
             end.gather_all(found)?;
             left = without_square(left, to);
         }
@@ -64,9 +66,9 @@ impl Walk<'_> {
     /// The one from which the move was made in that way, if it was the earlier one of its class.
     fn gather_one(&self, undo: Undo, found: &mut Vec<u64>) -> Result<(), Memory>
         requires walk { CanWalk self.now }
-        requires can { CanUndo self.now.after.now undo }
+        requires can { CanUndo self.now.after.value undo }
         requires calm { stood_before self.now.ways.now.threat undo ≡ false }
-        requires home { HasLionOffFarRow (earlier self.now.after.now undo) }
+        requires home { HasLionOffFarRow (earlier self.now.after.value undo) }
         ensures { OnOk result (Collects self.now (undo ∷ []) found.old.items found.new.items) }
     {
         if let Some(class) = self.class_before(undo) {
@@ -79,10 +81,10 @@ impl Walk<'_> {
     /// profile B no chick is given back on row 1, where none stood.
     fn class_before(&self, undo: Undo) -> Option<u64>
         requires walk { CanWalk self.now }
-        requires can { CanUndo self.now.after.now undo }
+        requires can { CanUndo self.now.after.value undo }
         requires calm { stood_before self.now.ways.now.threat undo ≡ false }
-        requires home { HasLionOffFarRow (earlier self.now.after.now undo) }
-        ensures { Finds (RepresentsClass self.now.classes.now.family) (earlier self.now.after.now undo) result }
+        requires home { HasLionOffFarRow (earlier self.now.after.value undo) }
+        ensures { Finds (RepresentsClass self.now.classes.now.family) (earlier self.now.after.value undo) result }
     {
         if may_give_back(self.classes.family.profile, &undo) {
             class_if_shown(self.classes, &bits_before(self.ways.bits, undo))
@@ -96,7 +98,7 @@ impl End<'_> {
     /// Appends the classes of those from which the move ended on the square.
     fn gather_all(&self, found: &mut Vec<u64>) -> Result<(), Memory>
         requires { CanEnd self.now }
-        ensures { OnOk result (Collects self.now.walk (undoes_at self.now.walk.after.now self.now.to) found.old.items found.new.items) }
+        ensures { OnOk result (Collects self.now.walk.now (undoes_at self.now.walk.now.after.value self.now.to) found.old.items found.new.items) }
     {
         match self.walk.ways.own_kind(self.to) {
             Some(kind) => self.gather_kind(kind, found),
@@ -107,8 +109,8 @@ impl End<'_> {
     /// Those from which the mover's piece of that kind came to the square, on which it stands.
     fn gather_kind(&self, kind: Kind, found: &mut Vec<u64>) -> Result<(), Memory>
         requires end { CanEnd self.now }
-        requires stands { at self.now.walk.after.now self.now.to ≡ Some (piece_of Mover kind) }
-        ensures { OnOk result (Collects self.now.walk (undoes_at self.now.walk.after.now self.now.to) found.old.items found.new.items) }
+        requires stands { at self.now.walk.now.after.value self.now.to ≡ Some (piece_of Mover kind) }
+        ensures { OnOk result (Collects self.now.walk.now (undoes_at self.now.walk.now.after.value self.now.to) found.old.items found.new.items) }
     {
         match kind {
             Kind::Lion => self.gather_steps(Kind::Lion, found),
@@ -129,8 +131,8 @@ impl End<'_> {
     /// have made it a hen.
     fn gather_chick(&self, found: &mut Vec<u64>) -> Result<(), Memory>
         requires end { CanEnd self.now }
-        requires stands { at self.now.walk.after.now self.now.to ≡ Some (piece_of Mover Kind.Chick) }
-        ensures { OnOk result (Collects self.now.walk (undoes_at self.now.walk.after.now self.now.to) found.old.items found.new.items) }
+        requires stands { at self.now.walk.now.after.value self.now.to ≡ Some (piece_of Mover Kind.Chick) }
+        ensures { OnOk result (Collects self.now.walk.now (undoes_at self.now.walk.now.after.value self.now.to) found.old.items found.new.items) }
     {
         if self.to.row() != 3 {
             self.gather_steps(Kind::Chick, found)?;
@@ -141,8 +143,8 @@ impl End<'_> {
     /// Those from which the hen came that stands on the square: on its far row as a chick too.
     fn gather_hen(&self, found: &mut Vec<u64>) -> Result<(), Memory>
         requires end { CanEnd self.now }
-        requires stands { at self.now.walk.after.now self.now.to ≡ Some (piece_of Mover Kind.Hen) }
-        ensures { OnOk result (Collects self.now.walk (undoes_at self.now.walk.after.now self.now.to) found.old.items found.new.items) }
+        requires stands { at self.now.walk.now.after.value self.now.to ≡ Some (piece_of Mover Kind.Hen) }
+        ensures { OnOk result (Collects self.now.walk.now (undoes_at self.now.walk.now.after.value self.now.to) found.old.items found.new.items) }
     {
         if self.to.row() == 3 {
             self.gather_steps(Kind::Chick, found)?;
@@ -153,8 +155,8 @@ impl End<'_> {
     /// Those from which a piece of that kind stepped to the square, on which it stands as what it became.
     fn gather_steps(&self, kind: Kind, found: &mut Vec<u64>) -> Result<(), Memory>
         requires end { CanEnd self.now }
-        requires stands { stands (at self.now.walk.after.now self.now.to) (arrival kind self.now.to) ≡ true }
-        ensures { OnOk result (Collects self.now.walk (unsteps self.now.walk.after.now kind self.now.to) found.old.items found.new.items) }
+        requires stands { stands (at self.now.walk.now.after.value self.now.to) (arrival kind self.now.to) ≡ true }
+        ensures { OnOk result (Collects self.now.walk.now (unsteps self.now.walk.now.after.value kind self.now.to) found.old.items found.new.items) }
     {
         let mut left = self.walk.ways.sources(kind, self.to);
         while left != 0 {
@@ -174,9 +176,9 @@ impl End<'_> {
         found: &mut Vec<u64>,
     ) -> Result<(), Memory>
         requires end { CanEnd self.now }
-        requires stands { stands (at self.now.walk.after.now self.now.to) (arrival kind self.now.to) ≡ true }
-        requires comes { may_come self.now.walk.after.now self.now.walk.ways.now.threat.lion kind self.now.to from ≡ true }
-        ensures { OnOk result (Collects self.now.walk (unsteps_from self.now.walk.after.now kind self.now.to from) found.old.items found.new.items) }
+        requires stands { stands (at self.now.walk.now.after.value self.now.to) (arrival kind self.now.to) ≡ true }
+        requires comes { may_come self.now.walk.now.after.value self.now.walk.now.ways.now.threat.lion kind self.now.to from ≡ true }
+        ensures { OnOk result (Collects self.now.walk.now (unsteps_from self.now.walk.now.after.value kind self.now.to from) found.old.items found.new.items) }
     {
         let undo = Undo::Unstep {
             kind,
@@ -201,11 +203,11 @@ impl End<'_> {
         found: &mut Vec<u64>,
     ) -> Result<(), Memory>
         requires end { CanEnd self.now }
-        requires step { CanUndo self.now.walk.after.now (Undo.Unstep kind from self.now.to None) }
-        requires comes { may_come self.now.walk.after.now self.now.walk.ways.now.threat.lion kind self.now.to from ≡ true }
-        ensures { OnOk result (Collects self.now.walk (uncatch self.now.walk.after.now kind from self.now.to caught) found.old.items found.new.items) }
+        requires step { CanUndo self.now.walk.now.after.value (Undo.Unstep kind from self.now.to None) }
+        requires comes { may_come self.now.walk.now.after.value self.now.walk.now.ways.now.threat.lion kind self.now.to from ≡ true }
+        ensures { OnOk result (Collects self.now.walk.now (uncatch self.now.walk.now.after.value kind from self.now.to caught) found.old.items found.new.items) }
     {
-        if !self.walk.ways.holds_caught(self.walk.after, caught) {
+        if !self.walk.ways.holds_caught(&self.walk.after, caught) {
             return Ok(());
         }
         let undo = Undo::Unstep {
@@ -220,8 +222,8 @@ impl End<'_> {
     /// The one from which the piece of that kind that stands on the square was dropped there.
     fn gather_put(&self, kind: HandKind, found: &mut Vec<u64>) -> Result<(), Memory>
         requires end { CanEnd self.now }
-        requires stands { at self.now.walk.after.now self.now.to ≡ Some (piece_of Mover (kind_on_board kind)) }
-        ensures { OnOk result (Collects self.now.walk (unputs self.now.walk.after.now kind self.now.to) found.old.items found.new.items) }
+        requires stands { at self.now.walk.now.after.value self.now.to ≡ Some (piece_of Mover (kind_on_board kind)) }
+        ensures { OnOk result (Collects self.now.walk.now (unputs self.now.walk.now.after.value kind self.now.to) found.old.items found.new.items) }
     {
         self.walk
             .gather_one(Undo::Unput { kind, to: self.to }, found)
@@ -265,22 +267,22 @@ fn gather(room: Vec<u64>, classes: &Classes, class: u64, shown: &Shown) -> Resul
 {
     let mut found = room;
     found.clear();
-    let after = shown.position.turned();
-    let ways = Ways::by(&after, shown.bits);
+    let after = representative.turned();
+    let ways = Ways::by(&after, Bitboards::turned(&representative.setup));
     let walk = Walk {
         classes,
-        after: &after,
+        after: Snapshot::of(&after),
         ways: &ways,
     };
     walk.gather_all(&mut found)?;
-    if is_own_image(classes, class, &shown.position, &ways) {
+    if is_own_image(classes, representative, &ways) {
         return Ok(found);
     }
     let image = after.mirrored();
     let image_ways = Ways::by(&image, mirrored_bits(&ways.bits));
     let image_walk = Walk {
         classes,
-        after: &image,
+        after: Snapshot::of(&image),
         ways: &image_ways,
     };
     image_walk.gather_all(&mut found)?;

@@ -12,14 +12,14 @@ use Rattle.dob_unmove.proofs.predecessors.End.gather_all.Goals as goal
 pub gather_kind-requires-clause-stands : goal.gather_kind-requires-clause-stands
 gather_kind-requires-clause-stands c =
     let end = c.args.self.now in
-    subst (λ (found : Option Kind). IsOwnKind (at end.walk.after.now end.to) found) c.in-Some.is
-    (c.own_kind.ensures end.walk.after.now c.requires.walk.ways_are)
+    subst (λ (found : Option Kind). IsOwnKind (at end.walk.now.after.value end.to) found) c.in-Some.is
+    (c.own_kind.ensures end.walk.now.after.value c.requires.walk.ways_are)
 
 pub returns-in-None : goal.returns-in-None
 returns-in-None c =
     let end = c.args.self.now in
-    let Represents = RepresentsClass end.walk.classes.now.family in
-    let after = end.walk.after.now in
+    let Represents = RepresentsClass end.walk.now.classes.now.family in
+    let after = end.walk.now.after.value in
     let cell = at after end.to in
     let old = c.args.found.now.items in
     let none = subst (λ (found : Option Kind). IsOwnKind cell found) c.in-None.is (c.own_kind.ensures after c.requires.walk.ways_are) in

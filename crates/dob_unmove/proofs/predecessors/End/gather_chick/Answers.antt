@@ -16,8 +16,8 @@ use Rattle.dob_unmove.proofs.predecessors.End.gather_chick.Goals.{then-row-ne3+i
 pub returns : goal.returns
 returns c =
     let end = c.args.self.now in
-    let Represents = RepresentsClass end.walk.classes.now.family in
-    let after = end.walk.after.now in
+    let Represents = RepresentsClass end.walk.now.classes.now.family in
+    let after = end.walk.now.after.value in
     let to = end.to in
     let old = c.args.found.now.items in
     let steps : Gathers Represents after (unsteps after Chick to) old c.if-row-ne3.found.items = elim c.if-row-ne3.branch [

@@ -15,8 +15,8 @@ use Rattle.dob_unmove.proofs.predecessors.End.gather_hen.Goals.{then-row-eq3+in_
 pub returns : goal.returns
 returns c =
     let end = c.args.self.now in
-    let Represents = RepresentsClass end.walk.classes.now.family in
-    let after = end.walk.after.now in
+    let Represents = RepresentsClass end.walk.now.classes.now.family in
+    let after = end.walk.now.after.value in
     let to = end.to in
     let old = c.args.found.now.items in
     let growths : Gathers Represents after (unsteps after Chick to) old c.if-row-eq3.found.items = elim c.if-row-eq3.branch [

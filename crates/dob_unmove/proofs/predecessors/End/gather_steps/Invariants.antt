@@ -7,8 +7,8 @@ use Rattle.dob_unmove.proofs.predecessors.End.gather_steps.Given as goal
 
 abbrev pub invariant-loop-left : goal.invariant-loop-left
 invariant-loop-left l =
-    IsGathered (RepresentsClass l.self.walk.classes.now.family) l.self.walk.after.now
-    (may_come l.self.walk.after.now l.self.walk.ways.now.threat.lion l.kind l.self.to) (unsteps_from l.self.walk.after.now l.kind l.self.to)
+    IsGathered (RepresentsClass l.self.walk.now.classes.now.family) l.self.walk.now.after.value
+    (may_come l.self.walk.now.after.value l.self.walk.now.ways.now.threat.lion l.kind l.self.to) (unsteps_from l.self.walk.now.after.value l.kind l.self.to)
     l.left l.initial.found.items l.found.items
 
 abbrev pub decreases-loop-left : goal.decreases-loop-left

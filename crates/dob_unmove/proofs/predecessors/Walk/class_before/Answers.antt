@@ -10,7 +10,7 @@ use Rattle.dob_unmove.proofs.predecessors.Walk.class_before.Goals as goal
 pub bits_before-requires : goal.bits_before-requires
 bits_before-requires c =
     let walk = c.args.self.now in
-    let after = walk.after.now in
+    let after = walk.after.value in
     let w = c.requires.walk in
     let legal = legal_turned walk.classes.now.family after w.of_set in
     (after, c.requires.can, squares_turned after legal, few_turned after legal, w.ways_are.bits_are)
@@ -18,7 +18,7 @@ bits_before-requires c =
 pub class_if_shown-requires : goal.class_if_shown-requires
 class_if_shown-requires c =
     let walk = c.args.self.now in
-    let after = walk.after.now in
+    let after = walk.after.value in
     let w = c.requires.walk in (
       earlier after c.args.undo,
       shown_before walk.classes.now.family after c.args.undo _ _ c.requires.can (sym c.may_give_back.ensures ∙ c.if-may_give_back.true)
@@ -28,7 +28,7 @@ class_if_shown-requires c =
 pub returns-then-may_give_back : goal.returns-then-may_give_back
 returns-then-may_give_back c =
     let walk = c.args.self.now in
-    let after = walk.after.now in
+    let after = walk.after.value in
     let family = walk.classes.now.family in
     let w = c.requires.walk in
     let before = earlier after c.args.undo in
@@ -41,5 +41,5 @@ returns-then-may_give_back c =
 pub returns-else-may_give_back : goal.returns-else-may_give_back
 returns-else-may_give_back c = λ w.
     let walk = c.args.self.now in
-    barred walk.classes.now.family walk.after.now c.args.undo c.requires.can c.requires.walk.of_set
+    barred walk.classes.now.family walk.after.value c.args.undo c.requires.can c.requires.walk.of_set
     (sym c.may_give_back.ensures ∙ c.if-may_give_back.false) w.1.0.0.0

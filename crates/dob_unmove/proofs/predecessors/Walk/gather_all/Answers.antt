@@ -13,14 +13,14 @@ use Rattle.dob_unmove.proofs.predecessors.Walk.gather_all.Goals as goal
 pub loop-left-init : goal.loop-left-init
 loop-left-init c = λ w.
     let walk = c.args.self.now in
-    let after = walk.after.now in
+    let after = walk.after.value in
     gathered_start (RepresentsClass walk.classes.now.family) after (may_end after walk.ways.now.threat w.ways_are.stays) (undoes_at after)
     walk.ways.now.ends c.args.found.now.items w.ways_are.ends_are
 
 pub loop-left-smaller : goal.loop-left-smaller
 loop-left-smaller c =
     let walk = c.args.self.now in
-    let after = walk.after.now in
+    let after = walk.after.value in
     let w = c.requires in
     gathered_less (RepresentsClass walk.classes.now.family) after (may_end after walk.ways.now.threat w.ways_are.stays) (undoes_at after)
     c.loop-left.left c.lowest_square-to.result c.without_square-left.result _ _ (c.loop-left.invariant w)
@@ -29,7 +29,7 @@ loop-left-smaller c =
 pub gather_all-requires : goal.gather_all-requires
 gather_all-requires c =
     let walk = c.args.self.now in
-    let after = walk.after.now in
+    let after = walk.after.value in
     let w = c.requires in
     let stays = w.ways_are.stays in
     let to = c.lowest_square-to.result in
@@ -46,7 +46,7 @@ gather_all-requires c =
 pub loop-left-preserved : goal.loop-left-preserved
 loop-left-preserved c = λ w.
     let walk = c.args.self.now in
-    let after = walk.after.now in
+    let after = walk.after.value in
     gathered_next (RepresentsClass walk.classes.now.family) after (may_end after walk.ways.now.threat w.ways_are.stays) (undoes_at after)
     (ends_dead walk w) c.loop-left.left c.lowest_square-to.result c.without_square-left.result _ _ _ (c.loop-left.invariant w)
     (omega arith) c.lowest_square-to.ensures c.without_square-left.ensures c.in_ok-gather_all.ensures
@@ -55,7 +55,7 @@ pub returns : goal.returns
 unfolding undoes
 returns c =
     let walk = c.args.self.now in
-    let after = walk.after.now in
+    let after = walk.after.value in
     let w = c.requires in
     gathered_end (RepresentsClass walk.classes.now.family) after (may_end after walk.ways.now.threat w.ways_are.stays) (undoes_at after)
     (ends_dead walk w) c.loop-left.left _ _ (c.loop-left.invariant w) (omega arith)
