@@ -267,15 +267,15 @@ fn gather(room: Vec<u64>, classes: &Classes, class: u64, shown: &Shown) -> Resul
 {
     let mut found = room;
     found.clear();
-    let after = representative.turned();
-    let ways = Ways::by(&after, Bitboards::turned(&representative.setup));
+    let after = shown.position.turned();
+    let ways = Ways::by(&after, shown.bits);
     let walk = Walk {
         classes,
         after: Snapshot::of(&after),
         ways: &ways,
     };
     walk.gather_all(&mut found)?;
-    if is_own_image(classes, representative, &ways) {
+    if is_own_image(classes, class, &shown.position, &ways) {
         return Ok(found);
     }
     let image = after.mirrored();

@@ -19,7 +19,7 @@ by-ways-requires-clause-bits c =
 
 pub gather_all-requires : goal.gather_all-requires
 gather_all-requires c = record {
-  of_set = (c.args.representative.now.setup, c.requires.1.0.0, c.of.ensures ∙ c.turned-after.ensures);
+  of_set = (c.args.shown.now.position.setup, c.requires.representative.0.0, c.of.ensures ∙ c.turned-after.ensures);
   ways_are = subst (λ (s : Setup). AreWays s c.by-ways.result) (sym c.of.ensures) c.by-ways.ensures;
 }
 
@@ -35,7 +35,7 @@ by-image_ways-requires-clause-bits c =
 pub gather_all-requires-2 : goal.gather_all-requires-2
 gather_all-requires-2 c = record {
   of_set =
-      turned_position c.args.classes.now.family c.args.representative.now.setup c.of-2.result.value c.requires.1.0.0
+      turned_position c.args.classes.now.family c.args.shown.now.position.setup c.of-2.result.value c.requires.representative.0.0
       (c.of-2.ensures ∙ c.mirrored-image.ensures ∙ ap mirrored c.turned-after.ensures);
   ways_are = subst (λ (s : Setup). AreWays s c.by-image_ways.result) (sym c.of-2.ensures) c.by-image_ways.ensures;
 }
@@ -44,8 +44,8 @@ pub returns-then-is_own_image : goal.returns-then-is_own_image
 returns-then-is_own_image c =
     let Represents = RepresentsClass c.args.classes.now.family in
     let n = IsNumbering-classes c.args.classes.now.family in
-    let q = c.args.representative.now.setup in
-    alone_found Represents n q c.of.result.value _ c.gather_all.new.found.items c.args.representative.now.legal
+    let q = c.args.shown.now.position.setup in
+    alone_found Represents n q c.of.result.value _ c.gather_all.new.found.items c.args.shown.now.position.legal
     (c.is_own_image.ensures.0 c.if-is_own_image.true) (c.of.ensures ∙ c.turned-after.ensures)
     c.clear.ensures.items c.in_ok-gather_all.ensures
 
@@ -53,9 +53,9 @@ pub returns : goal.returns
 returns c =
     let Represents = RepresentsClass c.args.classes.now.family in
     let n = IsNumbering-classes c.args.classes.now.family in
-    let q = c.args.representative.now.setup in
+    let q = c.args.shown.now.position.setup in
     both_found Represents n q c.of.result.value c.of-2.result.value _ c.gather_all.new.found.items c.gather_all-2.new.found.items
-    c.args.representative.now.legal
+    c.args.shown.now.position.legal
     (λ own. true≢false (sym (c.is_own_image.ensures.1 own) ∙ c.if-is_own_image.false))
     (c.of.ensures ∙ c.turned-after.ensures) (c.of-2.ensures ∙ c.mirrored-image.ensures ∙ ap mirrored c.turned-after.ensures)
     c.clear.ensures.items c.in_ok-gather_all.ensures c.in_ok-gather_all-2.ensures
