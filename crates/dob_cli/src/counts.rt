@@ -38,7 +38,7 @@ fn counts_of(family: Family) -> Counts
     ensures { HasCounts family result }
 {
     Counts {
-        positions: size_in(family),
+        positions: dob_rank::size(family.set),
         classes: count_classes_in(family),
     }
 }
