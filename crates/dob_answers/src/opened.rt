@@ -1,8 +1,8 @@
 // What is kept of the families that were asked about last, so that questions of one family which follow one another
 // open its classes once and sweep them once.
-ghost use Rattle.std.specs.Prelude.{◌≡◌, IfOk};
+ghost use Rattle.std.specs.Prelude.{◌≡◌, IfOk, IsTrue};
 
-use dob_pieces::{Family, Memory};
+use dob_pieces::{Family, Memory, Profile};
 use dob_rank::FamilyClasses;
 use dob_value::{Table, sweep_table};
 use std::alloc::Global;
@@ -34,7 +34,7 @@ impl Opened {
         ensures { IfOk result (λ classes. classes.now.family ≡ family) }
     {
         let classes = match self.classes.take() {
-            Some(classes) if classes.family == family => classes,
+            Some(classes) if is_same(classes.family, family) => classes,
             _ => FamilyClasses::open(alloc, family)?,
         };
         Ok(self.classes.insert(classes))
@@ -51,9 +51,26 @@ impl Opened {
         ensures { IfOk result (λ table. table.now.family ≡ family) }
     {
         let table = match self.table.take() {
-            Some(table) if table.family() == family => table,
+            Some(table) if is_same(table.family(), family) => table,
             _ => sweep_table(alloc, family)?,
         };
         Ok(self.table.insert(table))
+    }
+}
+
+// Whether the families are one.
+fn is_same(one: Family, other: Family) -> bool
+    ensures { IsTrue result → one ≡ other }
+{
+    one.set == other.set && is_same_profile(one.profile, other.profile)
+}
+
+// Whether the profiles are one.
+fn is_same_profile(one: Profile, other: Profile) -> bool
+    ensures { IsTrue result → one ≡ other }
+{
+    match one {
+        Profile::A => matches!(other, Profile::A),
+        Profile::B => matches!(other, Profile::B),
     }
 }

@@ -5,7 +5,7 @@ use crate::timer::{Rounds, Timer};
 use crate::{builds, rules};
 use anyhow::Result;
 use dob_dbfile::{MemSink, MemSource, read_table, write_table};
-use dob_pieces::Family;
+use dob_pieces::{Family, Profile};
 use dob_probe::check;
 use dob_rank::{FamilyClasses, size};
 use dob_value::{Table, sweep_table};
@@ -179,7 +179,10 @@ pub(crate) fn write<R: Print + Clock + AllocGlobal>(
 ) -> Result<Vec<u8>> {
     let timer = Timer::start(rt, timed)?;
     let mut sink = MemSink::new(rt.alloc());
-    write_table(rt.alloc(), table, &mut sink)?;
+    // A file holds a table of profile A.
+    if let Profile::A = table.family().profile {
+        write_table(rt.alloc(), table, &mut sink)?;
+    }
     let bytes = sink.into_bytes();
     timer.tell(
         rt,

@@ -1,4 +1,5 @@
 // Predecessors against lists of another program, and against the moves of whole small sets.
+ghost use Rattle.dob_pieces.specs.declared.profile.Profile.TheVariants.{A};
 ghost use Rattle.dob_moves.specs.Statuses.{AreMovesIn};
 
 mod plain_rules;
@@ -173,7 +174,7 @@ fn push_made(
     position: &Position,
     choices: &[Move],
 ) -> Result<(), Memory>
-    requires { AreMovesIn classes.now.family.profile position.now.setup choices.now }
+    requires { AreMovesIn A position.now.setup choices.now }
 {
     for choice in choices {
         let after = class_in(rt, classes, &apply(position, *choice));
