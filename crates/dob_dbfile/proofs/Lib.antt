@@ -8,7 +8,7 @@ mod Pieces  -- what is read piece after piece
 mod Filled  -- a room that fills
 mod Cuts  -- a stream that is cut
 mod Endings  -- what the end of a file shows
-mod HeaderFaults  -- that a header names no set too large
+mod Headers  -- what the tests say of the first bytes
 mod Places  -- at most one fault holds
 mod Verdicts  -- what the steps say of the whole stream
 pub mod Written  -- the file of a table passes

@@ -8,7 +8,7 @@ use Rattle.byteorder.specs.Endian.{little_bytes}
 use Rattle.sha2.specs.Hashers.{Holds256}
 use Rattle.sha2.specs.declared.Sha256.{Sha256}
 use Rattle.dob_dbfile.specs.declared.fault.Fault.{Fault}
-use Rattle.dob_dbfile.specs.declared.fault.Fault.TheVariants.{SetTooLarge, Truncated, Magic, SetByte, ClassCount, Trailing, Digest, Memory, Io}
+use Rattle.dob_dbfile.specs.declared.fault.Fault.TheVariants.{SetTooLarge, Truncated, Magic, SetByte, ClassCount, Trailing, Digest, Memory, Io, ProfileByte}
 use Rattle.dob_dbfile.specs.Devices.{Stream, after}
 use Rattle.dob_dbfile.specs.Format.{code_bytes}
 use Rattle.dob_dbfile.specs.Reading.{IsCut, ReadsCodes, HashesNext}
@@ -63,6 +63,7 @@ cut_later stream done wanted more before SetByte there upto cut = cut
 cut_later stream done wanted more before ClassCount there upto cut = cut
 cut_later stream done wanted more before Trailing there upto cut = cut
 cut_later stream done wanted more before Digest there upto cut = cut
+cut_later stream done wanted more before ProfileByte there upto cut = cut
 
 -- a piece has no more records than are left
 pub few_more : (count done records longest : ℕ) (room : List ℕ) → done ≤ count → records ≡ min (count - done) longest

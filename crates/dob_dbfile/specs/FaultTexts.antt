@@ -5,7 +5,7 @@ use Rattle.dob_rank.specs.Faults as rank_texts
 use Rattle.dob_rank.specs.declared.fault.Fault.{Fault as RankFault}
 use Rattle.dob_rank.specs.declared.fault.Fault.TheVariants as rank
 use Rattle.dob_dbfile.specs.declared.fault.Fault.{Fault}
-use Rattle.dob_dbfile.specs.declared.fault.Fault.TheVariants.{SetTooLarge, Truncated, Magic, SetByte, ClassCount, Trailing, Digest, Memory, Io}
+use Rattle.dob_dbfile.specs.declared.fault.Fault.TheVariants.{SetTooLarge, Truncated, Magic, SetByte, ClassCount, Trailing, Digest, Memory, Io, ProfileByte}
 
 -- the fault's number and name
 abbrev pub fault_text : Fault → List ℕ
@@ -18,6 +18,7 @@ fault_text Trailing = codes "E19 Trailing"
 fault_text Digest = codes "E20 Digest"
 fault_text Memory = memory_text
 fault_text (Io bytes) = codes "E24 Io"
+fault_text ProfileByte = codes "E27 ProfileByte"
 
 -- a fault of the classes, as one of files
 abbrev pub fault_of_rank : RankFault → Fault

@@ -12,13 +12,13 @@ use std::fmt;
 pub enum Fault {
     /// E8: the file's piece set has more than `MOST_PIECES` pieces besides the lions.
     SetTooLarge,
-    /// E15: the bytes end before the header, or before the records and the digest of the set that it names.
+    /// E15: the bytes end before the header, or before the records and the digest of the family that it names.
     Truncated,
     /// E16: the file doesn't begin as such files do.
     Magic,
     /// E17: the bytes after that name no piece set.
     SetByte,
-    /// E18: the set hasn't that number of classes.
+    /// E18: the family hasn't that number of classes.
     ClassCount,
     /// E19: a byte stands after the digest.
     Trailing,
@@ -28,6 +28,8 @@ pub enum Fault {
     Memory,
     /// E24: what is read from or written to failed after that many bytes.
     Io(u64),
+    /// E27: byte 12 of a file in the second format is no profile's.
+    ProfileByte,
 }
 
 impl fmt::Display for Fault {
@@ -46,6 +48,7 @@ impl fmt::Display for Fault {
             Fault::Digest => write!(f, "E20 Digest"),
             Fault::Memory => write!(f, "{Memory}"),
             Fault::Io(_) => write!(f, "E24 Io"),
+            Fault::ProfileByte => write!(f, "E27 ProfileByte"),
         }
     }
 }

@@ -3,6 +3,7 @@
 
 mod device;
 mod fault;
+mod front;
 mod header;
 pub mod laws;
 mod look;
@@ -16,6 +17,7 @@ mod write;
 
 pub use device::{Failed, FailedAfter, PlacedSource, Sink, Source};
 pub use fault::Fault;
+pub use header::Format;
 pub use look::{read_classes, read_value};
 pub use mem_sink::MemSink;
 pub use mem_source::MemSource;
