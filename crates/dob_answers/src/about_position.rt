@@ -1,37 +1,52 @@
 // Answers about a position.
-use crate::answer::in_a;
+ghost use Rattle.dob_pieces.specs.Profiles.{IsAllowed};
+ghost use Rattle.dob_rank.specs.Families.{IsPositionOf};
+
 use crate::opened::Opened;
 use crate::question::OfPosition;
 use dob_moves::{Status, apply, first_catch, moves, status};
-use dob_pieces::{Memory, Position, Profile};
+use dob_pieces::{Family, Memory, Position, Profile};
 use dob_rank::rank;
 use dob_text::{write_move, write_position};
 use dob_value::{Fault, Value};
 use std::alloc::{AllocError, Global};
 use std::fmt::Write;
 
-/// What is asked about the position by the rules of the profile; ranks and values are those of profile A. An error is that of opening
-/// or sweeping its piece set, or no memory was left.
+/// What is asked about the position by the rules of the profile, which allow it. An error is that of opening or sweeping its
+/// family, or no memory was left.
 pub(crate) fn about_position(
     alloc: Global,
     opened: &mut Opened,
     matter: OfPosition,
     profile: Profile,
     position: &Position,
-) -> Result<String, Fault> {
+) -> Result<String, Fault>
+    requires { IsAllowed profile position.now.setup }
+{
     match matter {
         OfPosition::Moves => Ok(tell_moves(alloc, profile, position)?),
         OfPosition::After(number) => Ok(tell_after(alloc, number, profile, position)?),
         OfPosition::Catch => Ok(tell_catch(alloc, position)?),
         OfPosition::Value => {
-            let table = opened.table_of(alloc, in_a(position.piece_set()))?;
+            let table = opened.table_of(alloc, family_of(profile, position))?;
             Ok(tell_value(alloc, table.value_of(position))?)
         }
-        OfPosition::Rank => Ok(rank(Profile::A, position).to_string(alloc)?),
+        OfPosition::Rank => Ok(rank(profile, position).to_string(alloc)?),
         OfPosition::Class => {
-            let classes = opened.classes_of(alloc, in_a(position.piece_set()))?;
+            let classes = opened.classes_of(alloc, family_of(profile, position))?;
             Ok(classes.class_of(position).to_string(alloc)?)
         }
+    }
+}
+
+/// The positions with the same pieces that the profile allows.
+fn family_of(profile: Profile, position: &Position) -> Family
+    requires { IsAllowed profile position.now.setup }
+    ensures { IsPositionOf result position.now.setup }
+{
+    Family {
+        set: position.piece_set(),
+        profile,
     }
 }
 

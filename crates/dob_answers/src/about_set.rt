@@ -1,4 +1,4 @@
-// Answers about a piece set. Where the set has no such rank or class, the answer is `none`.
+// Answers about a piece set by the rules of a profile. Where it has no such rank or class, the answer is `none`.
 use crate::opened::Opened;
 use crate::question::{OfClasses, OfSet};
 use dob_pieces::{Family, Memory};

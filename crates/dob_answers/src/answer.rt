@@ -1,7 +1,4 @@
 // The answer to a line.
-ghost use Rattle.std.specs.Prelude.{◌≡◌};
-ghost use Rattle.dob_pieces.specs.declared.profile.Profile.TheVariants.{A};
-
 use crate::about_build::about_build;
 use crate::about_cell::about_cell;
 use crate::about_crew::about_crew;
@@ -11,7 +8,7 @@ use crate::about_token::about_token;
 use crate::about_world::about_world;
 use crate::opened::Opened;
 use crate::question::{OfValues, Question};
-use dob_pieces::{Family, Memory, PieceSet, Profile};
+use dob_pieces::{Family, Memory, PieceSet};
 use dob_text::read_position;
 use dob_value::Fault;
 use std::alloc::Global;
@@ -39,13 +36,16 @@ pub(crate) fn reply<R: Threads + Wait + Sync>(
                 }
             }
         }
-        Some((_, Question::Set(matter, text))) => match PieceSet::read(text) {
+        Some((profile, Question::Set(matter, text))) => match PieceSet::read(text) {
             Err(fault) => fault_line(alloc, fault),
-            Ok(set) => told(alloc, about_set(alloc, opened, matter, in_a(set))),
+            Ok(set) => told(
+                alloc,
+                about_set(alloc, opened, matter, Family { set, profile }),
+            ),
         },
-        Some((_, Question::Values(matter, text))) => match PieceSet::read(text) {
+        Some((profile, Question::Values(matter, text))) => match PieceSet::read(text) {
             Err(fault) => fault_line(alloc, fault),
-            Ok(set) => about_values(rt, alloc, opened, matter, in_a(set)),
+            Ok(set) => about_values(rt, alloc, opened, matter, Family { set, profile }),
         },
         Some((_, Question::Token(matter))) => Ok(about_token(alloc, matter)?),
     }
@@ -110,15 +110,4 @@ fn told_world(alloc: Global, answer: Result<String, dob_world::Fault>) -> Result
 /// A fault's line.
 fn fault_line<F: Display + Drop>(alloc: Global, fault: F) -> Result<String, Memory> {
     Ok(format!(in alloc; "dobutsu: {fault}")?)
-}
-
-// The family of the set in profile A.
-pub(crate) fn in_a(set: PieceSet) -> Family
-    ensures profile { result.profile ≡ A }
-    ensures set { result.set ≡ set }
-{
-    Family {
-        set,
-        profile: Profile::A,
-    }
 }

@@ -1,8 +1,8 @@
 // What is kept of the families that were asked about last, so that questions of one family which follow one another
 // open its classes once and sweep them once.
-ghost use Rattle.std.specs.Prelude.{◌≡◌, IfOk};
+ghost use Rattle.std.specs.Prelude.{◌≡◌, IfOk, IsTrue};
 
-use dob_pieces::{Family, Memory};
+use dob_pieces::{Family, Memory, PieceSet, Profile};
 use dob_rank::Classes;
 use dob_value::{Table, sweep_table};
 use std::alloc::Global;
@@ -29,10 +29,7 @@ impl Opened {
     pub(crate) fn classes_of(&mut self, alloc: Global, family: Family) -> Result<&Classes, Memory>
         ensures { IfOk result (λ classes. classes.now.family ≡ family) }
     {
-        let classes = match self.classes.take() {
-            Some(classes) if classes.family == family => classes,
-            _ => Classes::open(alloc, family)?,
-        };
+        let classes = classes_for(alloc, self.classes.take(), family)?;
         Ok(self.classes.insert(classes))
     }
 
@@ -46,10 +43,47 @@ impl Opened {
     ) -> Result<&Table, dob_value::Fault>
         ensures { IfOk result (λ table. table.now.family ≡ family) }
     {
-        let table = match self.table.take() {
-            Some(table) if table.family() == family => table,
-            _ => sweep_table(alloc, family)?,
-        };
+        let table = table_for(alloc, self.table.take(), family)?;
         Ok(self.table.insert(table))
     }
+}
+
+// The classes of the family: those that are kept, where they are its own.
+fn classes_for(alloc: Global, kept: Option<Classes>, family: Family) -> Result<Classes, Memory>
+    ensures { IfOk result (λ classes. classes.family ≡ family) }
+{
+    if let Some(classes) = kept {
+        if are_same(classes.family, family) {
+            return Ok(classes);
+        }
+    }
+    Classes::open(alloc, family)
+}
+
+// Its values: those that are kept, where they are its own.
+fn table_for(alloc: Global, kept: Option<Table>, family: Family) -> Result<Table, dob_value::Fault>
+    ensures { IfOk result (λ table. table.family ≡ family) }
+{
+    if let Some(table) = kept {
+        if are_same(table.family(), family) {
+            return Ok(table);
+        }
+    }
+    sweep_table(alloc, family)
+}
+
+// Whether the two are one family.
+fn are_same(one: Family, other: Family) -> bool
+    ensures { IsTrue result → one ≡ other }
+{
+    match (one.profile, other.profile) {
+        (Profile::A, Profile::A) | (Profile::B, Profile::B) => are_same_sets(one.set, other.set),
+        _ => false,
+    }
+}
+
+fn are_same_sets(one: PieceSet, other: PieceSet) -> bool
+    ensures { IsTrue result → one ≡ other }
+{
+    one.chicks == other.chicks && one.elephants == other.elephants && one.giraffes == other.giraffes
 }

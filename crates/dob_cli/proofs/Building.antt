@@ -11,7 +11,7 @@ use Rattle.std.proofs.lemmas.Option.{get_or_from_slice_get}
 use Rattle.dob_pieces.specs.declared.piece_set.PieceSet.{PieceSet}
 use Rattle.dob_pieces.specs.Sets.{set_text}
 use Rattle.dob_pieces.specs.declared.profile.Family.{Family}
-use Rattle.dob_pieces.specs.declared.profile.Profile.TheVariants.{A}
+use Rattle.dob_pieces.specs.declared.profile.Profile.{Profile}
 use Rattle.dob_rank.specs.Families.{family_of}
 use Rattle.dob_rank.specs.Limits.{IsSmall}
 use Rattle.dob_value.specs.declared.value.Value.{Value}
@@ -93,9 +93,9 @@ lines_told values tally classes count is = four_lines classes tally.wins tally.l
 -- ---- the table
 
 -- the table that was built of the set with this text is the text's
-pub table_for : (text : List ℕ) (set : PieceSet) (nodes size capacity : ℕ) (built : Built) → text ≡ set_text set → IsBuilt (family_of set A) nodes size built
-    → IsSmall set × AreWithin nodes size capacity → IsTableFor text nodes built.table
-table_for text set nodes size capacity built named is limits = record {
+pub table_for : (profile : Profile) (text : List ℕ) (set : PieceSet) (nodes size capacity : ℕ) (built : Built) → text ≡ set_text set
+    → IsBuilt (family_of set profile) nodes size built → IsSmall set × AreWithin nodes size capacity → IsTableFor profile text nodes built.table
+table_for profile text set nodes size capacity built named is limits = record {
   named = named ∙ ap (λ (family : Family). set_text family.set) (sym is.family_is);
   rules = ap (λ (family : Family). family.profile) is.family_is;
   small = subst (λ (family : Family). IsSmall family.set) (sym is.family_is) limits.0;
@@ -132,14 +132,14 @@ module _ (c : ShelfChange) (name : List ℕ) (table : ClassTable) where
   stopped_keeping sink file_fault.ProfileByte empty stops = absurd stops
 
   -- a fault of keeping the text's table is one of building it
-  pub keeping_holds : (text : List ℕ) (nodes : ℕ) (fault : Fault) → IsTableFor text nodes table → IsKeepingFault c name table fault
-      → IsBuildFault c text nodes name fault
-  keeping_holds text nodes (File f) built holds = (table, built, holds)
-  keeping_holds text nodes Io built holds = (table, built, holds)
-  keeping_holds text nodes Memory built holds = holds
-  keeping_holds text nodes (Text f) built holds = absurd holds
-  keeping_holds text nodes SetText built holds = absurd holds
-  keeping_holds text nodes SetTooLarge built holds = absurd holds
-  keeping_holds text nodes TooDeep built holds = absurd holds
-  keeping_holds text nodes (Run f) built holds = absurd holds
-  keeping_holds text nodes (Table f) built holds = absurd holds
+  pub keeping_holds : (profile : Profile) (text : List ℕ) (nodes : ℕ) (fault : Fault) → IsTableFor profile text nodes table
+      → IsKeepingFault c name table fault → IsBuildFault c profile text nodes name fault
+  keeping_holds profile text nodes (File f) built holds = (table, built, holds)
+  keeping_holds profile text nodes Io built holds = (table, built, holds)
+  keeping_holds profile text nodes Memory built holds = holds
+  keeping_holds profile text nodes (Text f) built holds = absurd holds
+  keeping_holds profile text nodes SetText built holds = absurd holds
+  keeping_holds profile text nodes SetTooLarge built holds = absurd holds
+  keeping_holds profile text nodes TooDeep built holds = absurd holds
+  keeping_holds profile text nodes (Run f) built holds = absurd holds
+  keeping_holds profile text nodes (Table f) built holds = absurd holds

@@ -1,6 +1,6 @@
 -- How the program ends: from what it tells of lines or a fault to what it owes.
 use Rattle.std.proofs.Common.{◌≡◌, ℕ, inl, inr, List, refl}
-use Rattle.dob_pieces.specs.declared.profile.Profile.TheVariants.{A}
+use Rattle.dob_pieces.specs.declared.profile.Profile.{Profile}
 use Rattle.dob_pieces.specs.declared.setup.Setup.{Setup}
 use Rattle.dob_pieces.specs.declared.piece_set.PieceSet.{PieceSet}
 use Rattle.dob_pieces.specs.Setups.{IsLegal}
@@ -18,12 +18,12 @@ use Rattle.dob_rank.specs.Limits.{HasManyPieces}
 use Rattle.dob_cli.specs.Program.{IsFaultOf}
 
 -- a fault of finding a value is one of the text's
-pub value_fault_holds : (text : List ℕ) (p : Setup) (f : value.Fault) → IsLegal p → Spells text p
-    → (f ≡ value_fault.SetTooLarge → HasManyPieces p) → (f ≡ value_fault.TooDeep → SomeTooDeep A (HasSamePieces A p))
-    → IsFaultOf text (fault_of_value f)
-value_fault_holds text p value_fault.SetTooLarge legal spelled large deep = (p, legal, spelled, large refl)
-value_fault_holds text p value_fault.TooDeep legal spelled large deep = (p, legal, spelled, deep refl)
-value_fault_holds text p value_fault.Memory legal spelled large deep = tt
+pub value_fault_holds : (profile : Profile) (text : List ℕ) (p : Setup) (f : value.Fault) → IsLegal p → Spells text p
+    → (f ≡ value_fault.SetTooLarge → HasManyPieces p) → (f ≡ value_fault.TooDeep → SomeTooDeep profile (HasSamePieces profile p))
+    → IsFaultOf profile text (fault_of_value f)
+value_fault_holds profile text p value_fault.SetTooLarge legal spelled large deep = (p, legal, spelled, large refl)
+value_fault_holds profile text p value_fault.TooDeep legal spelled large deep = (p, legal, spelled, deep refl)
+value_fault_holds profile text p value_fault.Memory legal spelled large deep = tt
 
 -- a fault, with nothing on standard output
 pub faulty : (AreLines : List ℕ → Type 0) (Holds : Fault → Type 0) (fault : Fault) (status : ℕ) (out : State) (err : Change)

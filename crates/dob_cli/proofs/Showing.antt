@@ -16,7 +16,7 @@ use Rattle.dob_cli.proofs.Shelves.{others_chain, others_kept}
 
 -- ---- files
 
-same_chain : (Old Mid New : Files) → SameFiles Old Mid → SameFiles Mid New → SameFiles Old New
+pub same_chain : (Old Mid New : Files) → SameFiles Old Mid → SameFiles Mid New → SameFiles Old New
 same_chain Old Mid New first second name bytes =
     (λ h. (second name bytes).0 ((first name bytes).0 h), λ h. (first name bytes).1 ((second name bytes).1 h))
 
@@ -39,6 +39,7 @@ module _ (Has : List ℕ → Type 0) (position : Setup) where
 
   pub line_probes : (table : ClassTable) → IsFileOf Has table → (fault : probing.Fault) → IsFaultOfLine table position fault
       → IsProbingFault Has position (Table fault)
+  line_probes table file table_fault.FarChick holds = (table, file, holds)
   line_probes table file table_fault.OtherSet holds = (table, file, holds)
   line_probes table file (table_fault.Inconsistent class) holds = (table, file, holds.1)
   line_probes table file table_fault.Memory holds = tt

@@ -1,6 +1,5 @@
 // Building a database file.
 ghost use Rattle.std.specs.Prelude.{◌≡◌, IfOk, IfErr, OnOk, IsTrue, string_bytes};
-ghost use Rattle.dob_pieces.specs.declared.profile.Profile.TheVariants.{A};
 ghost use Rattle.dob_dbfile.specs.Format.{bytes_of};
 ghost use Rattle.dob_cli.specs.Shelves.{FailsWhere, HasJust, SameOthers, shelf_change};
 ghost use Rattle.dob_cli.specs.Faults.{is_io_error};
@@ -17,8 +16,8 @@ use std::alloc::{AllocError, Global};
 use std::sync::Wait;
 use std::thread::Threads;
 
-/// Builds the table of the piece set that the text names by so many nodes, and keeps it under the name. The lines that
-/// tell how many classes have which value. Its promises hold if it returns.
+/// Builds the table of the piece set that the text names, by the rules of the profile and by so many nodes, and keeps it under
+/// the name. The lines that tell how many classes have which value. Its promises hold if it returns.
 ///
 /// The file is made when the table is there, and the lines too, and kept when it is whole. A fault before it is made leaves all
 /// files as they were. After that the disk's file is as it was until it is kept; in memory it is empty.
@@ -26,17 +25,17 @@ pub(crate) fn answer_build<R: Threads + Wait + Sync, S: Shelf>(
     rt: &R,
     alloc: Global,
     shelf: &mut S,
+    profile: Profile,
     text: &str,
     nodes: u64,
     file: &str,
 ) -> Result<String, Fault>
-    ensures ok { IfOk result (λ lines. AreBuildLines (shelf_change (S.state shelf.old) (S.state shelf.new)) text.now nodes file.now (string_bytes lines)) }
-    ensures err { IfErr result (IsBuildFault (shelf_change (S.state shelf.old) (S.state shelf.new)) text.now nodes file.now) }
+    ensures ok { IfOk result (λ lines. AreBuildLines (shelf_change (S.state shelf.old) (S.state shelf.new)) profile text.now nodes file.now (string_bytes lines)) }
+    ensures err { IfErr result (IsBuildFault (shelf_change (S.state shelf.old) (S.state shelf.new)) profile text.now nodes file.now) }
     ensures others { SameOthers file.now (S.state shelf.old).has (S.state shelf.new).has }
     ensures failed { FailsWhere (shelf_change (S.state shelf.old) (S.state shelf.new)) (is_io_error result) }
 {
     let set = PieceSet::read(text)?;
-    let profile = Profile::A;
     let built = run_nodes(
         rt,
         alloc,
@@ -51,14 +50,13 @@ pub(crate) fn answer_build<R: Threads + Wait + Sync, S: Shelf>(
     Ok(lines)
 }
 
-// Keeps the table's file under the name. Where it can't be written its sink is given up.
-fn keep_table<S: Shelf>(
+/// Keeps the table's file under the name. Where it can't be written its sink is given up.
+pub(crate) fn keep_table<S: Shelf>(
     alloc: Global,
     shelf: &mut S,
     file: &str,
     table: &Table,
 ) -> Result<(), Fault>
-    requires { table.now.family.profile ≡ A }
     ensures kept { OnOk result (IsTrue (S.state shelf.old).tells → HasJust file.now (bytes_of table.now) (S.state shelf.new).has) }
     ensures err { IfErr result (IsKeepingFault (shelf_change (S.state shelf.old) (S.state shelf.new)) file.now table.now) }
     ensures others { SameOthers file.now (S.state shelf.old).has (S.state shelf.new).has }

@@ -1,11 +1,9 @@
 // The faults of the program, their lines and their exit statuses.
 ghost use Rattle.std.specs.Prelude.{◌≡◌, Some};
-ghost use Rattle.dob_probe.specs.declared.fault.Fault.TheVariants as table_fault;
 ghost use Rattle.dob_cli.specs.declared.fault.Fault.TheVariants as fault;
 
 use crate::shelf::ShelfFault;
 use dob_pieces::{Memory, SetText};
-use dob_probe::OtherSet;
 use dob_text::TextFault;
 use std::alloc::AllocError;
 use std::error::Error;
@@ -14,7 +12,7 @@ use std::fmt;
 /// Why the program refuses what it is asked, or fails at it.
 #[derive(Clone, Copy, Debug, PartialEq, Eq)]
 pub enum Fault {
-    /// E1 to E6: the text isn't a position's.
+    /// E1 to E6, E26: the text isn't a position's of the profile.
     Text(TextFault),
     /// E25: the text isn't a piece set's.
     SetText,
@@ -24,9 +22,9 @@ pub enum Fault {
     TooDeep,
     /// E8, E9, E14, E23: the build isn't begun, or it was stopped.
     Run(dob_run::Fault),
-    /// E8, E15 to E20, E23, E24: the file isn't one of a table, or reading or writing it failed.
+    /// E8, E15 to E20, E23, E24, E27: the file isn't one of a table, or reading or writing it failed.
     File(dob_dbfile::Fault),
-    /// E7, E21, E23: the table has no answer.
+    /// E7, E21, E23, E26: the table has no answer.
     Table(dob_probe::Fault),
     /// E23: a growth was refused for lack of memory.
     Memory,
@@ -127,14 +125,6 @@ impl From<dob_probe::Fault> for Fault {
 
     fn from(given: dob_probe::Fault) -> Fault {
         Fault::Table(given)
-    }
-}
-
-impl From<OtherSet> for Fault {
-    ghost from_gives = { λ _ result. result ≡ fault.Table table_fault.OtherSet };
-
-    fn from(_given: OtherSet) -> Fault {
-        Fault::Table(dob_probe::Fault::OtherSet)
     }
 }
 

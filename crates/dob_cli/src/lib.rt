@@ -9,6 +9,7 @@ mod disk;
 mod fault;
 pub mod laws;
 mod looks;
+mod migrations;
 mod program;
 mod shelf;
 mod shows;

@@ -1,6 +1,5 @@
 // The value of a position by the one record of a database file, whatever the file's size.
-ghost use Rattle.std.specs.Prelude.{◌≡◌, ◌⊎◌, ◌↔◌, false, IfOk, IfErr, IsTrue, string_bytes};
-ghost use Rattle.dob_rank.specs.Families.{IsPositionOf};
+ghost use Rattle.std.specs.Prelude.{◌≡◌, false, IfOk, IfErr, string_bytes};
 ghost use Rattle.dob_dbfile.specs.Devices.{Stream};
 ghost use Rattle.dob_cli.specs.Faults.{is_io_error};
 ghost use Rattle.dob_cli.specs.Looks.{IsFaultOfLook, IsLookedUp, IsLookFault, IsLookLine};
@@ -10,8 +9,8 @@ use crate::fault::Fault;
 use crate::program::line_of;
 use crate::shelf::Shelf;
 use dob_dbfile::{PlacedSource, read_classes, read_value};
-use dob_pieces::{Family, Position, Profile};
-use dob_probe::OtherSet;
+use dob_pieces::{Position, Profile};
+use dob_probe::check_member;
 use dob_rank::size;
 use dob_text::read_position;
 use dob_value::Value;
@@ -45,18 +44,9 @@ fn look<R: PlacedSource>(alloc: Global, source: &mut R, position: &Position) -> 
     ensures failed { R.has_failed source.new ≡ is_io_error result }
 {
     let (format, classes) = read_classes(alloc, source)?;
-    if !is_in_family(position, classes.family) {
-        return Err(Fault::from(OtherSet));
-    }
+    check_member(classes.family, position)?;
     // That there are no more classes than positions bounds the record's place.
     let _positions = size(classes.family);
     let value = read_value(source, format, classes.class_of(position))?;
     Ok(value)
-}
-
-// Whether the position has just the pieces of the family's set, and its profile allows it.
-fn is_in_family(position: &Position, family: Family) -> bool
-    ensures { IsTrue result ↔ IsPositionOf family position.now.setup }
-{
-    position.piece_set() == family.set && position.is_allowed(family.profile)
 }

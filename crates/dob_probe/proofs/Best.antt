@@ -17,7 +17,7 @@ use Rattle.dob_value.proofs.Depths.{won_stays, won_not_lost, at_most_one_value}
 use Rattle.dob_value.proofs.Successors.{moves_keep_the_family}
 use Rattle.dob_probe.specs.Lines.{GivenBy, value_wanted, LeadsTo, GoesOnTo, Continues, IsLine, Begins, LacksMove}
 use Rattle.dob_probe.specs.declared.fault.Fault.{Fault}
-use Rattle.dob_probe.specs.declared.fault.Fault.TheVariants.{OtherSet, Inconsistent, Memory}
+use Rattle.dob_probe.specs.declared.fault.Fault.TheVariants.{FarChick, OtherSet, Inconsistent, Memory}
 use Rattle.dob_probe.specs.Faults.{IsFaultOfLine}
 use Rattle.dob_probe.specs.Laws.{LinesAreBest, NoneBreaks}
 
@@ -189,7 +189,8 @@ pub best_answered : {T : Type 0} (moves_of : T → List Move) (table : ClassTabl
     MatchResult result (λ t. IsLine table.family.profile (HasValue table.family.profile) p (moves_of t)) (λ fault. fault ≡ Memory)
 best_answered moves_of table p (Ok t) line fault consistent is =
     lines_are_best table p (moves_of t) (consistent_is_right table.family table.values consistent) is line
-best_answered moves_of table p (Err OtherSet) line fault consistent is = absurd (fault is)
+best_answered moves_of table p (Err FarChick) line fault consistent is = absurd (fault is.allowed)
+best_answered moves_of table p (Err OtherSet) line fault consistent is = absurd (fault.1 is.of_set)
 best_answered moves_of table p (Err (Inconsistent class)) line fault consistent is =
     absurd (none_breaks table p class (consistent_is_right table.family table.values consistent) is fault.1)
 best_answered moves_of table p (Err Memory) line fault consistent is = refl

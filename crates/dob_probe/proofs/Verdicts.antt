@@ -9,7 +9,7 @@ use Rattle.rayon.specs.Lists.{filter_by_mask}
 use Rattle.dob_value.specs.Follows.{ClassTable, IsTable, IsConsistent, IsValueTable}
 use Rattle.dob_value.proofs.Consistency.{consistent_is_right}
 use Rattle.dob_probe.specs.declared.fault.Fault.{Fault}
-use Rattle.dob_probe.specs.declared.fault.Fault.TheVariants.{OtherSet, Inconsistent, Memory}
+use Rattle.dob_probe.specs.declared.fault.Fault.TheVariants.{FarChick, OtherSet, Inconsistent, Memory}
 use Rattle.dob_probe.specs.Checks.{ClassFollows, ClassBreaks}
 use Rattle.dob_probe.specs.Faults.{IsVerdict, IsFaultOfCheck}
 use Rattle.dob_probe.proofs.Following.{consistent_of_all, consistent_has_no_break}
@@ -67,6 +67,7 @@ module _ (table : ClassTable) where
     -- what a fault says of the table
     pub fault_holds : (verdict : Verdict) → IsFirstFault 0 (length table.values) (Some verdict) → IfErr verdict (IsFaultOfCheck table)
     fault_holds (Ok _) first = tt
+    fault_holds (Err FarChick) first = first.2
     fault_holds (Err OtherSet) first = first.2
     fault_holds (Err (Inconsistent class)) first =
         let same : class ≡ first.0 = first.2.0 in record {
@@ -83,6 +84,7 @@ module _ (table : ClassTable) where
   pub passed_answered : (verdict : Verdict) → IfErr verdict (IsFaultOfCheck table) → IsConsistent table.family table.values →
       (verdict ≡ Ok tt) ⊎ (verdict ≡ Err Memory)
   passed_answered (Ok _) fault consistent = inl refl
+  passed_answered (Err FarChick) fault consistent = absurd fault
   passed_answered (Err OtherSet) fault consistent = absurd fault
   passed_answered (Err (Inconsistent class)) fault consistent = absurd (consistent_has_no_break table class consistent fault.breaks)
   passed_answered (Err Memory) fault consistent = inr refl

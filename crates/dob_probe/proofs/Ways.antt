@@ -17,7 +17,7 @@ use Rattle.dob_value.specs.Follows.{ClassTable, IsEntry}
 use Rattle.dob_value.proofs.Successors.{moves_keep_the_family}
 use Rattle.dob_value.specs.declared.sweep.TheConstants.{MAX_DISTANCE}
 use Rattle.dob_probe.specs.declared.fault.Fault.{Fault}
-use Rattle.dob_probe.specs.declared.fault.Fault.TheVariants.{OtherSet, Inconsistent, Memory}
+use Rattle.dob_probe.specs.declared.fault.Fault.TheVariants.{FarChick, OtherSet, Inconsistent, Memory}
 use Rattle.dob_probe.specs.Faults.{IsGap, IsFaultOfLine}
 use Rattle.dob_probe.specs.Lines.{GivenBy, value_wanted, LeadsTo, IsFirstTo, EndsAt, GoesOnTo, Continues, IsLine, Begins, LacksMove, BreaksAt}
 use Rattle.dob_probe.specs.Laws.{LinesDontBreak, OneBreak}
@@ -252,6 +252,7 @@ module _ (table : ClassTable) (p : Setup) (moves : List Move) (q : Setup) (value
 
   pub gap_breaks : (wanted : Value) (fault : Fault) → ¬ CanCatch q → value_wanted value ≡ Some wanted → IsGap table q wanted fault →
       IsFaultOfLine table p fault
+  gap_breaks wanted FarChick no_catch next gap = absurd gap
   gap_breaks wanted OtherSet no_catch next gap = absurd gap
   gap_breaks wanted (Inconsistent class) no_catch next gap = (on.started, line_breaks wanted class no_catch next gap.0 gap.1)
   gap_breaks wanted Memory no_catch next gap = tt
@@ -263,7 +264,8 @@ module _ {T : Type 0} (moves_of : T → List Move) (table : ClassTable) (p : Set
       IfErr result (IsFaultOfLine table p) → IsPositionOf table.family p → BreaksAt table p class →
       (result ≡ Err (Inconsistent class)) ⊎ (result ≡ Err Memory)
   break_answered class (Ok t) line fault is breaks = absurd (lines_dont_break table p (moves_of t) class is line breaks)
-  break_answered class (Err OtherSet) line fault is breaks = absurd (fault is)
+  break_answered class (Err FarChick) line fault is breaks = absurd (fault is.allowed)
+  break_answered class (Err OtherSet) line fault is breaks = absurd (fault.1 is.of_set)
   break_answered class (Err (Inconsistent other)) line fault is breaks =
       let same = one_break table p other class is fault.1 breaks in
       inl (ap (λ k. let r : Result T Fault = Err (Inconsistent k) in r) same)

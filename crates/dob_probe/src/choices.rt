@@ -1,9 +1,11 @@
 // The moves of a position with their values by a table, best first.
 ghost use Rattle.std.specs.Prelude.{◌≡◌, ◌⊎◌, ◌↔◌, ◌<◌, ◌≤◌, ℕ, length, get_or, Contains, AllPairs, IsTrue, IfOk, IfErr, OnOk, Err};
 ghost use Rattle.dob_pieces.specs.declared.setup.Setup.{Setup};
+ghost use Rattle.dob_pieces.specs.Profiles.{IsAllowed};
 ghost use Rattle.dob_moves.specs.Moves.{place};
 ghost use Rattle.dob_moves.specs.Statuses.{AreMoves, CanCatch};
 ghost use Rattle.dob_rank.specs.Families.{IsPositionOf};
+ghost use Rattle.dob_rank.specs.Order.{IsPositionOf};
 ghost use Rattle.dob_value.specs.Values.{HasValue};
 ghost use Rattle.dob_value.specs.Follows.{IsConsistent, IsEntry, IsTable};
 ghost use Rattle.dob_probe.specs.Choices.{AreValuedMoves, ComesBefore, IsBetter, seen_from_before};
@@ -11,7 +13,7 @@ ghost use Rattle.dob_probe.specs.Faults.{IsFaultOfMoves};
 ghost use Rattle.dob_probe.specs.Lines.{GivenBy};
 
 use crate::fault::Fault;
-use crate::probes::is_in_family;
+use crate::members::check_member;
 use crate::successors::value_to;
 use dob_moves::{Move, first_catch, moves};
 use dob_pieces::{Memory, Position};
@@ -30,7 +32,8 @@ pub struct ValuedMove {
 /// losses by the greatest; equal ones in the move order. Where the lion can be caught there is its first catch alone, a win in
 /// 1 ply, and none where the mover has lost already. Since a table's distances are at most 65,534, one ply more fits.
 ///
-/// Errors: `OtherSet` just where the position isn't of the table's set; `Memory`.
+/// Errors: `FarChick` just where the table's profile doesn't allow the position; `OtherSet` just where it does, and the position
+/// isn't of the table's set; `Memory`.
 pub fn valued_moves(
     alloc: Global,
     table: &Table,
@@ -39,13 +42,13 @@ pub fn valued_moves(
     ensures moves { IfOk result (λ list. AreValuedMoves table.now.family.profile (GivenBy table.now) position.now.setup list.items) }
     ensures fault { IfErr result (IsFaultOfMoves table.now position.now.setup) }
     ensures member { OnOk result (IsPositionOf table.now.family position.now.setup) }
-    ensures other { (IsPositionOf table.now.family position.now.setup → ⊥) → result ≡ Err Fault.OtherSet }
+    ensures far { (IsAllowed table.now.family.profile position.now.setup → ⊥) → result ≡ Err Fault.FarChick }
+    ensures other { IsAllowed table.now.family.profile position.now.setup → (IsPositionOf table.now.family.set position.now.setup → ⊥)
+        → result ≡ Err Fault.OtherSet }
     ensures right { IsConsistent table.now.family table.now.values →
         IfOk result (λ list. AreValuedMoves table.now.family.profile (HasValue table.now.family.profile) position.now.setup list.items) }
 {
-    if !is_in_family(position, table.family()) {
-        return Err(Fault::OtherSet);
-    }
+    check_member(table.family(), position)?;
     Ok(moves_of_set(alloc, table, position)?)
 }
 

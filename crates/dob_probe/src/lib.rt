@@ -8,12 +8,14 @@ mod fault;
 mod groups;
 pub mod laws;
 mod lines;
+mod members;
 mod probes;
 mod successors;
 
 pub use checks::check;
 pub use choices::{ValuedMove, valued_moves};
-pub use fault::{Fault, OtherSet};
+pub use fault::Fault;
 pub use groups::{Group, statistics};
 pub use lines::line;
+pub use members::check_member;
 pub use probes::probe;

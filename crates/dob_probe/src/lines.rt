@@ -1,6 +1,8 @@
 // The line of a position by a table.
 ghost use Rattle.std.specs.Prelude.{◌≡◌, ◌⊎◌, ℕ, IfOk, IfErr, MatchResult, Err};
+ghost use Rattle.dob_pieces.specs.Profiles.{IsAllowed};
 ghost use Rattle.dob_rank.specs.Families.{IsPositionOf};
+ghost use Rattle.dob_rank.specs.Order.{IsPositionOf};
 ghost use Rattle.dob_value.specs.Values.{HasValue};
 ghost use Rattle.dob_value.specs.Follows.{IsEntry, IsConsistent};
 ghost use Rattle.dob_probe.specs.Lines.{GivenBy, IsFirstTo, IsLine, BreaksAt, value_wanted};
@@ -17,12 +19,15 @@ use std::alloc::Global;
 /// of the other side in one ply less, and from a loss the first to a win in one ply less, and so on. It is empty at a
 /// draw, and where the mover has lost already. By a table that `check` passes it is the best line.
 ///
-/// Errors: `OtherSet` just where the position isn't of the table's set; `Inconsistent` with the class at which the line
-/// goes on by the table, but no move leads to the value that it needs; `Memory`.
+/// Errors: `FarChick` just where the table's profile doesn't allow the position; `OtherSet` just where it does, and the position
+/// isn't of the table's set; `Inconsistent` with the class at which the line goes on by the table, but no move leads to the
+/// value that it needs; `Memory`.
 pub fn line(alloc: Global, table: &Table, position: &Position) -> Result<Vec<Move>, Fault>
     ensures line { IfOk result (λ moves. IsLine table.now.family.profile (GivenBy table.now) position.now.setup moves.items) }
     ensures fault { IfErr result (IsFaultOfLine table.now position.now.setup) }
-    ensures other { (IsPositionOf table.now.family position.now.setup → ⊥) → result ≡ Err Fault.OtherSet }
+    ensures far { (IsAllowed table.now.family.profile position.now.setup → ⊥) → result ≡ Err Fault.FarChick }
+    ensures other { IsAllowed table.now.family.profile position.now.setup → (IsPositionOf table.now.family.set position.now.setup → ⊥)
+        → result ≡ Err Fault.OtherSet }
     ensures broken { (class : ℕ) → IsPositionOf table.now.family position.now.setup → BreaksAt table.now position.now.setup class
         → (result ≡ Err (Fault.Inconsistent class)) ⊎ (result ≡ Err Fault.Memory) }
     ensures right { IsConsistent table.now.family table.now.values → IsPositionOf table.now.family position.now.setup

@@ -9,7 +9,7 @@ use std::sync::Wait;
 use std::thread::Threads;
 
 /// Words, with the exit status, the standard output and the standard error that are their answer.
-type Row = (&'static [&'static str], u8, &'static str, &'static str);
+pub(crate) type Row = (&'static [&'static str], u8, &'static str, &'static str);
 
 const WIN_3: &str = "..l/.../L../... - -";
 
@@ -424,8 +424,8 @@ fn spoils(rt: &(impl Abort + AllocGlobal), shelf: &mut MemShelf, name: &str, pla
     assert!(rt; put(shelf, name, &bytes));
 }
 
-// The program answers the row so.
-fn answers<S: Shelf>(
+/// The program answers the row so.
+pub(crate) fn answers<S: Shelf>(
     rt: &(impl Abort + Threads + Wait + Sync),
     alloc: Global,
     shelf: &mut S,

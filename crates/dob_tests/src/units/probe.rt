@@ -4,7 +4,7 @@ ghost use Rattle.std.specs.Prelude.{◌<◌};
 
 use crate::positions::position as position_of;
 use dob_pieces::{Family, PieceSet, Position, Profile};
-use dob_probe::{Fault, OtherSet, check, line, probe, statistics, valued_moves};
+use dob_probe::{Fault, check, line, probe, statistics, valued_moves};
 use dob_rank::{size, unrank};
 use dob_text::write_move;
 use dob_value::{Table, Value, sweep_table, sweep_value};
@@ -51,8 +51,28 @@ fn values_of_all_positions(rt: HostRuntime) -> Result<(), Fail> {
 fn other_sets_are_refused(rt: HostRuntime) -> Result<(), Fail> {
     let table = sweep_table(rt.alloc(), NO_PIECES)?;
     let position = position(&rt, ONE_CHICK, 0);
-    assert!(rt; probe(&table, &position) == Err(OtherSet));
+    assert!(rt; probe(&table, &position) == Err(Fault::OtherSet));
     assert!(rt; matches!(line(rt.alloc(), &table, &position), Err(Fault::OtherSet)));
+    Ok(())
+}
+
+// A chick on its own far row is refused by rules B before its set is.
+#[test]
+fn far_chicks_are_refused_first(rt: HostRuntime) -> Result<(), Fail> {
+    let by_b = Family {
+        profile: Profile::B,
+        ..NO_PIECES
+    };
+    let table = sweep_table(rt.alloc(), by_b)?;
+    let position = position_of(&rt, "C.l/.../.../L.. - -");
+    assert!(rt; probe(&table, &position) == Err(Fault::FarChick));
+    assert!(rt; matches!(line(rt.alloc(), &table, &position), Err(Fault::FarChick)));
+    assert!(rt;
+        matches!(
+            valued_moves(rt.alloc(), &table, &position),
+            Err(Fault::FarChick)
+        )
+    );
     Ok(())
 }
 

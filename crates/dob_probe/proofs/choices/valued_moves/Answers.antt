@@ -9,6 +9,6 @@ use Rattle.dob_probe.proofs.choices.valued_moves.Goals as goal
 pub returns-clause-right : goal.returns-clause-right
 returns-clause-right c = λ consistent.
     let table = c.args.table.now in
-    let is = subst (λ (family : Family). IsPositionOf family c.args.position.now.setup) c.family.ensures.family (c.if-not-is_in_family.ensures.0 refl) in
+    let is = subst (λ (family : Family). IsPositionOf family c.args.position.now.setup) c.family.ensures.family c.in_ok-check_member.ensures.member in
     valued_rightly table (consistent_is_right table.family table.values consistent) c.args.position.now.setup is c.in_ok-moves_of_set.field-0.items
     c.in_ok-moves_of_set.ensures

@@ -8,12 +8,12 @@ use Rattle.dob_probe.proofs.probes.probe.Goals as goal
 
 pub value_of-requires : goal.value_of-requires
 value_of-requires c =
-    subst (λ (family : Family). IsPositionOf family c.args.position.now.setup) c.family.ensures.family (c.if-not-is_in_family.ensures.0 refl)
+    subst (λ (family : Family). IsPositionOf family c.args.position.now.setup) c.family.ensures.family c.in_ok-check_member.ensures.member
 
 pub returns-clause-right : goal.returns-clause-right
 returns-clause-right c = λ consistent.
     let table = c.args.table.now in
-    let is = subst (λ (family : Family). IsPositionOf family c.args.position.now.setup) c.family.ensures.family (c.if-not-is_in_family.ensures.0 refl) in
+    let is = subst (λ (family : Family). IsPositionOf family c.args.position.now.setup) c.family.ensures.family c.in_ok-check_member.ensures.member in
     (consistent_is_right table.family table.values consistent).values_are c.args.position.now.setup c.value_of.result is c.value_of.ensures
 
 pub returns-clause-entry : goal.returns-clause-entry

@@ -43,8 +43,8 @@ pub(super) fn table(rt: &(impl Abort + AllocGlobal)) -> Table {
     sweep_table(rt.alloc(), family_of(rt, "000")).expect(rt, "a table")
 }
 
-// The file of that profile.
-fn file_in(rt: &(impl Abort + AllocGlobal), profile: Profile) -> Vec<u8> {
+/// The file of that profile.
+pub(crate) fn file_in(rt: &(impl Abort + AllocGlobal), profile: Profile) -> Vec<u8> {
     let table = sweep_table(rt.alloc(), family(rt, "000", profile)).expect(rt, "a table");
     let mut sink = MemSink::new(rt.alloc());
     write_table(rt.alloc(), &table, &mut sink).expect(rt, "a file");
