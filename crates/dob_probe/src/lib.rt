@@ -9,6 +9,7 @@ mod groups;
 pub mod laws;
 mod lines;
 mod probes;
+mod puzzles;
 mod successors;
 
 pub use checks::check;
@@ -17,3 +18,4 @@ pub use fault::{Fault, OtherSet};
 pub use groups::{Group, statistics};
 pub use lines::line;
 pub use probes::probe;
+pub use puzzles::{Puzzle, first_puzzles};
