@@ -10,6 +10,7 @@ pub mod laws;
 mod lines;
 mod members;
 mod probes;
+mod puzzles;
 mod successors;
 
 pub use checks::check;
@@ -19,3 +20,4 @@ pub use groups::{Group, statistics};
 pub use lines::line;
 pub use members::check_member;
 pub use probes::probe;
+pub use puzzles::{Puzzle, first_puzzles};

@@ -115,7 +115,11 @@ pub(crate) fn value_that_follows(
 // Writes the moves of the position by the rules of the table's profile into the room, and gives its status.
 //
 // Error: `Memory`.
-fn list_moves(room: &mut Vec<Move>, table: &Table, position: &Position) -> Result<Status, Memory>
+pub(crate) fn list_moves(
+    room: &mut Vec<Move>,
+    table: &Table,
+    position: &Position,
+) -> Result<Status, Memory>
     ensures moves { OnOk result (AreMoves table.now.family.profile position.now.setup room.new.items) }
     ensures status { IfOk result (λ status. HasStatus table.now.family.profile position.now.setup status) }
 {
