@@ -64,7 +64,7 @@ pub(super) fn line_order<'a>(inner: &ArgMatches<'a>) -> Option<Order<'a>>
 {
     Some(Order::Line {
         file: inner.get_str("FILE")?,
-        is_numbered: inner.get_str("numbered").is_some(),
+        is_numbered: !inner.get_str("numbered").is_some(),
         position: inner.get_str("POSITION")?,
     })
 }
