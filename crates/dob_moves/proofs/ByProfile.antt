@@ -5,9 +5,9 @@ use Rattle.dob_pieces.specs.declared.profile.Profile.TheVariants.{A, B}
 use Rattle.dob_pieces.specs.declared.setup.Setup.{Setup}
 use Rattle.dob_moves.specs.declared.game_move.Move.{Move}
 use Rattle.dob_moves.specs.declared.game_move.Move.TheVariants.{Step, Put}
-use Rattle.dob_moves.specs.Moves.{Goes, GoesIn, CanGo, CanGoIn, may_go}
+use Rattle.dob_moves.specs.Moves.{HasOutcome, Goes, CanGo, may_go}
 
-pub goes : (profile : Profile) (p : Setup) (m : Move) (q : Setup) → GoesIn profile p m q → Goes p m q
+pub goes : (profile : Profile) (p : Setup) (m : Move) (q : Setup) → Goes profile p m q → HasOutcome p m q
 goes A p m q g = g
 goes B p m q g = g.0
 
@@ -16,16 +16,16 @@ all_may : (m : Move) → may_go A m ≡ true
 all_may (Step kind from to catch grows) = refl
 all_may (Put kind to) = refl
 
-pub may : (profile : Profile) (p : Setup) (m : Move) (q : Setup) → GoesIn profile p m q → may_go profile m ≡ true
+pub may : (profile : Profile) (p : Setup) (m : Move) (q : Setup) → Goes profile p m q → may_go profile m ≡ true
 may A p m q g = all_may m
 may B p m q g = g.1
 
-goes_in : (profile : Profile) (p : Setup) (m : Move) (q : Setup) → Goes p m q → may_go profile m ≡ true → GoesIn profile p m q
+pub goes_in : (profile : Profile) (p : Setup) (m : Move) (q : Setup) → HasOutcome p m q → may_go profile m ≡ true → Goes profile p m q
 goes_in A p m q g h = g
 goes_in B p m q g h = (g, h)
 
-pub can_go : (profile : Profile) (p : Setup) (m : Move) → CanGoIn profile p m → CanGo p m
+pub can_go : (profile : Profile) (p : Setup) (m : Move) → CanGo profile p m → CanGo A p m
 can_go profile p m can = (can.0, goes profile p m can.0 can.1)
 
-pub can_go_in : (profile : Profile) (p : Setup) (m : Move) → CanGo p m → may_go profile m ≡ true → CanGoIn profile p m
+pub can_go_in : (profile : Profile) (p : Setup) (m : Move) → CanGo A p m → may_go profile m ≡ true → CanGo profile p m
 can_go_in profile p m can h = (can.0, goes_in profile p m can.0 can.1 h)

@@ -14,34 +14,31 @@ use Rattle.dob_moves.specs.declared.game_move.Move.TheVariants.{Step, Put}
 use Rattle.dob_moves.specs.declared.position_status.Status.{Status}
 use Rattle.dob_moves.specs.declared.position_status.Status.TheVariants.{Caught, Tried, Stuck, Open}
 use Rattle.dob_moves.specs.Moves.{CanGo, CatchesLion, CanTake, grows_at}
-use Rattle.dob_moves.specs.Statuses.{HasStatus, HasStatusIn}
+use Rattle.dob_moves.specs.Statuses.{HasStatus}
 use Rattle.dob_moves.proofs.Turns.{kind_of}
 
 -- a setup has one status by the rules of a profile
-pub one_status_in : (profile : Profile) (p : Setup) (s t : Status) → HasStatusIn profile p s → HasStatusIn profile p t → s ≡ t
-one_status_in profile p Caught Caught h k = refl
-one_status_in profile p Caught Tried h k = absurd (k.0 h)
-one_status_in profile p Caught Stuck h k = absurd (k.0 h)
-one_status_in profile p Caught Open h k = absurd (k.0 h)
-one_status_in profile p Tried Caught h k = absurd (h.0 k)
-one_status_in profile p Tried Tried h k = refl
-one_status_in profile p Tried Stuck h k = absurd (k.1 h.1)
-one_status_in profile p Tried Open h k = absurd (k.1 h.1)
-one_status_in profile p Stuck Caught h k = absurd (h.0 k)
-one_status_in profile p Stuck Tried h k = absurd (h.1 k.1)
-one_status_in profile p Stuck Stuck h k = refl
-one_status_in profile p Stuck Open h k = absurd (h.2 k.2.0 k.2.1)
-one_status_in profile p Open Caught h k = absurd (h.0 k)
-one_status_in profile p Open Tried h k = absurd (h.1 k.1)
-one_status_in profile p Open Stuck h k = absurd (k.2 h.2.0 h.2.1)
-one_status_in profile p Open Open h k = refl
-
-pub one_status : (p : Setup) (s t : Status) → HasStatus p s → HasStatus p t → s ≡ t
-one_status = one_status_in A
+pub one_status : (profile : Profile) (p : Setup) (s t : Status) → HasStatus profile p s → HasStatus profile p t → s ≡ t
+one_status profile p Caught Caught h k = refl
+one_status profile p Caught Tried h k = absurd (k.0 h)
+one_status profile p Caught Stuck h k = absurd (k.0 h)
+one_status profile p Caught Open h k = absurd (k.0 h)
+one_status profile p Tried Caught h k = absurd (h.0 k)
+one_status profile p Tried Tried h k = refl
+one_status profile p Tried Stuck h k = absurd (k.1 h.1)
+one_status profile p Tried Open h k = absurd (k.1 h.1)
+one_status profile p Stuck Caught h k = absurd (h.0 k)
+one_status profile p Stuck Tried h k = absurd (h.1 k.1)
+one_status profile p Stuck Stuck h k = refl
+one_status profile p Stuck Open h k = absurd (h.2 k.2.0 k.2.1)
+one_status profile p Open Caught h k = absurd (h.0 k)
+one_status profile p Open Tried h k = absurd (h.1 k.1)
+one_status profile p Open Stuck h k = absurd (k.2 h.2.0 h.2.1)
+one_status profile p Open Open h k = refl
 
 -- a step that can go has the mover's piece on its first square
 own_piece : (p : Setup) (kind : Kind) (from to : ℕ) (catch grows : Bool)
-    → CanGo p (Step kind from to catch grows) → at p from ≡ Some (piece_of Mover kind)
+    → CanGo A p (Step kind from to catch grows) → at p from ≡ Some (piece_of Mover kind)
 own_piece p kind from to false false can = can.1.2.own
 own_piece p kind from to true false can = can.1.3.own
 own_piece p kind from to false true can = can.1.2.own
@@ -49,7 +46,7 @@ own_piece p kind from to true true can = can.1.3.own
 
 -- it grows where its kind and its last square say so
 grows_is : (p : Setup) (kind : Kind) (from to : ℕ) (catch grows : Bool)
-    → CanGo p (Step kind from to catch grows) → grows_at kind to ≡ grows
+    → CanGo A p (Step kind from to catch grows) → grows_at kind to ≡ grows
 grows_is p kind from to false false can = can.1.0
 grows_is p kind from to true false can = can.1.0
 grows_is p kind from to false true can = can.1.0
@@ -65,7 +62,7 @@ Meets p to false = at p to ≡ None
 Meets p to true = (kind : Kind) × (at p to ≡ Some (piece_of Enemy kind))
 
 -- and every step that can go meets it
-meets : (p : Setup) (kind : Kind) (from to : ℕ) (catch grows : Bool) → CanGo p (Step kind from to catch grows) → Meets p to catch
+meets : (p : Setup) (kind : Kind) (from to : ℕ) (catch grows : Bool) → CanGo A p (Step kind from to catch grows) → Meets p to catch
 meets p kind from to false false can = can.1.1
 meets p kind from to true false can = (can.1.2.0, can.1.2.1)
 meets p kind from to false true can = can.1.1
@@ -80,7 +77,7 @@ one_meeting p to true true h k = refl
 
 -- two steps between the same squares that can both go are one
 pub one_step : (p : Setup) (kind other : Kind) (from to : ℕ) (catch catches grows grow : Bool)
-    → CanGo p (Step kind from to catch grows) → CanGo p (Step other from to catches grow)
+    → CanGo A p (Step kind from to catch grows) → CanGo A p (Step other from to catches grow)
     → (kind ≡ other) × (catch ≡ catches) × (grows ≡ grow)
 one_step p kind other from to catch catches grows grow h k =
     let same = ap kind_of (sym (own_piece p kind from to catch grows h) ∙ own_piece p other from to catches grow k) in (
@@ -91,7 +88,7 @@ one_step p kind other from to catch catches grows grow h k =
 
 -- a catch that can go takes a piece that has a kind in hand
 taken_at : (p : Setup) (kind : Kind) (from to : ℕ) (grows : Bool)
-    → CanGo p (Step kind from to true grows) → (taken : HandKind) × CanTake p to taken
+    → CanGo A p (Step kind from to true grows) → (taken : HandKind) × CanTake p to taken
 taken_at p kind from to false can = (can.1.1, can.1.2)
 taken_at p kind from to true can = (can.1.1, can.1.2)
 
@@ -103,7 +100,7 @@ no_lion_taken p to taken t lion =
     cc
 
 -- a step that catches a lion isn't a move
-pub lion_not_moved : (p : Setup) (move : Move) → CatchesLion p move → ¬ CanGo p move
+pub lion_not_moved : (p : Setup) (move : Move) → CatchesLion p move → ¬ CanGo A p move
 lion_not_moved p (Step kind from to true grows) c can =
     let t = taken_at p kind from to grows can in no_lion_taken p to t.0 t.1 c.2
 lion_not_moved p (Step kind from to false grows) c can = c

@@ -17,18 +17,18 @@ use Rattle.dob_pieces.proofs.Allowed.{stands-from_allowed, allowed-from_stands, 
 use Rattle.dob_pieces.proofs.Boards.{within-from_piece, leads-to_board}
 use Rattle.dob_moves.specs.declared.game_move.Move.{Move}
 use Rattle.dob_moves.specs.declared.game_move.Move.TheVariants.{Step, Put}
-use Rattle.dob_moves.specs.Moves.{Goes, GoesIn, grows_at, may_put}
+use Rattle.dob_moves.specs.Moves.{HasOutcome, Goes, grows_at, may_put}
 use Rattle.dob_moves.specs.Outcomes.{arrives_as, stepped, dropped}
 use Rattle.dob_moves.proofs.ByProfile.{goes, may}
-use Rattle.dob_moves.proofs.Outcomes.{Goes-is, length-stepped, length-dropped, IsStep-from}
+use Rattle.dob_moves.proofs.Outcomes.{HasOutcome-is, length-stepped, length-dropped, IsStep-from}
 
 -- ---- boards by a profile
 
 -- what stands on each of the twelve squares may stand there
-abbrev Stand : Profile → List Cell → Type 0
+abbrev pub Stand : Profile → List Cell → Type 0
 Stand profile board = (k : ℕ) → k < 12 → may_stand profile k (slice_index_or board k None) ≡ true
 
-stand-set : (profile : Profile) (board : List Cell) (i : ℕ) (cell : Cell) → i < length board → may_stand profile i cell ≡ true
+pub stand-set : (profile : Profile) (board : List Cell) (i : ℕ) (cell : Cell) → i < length board → may_stand profile i cell ≡ true
     → Stand profile board → Stand profile (set board i cell)
 stand-set profile board i cell within here stand k lt =
     elim (cases_eq k i) [
@@ -38,7 +38,7 @@ stand-set profile board i cell within here stand k lt =
       | inr other ↦ ap (may_stand profile k) (get_or-set_other board i k cell None other) ∙ stand k lt
     ]
 
-none_stands : (profile : Profile) (k : ℕ) → may_stand profile k None ≡ true
+pub none_stands : (profile : Profile) (k : ℕ) → may_stand profile k None ≡ true
 none_stands A k = refl
 none_stands B k = refl
 
@@ -55,7 +55,7 @@ arrival_stands B Elephant to false e = refl
 arrival_stands B Chick to false e = ap not e
 arrival_stands B Hen to false e = refl
 
-grows_is : (p : Setup) (kind : Kind) (from to : ℕ) (catch grows : Bool) (q : Setup) → Goes p (Step kind from to catch grows) q → grows_at kind to ≡ grows
+grows_is : (p : Setup) (kind : Kind) (from to : ℕ) (catch grows : Bool) (q : Setup) → HasOutcome p (Step kind from to catch grows) q → grows_at kind to ≡ grows
 grows_is p kind from to false false q g = g.0
 grows_is p kind from to true false q g = g.0
 grows_is p kind from to false true q g = g.0
@@ -64,7 +64,7 @@ grows_is p kind from to true true q g = g.0
 -- ---- a step and a drop
 
 allowed-stepped : (profile : Profile) (p : Setup) (kind : Kind) (from to : ℕ) (catch grows : Bool) (q : Setup) → length p.board ≡ 12
-    → IsAllowed profile p → Goes p (Step kind from to catch grows) q → IsAllowed profile (stepped p kind from to grows)
+    → IsAllowed profile p → HasOutcome p (Step kind from to catch grows) q → IsAllowed profile (stepped p kind from to grows)
 unfolding stepped
 allowed-stepped profile p kind from to catch grows q twelve allowed g =
     let step = IsStep-from p kind from to catch grows q g in
@@ -86,15 +86,15 @@ allowed-dropped profile p put to twelve allowed on here =
 
 -- ---- the outcome of a move
 
-pub IsAllowed-Goes : (profile : Profile) (p : Setup) (m : Move) (q : Setup) → length p.board ≡ 12 → IsAllowed profile p → GoesIn profile p m q → IsAllowed profile q
+pub IsAllowed-Goes : (profile : Profile) (p : Setup) (m : Move) (q : Setup) → length p.board ≡ 12 → IsAllowed profile p → Goes profile p m q → IsAllowed profile q
 IsAllowed-Goes profile p (Step kind from to catch grows) q twelve allowed by =
     let g = goes profile p (Step kind from to catch grows) q by in
     let step = IsStep-from p kind from to catch grows q g in
-    subst (λ (r : Setup). IsAllowed profile r) (sym (Goes-is p (Step kind from to catch grows) q g))
+    subst (λ (r : Setup). IsAllowed profile r) (sym (HasOutcome-is p (Step kind from to catch grows) q g))
     (IsAllowed-turned profile (stepped p kind from to grows) (length-stepped p kind from to grows twelve step)
     (allowed-stepped profile p kind from to catch grows q twelve allowed g))
 IsAllowed-Goes profile p (Put put to) q twelve allowed by =
     let g = goes profile p (Put put to) q by in
-    subst (λ (r : Setup). IsAllowed profile r) (sym (Goes-is p (Put put to) q g))
+    subst (λ (r : Setup). IsAllowed profile r) (sym (HasOutcome-is p (Put put to) q g))
     (IsAllowed-turned profile (dropped p put to) (length-dropped p put to twelve g.in_hand g.on_board g.free)
     (allowed-dropped profile p put to twelve allowed g.on_board (may profile p (Put put to) q by)))

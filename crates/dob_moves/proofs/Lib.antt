@@ -18,5 +18,7 @@ pub mod Verdicts  -- what the searches say of a position
 -- Lists of moves.
 pub mod Appends  -- moves appended piece by piece
 pub mod PlainLists  -- the same in the plain program
+pub mod ProfileMoves  -- what moves by a profile lead to, and their mirror images
 pub mod MoveLists  -- the list has just the moves
+pub mod OwnKinds  -- the mover's piece on a square, by the masks
 pub mod MoveCounts  -- moves counted without a list

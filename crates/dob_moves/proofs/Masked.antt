@@ -1,5 +1,6 @@
 -- What the masks of a position say of its status.
 use Rattle.std.proofs.Common.{◌≡◌, ◌≢◌, ℕ, ◌/◌, ◌<◌, ◌≤◌, ◌&&◌, Bool, true, false, true≢false, bit_and, Some, None, length}
+use Rattle.dob_pieces.specs.declared.profile.Profile.TheVariants.{A}
 use Rattle.std.proofs.Common.{refl, sym, ap, ◌∙◌, arith, inl, inr}
 use Rattle.std.specs.Int.{trailing_zeros, w16}
 use Rattle.std.specs.Option.{is_some}
@@ -115,14 +116,14 @@ end_is (Some piece) = by_piece piece.side piece.kind where
   by_piece Enemy Chick = refl
   by_piece Enemy Hen = refl
 
-ends_step : (p : Setup) (kind : Kind) (from to : ℕ) → IsStep p kind from to → is_end (at p to) ≡ true → (move : Move) × CanGo p move
+ends_step : (p : Setup) (kind : Kind) (from to : ℕ) → IsStep p kind from to → is_end (at p to) ≡ true → (move : Move) × CanGo A p move
 ends_step p kind from to step is =
     let move = Step kind from to (is_some (at p to)) (grows_at kind to) in
     let found : step_onto Elsewhere (at p to) kind from to ≡ Some move = rw (sym (end_is (at p to)), is) refl in
     (move, step_sound Elsewhere p kind from to (at p to) move step refl found)
 
 pub some_step : (p : Setup) (kind : Kind) (from targets ends : ℕ) → at p from ≡ Some (piece_of Mover kind) → IsMask (leads kind from) targets
-    → IsMask (λ square. is_end (at p square)) ends → bit_and targets ends ≢ 0 → (move : Move) × CanGo p move
+    → IsMask (λ square. is_end (at p square)) ends → bit_and targets ends ≢ 0 → (move : Move) × CanGo A p move
 some_step p kind from targets ends own to are some =
     let test : ℕ → Bool = λ square. leads kind from square && is_end (at p square) in
     let mask = bit_and targets ends in

@@ -1,5 +1,6 @@
 -- The mirror image of a move is a move of the mirror image, and leads to the mirror image of its outcome.
 use Rattle.std.proofs.Common.{◌≡◌, ◌≢◌, ℕ, ◌<◌, ◌==◌, true, false, List, Some, None, length, get_or, set, refl, sym, ap, subst, ◌∙◌, ⊎_elim, arith}
+use Rattle.dob_pieces.specs.declared.profile.Profile.TheVariants.{A}
 use Rattle.std.proofs.lemmas.Bool.{cases_eq}
 use Rattle.std.proofs.lemmas.List.{length-set, get_or-set_same, get_or-set_other}
 use Rattle.dob_pieces.specs.declared.kind.Kind.{Kind}
@@ -17,7 +18,7 @@ use Rattle.dob_moves.specs.declared.game_move.Move.{Move}
 use Rattle.dob_moves.specs.declared.game_move.Move.TheVariants.{Step, Put}
 use Rattle.dob_moves.specs.declared.position_status.Status.{Status}
 use Rattle.dob_moves.specs.declared.position_status.Status.TheVariants.{Caught, Tried, Stuck, Open}
-use Rattle.dob_moves.specs.Moves.{Goes, CanGo, CatchesLion, Steps, Drops, CanTake, hands_after_catch, grows_at}
+use Rattle.dob_moves.specs.Moves.{HasOutcome, CanGo, CatchesLion, Steps, Drops, CanTake, hands_after_catch, grows_at}
 use Rattle.dob_moves.specs.Statuses.{CanCatch, HasTried, HasStatus}
 use Rattle.dob_moves.specs.Mirrors.{mirrored_move}
 
@@ -28,7 +29,7 @@ mirrored_low : (k : ℕ) → k < 3 → mirrored_square k < 3
 mirrored_low k h = omega arith
 
 -- and always on the same row
-row-mirrored : (k : ℕ) → row (mirrored_square k) ≡ row k
+pub row-mirrored : (k : ℕ) → row (mirrored_square k) ≡ row k
 row-mirrored k = omega arith
 
 -- other squares have other images
@@ -127,34 +128,34 @@ CanTake-mirrored : (p : Setup) (to : ℕ) (taken : HandKind) → to < 12 → Can
 CanTake-mirrored p to taken k t = (t.0, at-image p to k ∙ t.1, t.2)
 
 -- a move of the mirror image leads to the mirror image
-pub Goes-mirrored : (p : Setup) (move : Move) (q : Setup) → length p.board ≡ 12
-    → Goes p move q → Goes (mirrored p) (mirrored_move move) (mirrored q)
+pub HasOutcome-mirrored : (p : Setup) (move : Move) (q : Setup) → length p.board ≡ 12
+    → HasOutcome p move q → HasOutcome (mirrored p) (mirrored_move move) (mirrored q)
 unfolding mirrored
-Goes-mirrored p (Step kind from to false false) q twelve g =
+HasOutcome-mirrored p (Step kind from to false false) q twelve g =
     let k = leads-to_board kind from to g.2.leads in
     (grows_at-mirrored kind to ∙ g.0, at-image p to k ∙ g.1, Steps-mirrored p kind from to kind p.hands q twelve g.2)
-Goes-mirrored p (Step kind from to true false) q twelve g =
+HasOutcome-mirrored p (Step kind from to true false) q twelve g =
     let k = leads-to_board kind from to g.3.leads in (
       grows_at-mirrored kind to ∙ g.0,
       g.1,
       CanTake-mirrored p to g.1 k g.2,
       Steps-mirrored p kind from to kind (hands_after_catch p.hands g.1) q twelve g.3,
     )
-Goes-mirrored p (Step kind from to false true) q twelve g =
+HasOutcome-mirrored p (Step kind from to false true) q twelve g =
     let k = leads-to_board kind from to g.2.leads in
     (grows_at-mirrored kind to ∙ g.0, at-image p to k ∙ g.1, Steps-mirrored p kind from to Hen p.hands q twelve g.2)
-Goes-mirrored p (Step kind from to true true) q twelve g =
+HasOutcome-mirrored p (Step kind from to true true) q twelve g =
     let k = leads-to_board kind from to g.3.leads in (
       grows_at-mirrored kind to ∙ g.0,
       g.1,
       CanTake-mirrored p to g.1 k g.2,
       Steps-mirrored p kind from to Hen (hands_after_catch p.hands g.1) q twelve g.3,
     )
-Goes-mirrored p (Put kind to) q twelve g = Drops-mirrored p kind to q twelve g
+HasOutcome-mirrored p (Put kind to) q twelve g = Drops-mirrored p kind to q twelve g
 
 -- a move that can go has one that can go for its image
-CanGo-mirrored : (p : Setup) (move : Move) → length p.board ≡ 12 → CanGo p move → CanGo (mirrored p) (mirrored_move move)
-CanGo-mirrored p move twelve can = (mirrored can.0, Goes-mirrored p move can.0 twelve can.1)
+CanGo-mirrored : (p : Setup) (move : Move) → length p.board ≡ 12 → CanGo A p move → CanGo A (mirrored p) (mirrored_move move)
+CanGo-mirrored p move twelve can = (mirrored can.0, HasOutcome-mirrored p move can.0 twelve can.1)
 
 -- so has one that catches the lion
 CatchesLion-mirrored : (p : Setup) (move : Move) → length p.board ≡ 12
@@ -187,16 +188,16 @@ no_catch p twelve not c =
 no_try : (p : Setup) → length p.board ≡ 12 → ¬ HasTried p → ¬ HasTried (mirrored p)
 no_try p twelve not t = not (subst (λ s. HasTried s) (mirrored-mirrored p twelve) (HasTried-mirrored (mirrored p) t))
 
-no_move : (p : Setup) → length p.board ≡ 12 → ((move : Move) → ¬ CanGo p move) → (move : Move) → ¬ CanGo (mirrored p) move
+no_move : (p : Setup) → length p.board ≡ 12 → ((move : Move) → ¬ CanGo A p move) → (move : Move) → ¬ CanGo A (mirrored p) move
 no_move p twelve not move can =
     not (mirrored_move move)
-    (subst (λ s. CanGo s (mirrored_move move)) (mirrored-mirrored p twelve)
+    (subst (λ s. CanGo A s (mirrored_move move)) (mirrored-mirrored p twelve)
     (CanGo-mirrored (mirrored p) move (length-mirrored p) can))
 
 -- the mirror image has the same status
-pub HasStatus-mirrored : (p : Setup) (status : Status) → length p.board ≡ 12 → HasStatus p status → HasStatus (mirrored p) status
-HasStatus-mirrored p Caught twelve h = CanCatch-mirrored p twelve h
-HasStatus-mirrored p Tried twelve h = (no_catch p twelve h.0, HasTried-mirrored p h.1)
-HasStatus-mirrored p Stuck twelve h = (no_catch p twelve h.0, no_try p twelve h.1, no_move p twelve h.2)
-HasStatus-mirrored p Open twelve h =
+pub HasStatus-mirrored_in_A : (p : Setup) (status : Status) → length p.board ≡ 12 → HasStatus A p status → HasStatus A (mirrored p) status
+HasStatus-mirrored_in_A p Caught twelve h = CanCatch-mirrored p twelve h
+HasStatus-mirrored_in_A p Tried twelve h = (no_catch p twelve h.0, HasTried-mirrored p h.1)
+HasStatus-mirrored_in_A p Stuck twelve h = (no_catch p twelve h.0, no_try p twelve h.1, no_move p twelve h.2)
+HasStatus-mirrored_in_A p Open twelve h =
     (no_catch p twelve h.0, no_try p twelve h.1, (mirrored_move h.2.0, CanGo-mirrored p h.2.0 twelve h.2.1))

@@ -22,18 +22,18 @@ use Rattle.dob_moves.specs.declared.position_status.Status.{Status}
 use Rattle.dob_moves.specs.declared.position_status.Status.TheVariants.{Open}
 use Rattle.dob_moves.specs.declared.first_moves.Aim.TheVariants.{AtLion, Elsewhere}
 use Rattle.dob_moves.specs.Moves.{may_put}
-use Rattle.dob_moves.specs.Statuses.{HasStatusIn}
+use Rattle.dob_moves.specs.Statuses.{HasStatus}
 use Rattle.dob_moves.specs.Walks.{first, steps_by, steps_from, all_steps, drops_of, all_drops}
-use Rattle.dob_moves.specs.MoveLists.{has_tried, moves_of_in}
-use Rattle.dob_moves.proofs.Cases.{one_status_in}
-use Rattle.dob_moves.proofs.MoveLists.{tried_at, AreMovesIn-moves_of_in}
+use Rattle.dob_moves.specs.MoveLists.{has_tried, moves_of}
+use Rattle.dob_moves.proofs.Cases.{one_status}
+use Rattle.dob_moves.proofs.MoveLists.{tried_at, AreMoves-moves_of}
 use Rattle.dob_moves.proofs.Verdicts.{catch_answer}
 
 pub ruleset counts = (length-append)
 
 -- ---- all moves
 
-by_tests : (profile : Profile) (p : Setup) → length p.board ≡ 12 → HasStatusIn profile p Open → (o : Option Move) (tried : Bool) → o ≡ first (all_steps AtLion p) →
+by_tests : (profile : Profile) (p : Setup) → length p.board ≡ 12 → HasStatus profile p Open → (o : Option Move) (tried : Bool) → o ≡ first (all_steps AtLion p) →
     has_tried p ≡ tried → (moves : List Move) → (if is_some o || tried then [] else moves) ≡ moves
 by_tests profile p twelve is_open (Some m) tried e h moves =
     let catch = catch_answer p (Some m) twelve e in
@@ -42,13 +42,13 @@ by_tests profile p twelve is_open None true e h moves = absurd (is_open.1 (tried
 by_tests profile p twelve is_open None false e h moves = refl
 
 -- an open position has its steps and drops
-pub open_count : (profile : Profile) (p : Setup) (steps drops : ℕ) → length p.board ≡ 12 → HasStatusIn profile p Open → steps ≡ length (all_steps Elsewhere p) →
-    drops ≡ length (all_drops profile p) → steps + drops ≡ length (moves_of_in profile p)
-unfolding moves_of_in
+pub open_count : (profile : Profile) (p : Setup) (steps drops : ℕ) → length p.board ≡ 12 → HasStatus profile p Open → steps ≡ length (all_steps Elsewhere p) →
+    drops ≡ length (all_drops profile p) → steps + drops ≡ length (moves_of profile p)
+unfolding moves_of
 open_count profile p steps drops twelve is_open first_is then_is =
-    let all : moves_of_in profile p ≡ all_steps Elsewhere p ++ all_drops profile p =
+    let all : moves_of profile p ≡ all_steps Elsewhere p ++ all_drops profile p =
     by_tests profile p twelve is_open (first (all_steps AtLion p)) (has_tried p) refl refl (all_steps Elsewhere p ++ all_drops profile p) in
-    let same : length (moves_of_in profile p) ≡ length (all_steps Elsewhere p ++ all_drops profile p) = ap length all in
+    let same : length (moves_of profile p) ≡ length (all_steps Elsewhere p ++ all_drops profile p) = ap length all in
     let sum : length (all_steps Elsewhere p ++ all_drops profile p) ≡ length (all_steps Elsewhere p) + length (all_drops profile p) =
     length-append (all_steps Elsewhere p) (all_drops profile p) in
     omega arith
@@ -58,10 +58,10 @@ nothing_there P [] sound isnt = refl
 nothing_there P (m ∷ moves) sound isnt = absurd (isnt (sound m (head_in m moves)))
 
 -- any other has none
-pub other_count : (profile : Profile) (p : Setup) (s : Status) → length p.board ≡ 12 → HasStatusIn profile p s → s ≢ Open → 0 ≡ length (moves_of_in profile p)
+pub other_count : (profile : Profile) (p : Setup) (s : Status) → length p.board ≡ 12 → HasStatus profile p s → s ≢ Open → 0 ≡ length (moves_of profile p)
 other_count profile p s twelve is other =
-    nothing_there (HasStatusIn profile p Open) (moves_of_in profile p) (λ m there. ((AreMovesIn-moves_of_in profile p twelve).sound m there).0)
-    (λ is_open. other (one_status_in profile p s Open is is_open))
+    nothing_there (HasStatus profile p Open) (moves_of profile p) (λ m there. ((AreMoves-moves_of profile p twelve).sound m there).0)
+    (λ is_open. other (one_status profile p s Open is is_open))
 
 -- ---- by masks
 

@@ -7,7 +7,6 @@ use Rattle.dob_pieces.specs.declared.kind.Kind.TheVariants.{Lion, Giraffe, Eleph
 use Rattle.dob_pieces.specs.declared.kind.Side.{Side}
 use Rattle.dob_pieces.specs.declared.kind.Side.TheVariants.{Mover, Enemy}
 use Rattle.dob_pieces.specs.declared.profile.Profile.{Profile}
-use Rattle.dob_pieces.specs.declared.profile.Profile.TheVariants.{A}
 use Rattle.dob_pieces.specs.declared.setup.Setup.{Setup}
 use Rattle.dob_pieces.specs.Setups.{Cell, at, holds_lion, piece_of}
 use Rattle.dob_pieces.proofs.Lists.{rising-append, rising-pairs}
@@ -15,9 +14,9 @@ use Rattle.dob_moves.specs.declared.game_move.Move.{Move}
 use Rattle.dob_moves.specs.declared.position_status.Status.TheVariants.{Caught, Tried}
 use Rattle.dob_moves.specs.declared.first_moves.Aim.TheVariants.{AtLion, Elsewhere}
 use Rattle.dob_moves.specs.Moves.{place, first_drop}
-use Rattle.dob_moves.specs.Statuses.{CanCatch, HasTried, AreMoves, AreMovesIn}
+use Rattle.dob_moves.specs.Statuses.{CanCatch, HasTried, AreMoves}
 use Rattle.dob_moves.specs.Walks.{first, all_steps, all_drops}
-use Rattle.dob_moves.specs.MoveLists.{has_tried, moves_of, moves_of_in}
+use Rattle.dob_moves.specs.MoveLists.{has_tried, moves_of}
 use Rattle.dob_moves.proofs.Reach.{steps_rising, drops_rising}
 use Rattle.dob_moves.proofs.Verdicts.{catch_answer, listed_goes, open_answer, other_answer}
 
@@ -52,7 +51,7 @@ not_tried_at p false false false at_a at_b at_c h (suc (suc zero)) low e = let l
 not_tried_at p false false false at_a at_b at_c h (suc (suc (suc square))) low e = absurd (omega (arith, low))
 
 -- where the game isn't over, the steps and then the drops are the moves
-going_on : (profile : Profile) (p : Setup) → length p.board ≡ 12 → ¬ CanCatch p → ¬ HasTried p → AreMovesIn profile p (all_steps Elsewhere p ++ all_drops profile p)
+going_on : (profile : Profile) (p : Setup) → length p.board ≡ 12 → ¬ CanCatch p → ¬ HasTried p → AreMoves profile p (all_steps Elsewhere p ++ all_drops profile p)
 going_on profile p twelve no_catch no_try = record {
   sound = λ m here. let goes = listed_goes profile p m here in ((no_catch, no_try, (m, goes)), goes);
   whole = λ m is_open goes.
@@ -63,7 +62,7 @@ going_on profile p twelve no_catch no_try = record {
 }
 
 by_tests : (profile : Profile) (p : Setup) → length p.board ≡ 12 → (o : Option Move) (tried : Bool) → o ≡ first (all_steps AtLion p) → has_tried p ≡ tried
-    → AreMovesIn profile p (if is_some o || tried then [] else all_steps Elsewhere p ++ all_drops profile p)
+    → AreMoves profile p (if is_some o || tried then [] else all_steps Elsewhere p ++ all_drops profile p)
 by_tests profile p twelve (Some m) tried e h =
     let catch = catch_answer p (Some m) twelve e in
     other_answer profile p Caught (m, catch.catches) (λ same. cc) [] refl
@@ -74,9 +73,6 @@ by_tests profile p twelve None false e h =
     going_on profile p twelve (catch_answer p None twelve e)
     (λ try. not_tried_at p _ _ _ refl refl refl h try.0 try.1 try.2)
 
-pub AreMovesIn-moves_of_in : (profile : Profile) (p : Setup) → length p.board ≡ 12 → AreMovesIn profile p (moves_of_in profile p)
-unfolding moves_of_in
-AreMovesIn-moves_of_in profile p twelve = by_tests profile p twelve (first (all_steps AtLion p)) (has_tried p) refl refl
-
-pub AreMoves-moves_of : (p : Setup) → length p.board ≡ 12 → AreMoves p (moves_of p)
-AreMoves-moves_of = AreMovesIn-moves_of_in A
+pub AreMoves-moves_of : (profile : Profile) (p : Setup) → length p.board ≡ 12 → AreMoves profile p (moves_of profile p)
+unfolding moves_of
+AreMoves-moves_of profile p twelve = by_tests profile p twelve (first (all_steps AtLion p)) (has_tried p) refl refl

@@ -1,5 +1,6 @@
 -- Every outcome of a move is the turned form of `moved`, and legal where the position was legal and open.
 use Rattle.std.proofs.Common.{◌≡◌, ◌≢◌, ℕ, ◌+◌, ◌<◌, ◌≤◌, Bool, true, false, cond, ◌&&◌, List, Some, None, length, get_or, set, refl, sym}
+use Rattle.dob_pieces.specs.declared.profile.Profile.TheVariants.{A}
 use Rattle.std.proofs.Common.{ap, subst, ◌∙◌, ⊎_elim, arith}
 use Rattle.std.specs.List.{count_by}
 use Rattle.std.proofs.lemmas.Bool.{cases_eq, and_right, false≢true}
@@ -17,7 +18,7 @@ use Rattle.dob_pieces.specs.Pieces.{kind_in_hand, kind_on_board, is_lion, is_sid
 use Rattle.dob_pieces.specs.Setups.{Cell, at, held, piece_of, turned, total, holds_kind, holds_lion, IsLegal, with_one_more, with_one_less}
 use Rattle.dob_moves.specs.declared.game_move.Move.{Move}
 use Rattle.dob_moves.specs.declared.game_move.Move.TheVariants.{Step, Put}
-use Rattle.dob_moves.specs.Moves.{Goes, CanGo, Steps, Drops, CanTake, hands_after_catch, grows_at}
+use Rattle.dob_moves.specs.Moves.{HasOutcome, CanGo, Steps, Drops, CanTake, hands_after_catch, grows_at}
 use Rattle.dob_moves.specs.Statuses.{HasTried}
 use Rattle.dob_moves.specs.Outcomes.{arrives_as, with_caught, stepped, dropped, moved}
 use Rattle.dob_pieces.proofs.Boards.{one_if, total-turned, lions-turned, within-from_piece, count-set, count-moved, leads-to_board, leads-apart}
@@ -49,14 +50,14 @@ unfolding dropped
 dropped_is p kind to q d = d.outcome
 
 -- the outcome of a move is one
-pub Goes-is : (p : Setup) (m : Move) (q : Setup) → Goes p m q → q ≡ turned (moved p m)
-Goes-is p (Step kind from to false false) q g = stepped_is p kind from to false p.hands q (hands-none p to g.1) g.2
-Goes-is p (Step kind from to true false) q g =
+pub HasOutcome-is : (p : Setup) (m : Move) (q : Setup) → HasOutcome p m q → q ≡ turned (moved p m)
+HasOutcome-is p (Step kind from to false false) q g = stepped_is p kind from to false p.hands q (hands-none p to g.1) g.2
+HasOutcome-is p (Step kind from to true false) q g =
     stepped_is p kind from to false (hands_after_catch p.hands g.1) q (hands-caught p to g.1 g.2) g.3
-Goes-is p (Step kind from to false true) q g = stepped_is p kind from to true p.hands q (hands-none p to g.1) g.2
-Goes-is p (Step kind from to true true) q g =
+HasOutcome-is p (Step kind from to false true) q g = stepped_is p kind from to true p.hands q (hands-none p to g.1) g.2
+HasOutcome-is p (Step kind from to true true) q g =
     stepped_is p kind from to true (hands_after_catch p.hands g.1) q (hands-caught p to g.1 g.2) g.3
-Goes-is p (Put kind to) q g = dropped_is p kind to q g
+HasOutcome-is p (Put kind to) q g = dropped_is p kind to q g
 
 -- The cell has no lion, and the mover's hand gets what it has.
 record Yields (c : Cell) : Type 0 where
@@ -176,7 +177,7 @@ step_of p kind from to grows hands q s yields keeps = record {
 
 -- every step that can go is one
 pub IsStep-from : (p : Setup) (kind : Kind) (from to : ℕ) (catch grows : Bool) (q : Setup)
-    → Goes p (Step kind from to catch grows) q → IsStep p kind from to grows
+    → HasOutcome p (Step kind from to catch grows) q → IsStep p kind from to grows
 IsStep-from p kind from to false false q g = step_of p kind from to false _ q g.2 (Yields-free p to g.1) (Keeps-same kind)
 IsStep-from p kind from to true false q g =
     step_of p kind from to false _ q g.3 (Yields-catch p to g.1 g.2) (Keeps-same kind)
@@ -306,33 +307,33 @@ no_try : (p : Setup) → ¬ HasTried p → IsFreeOfTry p
 no_try p not k low e = not (k, low, e)
 
 -- the outcome of a move of a position in which the enemy hasn't tried is legal
-pub IsLegal-Goes : (p : Setup) (m : Move) (q : Setup) → Goes p m q → IsLegal p → ¬ HasTried p → IsLegal q
-IsLegal-Goes p (Step kind from to catch grows) q g legal not =
-    subst (λ r. IsLegal r) (sym (Goes-is p (Step kind from to catch grows) q g))
+pub IsLegal-HasOutcome : (p : Setup) (m : Move) (q : Setup) → HasOutcome p m q → IsLegal p → ¬ HasTried p → IsLegal q
+IsLegal-HasOutcome p (Step kind from to catch grows) q g legal not =
+    subst (λ r. IsLegal r) (sym (HasOutcome-is p (Step kind from to catch grows) q g))
     (legal-stepped p kind from to grows legal.squares (IsStep-from p kind from to catch grows q g) legal (no_try p not))
-IsLegal-Goes p (Put put to) q g legal not =
-    subst (λ r. IsLegal r) (sym (Goes-is p (Put put to) q g))
+IsLegal-HasOutcome p (Put put to) q g legal not =
+    subst (λ r. IsLegal r) (sym (HasOutcome-is p (Put put to) q g))
     (legal-dropped p put to legal.squares g.in_hand g.on_board g.free legal (no_try p not))
 
 -- no move changes how many pieces of a kind there are
-pub total-Goes : (p : Setup) (m : Move) (q : Setup) → Goes p m q → length p.board ≡ 12 → (k : HandKind) → total k q ≡ total k p
-total-Goes p (Step kind from to catch grows) q g twelve k =
-    ap (total k) (Goes-is p (Step kind from to catch grows) q g)
+pub total-HasOutcome : (p : Setup) (m : Move) (q : Setup) → HasOutcome p m q → length p.board ≡ 12 → (k : HandKind) → total k q ≡ total k p
+total-HasOutcome p (Step kind from to catch grows) q g twelve k =
+    ap (total k) (HasOutcome-is p (Step kind from to catch grows) q g)
     ∙ same-stepped p kind from to grows twelve (IsStep-from p kind from to catch grows q g) k
-total-Goes p (Put put to) q g twelve k =
-    ap (total k) (Goes-is p (Put put to) q g)
+total-HasOutcome p (Put put to) q g twelve k =
+    ap (total k) (HasOutcome-is p (Put put to) q g)
     ∙ same-dropped p put to twelve g.in_hand g.on_board g.free k
 
 -- nor how many lions a side has, which is the other side after it
-pub lions-Goes : (p : Setup) (m : Move) (q : Setup) → Goes p m q → length p.board ≡ 12 → (side : Side)
+pub lions-HasOutcome : (p : Setup) (m : Move) (q : Setup) → HasOutcome p m q → length p.board ≡ 12 → (side : Side)
     → count_by (holds_lion side) q.board ≡ count_by (holds_lion (other_side side)) p.board
-lions-Goes p (Step kind from to catch grows) q g twelve side =
+lions-HasOutcome p (Step kind from to catch grows) q g twelve side =
     let step = IsStep-from p kind from to catch grows q g in
-    ap (λ (r : Setup). count_by (holds_lion side) r.board) (Goes-is p (Step kind from to catch grows) q g)
+    ap (λ (r : Setup). count_by (holds_lion side) r.board) (HasOutcome-is p (Step kind from to catch grows) q g)
     ∙ lions-turned side (stepped p kind from to grows) (length-stepped p kind from to grows twelve step)
     ∙ lions-stepped p kind from to grows twelve step (other_side side)
-lions-Goes p (Put put to) q g twelve side =
-    ap (λ (r : Setup). count_by (holds_lion side) r.board) (Goes-is p (Put put to) q g)
+lions-HasOutcome p (Put put to) q g twelve side =
+    ap (λ (r : Setup). count_by (holds_lion side) r.board) (HasOutcome-is p (Put put to) q g)
     ∙ lions-turned side (dropped p put to) (length-dropped p put to twelve g.in_hand g.on_board g.free)
     ∙ lions-dropped p put to twelve g.in_hand g.on_board g.free (other_side side)
 
@@ -342,5 +343,5 @@ unfolding total
 held_few p legal k = omega (arith, legal.few k)
 
 -- a move that can go goes to its one outcome
-pub Goes-moved : (p : Setup) (m : Move) → CanGo p m → Goes p m (turned (moved p m))
-Goes-moved p m can = subst (λ r. Goes p m r) (Goes-is p m can.0 can.1) can.1
+pub HasOutcome-moved : (p : Setup) (m : Move) → CanGo A p m → HasOutcome p m (turned (moved p m))
+HasOutcome-moved p m can = subst (λ r. HasOutcome p m r) (HasOutcome-is p m can.0 can.1) can.1

@@ -22,7 +22,7 @@ use Rattle.dob_moves.specs.declared.game_move.Move.{Move}
 use Rattle.dob_moves.specs.declared.game_move.Move.TheVariants.{Step, Put}
 use Rattle.dob_moves.specs.declared.first_moves.Aim.{Aim}
 use Rattle.dob_moves.specs.declared.first_moves.Aim.TheVariants.{AtLion, Elsewhere}
-use Rattle.dob_moves.specs.Moves.{grows_at, CanTake, CanGo, CanGoIn, may_put, may_go, CatchesLion, hand_place, place, first_drop}
+use Rattle.dob_moves.specs.Moves.{grows_at, CanTake, CanGo, may_put, may_go, CatchesLion, hand_place, place, first_drop}
 use Rattle.dob_moves.specs.Statuses.{IsFirstCatch}
 use Rattle.dob_moves.specs.Walks.{first, may_end, step_onto, steps_by, own_kind, own_by_side, steps_if, steps_from, all_steps, put_if}
 use Rattle.dob_moves.specs.Walks.{put_on, drops_of, all_drops}
@@ -41,15 +41,15 @@ pub record IsStep (p : Setup) (kind : Kind) (from to : ℕ) : Type 0 where
 -- what a step is, by where it is to end
 abbrev pub Meets : Aim → Setup → Move → Type 0
 Meets AtLion p move = CatchesLion p move
-Meets Elsewhere p move = CanGo p move
+Meets Elsewhere p move = CanGo A p move
 
 go_empty : (p : Setup) (kind : Kind) (from to : ℕ) (grows : Bool) → IsStep p kind from to → at p to ≡ None
-    → grows_at kind to ≡ grows → CanGo p (Step kind from to false grows)
+    → grows_at kind to ≡ grows → CanGo A p (Step kind from to false grows)
 go_empty p kind from to false s free e = (_, (e, free, record { own = s.own; leads = s.leads; outcome = refl }))
 go_empty p kind from to true s free e = (_, (e, free, record { own = s.own; leads = s.leads; outcome = refl }))
 
 go_catch : (p : Setup) (kind : Kind) (from to : ℕ) (grows : Bool) (taken : HandKind) → IsStep p kind from to
-    → CanTake p to taken → grows_at kind to ≡ grows → CanGo p (Step kind from to true grows)
+    → CanTake p to taken → grows_at kind to ≡ grows → CanGo A p (Step kind from to true grows)
 go_catch p kind from to false taken s take e = (_, (e, taken, take, record { own = s.own; leads = s.leads; outcome = refl }))
 go_catch p kind from to true taken s take e = (_, (e, taken, take, record { own = s.own; leads = s.leads; outcome = refl }))
 
@@ -67,23 +67,23 @@ piece_sound Elsewhere p Mover stands kind from to m s e h = cc
 piece_sound Elsewhere p Enemy Lion kind from to m s e h = cc
 piece_sound Elsewhere p Enemy Giraffe kind from to m s e h =
     let same : Step kind from to true (grows_at kind to) ≡ m = cc in
-    subst (λ (x : Move). CanGo p x) same (go_catch p kind from to (grows_at kind to) hand.Giraffe s (Giraffe, e, refl) refl)
+    subst (λ (x : Move). CanGo A p x) same (go_catch p kind from to (grows_at kind to) hand.Giraffe s (Giraffe, e, refl) refl)
 piece_sound Elsewhere p Enemy Elephant kind from to m s e h =
     let same : Step kind from to true (grows_at kind to) ≡ m = cc in
-    subst (λ (x : Move). CanGo p x) same (go_catch p kind from to (grows_at kind to) hand.Elephant s (Elephant, e, refl) refl)
+    subst (λ (x : Move). CanGo A p x) same (go_catch p kind from to (grows_at kind to) hand.Elephant s (Elephant, e, refl) refl)
 piece_sound Elsewhere p Enemy Chick kind from to m s e h =
     let same : Step kind from to true (grows_at kind to) ≡ m = cc in
-    subst (λ (x : Move). CanGo p x) same (go_catch p kind from to (grows_at kind to) hand.Chick s (Chick, e, refl) refl)
+    subst (λ (x : Move). CanGo A p x) same (go_catch p kind from to (grows_at kind to) hand.Chick s (Chick, e, refl) refl)
 piece_sound Elsewhere p Enemy Hen kind from to m s e h =
     let same : Step kind from to true (grows_at kind to) ≡ m = cc in
-    subst (λ (x : Move). CanGo p x) same (go_catch p kind from to (grows_at kind to) hand.Chick s (Hen, e, refl) refl)
+    subst (λ (x : Move). CanGo A p x) same (go_catch p kind from to (grows_at kind to) hand.Chick s (Hen, e, refl) refl)
 
 pub step_sound : (aim : Aim) (p : Setup) (kind : Kind) (from to : ℕ) (cell : Cell) (m : Move) → IsStep p kind from to
     → at p to ≡ cell → step_onto aim cell kind from to ≡ Some m → Meets aim p m
 step_sound AtLion p kind from to None m s e h = cc
 step_sound Elsewhere p kind from to None m s e h =
     let same : Step kind from to false (grows_at kind to) ≡ m = cc in
-    subst (λ (x : Move). CanGo p x) same (go_empty p kind from to (grows_at kind to) s e refl)
+    subst (λ (x : Move). CanGo A p x) same (go_empty p kind from to (grows_at kind to) s e refl)
 step_sound aim p kind from to (Some piece) m s e h = piece_sound aim p piece.side piece.kind kind from to m s e h
 
 -- its place
@@ -107,7 +107,7 @@ pub record IsFound (aim : Aim) (p : Setup) (kind : Kind) (from to : ℕ) (m : Mo
   pub step : IsStep p kind from to
   pub found : step_onto aim (at p to) kind from to ≡ Some m
 
-pub go_found : (p : Setup) (kind : Kind) (from to : ℕ) (catch grows : Bool) → CanGo p (Step kind from to catch grows)
+pub go_found : (p : Setup) (kind : Kind) (from to : ℕ) (catch grows : Bool) → CanGo A p (Step kind from to catch grows)
     → IsFound Elsewhere p kind from to (Step kind from to catch grows)
 go_found p kind from to false false (q, (g, free, s)) = record { step = record { own = s.own; leads = s.leads }; found = rw (free, g) refl }
 go_found p kind from to false true (q, (g, free, s)) = record { step = record { own = s.own; leads = s.leads }; found = rw (free, g) refl }
@@ -213,17 +213,17 @@ step_may : (profile : Profile) (m : Move) → place m < first_drop → may_go pr
 step_may profile (Step kind from to catch grows) low = refl
 step_may profile (Put kind to) low = absurd (omega (arith, low))
 
-pub steps_go : (profile : Profile) (p : Setup) (m : Move) → Contains (all_steps Elsewhere p) m → CanGoIn profile p m
+pub steps_go : (profile : Profile) (p : Setup) (m : Move) → Contains (all_steps Elsewhere p) m → CanGo profile p m
 steps_go profile p m h =
     can_go_in profile p m (steps_sound Elsewhere p m h) (step_may profile m (rising-below 0 first_drop (all_steps Elsewhere p) m (steps_rising Elsewhere p) h))
 
 put_sound : (profile : Profile) (p : Setup) (kind : HandKind) (to : ℕ) (m : Move) → to < 12 → 0 < held p.hands.mover kind
-    → put_on profile p kind to ≡ Some m → CanGoIn profile p m
+    → put_on profile p kind to ≡ Some m → CanGo profile p m
 put_sound profile p kind to m lt some e = by_cell (may_put profile kind to) (at p to) refl refl e where
-  by_cell : (b : Bool) (cell : Cell) → may_put profile kind to ≡ b → at p to ≡ cell → cond b (put_if cell kind to) None ≡ Some m → CanGoIn profile p m
+  by_cell : (b : Bool) (cell : Cell) → may_put profile kind to ≡ b → at p to ≡ cell → cond b (put_if cell kind to) None ≡ Some m → CanGo profile p m
   by_cell true None here free e =
       let same : Put kind to ≡ m = cc in
-      subst (λ (x : Move). CanGoIn profile p x) same
+      subst (λ (x : Move). CanGo profile p x) same
       (can_go_in profile p (Put kind to) (_, record { in_hand = some; on_board = lt; free = free; outcome = refl }) here)
   by_cell true (Some piece) here taken e = cc
   by_cell false cell here stands e = cc
@@ -236,7 +236,7 @@ put_place profile p kind to m e = by_cell (may_put profile kind to) (at p to) e 
   by_cell true (Some piece) e = cc
   by_cell false cell e = cc
 
-drops_of_sound : (profile : Profile) (p : Setup) (kind : HandKind) (m : Move) → Contains (drops_of profile p kind) m → CanGoIn profile p m
+drops_of_sound : (profile : Profile) (p : Setup) (kind : HandKind) (m : Move) → Contains (drops_of profile p kind) m → CanGo profile p m
 unfolding drops_of
 drops_of_sound profile p kind m h =
     let found = cond_sound _ _ m h in
@@ -256,7 +256,7 @@ drops_of_rising profile p kind =
           (let e : suc (first_drop + 12 * hand_place kind + to) ≡ first_drop + 12 * hand_place kind + suc to = omega arith in e)
           (rising-option (first_drop + 12 * hand_place kind + to) (put_on profile p kind to) (λ m e. put_place profile p kind to m e))
 
-drops_of_whole : (profile : Profile) (p : Setup) (kind : HandKind) (to : ℕ) → CanGoIn profile p (Put kind to) → Contains (drops_of profile p kind) (Put kind to)
+drops_of_whole : (profile : Profile) (p : Setup) (kind : HandKind) (to : ℕ) → CanGo profile p (Put kind to) → Contains (drops_of profile p kind) (Put kind to)
 unfolding drops_of
 drops_of_whole profile p kind to (q, g) =
     let d = goes profile p (Put kind to) q g in
@@ -266,7 +266,7 @@ drops_of_whole profile p kind to (q, g) =
     cond_whole _ _ _ (lt-ltb 0 (held p.hands.mover kind) d.in_hand)
     (each_whole (λ to. option_to_list (put_on profile p kind to)) 12 to (Put kind to) d.on_board (option_whole (put_on profile p kind to) (Put kind to) it))
 
-pub drops_sound : (profile : Profile) (p : Setup) (m : Move) → Contains (all_drops profile p) m → CanGoIn profile p m
+pub drops_sound : (profile : Profile) (p : Setup) (m : Move) → Contains (all_drops profile p) m → CanGo profile p m
 unfolding all_drops
 drops_sound profile p m h =
     elim (Contains-append_cases (drops_of profile p hand.Chick ++ drops_of profile p hand.Elephant) (drops_of profile p hand.Giraffe) m h) [
@@ -285,7 +285,7 @@ drops_rising profile p =
     (drops_of_rising profile p hand.Chick) (drops_of_rising profile p hand.Elephant))
     (drops_of_rising profile p hand.Giraffe)
 
-pub drops_whole : (profile : Profile) (p : Setup) (kind : HandKind) (to : ℕ) → CanGoIn profile p (Put kind to) → Contains (all_drops profile p) (Put kind to)
+pub drops_whole : (profile : Profile) (p : Setup) (kind : HandKind) (to : ℕ) → CanGo profile p (Put kind to) → Contains (all_drops profile p) (Put kind to)
 unfolding all_drops
 drops_whole profile p hand.Chick to h =
     Contains-append_left (drops_of profile p hand.Chick ++ drops_of profile p hand.Elephant) (drops_of profile p hand.Giraffe) (Put hand.Chick to)
@@ -318,14 +318,14 @@ is_first_catch p len m e = record {
   first = first_step_least p len m e;
 }
 
-pub no_move : (p : Setup) → length p.board ≡ 12 → first (all_steps Elsewhere p) ≡ None → first (all_drops A p) ≡ None → (m : Move) → CanGo p m → ⊥
+pub no_move : (p : Setup) → length p.board ≡ 12 → first (all_steps Elsewhere p) ≡ None → first (all_drops A p) ≡ None → (m : Move) → CanGo A p m → ⊥
 no_move p len steps drops (Step kind from to catch grows) h =
     first_none (all_steps Elsewhere p) steps (Step kind from to catch grows)
     (found_in_steps Elsewhere p kind from to (Step kind from to catch grows) len (go_found p kind from to catch grows h))
 no_move p len steps drops (Put kind to) h = first_none (all_drops A p) drops (Put kind to) (drops_whole A p kind to h)
 
-pub step_goes : (p : Setup) (m : Move) → first (all_steps Elsewhere p) ≡ Some m → CanGo p m
+pub step_goes : (p : Setup) (m : Move) → first (all_steps Elsewhere p) ≡ Some m → CanGo A p m
 step_goes p m e = steps_sound Elsewhere p m (first_some (all_steps Elsewhere p) m e)
 
-pub drop_goes : (p : Setup) (m : Move) → first (all_drops A p) ≡ Some m → CanGo p m
+pub drop_goes : (p : Setup) (m : Move) → first (all_drops A p) ≡ Some m → CanGo A p m
 drop_goes p m e = drops_sound A p m (first_some (all_drops A p) m e)

@@ -17,8 +17,8 @@ use Rattle.dob_moves.specs.declared.game_move.Move.{Move}
 use Rattle.dob_moves.specs.declared.game_move.Move.TheVariants.{Step, Put}
 use Rattle.dob_moves.specs.declared.position_status.Status.{Status}
 use Rattle.dob_moves.specs.declared.position_status.Status.TheVariants.{Caught, Tried, Stuck, Open}
-use Rattle.dob_moves.specs.Moves.{CanGo, CanGoIn, may_put}
-use Rattle.dob_moves.specs.Statuses.{HasStatus, HasStatusIn}
+use Rattle.dob_moves.specs.Moves.{CanGo, may_put}
+use Rattle.dob_moves.specs.Statuses.{HasStatus}
 use Rattle.dob_moves.proofs.ByProfile.{can_go}
 
 -- ---- an empty square
@@ -93,7 +93,7 @@ room p legal some = let twelve = legal.squares in empty_below 9 p.board (few_sta
 -- ---- a move
 
 -- where a move can go one can by the rules of each profile
-move_in : (profile : Profile) (p : Setup) → IsLegal p → (m : Move) → CanGo p m → (move : Move) × CanGoIn profile p move
+move_in : (profile : Profile) (p : Setup) → IsLegal p → (m : Move) → CanGo A p m → (move : Move) × CanGo profile p move
 move_in A p legal m can = (m, can)
 move_in B p legal (Step kind from to catch grows) can = (Step kind from to catch grows, (can.0, (can.1, refl)))
 move_in B p legal (Put hand.Elephant to) can = (Put hand.Elephant to, (can.0, (can.1, refl)))
@@ -111,7 +111,7 @@ move_in B p legal (Put hand.Chick to) can =
       ),
     )
 
-pub share_status : (profile : Profile) (p : Setup) (s : Status) → IsLegal p → HasStatus p s ↔ HasStatusIn profile p s
+pub share_status : (profile : Profile) (p : Setup) (s : Status) → IsLegal p → HasStatus A p s ↔ HasStatus profile p s
 share_status profile p Caught legal = (λ h. h, λ h. h)
 share_status profile p Tried legal = (λ h. h, λ h. h)
 share_status profile p Stuck legal = (

@@ -1,8 +1,9 @@
 -- What the searches say of a position.
-use Rattle.std.proofs.Common.{refl, ◌≡◌, ◌≢◌, ◌+◌, List, [], ◌++◌, Contains, inl, inr, subst, arith, Bool, true, false, Option, Some, None}
+use Rattle.std.proofs.Common.{refl, ℕ, ◌∷◌, ◌≡◌, ◌≢◌, ◌+◌, List, [], ◌++◌, Contains, inl, inr, subst, arith, Bool, true, false, Option, Some, None}
 use Rattle.std.proofs.Common.{MatchOption, length, sym, ◌∙◌}
 use Rattle.std.specs.Bool.{IsTrue}
 use Rattle.std.specs.Option.{is_some}
+use Rattle.std.proofs.lemmas.Bool.{cases_eq}
 use Rattle.dob_pieces.specs.declared.profile.Profile.{Profile}
 use Rattle.dob_pieces.specs.declared.profile.Profile.TheVariants.{A}
 use Rattle.dob_pieces.specs.declared.setup.Setup.{Setup}
@@ -13,8 +14,8 @@ use Rattle.dob_moves.specs.declared.game_move.Move.TheVariants.{Step, Put}
 use Rattle.dob_moves.specs.declared.position_status.Status.{Status}
 use Rattle.dob_moves.specs.declared.position_status.Status.TheVariants.{Caught, Tried, Stuck, Open}
 use Rattle.std.proofs.lemmas.List.Elements.{Contains-append_left, Contains-append_right, Contains-append_cases}
-use Rattle.dob_moves.specs.Moves.{CanGo, CanGoIn, place, first_drop}
-use Rattle.dob_moves.specs.Statuses.{CanCatch, HasStatusIn, AreMovesIn, IsFirstCatch}
+use Rattle.dob_moves.specs.Moves.{CanGo, place, first_drop}
+use Rattle.dob_moves.specs.Statuses.{CanCatch, HasStatus, AreMoves, IsFirstCatch}
 use Rattle.dob_moves.specs.Walks.{first, all_steps, all_drops}
 use Rattle.dob_moves.proofs.ByProfile.{can_go}
 use Rattle.dob_moves.proofs.Firsts.{none_from}
@@ -26,33 +27,54 @@ catch_answer p None len e = λ (w : CanCatch p). no_catch p len (sym e) w.0 w.1
 catch_answer p (Some m) len e = is_first_catch p len m (sym e)
 
 pub step_answer : (p : Setup) (b : Bool) (o : Option Move) → o ≡ first (all_steps Elsewhere p) → is_some o ≡ true → b ≡ true
-    → (IsTrue b → (move : Move) × CanGo p move) × (((move : Move) × CanGo p move) → IsTrue b)
+    → (IsTrue b → (move : Move) × CanGo A p move) × (((move : Move) × CanGo A p move) → IsTrue b)
 step_answer p b None e h t = cc
 step_answer p b (Some m) e h t = (λ _. (m, step_goes p m (sym e)), λ _. t)
 
 pub drop_answer : (p : Setup) (b : Bool) (o drop : Option Move) → length p.board ≡ 12 → o ≡ first (all_steps Elsewhere p) → is_some o ≡ false
-    → drop ≡ first (all_drops A p) → b ≡ is_some drop → (IsTrue b → (move : Move) × CanGo p move) × (((move : Move) × CanGo p move) → IsTrue b)
+    → drop ≡ first (all_drops A p) → b ≡ is_some drop → (IsTrue b → (move : Move) × CanGo A p move) × (((move : Move) × CanGo A p move) → IsTrue b)
 drop_answer p b o None len e h d t =
-    (λ (yes : IsTrue b). cc, λ (w : (move : Move) × CanGo p move). absurd (no_move p len (sym e ∙ none_from o h) (sym d) w.0 w.1))
+    (λ (yes : IsTrue b). cc, λ (w : (move : Move) × CanGo A p move). absurd (no_move p len (sym e ∙ none_from o h) (sym d) w.0 w.1))
 drop_answer p b o (Some m) len e h d t = (λ _. (m, drop_goes p m (sym d)), λ _. t)
+
+-- by how many there are
+first_of_none : (moves : List Move) → 0 ≡ length moves → first moves ≡ None
+first_of_none [] h = refl
+first_of_none (m ∷ moves) h = absurd (omega arith)
+
+first_of_some : (moves : List Move) → (0 ≡ length moves → ⊥) → (m : Move) × (first moves ≡ Some m)
+first_of_some [] h = absurd (h refl)
+first_of_some (m ∷ moves) h = (m, refl)
+
+pub some_move : (p : Setup) (steps drops : ℕ) → steps ≡ length (all_steps Elsewhere p) → drops ≡ length (all_drops A p) → (steps + drops ≡ 0 → ⊥)
+    → (move : Move) × CanGo A p move
+some_move p steps drops e d some = elim (cases_eq steps 0) [
+  | inl none ↦ (let found = first_of_some (all_drops A p) (λ h. some (omega (arith, none, d, h))) in (found.0, drop_goes p found.0 found.1))
+  | inr are ↦ (let found = first_of_some (all_steps Elsewhere p) (λ h. are (omega (arith, e, h))) in (found.0, step_goes p found.0 found.1))
+]
+
+pub no_moves : (p : Setup) (steps drops : ℕ) → length p.board ≡ 12 → steps ≡ length (all_steps Elsewhere p) → drops ≡ length (all_drops A p)
+    → steps + drops ≡ 0 → ((move : Move) × CanGo A p move) → ⊥
+no_moves p steps drops len e d none w =
+    no_move p len (first_of_none (all_steps Elsewhere p) (omega (arith, e, none))) (first_of_none (all_drops A p) (omega (arith, d, none))) w.0 w.1
 
 -- ---- the list of the moves
 
-move_listed : (profile : Profile) (p : Setup) → length p.board ≡ 12 → (m : Move) → CanGoIn profile p m → Contains (all_steps Elsewhere p ++ all_drops profile p) m
+move_listed : (profile : Profile) (p : Setup) → length p.board ≡ 12 → (m : Move) → CanGo profile p m → Contains (all_steps Elsewhere p ++ all_drops profile p) m
 move_listed profile p len (Step kind from to catch grows) h =
     Contains-append_left (all_steps Elsewhere p) (all_drops profile p) (Step kind from to catch grows)
     (found_in_steps Elsewhere p kind from to (Step kind from to catch grows) len (go_found p kind from to catch grows (can_go profile p (Step kind from to catch grows) h)))
 move_listed profile p len (Put kind to) h =
     Contains-append_right (all_steps Elsewhere p) (all_drops profile p) (Put kind to) (drops_whole profile p kind to h)
 
-pub listed_goes : (profile : Profile) (p : Setup) (m : Move) → Contains (all_steps Elsewhere p ++ all_drops profile p) m → CanGoIn profile p m
+pub listed_goes : (profile : Profile) (p : Setup) (m : Move) → Contains (all_steps Elsewhere p ++ all_drops profile p) m → CanGo profile p m
 listed_goes profile p m h =
     elim (Contains-append_cases (all_steps Elsewhere p) (all_drops profile p) m h) [
       | inl step ↦ steps_go profile p m step
       | inr drop ↦ drops_sound profile p m drop
     ]
 
-open_moves : (profile : Profile) (p : Setup) → length p.board ≡ 12 → HasStatusIn profile p Open → AreMovesIn profile p (all_steps Elsewhere p ++ all_drops profile p)
+open_moves : (profile : Profile) (p : Setup) → length p.board ≡ 12 → HasStatus profile p Open → AreMoves profile p (all_steps Elsewhere p ++ all_drops profile p)
 open_moves profile p len h = record {
   sound = λ m here. (h, listed_goes profile p m here);
   whole = λ m is_open goes. move_listed profile p len m goes;
@@ -61,22 +83,22 @@ open_moves profile p len h = record {
 }
 
 -- the steps and then the drops are the moves of an open position
-pub open_answer : (profile : Profile) (p : Setup) → length p.board ≡ 12 → HasStatusIn profile p Open → (none steps all : List Move) → none ≡ []
-    → steps ≡ none ++ all_steps Elsewhere p → all ≡ steps ++ all_drops profile p → AreMovesIn profile p all
+pub open_answer : (profile : Profile) (p : Setup) → length p.board ≡ 12 → HasStatus profile p Open → (none steps all : List Move) → none ≡ []
+    → steps ≡ none ++ all_steps Elsewhere p → all ≡ steps ++ all_drops profile p → AreMoves profile p all
 open_answer profile p len h none steps all e f g =
     let same : all ≡ all_steps Elsewhere p ++ all_drops profile p = rw (g, f, e) refl in
-    subst (λ (ms : List Move). AreMovesIn profile p ms) (sym same) (open_moves profile p len h)
+    subst (λ (ms : List Move). AreMoves profile p ms) (sym same) (open_moves profile p len h)
 
-not_open : (profile : Profile) (p : Setup) (s : Status) → HasStatusIn profile p s → s ≢ Open → HasStatusIn profile p Open → ⊥
+not_open : (profile : Profile) (p : Setup) (s : Status) → HasStatus profile p s → s ≢ Open → HasStatus profile p Open → ⊥
 not_open profile p Caught h n o = o.0 h
 not_open profile p Tried h n o = o.1 h.1
 not_open profile p Stuck h n o = h.2 o.2.0 o.2.1
 not_open profile p Open h n o = n refl
 
 -- no other position has moves
-pub other_answer : (profile : Profile) (p : Setup) (s : Status) → HasStatusIn profile p s → s ≢ Open → (none : List Move) → none ≡ [] → AreMovesIn profile p none
+pub other_answer : (profile : Profile) (p : Setup) (s : Status) → HasStatus profile p s → s ≢ Open → (none : List Move) → none ≡ [] → AreMoves profile p none
 other_answer profile p s h n none e =
-    subst (λ (ms : List Move). AreMovesIn profile p ms) (sym e)
+    subst (λ (ms : List Move). AreMoves profile p ms) (sym e)
     (record {
       sound = λ m here. absurd (none_in_empty m here);
       whole = λ m is_open goes. absurd (not_open profile p s h n is_open);

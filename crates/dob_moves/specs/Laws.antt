@@ -1,5 +1,6 @@
 -- Laws of the rules, of which `src/laws.rt` has one function each.
 use Rattle.std.specs.Prelude.{◌≡◌, ◌↔◌, ℕ, Bool}
+use Rattle.dob_pieces.specs.declared.profile.Profile.TheVariants.{A}
 use Rattle.dob_pieces.specs.declared.kind.Kind.{Kind}
 use Rattle.dob_pieces.specs.declared.kind.HandKind.{HandKind}
 use Rattle.dob_pieces.specs.declared.profile.Profile.{Profile}
@@ -10,55 +11,55 @@ use Rattle.dob_moves.specs.declared.game_move.Move.{Move}
 use Rattle.dob_moves.specs.declared.game_move.Move.TheVariants.{Step}
 use Rattle.dob_moves.specs.declared.position_status.Status.{Status}
 use Rattle.dob_moves.specs.declared.position_status.Status.TheVariants.{Open}
-use Rattle.dob_moves.specs.Moves.{Goes, GoesIn, CanGo, CatchesLion}
-use Rattle.dob_moves.specs.Statuses.{HasStatus, HasStatusIn, AreMovesIn}
-use Rattle.dob_moves.specs.MoveLists.{moves_of_in}
+use Rattle.dob_moves.specs.Moves.{HasOutcome, Goes, CanGo, CatchesLion}
+use Rattle.dob_moves.specs.Statuses.{HasStatus, AreMoves}
+use Rattle.dob_moves.specs.MoveLists.{moves_of}
 use Rattle.dob_moves.specs.Mirrors.{mirrored_move}
 
 -- every outcome of a move of an open position is a position
 abbrev pub OutcomesAreLegal : Type 0
-OutcomesAreLegal = (p : Setup) (move : Move) (q : Setup) → IsLegal p → HasStatus p Open → Goes p move q → IsLegal q
+OutcomesAreLegal = (p : Setup) (move : Move) (q : Setup) → IsLegal p → HasStatus A p Open → HasOutcome p move q → IsLegal q
 
 -- every outcome of a move by a profile's rules is allowed by it, where the position is
 abbrev pub OutcomesAreAllowed : Type 0
 OutcomesAreAllowed = (profile : Profile) (p : Setup) (move : Move) (q : Setup)
-    → IsLegal p → IsAllowed profile p → GoesIn profile p move q → IsAllowed profile q
+    → IsLegal p → IsAllowed profile p → Goes profile p move q → IsAllowed profile q
 
 -- a position has the same status by the rules of each profile
 abbrev pub ProfilesShareStatuses : Type 0
-ProfilesShareStatuses = (profile : Profile) (p : Setup) (s : Status) → IsLegal p → HasStatus p s ↔ HasStatusIn profile p s
+ProfilesShareStatuses = (profile : Profile) (p : Setup) (s : Status) → IsLegal p → HasStatus A p s ↔ HasStatus profile p s
 
 -- no move changes how many pieces of a kind there are
 abbrev pub OutcomesKeepPieces : Type 0
-OutcomesKeepPieces = (p : Setup) (move : Move) (q : Setup) (kind : HandKind) → IsLegal p → Goes p move q → total kind q ≡ total kind p
+OutcomesKeepPieces = (p : Setup) (move : Move) (q : Setup) (kind : HandKind) → IsLegal p → HasOutcome p move q → total kind q ≡ total kind p
 
 -- a move has one outcome
 abbrev pub MovesHaveOneOutcome : Type 0
-MovesHaveOneOutcome = (p : Setup) (move : Move) (q r : Setup) → Goes p move q → Goes p move r → q ≡ r
+MovesHaveOneOutcome = (p : Setup) (move : Move) (q r : Setup) → HasOutcome p move q → HasOutcome p move r → q ≡ r
 
 -- the statuses exclude each other
 abbrev pub StatusesExclude : Type 0
-StatusesExclude = (p : Setup) (s t : Status) → HasStatus p s → HasStatus p t → s ≡ t
+StatusesExclude = (p : Setup) (s t : Status) → HasStatus A p s → HasStatus A p t → s ≡ t
 
 -- a position's mirror image has its status
 abbrev pub StatusesMirror : Type 0
-StatusesMirror = (p : Setup) (s : Status) → IsLegal p → HasStatus p s → HasStatus (mirrored p) s
+StatusesMirror = (p : Setup) (s : Status) → IsLegal p → HasStatus A p s → HasStatus A (mirrored p) s
 
 -- the mirror image of a move leads to the mirror image of its outcome
 abbrev pub OutcomesMirror : Type 0
 OutcomesMirror = (p : Setup) (move : Move) (q : Setup)
-    → IsLegal p → Goes p move q → Goes (mirrored p) (mirrored_move move) (mirrored q)
+    → IsLegal p → HasOutcome p move q → HasOutcome (mirrored p) (mirrored_move move) (mirrored q)
 
 -- of all steps from one square to another at most one can go
 abbrev pub StepsExclude : Type 0
 StepsExclude = (p : Setup) (kind other : Kind) (from to : ℕ) (catch catches grows grow : Bool)
-    → CanGo p (Step kind from to catch grows) → CanGo p (Step other from to catches grow)
+    → CanGo A p (Step kind from to catch grows) → CanGo A p (Step other from to catches grow)
     → (kind ≡ other) × (catch ≡ catches) × (grows ≡ grow)
 
 -- a step onto the enemy lion isn't a move
 abbrev pub LionsAreNotTaken : Type 0
-LionsAreNotTaken = (p : Setup) (move : Move) → CatchesLion p move → ¬ CanGo p move
+LionsAreNotTaken = (p : Setup) (move : Move) → CatchesLion p move → ¬ CanGo A p move
 
 -- the list that computes has just the moves
 abbrev pub ListsHaveMoves : Type 0
-ListsHaveMoves = (profile : Profile) (p : Setup) → IsLegal p → AreMovesIn profile p (moves_of_in profile p)
+ListsHaveMoves = (profile : Profile) (p : Setup) → IsLegal p → AreMoves profile p (moves_of profile p)

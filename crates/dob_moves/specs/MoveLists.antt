@@ -3,7 +3,6 @@ use Rattle.std.specs.Prelude.{◌||◌, if◌then◌else◌, Bool, List, [], ◌
 use Rattle.std.specs.Option.{is_some}
 use Rattle.dob_pieces.specs.declared.kind.Side.TheVariants.{Enemy}
 use Rattle.dob_pieces.specs.declared.profile.Profile.{Profile}
-use Rattle.dob_pieces.specs.declared.profile.Profile.TheVariants.{A}
 use Rattle.dob_pieces.specs.declared.setup.Setup.{Setup}
 use Rattle.dob_pieces.specs.Setups.{at, holds_lion}
 use Rattle.dob_moves.specs.declared.game_move.Move.{Move}
@@ -19,8 +18,5 @@ abbrev pub has_tried : Setup → Bool
 has_tried p = holds_lion Enemy (at p 0) || (holds_lion Enemy (at p 1) || holds_lion Enemy (at p 2))
 
 -- the steps and then the drops of a profile, in the move order; none where the game is over
-unfoldable pub moves_of_in : Profile → Setup → List Move
-moves_of_in profile p = if can_catch p || has_tried p then [] else all_steps Elsewhere p ++ all_drops profile p
-
-abbrev pub moves_of : Setup → List Move
-moves_of = moves_of_in A
+unfoldable pub moves_of : Profile → Setup → List Move
+moves_of profile p = if can_catch p || has_tried p then [] else all_steps Elsewhere p ++ all_drops profile p

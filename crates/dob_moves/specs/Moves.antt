@@ -49,21 +49,21 @@ pub record Drops (p : Setup) (kind : HandKind) (to : ℕ) (q : Setup) : Type 0 w
     hands = record p.hands { mover = with_one_less p.hands.mover kind };
   })
 
--- From p the move goes to q, which is seen from the other side.
-abbrev pub Goes : Setup → Move → Setup → Type 0
+-- What comes of a move at p, whatever a profile forbids: q, which is seen from the other side.
+abbrev pub HasOutcome : Setup → Move → Setup → Type 0
 -- a step to an empty square
-Goes p (Step kind from to false false) q =
+HasOutcome p (Step kind from to false false) q =
     (grows_at kind to ≡ false) × (at p to ≡ None) × Steps p kind from to kind p.hands q
 -- a catch
-Goes p (Step kind from to true false) q =
+HasOutcome p (Step kind from to true false) q =
     (grows_at kind to ≡ false) × (taken : HandKind) × CanTake p to taken × Steps p kind from to kind (hands_after_catch p.hands taken) q
 -- a chick's step onto its far row, which makes a hen, to an empty square or with a catch
-Goes p (Step kind from to false true) q =
+HasOutcome p (Step kind from to false true) q =
     (grows_at kind to ≡ true) × (at p to ≡ None) × Steps p kind from to Hen p.hands q
-Goes p (Step kind from to true true) q =
+HasOutcome p (Step kind from to true true) q =
     (grows_at kind to ≡ true) × (taken : HandKind) × CanTake p to taken × Steps p kind from to Hen (hands_after_catch p.hands taken) q
 -- a drop
-Goes p (Put kind to) q = Drops p kind to q
+HasOutcome p (Put kind to) q = Drops p kind to q
 
 -- a profile lets a piece from the hand stand on the square
 abbrev pub may_put : Profile → HandKind → ℕ → Bool
@@ -74,17 +74,14 @@ abbrev pub may_go : Profile → Move → Bool
 may_go profile (Step kind from to catch grows) = true
 may_go profile (Put kind to) = may_put profile kind to
 
--- From p the move goes to q by the rules of the profile; all moves are those of profile A.
-abbrev pub GoesIn : Profile → Setup → Move → Setup → Type 0
-GoesIn A p move q = Goes p move q
-GoesIn B p move q = Goes p move q × (may_go B move ≡ true)
+-- From p the move goes to q by the rules of the profile. In profile A each outcome is one.
+abbrev pub Goes : Profile → Setup → Move → Setup → Type 0
+Goes A p move q = HasOutcome p move q
+Goes B p move q = HasOutcome p move q × (may_go B move ≡ true)
 
 -- some outcome follows from the move
-abbrev pub CanGoIn : Profile → Setup → Move → Type 0
-CanGoIn profile p move = (q : Setup) × GoesIn profile p move q
-
-abbrev pub CanGo : Setup → Move → Type 0
-CanGo = CanGoIn A
+abbrev pub CanGo : Profile → Setup → Move → Type 0
+CanGo profile p move = (q : Setup) × Goes profile p move q
 
 -- a step of the mover that ends on the enemy lion
 abbrev pub CatchesLion : Setup → Move → Type 0

@@ -1,8 +1,9 @@
 // What a move leads to.
 ghost use Rattle.std.specs.Prelude.{◌≡◌, ◌<◌};
+ghost use Rattle.dob_pieces.specs.declared.profile.Profile.TheVariants.{A};
 ghost use Rattle.dob_pieces.specs.Setups.{at, held};
 ghost use Rattle.dob_moves.specs.declared.position_status.Status.{Status};
-ghost use Rattle.dob_moves.specs.Moves.{Goes, CanGo};
+ghost use Rattle.dob_moves.specs.Moves.{HasOutcome, CanGo};
 ghost use Rattle.dob_moves.specs.Statuses.{HasStatus};
 ghost use Rattle.dob_moves.specs.Outcomes.{arrives_as, with_caught, stepped, dropped, moved};
 
@@ -12,16 +13,16 @@ use dob_pieces::{Hand, HandKind, Hands, Kind, Piece, Position, Setup, Side, Squa
 /// The position that a move leads to, seen from the side that moves next. The position must be open and the move
 /// one of its moves; nothing of it is tested when this runs.
 pub fn apply(position: &Position, choice: Move) -> Position
-    requires open { HasStatus position.now.setup Status.Open }
-    requires can_go { CanGo position.now.setup choice }
-    ensures { Goes position.now.setup choice result.setup }
+    requires open { HasStatus A position.now.setup Status.Open }
+    requires can_go { CanGo A position.now.setup choice }
+    ensures { HasOutcome position.now.setup choice result.setup }
 {
     Position::new(moved(position, choice).turned())
 }
 
 // What stands after a move, before the board is turned.
 fn moved(position: &Position, choice: Move) -> Setup
-    requires { CanGo position.now.setup choice }
+    requires { CanGo A position.now.setup choice }
     ensures { result ≡ moved position.now.setup choice }
 {
     match choice {

@@ -13,8 +13,8 @@ mod position_status;
 mod status_of;
 
 pub use applying::apply;
-pub use count::{count_moves, status_and_count, status_and_count_in};
+pub use count::{count_moves, status_and_count, status_and_count_shown};
 pub use game_move::Move;
-pub use listing::{moves, moves_in, moves_into, moves_into_in};
+pub use listing::{moves, moves_into};
 pub use position_status::Status;
 pub use status_of::{first_catch, status};

@@ -1,7 +1,7 @@
 // The list of a position's moves: the squares that masks tell, from the lowest on, which is the move order.
 ghost use Rattle.std.specs.Prelude.{◌≡◌, [], ◌++◌, IfOk, OnOk, OnErr};
 ghost use Rattle.dob_pieces.specs.Masks.{AreMasks};
-ghost use Rattle.dob_moves.specs.Statuses.{HasStatus, HasStatusIn, AreMoves, AreMovesIn};
+ghost use Rattle.dob_moves.specs.Statuses.{HasStatus, AreMoves};
 ghost use Rattle.dob_moves.specs.Walks.{steps_by, steps_from, all_steps, drops_of, all_drops};
 ghost use Rattle.dob_moves.specs.declared.first_moves.Aim.TheVariants.{Elsewhere};
 
@@ -118,18 +118,18 @@ fn push_drops(
 /// Clears the list, writes the moves of an open position by the rules of the profile into it, each once, in the move order,
 /// and no moves of any other position, and gives the position's status. Fails where memory runs out, and leaves the list
 /// empty then.
-pub fn moves_into_in(
+pub fn moves_into(
     profile: Profile,
     moves: &mut Vec<Move>,
     position: &Position,
 ) -> Result<Status, Memory>
-    ensures moves { OnOk result (AreMovesIn profile position.now.setup moves.new.items) }
-    ensures status { IfOk result (λ s. HasStatusIn profile position.now.setup s) }
+    ensures moves { OnOk result (AreMoves profile position.now.setup moves.new.items) }
+    ensures status { IfOk result (λ s. HasStatus profile position.now.setup s) }
     ensures memory { OnErr result (moves.new.items ≡ []) }
 {
     moves.clear();
     let masks = Masks::of(&position.setup);
-    match status_by(position, &masks) {
+    match status_by(position, &masks, position.setup.hands.mover) {
         Status::Open => {
             let Ok(()) = push_moves(moves, profile, &position.setup, &masks) else {
                 moves.clear();
@@ -139,15 +139,6 @@ pub fn moves_into_in(
         }
         other => Ok(other),
     }
-}
-
-/// The same by the rules of profile A.
-pub fn moves_into(moves: &mut Vec<Move>, position: &Position) -> Result<Status, Memory>
-    ensures moves { OnOk result (AreMoves position.now.setup moves.new.items) }
-    ensures status { IfOk result (λ s. HasStatus position.now.setup s) }
-    ensures memory { OnErr result (moves.new.items ≡ []) }
-{
-    moves_into_in(Profile::A, moves, position)
 }
 
 /// Appends the steps and drops.
@@ -168,17 +159,10 @@ fn push_moves(
 
 /// The moves of an open position by the rules of the profile, each once, in the move order; no moves of any other position.
 /// Fails where memory runs out.
-pub fn moves_in(alloc: Global, profile: Profile, position: &Position) -> Result<Vec<Move>, Memory>
-    ensures { IfOk result (λ v. AreMovesIn profile position.now.setup v.items) }
+pub fn moves(alloc: Global, profile: Profile, position: &Position) -> Result<Vec<Move>, Memory>
+    ensures { IfOk result (λ v. AreMoves profile position.now.setup v.items) }
 {
     let mut moves = Vec::new(alloc);
-    moves_into_in(profile, &mut moves, position)?;
+    moves_into(profile, &mut moves, position)?;
     Ok(moves)
-}
-
-/// The same by the rules of profile A.
-pub fn moves(alloc: Global, position: &Position) -> Result<Vec<Move>, Memory>
-    ensures { IfOk result (λ v. AreMoves position.now.setup v.items) }
-{
-    moves_in(alloc, Profile::A, position)
 }

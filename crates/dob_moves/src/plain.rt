@@ -45,7 +45,7 @@ fn has_tried(position: &Position) -> bool
 
 /// The status of the position: a catch is looked for first, then a try, then a move.
 pub fn status(position: &Position) -> Status
-    ensures { HasStatus position.now.setup result }
+    ensures { HasStatus Profile.A position.now.setup result }
 {
     if first_catch(position).is_some() {
         Status::Caught
@@ -135,7 +135,7 @@ fn push_drops(moves: &mut Vec<Move>, setup: &Setup) -> Result<(), Memory>
 /// The moves of an open position, each once, in the move order; no moves of any other position. Fails where memory
 /// runs out.
 pub fn moves(alloc: Global, position: &Position) -> Result<Vec<Move>, Memory>
-    ensures { IfOk result (λ v. AreMoves position.now.setup v.items) }
+    ensures { IfOk result (λ v. AreMoves Profile.A position.now.setup v.items) }
 {
     let mut moves = Vec::new(alloc);
     match status(position) {

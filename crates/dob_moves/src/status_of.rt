@@ -1,15 +1,17 @@
 // The status of a position, and the first step that catches the enemy lion, looked at from the lions' squares.
 ghost use Rattle.std.specs.Prelude.{◌↔◌, ◌≡◌, IsTrue, MatchOption};
+ghost use Rattle.dob_pieces.specs.declared.profile.Profile.TheVariants.{A};
 ghost use Rattle.dob_pieces.specs.Masks.{AreMasks};
 ghost use Rattle.dob_pieces.specs.Setups.{at, piece_of};
 ghost use Rattle.dob_moves.specs.Moves.{CanGo, grows_at};
 ghost use Rattle.dob_moves.specs.Statuses.{CanCatch, HasStatus, IsFirstCatch};
 ghost use Rattle.dob_moves.specs.declared.game_move.Move.{Move as Moved};
 
+use crate::count::has_move;
 use crate::first_moves::{Aim, first_drop, first_step, grows_at, own_kind};
 use crate::game_move::Move;
 use crate::position_status::Status;
-use dob_pieces::{Kind, Masks, Position, Side, Square, lowest_square};
+use dob_pieces::{Hand, Kind, Masks, Position, Profile, Side, Square, lowest_square};
 
 /// The enemy lion's square.
 fn enemy_lion(position: &Position, masks: &Masks) -> Square
@@ -62,45 +64,49 @@ fn can_catch(position: &Position, masks: &Masks, lion: Square) -> bool
 /// Whether the mover's lion has a step, other than onto the enemy lion. Most positions that have a move have one.
 fn lion_can_step(position: &Position, masks: &Masks) -> bool
     requires { AreMasks position.now.setup masks.now }
-    ensures { IsTrue result → (move : Moved) × CanGo position.now.setup move }
+    ensures { IsTrue result → (move : Moved) × CanGo A position.now.setup move }
 {
     Kind::Lion.targets(own_lion(position, masks)) & masks.ends != 0
 }
 
 /// Whether a step, other than onto the enemy lion, or a drop of the mover is found.
 pub(crate) fn finds_move(position: &Position) -> bool
-    ensures { IsTrue result ↔ ((move : Moved) × CanGo position.now.setup move) }
+    ensures { IsTrue result ↔ ((move : Moved) × CanGo A position.now.setup move) }
 {
     first_step(&position.setup, Aim::Elsewhere).is_some() || first_drop(&position.setup).is_some()
 }
 
 /// Whether the mover has a move while its steps onto the enemy lion aren't counted.
-fn can_move(position: &Position, masks: &Masks) -> bool
-    requires { AreMasks position.now.setup masks.now }
-    ensures { IsTrue result ↔ ((move : Moved) × CanGo position.now.setup move) }
+fn can_move(position: &Position, masks: &Masks, hand: Hand) -> bool
+    requires masks { AreMasks position.now.setup masks.now }
+    requires hand { hand ≡ position.now.setup.hands.mover }
+    ensures { IsTrue result ↔ ((move : Moved) × CanGo A position.now.setup move) }
 {
-    lion_can_step(position, masks) || finds_move(position)
+    lion_can_step(position, masks) || has_move(position, masks, hand)
 }
 
-/// The status of the position: a catch is looked for first, then a try, then a move.
-pub fn status(position: &Position) -> Status
-    ensures { HasStatus position.now.setup result }
+/// The status of the position by the rules of the profile: a catch is looked for first, then a try, then a move. Each
+/// profile gives the same.
+pub fn status(profile: Profile, position: &Position) -> Status
+    ensures { HasStatus profile position.now.setup result }
 {
-    status_by(position, &Masks::of(&position.setup))
+    let masks = Masks::of(&position.setup);
+    status_by(position, &masks, position.setup.hands.mover)
 }
 
-/// The same of a position with those masks.
+/// The status of a position with those masks and that hand of the mover.
 #[tactic(auto, using(crate::proofs::Masked::tried_by))]
-pub(crate) fn status_by(position: &Position, masks: &Masks) -> Status
-    requires { AreMasks position.now.setup masks.now }
-    ensures { HasStatus position.now.setup result }
+pub(crate) fn status_by(position: &Position, masks: &Masks, hand: Hand) -> Status
+    requires masks { AreMasks position.now.setup masks.now }
+    requires hand { hand ≡ position.now.setup.hands.mover }
+    ensures { HasStatus A position.now.setup result }
 {
     let lion = enemy_lion(position, masks);
     if can_catch(position, masks, lion) {
         Status::Caught
     } else if lion.row() == 0 {
         Status::Tried
-    } else if can_move(position, masks) {
+    } else if can_move(position, masks, hand) {
         Status::Open
     } else {
         Status::Stuck

@@ -52,13 +52,12 @@ is_aslant cell = is_piece Mover Elephant cell || is_piece Mover Hen cell
 abbrev pub is_chick_or_empty : Cell → Bool
 is_chick_or_empty cell = is_piece Mover Chick cell || is_empty cell
 
+-- five numbers of twelve bits in one
+abbrev pub word_by : ℕ → ℕ → ℕ → ℕ → ℕ → ℕ
+word_by a b c d e = a + 4096 * b + 16777216 * c + 68719476736 * d + 281474976710656 * e
+
 unfoldable pub word_of : List Cell → ℕ
-word_of cells =
-    mask_of is_own cells
-    + 4096 * mask_of is_lion cells
-    + 16777216 * mask_of is_straight cells
-    + 68719476736 * mask_of is_aslant cells
-    + 281474976710656 * mask_of is_chick_or_empty cells
+word_of cells = word_by (mask_of is_own cells) (mask_of is_lion cells) (mask_of is_straight cells) (mask_of is_aslant cells) (mask_of is_chick_or_empty cells)
 
 word_piece : (side : Side) (kind : Kind) (cells : List Cell)
     → word_of (Some (piece_of side kind) ∷ cells) ≡ 2 * word_of cells + entry_of PLANES (Some (piece_of side kind))
@@ -91,41 +90,46 @@ word_more board i word read lt w r =
 -- ---- the masks in a word
 
 -- a mask of at most twelve cells has twelve bits
-mask_of-small : (test : Cell → Bool) (cells : List Cell) → length cells ≤ 12 → mask_of test cells < 4096
+pub mask_of-small : (test : Cell → Bool) (cells : List Cell) → length cells ≤ 12 → mask_of test cells < 4096
 mask_of-small test cells le =
     let bound : 2 ^ length cells ≤ 2 ^ 12 = pow_mono le in
     let lt = mask_of-lt test cells in
     omega (arith, bound, lt)
 
+pub word_by-small : (a b c d e : ℕ) → a < 4096 → b < 4096 → c < 4096 → d < 4096 → e < 4096 → word_by a b c d e < 2 ^ 60
+word_by-small a b c d e small-a small-b small-c small-d small-e = omega arith
+
+-- each of them, by its unit
+pub record AreIn (word a b c d e : ℕ) : Type 0 where
+  pub first : word / 1 % 4096 ≡ a
+  pub second : word / 4096 % 4096 ≡ b
+  pub third : word / 16777216 % 4096 ≡ c
+  pub fourth : word / 68719476736 % 4096 ≡ d
+  pub fifth : word / 281474976710656 % 4096 ≡ e
+
+pub word_by-parts : (a b c d e : ℕ) → a < 4096 → b < 4096 → c < 4096 → d < 4096 → e < 4096 → AreIn (word_by a b c d e) a b c d e
+word_by-parts a b c d e small-a small-b small-c small-d small-e = record {
+  first = omega arith;
+  second = omega arith;
+  third = omega arith;
+  fourth = omega arith;
+  fifth = omega arith;
+}
+
 word_small : (cells : List Cell) → length cells ≤ 12 → word_of cells < 2 ^ 60
 unfolding word_of
-word_small cells le =
-    let a = mask_of-small is_own cells le in
-    let b = mask_of-small is_lion cells le in
-    let c = mask_of-small is_straight cells le in
-    let d = mask_of-small is_aslant cells le in
-    let e = mask_of-small is_chick_or_empty cells le in
-    omega (arith, a, b, c, d, e)
+word_small cells le = word_by-small _ _ _ _ _ (mask_of-small is_own cells le) (mask_of-small is_lion cells le) (mask_of-small is_straight cells le)
+    (mask_of-small is_aslant cells le) (mask_of-small is_chick_or_empty cells le)
 
--- by the unit of each plane its mask
-pub word_planes : (cells : List Cell) → length cells ≤ 12 →
-    (word_of cells / 1 % 4096 ≡ mask_of is_own cells)
-    × (word_of cells / 4096 % 4096 ≡ mask_of is_lion cells)
-    × (word_of cells / 16777216 % 4096 ≡ mask_of is_straight cells)
-    × (word_of cells / 68719476736 % 4096 ≡ mask_of is_aslant cells)
-    × (word_of cells / 281474976710656 % 4096 ≡ mask_of is_chick_or_empty cells)
+pub word_planes : (cells : List Cell) → length cells ≤ 12 → AreIn (word_of cells) (mask_of is_own cells) (mask_of is_lion cells)
+    (mask_of is_straight cells) (mask_of is_aslant cells) (mask_of is_chick_or_empty cells)
 unfolding word_of
-word_planes cells le =
-    let a = mask_of-small is_own cells le in
-    let b = mask_of-small is_lion cells le in
-    let c = mask_of-small is_straight cells le in
-    let d = mask_of-small is_aslant cells le in
-    let e = mask_of-small is_chick_or_empty cells le in
-    (omega arith, omega arith, omega arith, omega arith, omega arith)
+word_planes cells le = word_by-parts _ _ _ _ _ (mask_of-small is_own cells le) (mask_of-small is_lion cells le) (mask_of-small is_straight cells le)
+    (mask_of-small is_aslant cells le) (mask_of-small is_chick_or_empty cells le)
 
 -- ---- the pass over the board
 
-from_start : (board : List Cell) (square : ℕ) → length board ≡ 12 → length (drop square board) ≤ 12
+pub from_start : (board : List Cell) (square : ℕ) → length board ≡ 12 → length (drop square board) ≤ 12
 from_start board square twelve = omega (arith, length-drop square board)
 
 -- before a square is read, and after

@@ -12,7 +12,7 @@ use Rattle.dob_text.specs.declared.fault.TextFault.{TextFault}
 use Rattle.dob_text.specs.declared.fault.TextFault.TheVariants as fault
 use Rattle.dob_text.specs.PositionText.{Spells, text_of}
 use Rattle.dob_text.specs.Readings.{capped_setup}
-use Rattle.dob_text.specs.Faults.{HasFaultIn, HasSetupFault}
+use Rattle.dob_text.specs.Faults.{HasTextFault, HasSetupFault}
 use Rattle.dob_text.proofs.Fronts.{same_hand}
 use Rattle.dob_text.proofs.Whole.{spelled_shape, spelled_letters, spelled_hands, same_spelled, same_setup}
 
@@ -46,7 +46,7 @@ same_place fault.FarChick fault.FarChick e = refl
 same_place _ _ e = absurd (omega arith)
 
 -- a later fault speaks against an earlier one
-ordered : (profile : Profile) (text : List ℕ) (f g : TextFault) → place f < place g → HasFaultIn profile text f → HasFaultIn profile text g → ⊥
+ordered : (profile : Profile) (text : List ℕ) (f g : TextFault) → place f < place g → HasTextFault profile text f → HasTextFault profile text g → ⊥
 ordered profile text fault.Shape fault.Letter lt x y = x y.0
 ordered profile text fault.Shape fault.Hand lt x y = x y.0
 ordered profile text fault.Shape fault.Lions lt x y = x (spelled_shape text y.0 y.1)
@@ -72,7 +72,7 @@ ordered profile text fault.FarLion fault.FarChick lt x y =
 ordered profile text _ g lt x y = absurd (omega (arith, place_small g))
 
 -- a text has one fault
-one_fault : (profile : Profile) (text : List ℕ) (f g : TextFault) → HasFaultIn profile text f → HasFaultIn profile text g → f ≡ g
+pub one_fault : (profile : Profile) (text : List ℕ) (f g : TextFault) → HasTextFault profile text f → HasTextFault profile text g → f ≡ g
 one_fault profile text f g x y =
     elim (cases_lt (place f) (place g)) [
       | inl lt ↦ absurd (ordered profile text f g lt x y)
@@ -83,8 +83,8 @@ one_fault profile text f g x y =
     ]
 
 -- the text of a position of the profile has none
-no_fault : (profile : Profile) (text : List ℕ) (setup : Setup) (f : TextFault) → IsLegal setup → IsAllowed profile setup → Spells text setup
-    → HasFaultIn profile text f → ⊥
+pub no_fault : (profile : Profile) (text : List ℕ) (setup : Setup) (f : TextFault) → IsLegal setup → IsAllowed profile setup → Spells text setup
+    → HasTextFault profile text f → ⊥
 no_fault profile text setup fault.Shape legal allowed spells x = x (spelled_shape text setup spells)
 no_fault profile text setup fault.Letter legal allowed spells x = x.1 (spelled_letters text setup spells)
 no_fault profile text setup fault.Hand legal allowed spells x = x.2 (spelled_hands text setup spells)
@@ -98,7 +98,7 @@ no_fault profile text setup fault.FarChick legal allowed spells x =
 abbrev pub Reads : Profile → List ℕ → Result Position TextFault → Type 0
 Reads profile text r = MatchResult r
     (λ position. IsLegal position.setup × IsAllowed profile position.setup × Spells text position.setup)
-    (λ f. HasFaultIn profile text f)
+    (λ f. HasTextFault profile text f)
 
 pub read_as : (profile : Profile) (text : List ℕ) (r : Result Position TextFault) → Reads profile text r → IfOk r (λ position. text ≡ text_of position.setup)
 read_as profile text (Ok position) reads = reads.2.spelled
@@ -109,10 +109,10 @@ allowed_as profile text (Ok position) reads = reads.1
 allowed_as profile text (Err f) reads = tt
 
 pub fault_as : (profile : Profile) (text : List ℕ) (r : Result Position TextFault) → Reads profile text r
-    → (f : TextFault) → IsErrOf r f ↔ HasFaultIn profile text f
+    → (f : TextFault) → IsErrOf r f ↔ HasTextFault profile text f
 fault_as profile text (Ok position) reads f = (λ same. cc, λ x. absurd (no_fault profile text position.setup f reads.0 reads.1 reads.2 x))
 fault_as profile text (Err e) reads f = (
-  λ same. let is : e ≡ f = cc in subst (λ (g : TextFault). HasFaultIn profile text g) is reads,
+  λ same. let is : e ≡ f = cc in subst (λ (g : TextFault). HasTextFault profile text g) is reads,
   λ x. ap (λ (g : TextFault). Err g) (one_fault profile text e f reads x),
 )
 
@@ -149,7 +149,7 @@ uncapped setup few =
 
 -- the setup that was read is capped, and its fault is the text's
 fault_up : (profile : Profile) (text : List ℕ) (setup : Setup) (f : TextFault) → Spells text setup
-    → HasSetupFault profile (capped_setup setup) f → HasFaultIn profile text f
+    → HasSetupFault profile (capped_setup setup) f → HasTextFault profile text f
 fault_up profile text setup fault.Lions spells x = (setup, spells, x)
 fault_up profile text setup fault.Count spells x = (setup, spells, x.0, λ few. x.1 (few_down setup few))
 fault_up profile text setup fault.FarLion spells x = (setup, spells, x.0, few_up setup x.1, x.2)

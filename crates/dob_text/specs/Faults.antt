@@ -1,7 +1,6 @@
 -- The faults of a text that is no position's, in the order in which they are tested.
 use Rattle.std.specs.Prelude.{ℕ, List, Some, codes}
 use Rattle.dob_pieces.specs.declared.profile.Profile.{Profile}
-use Rattle.dob_pieces.specs.declared.profile.Profile.TheVariants.{A}
 use Rattle.dob_pieces.specs.declared.setup.Setup.{Setup}
 use Rattle.dob_pieces.specs.declared.fault.PositionFault.TheVariants as position_fault
 use Rattle.dob_pieces.specs.Faults as position
@@ -22,18 +21,14 @@ fault_text FarLion = position.fault_text position_fault.FarLion
 fault_text FarChick = position.far_chick_text
 
 -- the first fault of the text by a profile: what it lacks, and that it has all that is tested before
-abbrev pub HasFaultIn : Profile → List ℕ → TextFault → Type 0
-HasFaultIn profile text Shape = ¬ HasShape text
-HasFaultIn profile text Letter = HasShape text × ¬ HasLetters text
-HasFaultIn profile text Hand = HasShape text × HasLetters text × ¬ HasHands text
-HasFaultIn profile text Lions = (setup : Setup) × Spells text setup × ¬ HasLions setup
-HasFaultIn profile text Count = (setup : Setup) × Spells text setup × HasLions setup × ¬ HasFewPieces setup
-HasFaultIn profile text FarLion = (setup : Setup) × Spells text setup × HasLions setup × HasFewPieces setup × ¬ HasLionOffFarRow setup
-HasFaultIn profile text FarChick = (setup : Setup) × Spells text setup × IsLegal setup × ¬ IsAllowed profile setup
-
--- by profile A, which allows any chick
-abbrev pub HasTextFault : List ℕ → TextFault → Type 0
-HasTextFault = HasFaultIn A
+abbrev pub HasTextFault : Profile → List ℕ → TextFault → Type 0
+HasTextFault profile text Shape = ¬ HasShape text
+HasTextFault profile text Letter = HasShape text × ¬ HasLetters text
+HasTextFault profile text Hand = HasShape text × HasLetters text × ¬ HasHands text
+HasTextFault profile text Lions = (setup : Setup) × Spells text setup × ¬ HasLions setup
+HasTextFault profile text Count = (setup : Setup) × Spells text setup × HasLions setup × ¬ HasFewPieces setup
+HasTextFault profile text FarLion = (setup : Setup) × Spells text setup × HasLions setup × HasFewPieces setup × ¬ HasLionOffFarRow setup
+HasTextFault profile text FarChick = (setup : Setup) × Spells text setup × IsLegal setup × ¬ IsAllowed profile setup
 
 -- why the setup that a text spells is no position of the profile
 abbrev pub HasSetupFault : Profile → Setup → TextFault → Type 0

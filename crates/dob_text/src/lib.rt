@@ -19,7 +19,7 @@ mod write_positions;
 pub use draw_boards::draw_position;
 pub use fault::TextFault;
 pub use pictures::picture_position;
-pub use read_positions::{read_position, read_position_in};
+pub use read_positions::{read_position, read_position_bytes};
 pub use write_lines::write_line;
 pub use write_moves::write_move;
 pub use write_positions::write_position;

@@ -5,7 +5,7 @@ ghost use Rattle.dob_pieces.specs.Profiles.{IsAllowed};
 ghost use Rattle.dob_pieces.specs.Setups.{IsLegal};
 ghost use Rattle.dob_text.specs.declared.fault.TextFault.{TextFault};
 ghost use Rattle.dob_text.specs.PositionText.{text_of, Spells};
-ghost use Rattle.dob_text.specs.Faults.{HasTextFault, HasFaultIn, HasSetupFault};
+ghost use Rattle.dob_text.specs.Faults.{HasTextFault, HasSetupFault};
 
 use crate::fault::TextFault;
 use crate::setups::read_setup;
@@ -31,11 +31,18 @@ fn position_of(profile: Profile, setup: Setup) -> Result<Position, TextFault>
     }
 }
 
-/// The position of that profile that the bytes spell.
-fn read_bytes(profile: Profile, text: &[u8]) -> Result<Position, TextFault>
-    ensures { MatchResult result
+/// The position of that profile that the bytes spell, which needn't be UTF-8. It takes no memory.
+///
+/// # Errors
+///
+/// Those of [`read_position`].
+pub fn read_position_bytes(profile: Profile, text: &[u8]) -> Result<Position, TextFault>
+    ensures read { MatchResult result
         (λ position. IsLegal position.setup × IsAllowed profile position.setup × Spells text.now position.setup)
-        (λ fault. HasFaultIn profile text.now fault) }
+        (λ fault. HasTextFault profile text.now fault) }
+    ensures spelt { (setup : Setup) → IsLegal setup → IsAllowed profile setup → Spells text.now setup
+        → IsOkAnd result (λ position. position.setup ≡ setup) }
+    ensures fault { (fault : TextFault) → IsErrOf result fault ↔ HasTextFault profile text.now fault }
 {
     let setup = read_setup(text)?;
     position_of(profile, setup)
@@ -50,26 +57,12 @@ fn read_bytes(profile: Profile, text: &[u8]) -> Result<Position, TextFault>
 /// C, E and G in this order, upper case for the mover and lower case for the enemy; `Lions`, one for each side; `Count`, at
 /// most two pieces of a kind; `FarLion`, a lion of the side to move that isn't on row 4; and in profile B `FarChick`, no
 /// chick on its own far row.
-pub fn read_position_in(profile: Profile, text: &str) -> Result<Position, TextFault>
+pub fn read_position(profile: Profile, text: &str) -> Result<Position, TextFault>
     ensures read { IfOk result (λ position. text.now ≡ text_of position.setup) }
     ensures allowed { IfOk result (λ position. IsAllowed profile position.setup) }
     ensures whole { (setup : Setup) → IsLegal setup → IsAllowed profile setup → text.now ≡ text_of setup
         → IsOkAnd result (λ position. position.setup ≡ setup) }
-    ensures fault { (fault : TextFault) → IsErrOf result fault ↔ HasFaultIn profile text.now fault }
+    ensures fault { (fault : TextFault) → IsErrOf result fault ↔ HasTextFault profile text.now fault }
 {
-    read_bytes(profile, text.as_bytes())
-}
-
-/// The position of profile A of which this is the text: any position, so that it never fails with `FarChick`.
-///
-/// # Errors
-///
-/// Those of [`read_position_in`].
-pub fn read_position(text: &str) -> Result<Position, TextFault>
-    ensures read { IfOk result (λ position. text.now ≡ text_of position.setup) }
-    ensures whole { (setup : Setup) → IsLegal setup → text.now ≡ text_of setup
-        → IsOkAnd result (λ position. position.setup ≡ setup) }
-    ensures fault { (fault : TextFault) → IsErrOf result fault ↔ HasTextFault text.now fault }
-{
-    read_position_in(Profile::A, text)
+    read_position_bytes(profile, text.as_bytes())
 }

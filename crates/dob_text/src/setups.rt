@@ -1,5 +1,6 @@
 // Reading what stands on the board and lies in the hands.
 ghost use Rattle.std.specs.Prelude.{◌≡◌, MatchResult};
+ghost use Rattle.dob_pieces.specs.declared.profile.Profile.TheVariants.{A};
 ghost use Rattle.dob_pieces.specs.declared.setup.Setup.{Setup};
 ghost use Rattle.dob_text.specs.PositionText.{Spells};
 ghost use Rattle.dob_text.specs.Readings.{capped_setup};
@@ -15,7 +16,7 @@ use dob_pieces::{Hands, Setup, Side};
 pub(crate) fn read_setup(text: &[u8]) -> Result<Setup, TextFault>
     ensures { MatchResult result
         (λ setup. (full : Setup) × Spells text.now full × (setup ≡ capped_setup full))
-        (λ fault. HasTextFault text.now fault) }
+        (λ fault. HasTextFault A text.now fault) }
 {
     let Some(parts) = parts_of(text) else {
         return Err(TextFault::Shape);

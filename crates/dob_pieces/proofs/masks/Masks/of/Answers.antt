@@ -41,11 +41,11 @@ returns c =
     c.loop-square.invariant ∙ ap (λ (k : ℕ). word_of (drop k c.args.setup.now.board)) none in
     let a = word_planes c.args.setup.now.board le in
     let unit = λ (unit : ℕ). ap (λ (word : ℕ). word / unit % 4096) word in
-    let own = are_squares c.args.setup.now is_own c.plane-own.result twelve (c.plane-own.ensures ∙ unit 1 ∙ a.0) in
-    let lions = are_squares c.args.setup.now is_lion c.plane-lions.result twelve (c.plane-lions.ensures ∙ unit 4096 ∙ a.1) in
-    let straight = are_squares c.args.setup.now is_straight c.plane-straight.result twelve (c.plane-straight.ensures ∙ unit 16777216 ∙ a.2) in
-    let aslant = are_squares c.args.setup.now is_aslant c.plane-aslant.result twelve (c.plane-aslant.ensures ∙ unit 68719476736 ∙ a.3) in
-    let low = are_squares c.args.setup.now is_chick_or_empty c.plane-chicks_or_empty.result twelve (c.plane-chicks_or_empty.ensures ∙ unit 281474976710656 ∙ a.4) in
+    let own = are_squares c.args.setup.now is_own c.plane-own.result twelve (c.plane-own.ensures ∙ unit 1 ∙ a.first) in
+    let lions = are_squares c.args.setup.now is_lion c.plane-lions.result twelve (c.plane-lions.ensures ∙ unit 4096 ∙ a.second) in
+    let straight = are_squares c.args.setup.now is_straight c.plane-straight.result twelve (c.plane-straight.ensures ∙ unit 16777216 ∙ a.third) in
+    let aslant = are_squares c.args.setup.now is_aslant c.plane-aslant.result twelve (c.plane-aslant.ensures ∙ unit 68719476736 ∙ a.fourth) in
+    let low = are_squares c.args.setup.now is_chick_or_empty c.plane-chicks_or_empty.result twelve (c.plane-chicks_or_empty.ensures ∙ unit 281474976710656 ∙ a.fifth) in
     let taken = IsMask-or (λ square. is_own (at c.args.setup.now square)) (λ square. is_lion (at c.args.setup.now square)) c.plane-own.result c.plane-lions.result own lions in
     record {
       lion_is = of_both c.args.setup.now is_lion is_own (is_piece Mover Lion) c.plane-lions.result c.plane-own.result refl lions own;

@@ -1,6 +1,6 @@
 -- The status by profile A is that by each profile.
 use Rattle.dob_moves.proofs.Shared.{share_status}
-use Rattle.dob_moves.proofs.count.status_and_count_in.Goals as goal
+use Rattle.dob_moves.proofs.count.status_and_count_shown.Goals as goal
 
 pub count_at-requires-clause-status : goal.count_at-requires-clause-status
 count_at-requires-clause-status c =

@@ -5,7 +5,7 @@ use Rattle.dob_moves.specs.Walks.{all_steps, all_drops}
 use Rattle.dob_moves.specs.declared.position_status.Status.TheVariants.{Open}
 use Rattle.dob_moves.proofs.Shared.{share_status}
 use Rattle.dob_moves.proofs.Verdicts.{open_answer, other_answer}
-use Rattle.dob_moves.proofs.listing.moves_into_in.Goals as goal
+use Rattle.dob_moves.proofs.listing.moves_into.Goals as goal
 
 pub returns-in-Ok-clause-moves : goal.returns-in-Ok-clause-moves
 returns-in-Ok-clause-moves c =
