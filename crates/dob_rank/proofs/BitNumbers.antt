@@ -6,7 +6,7 @@ use Rattle.dob_pieces.specs.declared.setup.Setup.{Setup}
 use Rattle.dob_rank.specs.declared.bitboards.Bitboards.{Bitboards}
 use Rattle.dob_rank.specs.declared.layers.Layer.TheVariants.{Chicks, Elephants, Giraffes}
 use Rattle.dob_rank.specs.declared.masks.Masks.{Masks}
-use Rattle.dob_rank.specs.Bitboards.{IsShown, AreBitboards, HasOfLayer}
+use Rattle.dob_rank.specs.Bitboards.{IsShownOfSet, AreBitboards, HasOfLayer}
 use Rattle.dob_rank.specs.BoardDigits.{ArePartsOf, AreNumbersOf}
 use Rattle.dob_rank.specs.BoardMasks.{AreMasks}
 use Rattle.dob_rank.specs.Numbers.{order, forms_number, on_board, digits}
@@ -14,12 +14,12 @@ use Rattle.dob_rank.proofs.BoardMasks.{numbers_are, AreNumbers, three}
 
 -- a position that is shown, by the masks and the numbers found
 pub record AreFound (set : PieceSet) (bits : Bitboards) (masks : Masks) (numbers : List ℕ) (setup : Setup) : Type 0 where
-  pub shown : IsShown set setup bits
+  pub shown : IsShownOfSet set setup bits
   pub masks_are : AreMasks setup.board masks
   pub numbers_are : numbers ≡ on_board setup
   pub counted : AreNumbers setup numbers
 
-pub are_found : (set : PieceSet) (bits : Bitboards) (masks : Masks) (numbers : List ℕ) (setup : Setup) → IsShown set setup bits
+pub are_found : (set : PieceSet) (bits : Bitboards) (masks : Masks) (numbers : List ℕ) (setup : Setup) → IsShownOfSet set setup bits
     → ((s : Setup) → AreBitboards s bits → length s.board ≡ 12 → AreMasks s.board masks)
     → ((s : Setup) → AreMasks s.board masks → numbers ≡ on_board s) → AreFound set bits masks numbers setup
 are_found set bits masks numbers setup shown layers counts =
@@ -76,7 +76,7 @@ module _ (set : PieceSet) (bits : Bitboards) (masks : Masks) (numbers : List ℕ
     (chicks : (s : Setup) → HasOfLayer Chicks masks.chicks (slice_index numbers 0) s bits → first ≡ forms_number (order Chicks) s.board)
     (elephants : (s : Setup) → HasOfLayer Elephants masks.elephants (slice_index numbers 1) s bits → second ≡ forms_number (order Elephants) s.board)
     (giraffes : (s : Setup) → HasOfLayer Giraffes masks.giraffes (slice_index numbers 2) s bits → third ≡ forms_number (order Giraffes) s.board) where
-  pub parts_shown : (setup : Setup) → IsShown set setup bits → ArePartsOf bits.hands.mover masks numbers (first ∷ second ∷ third ∷ []) setup
+  pub parts_shown : (setup : Setup) → IsShownOfSet set setup bits → ArePartsOf bits.hands.mover masks numbers (first ∷ second ∷ third ∷ []) setup
   parts_shown setup shown =
       let found = are_found set bits masks numbers setup shown layers counts in
       parts_found set bits masks numbers setup found first second third (chicks setup (chicks_found set bits masks numbers setup found))
@@ -84,6 +84,6 @@ module _ (set : PieceSet) (bits : Bitboards) (masks : Masks) (numbers : List ℕ
 
   pub numbers_shown : (all : List ℕ)
       → ((s : Setup) → ArePartsOf bits.hands.mover masks numbers (first ∷ second ∷ third ∷ []) s → all ≡ digits s)
-      → (setup : Setup) → IsShown set setup bits → AreNumbersOf set numbers all setup
+      → (setup : Setup) → IsShownOfSet set setup bits → AreNumbersOf set numbers all setup
   numbers_shown all told setup shown =
       numbers_found set bits masks numbers setup (are_found set bits masks numbers setup shown layers counts) all (told setup (parts_shown setup shown))

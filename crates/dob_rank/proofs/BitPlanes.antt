@@ -1,10 +1,7 @@
 -- Sets of squares found in one pass over the board: five in one word, twelve bits each, which no sum carries over.
-use Rattle.std.proofs.Common.{◌≡◌, ℕ, suc, ◌+◌, ◌-◌, ◌*◌, ◌/◌, ◌%◌, ◌^◌, ◌<◌, ◌≤◌, Bool, false, ◌||◌, List, [], ◌∷◌, Some, None, map}
+use Rattle.std.proofs.Common.{◌≡◌, ℕ, suc, ◌+◌, ◌-◌, ◌*◌, ◌^◌, ◌<◌, ◌≤◌, Bool, false, ◌||◌, List, [], ◌∷◌, Some, None}
 use Rattle.std.proofs.Common.{length, drop, slice_index_or, refl, sym, ap, ◌∙◌, arith}
-use Rattle.std.proofs.Math.Pow.{pow_mono}
 use Rattle.std.proofs.Math.Seq.{drop-cons}
-use Rattle.std.proofs.lemmas.List.{length-map, length-drop}
-use Rattle.std.proofs.lemmas.Simd.{mask_l-lt}
 use Rattle.dob_pieces.specs.declared.kind.Kind.{Kind}
 use Rattle.dob_pieces.specs.declared.kind.Kind.TheVariants.{Lion, Giraffe, Elephant, Chick, Hen}
 use Rattle.dob_pieces.specs.declared.kind.Side.{Side}
@@ -14,7 +11,7 @@ use Rattle.dob_pieces.specs.declared.setup.Setup.{Setup}
 use Rattle.dob_pieces.specs.Pieces.{is_side, other_side}
 use Rattle.dob_pieces.specs.Setups.{Cell, at, piece_of, turned, turned_cell}
 use Rattle.dob_pieces.proofs.Boards.{length-turned, at-turned}
-use Rattle.dob_pieces.proofs.Planes.{mask_of, is_lion}
+use Rattle.dob_pieces.proofs.Planes.{mask_of, mask_of-small, is_lion, word_by, word_by-small, word_by-parts, AreIn, IsRead, from_start}
 use Rattle.dob_rank.specs.declared.bitboards.TheConstants.{TURNED_PLANES}
 use Rattle.dob_rank.specs.declared.layers.Layer.TheVariants.{Chicks, Elephants, Giraffes}
 use Rattle.dob_rank.specs.Bitboards.{is_of, is_hen}
@@ -27,16 +24,9 @@ is_foe (Some piece) = is_side Enemy piece.side
 abbrev pub is_giraffe_or_hen : Cell → Bool
 is_giraffe_or_hen cell = is_of Giraffes cell || is_hen cell
 
-mask_of-lt : (test : Cell → Bool) (cells : List Cell) → mask_of test cells < 2 ^ length cells
-mask_of-lt test cells = rw length-map at (mask_l-lt (map test cells))
-
 unfoldable pub word_of : List Cell → ℕ
 word_of cells =
-    mask_of is_lion cells
-    + 4096 * mask_of is_foe cells
-    + 16777216 * mask_of (is_of Chicks) cells
-    + 68719476736 * mask_of (is_of Elephants) cells
-    + 281474976710656 * mask_of is_giraffe_or_hen cells
+    word_by (mask_of is_lion cells) (mask_of is_foe cells) (mask_of (is_of Chicks) cells) (mask_of (is_of Elephants) cells) (mask_of is_giraffe_or_hen cells)
 
 word_piece : (side : Side) (kind : Kind) (cells : List Cell)
     → word_of (Some (piece_of (other_side side) kind) ∷ cells) ≡ 2 * word_of cells + entry_of TURNED_PLANES (Some (piece_of side kind))
@@ -72,49 +62,18 @@ word_more board i word read cell lt there w r =
 
 -- ---- the masks in a word
 
--- a mask of at most twelve cells has twelve bits
-mask_of-small : (test : Cell → Bool) (cells : List Cell) → length cells ≤ 12 → mask_of test cells < 4096
-mask_of-small test cells le =
-    let bound : 2 ^ length cells ≤ 2 ^ 12 = pow_mono le in
-    let lt = mask_of-lt test cells in
-    omega (arith, bound, lt)
-
 word_small : (cells : List Cell) → length cells ≤ 12 → word_of cells < 2 ^ 60
 unfolding word_of
-word_small cells le =
-    let a = mask_of-small is_lion cells le in
-    let b = mask_of-small is_foe cells le in
-    let c = mask_of-small (is_of Chicks) cells le in
-    let d = mask_of-small (is_of Elephants) cells le in
-    let e = mask_of-small is_giraffe_or_hen cells le in
-    omega (arith, a, b, c, d, e)
+word_small cells le = word_by-small _ _ _ _ _ (mask_of-small is_lion cells le) (mask_of-small is_foe cells le) (mask_of-small (is_of Chicks) cells le)
+    (mask_of-small (is_of Elephants) cells le) (mask_of-small is_giraffe_or_hen cells le)
 
--- by the unit of each plane its mask
-pub word_planes : (cells : List Cell) → length cells ≤ 12 →
-    (word_of cells / 1 % 4096 ≡ mask_of is_lion cells)
-    × (word_of cells / 4096 % 4096 ≡ mask_of is_foe cells)
-    × (word_of cells / 16777216 % 4096 ≡ mask_of (is_of Chicks) cells)
-    × (word_of cells / 68719476736 % 4096 ≡ mask_of (is_of Elephants) cells)
-    × (word_of cells / 281474976710656 % 4096 ≡ mask_of is_giraffe_or_hen cells)
+pub word_planes : (cells : List Cell) → length cells ≤ 12 → AreIn (word_of cells) (mask_of is_lion cells) (mask_of is_foe cells)
+    (mask_of (is_of Chicks) cells) (mask_of (is_of Elephants) cells) (mask_of is_giraffe_or_hen cells)
 unfolding word_of
-word_planes cells le =
-    let a = mask_of-small is_lion cells le in
-    let b = mask_of-small is_foe cells le in
-    let c = mask_of-small (is_of Chicks) cells le in
-    let d = mask_of-small (is_of Elephants) cells le in
-    let e = mask_of-small is_giraffe_or_hen cells le in
-    (omega arith, omega arith, omega arith, omega arith, omega arith)
+word_planes cells le = word_by-parts _ _ _ _ _ (mask_of-small is_lion cells le) (mask_of-small is_foe cells le) (mask_of-small (is_of Chicks) cells le)
+    (mask_of-small (is_of Elephants) cells le) (mask_of-small is_giraffe_or_hen cells le)
 
 -- ---- the pass over the board
-
-from_start : (board : List Cell) (square : ℕ) → length board ≡ 12 → length (drop square board) ≤ 12
-from_start board square twelve = omega (arith, length-drop square board)
-
--- before a square is read, and after
-pub record IsRead (word next bound : ℕ) (after : ℕ) : Type 0 where
-  pub small : word < bound
-  pub small_next : next < bound
-  pub next_is : next ≡ after
 
 -- a pass over a board reads the turned one from its last square on
 pub word_read : (s : Setup) (square word read : ℕ) → square < 12 → word ≡ word_of (drop (12 - square) (turned s).board)

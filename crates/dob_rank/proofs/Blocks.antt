@@ -5,7 +5,7 @@ use Rattle.std.proofs.lemmas.Bool.{cases_lt}
 use Rattle.std.proofs.lemmas.Nat.{mul-le}
 use Rattle.std.proofs.Math.Nat.{mul-le-mul}
 use Rattle.dob_pieces.specs.declared.piece_set.PieceSet.{PieceSet}
-use Rattle.dob_rank.specs.Numbers.{product, digits_of, HasDigits, sum_below, choose, with_first, bases, bases_by, block_bases, block_size, size_of}
+use Rattle.dob_rank.specs.Numbers.{product, digits_of, HasDigits, sum_below, choose, with_first, bases, bases_by, block_bases, block_size, start_of, size_of_set}
 use Rattle.dob_rank.specs.Placing.{AreChoices}
 use Rattle.dob_rank.specs.Numbers.{own_squares, enemy_squares, free_squares}
 use Rattle.dob_rank.specs.Runs.{run_bases, lion_pairs}
@@ -14,6 +14,7 @@ use Rattle.dob_rank.proofs.Choices.{choose-split}
 use Rattle.dob_rank.proofs.FormDigits.{power_positive}
 use Rattle.dob_rank.proofs.Loops.{digit-at}
 use Rattle.dob_rank.proofs.Numbering.{block_size-product}
+use Rattle.dob_rank.proofs.Sums.{sum_below-rises}
 
 -- each number is at most the one beside it
 abbrev pub AreAtMost : List ℕ → List ℕ → Type 0
@@ -221,9 +222,9 @@ block_size-small set block h =
 pub sum_below_more : (f : ℕ → ℕ) (n : ℕ) → sum_below f (n + 1) ≡ sum_below f n + f n
 sum_below_more f n = ap (sum_below f) (let e : n + 1 ≡ suc n = omega arith in e)
 
-pub size_of-sum : (set : PieceSet) → size_of set ≡ sum_below (block_size set) (product (block_bases set))
-unfolding size_of
-size_of-sum set = refl
+pub size_of_set-sum : (set : PieceSet) → size_of_set set ≡ sum_below (block_size set) (product (block_bases set))
+unfolding size_of_set
+size_of_set-sum set = refl
 
 -- ---- what the code's lists have
 
@@ -283,11 +284,11 @@ start_step set start size earlier block h lt e s i b =
     less_word start size earlier blocks h k l m = omega arith
 
 -- past the last block nothing is left
-pub none_left : (set : PieceSet) (rank start block blocks : ℕ) → rank < size_of set → blocks ≡ product (block_bases set) → blocks ≤ block → block ≤ blocks
+pub none_left : (set : PieceSet) (rank start block blocks : ℕ) → rank < size_of_set set → blocks ≡ product (block_bases set) → blocks ≤ block → block ≤ blocks
     → start ≡ sum_below (block_size set) block → start ≤ rank → ⊥
 none_left set rank start block blocks h e l m i k =
     let same : block ≡ product (block_bases set) = equal block blocks (product (block_bases set)) l m e in
-    over (size_of set) (sum_below (block_size set) (product (block_bases set))) start rank h (size_of-sum set) (i ∙ ap (sum_below (block_size set)) same) k
+    over (size_of_set set) (sum_below (block_size set) (product (block_bases set))) start rank h (size_of_set-sum set) (i ∙ ap (sum_below (block_size set)) same) k
   where
     equal : (a b c : ℕ) → b ≤ a → a ≤ b → b ≡ c → a ≡ c
     equal a b c h k l = omega arith
@@ -323,3 +324,11 @@ AreChoices-digits set ob ds h k =
       elephant_squares = digit-at (bases_by set ob) ds 6 k (le_by 7 4);
       giraffe_squares = digit-at (bases_by set ob) ds 7 k (le_by 8 3);
     }
+
+-- a place of a block lies below the size of the set
+pub place_below_size : (set : PieceSet) (block place : ℕ) → block < product (block_bases set)
+    → place < block_size set block → start_of set block + place < size_of_set set
+unfolding size_of_set
+place_below_size set block place within below =
+    let upto = sum_below-rises (block_size set) block (product (block_bases set)) within in
+    omega (arith, upto, below)

@@ -11,7 +11,7 @@ use Rattle.dob_rank.specs.Masks.{layer_mask, from_mask, all_squares}
 use Rattle.dob_rank.specs.BoardMasks.{AreMasks}
 use Rattle.dob_rank.proofs.Digits.{HasParts, HasParts-from_position}
 use Rattle.dob_rank.proofs.Planes.{later_are}
-use Rattle.dob_rank.proofs.Sets.{set_of, IsPositionOf-set_of, few_in_layer}
+use Rattle.dob_rank.proofs.Sets.{set_of, IsPositionOfSet-set_of, few_in_layer}
 
 -- what is left of all squares, layer by layer
 pub record AreLeft (board : List Cell) (masks : Masks) : Type 0 where
@@ -75,7 +75,7 @@ pub record AreNumbers (s : Setup) (numbers : List ℕ) : Type 0 where
 
 pub numbers_are : (s : Setup) (numbers : List ℕ) → IsLegal s → numbers ≡ on_board s → AreNumbers s numbers
 numbers_are s numbers legal e =
-    let parts : HasParts (set_of s legal) s = HasParts-from_position (set_of s legal) s (IsPositionOf-set_of s legal) in
+    let parts : HasParts (set_of s legal) s = HasParts-from_position (set_of s legal) s (IsPositionOfSet-set_of s legal) in
     subst (AreNumbers s) (sym e) (record {
       own_lion = parts.own_lion;
       enemy_lion = parts.other_lion;

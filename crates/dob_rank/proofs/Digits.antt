@@ -13,7 +13,7 @@ use Rattle.dob_pieces.specs.declared.piece_set.PieceSet.{PieceSet}
 use Rattle.dob_pieces.specs.declared.setup.Setup.{Setup}
 use Rattle.dob_pieces.specs.Setups.{Cell, at, held, holds_lion, holds_kind, total, IsLegal}
 use Rattle.dob_rank.specs.declared.layers.Layer.TheVariants.{OwnLion, EnemyLion, Chicks, Elephants, Giraffes, Empty}
-use Rattle.dob_rank.specs.Order.{IsPositionOf, pieces_of}
+use Rattle.dob_rank.specs.Order.{IsPositionOfSet, pieces_of}
 use Rattle.dob_rank.specs.Numbers.{order, layer, count, count_from, choose, choice, settle, HasDigits, base_of, forms_number, board_of, empty_layers}
 use Rattle.dob_rank.specs.Numbers.{bases_by, block_bases, on_board, digits, numbers_by, layers_by, setup_by, own_squares, enemy_squares, free_squares}
 use Rattle.dob_rank.proofs.Choices.{choice-below}
@@ -40,13 +40,13 @@ lion_home s legal one = elim (cases_lt (choice (order OwnLion) (map layer s.boar
       (sym (layer-at s.board (choice (order OwnLion) (map layer s.board))) ∙ lion_at (map layer s.board) one)))
 ]
 
-of_kind : (kind : HandKind) (t : ℕ) (set : PieceSet) (s : Setup) → IsPositionOf set s
+of_kind : (kind : HandKind) (t : ℕ) (set : PieceSet) (s : Setup) → IsPositionOfSet set s
     → ((cells : List Cell) → count_by (holds_kind kind) cells ≡ count t (map layer cells))
     → count t (map layer s.board) + held s.hands.mover kind + held s.hands.enemy kind ≡ pieces_of set kind
 unfolding total
 of_kind kind t set s p h = ap (λ (n : ℕ). n + held s.hands.mover kind + held s.hands.enemy kind) (sym (h s.board)) ∙ p.pieces kind
 
-pub HasParts-from_position : (set : PieceSet) (s : Setup) → IsPositionOf set s → HasParts set s
+pub HasParts-from_position : (set : PieceSet) (s : Setup) → IsPositionOfSet set s → HasParts set s
 HasParts-from_position set s p =
     let one : count (order OwnLion) (map layer s.board) ≡ 1 = sym (count-layer (holds_lion Mover) (order OwnLion) holds_mover_lion s.board)
     ∙ p.legal.lions Mover in

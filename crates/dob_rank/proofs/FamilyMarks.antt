@@ -7,10 +7,10 @@ use Rattle.dob_pieces.specs.declared.profile.Family.{Family}
 use Rattle.dob_pieces.specs.declared.setup.Setup.{Setup}
 use Rattle.dob_rank.specs.declared.runs.RunKind.TheVariants.{First, Later, Mixed}
 use Rattle.dob_rank.specs.declared.layers.Layer.TheVariants.{OwnLion, EnemyLion, Chicks}
-use Rattle.dob_rank.specs.Numbers.{product, digits_of, block_bases, block_of, choose, settle, order, empty_layers, enemy_squares, free_squares, size_of}
+use Rattle.dob_rank.specs.Numbers.{product, digits_of, block_bases, block_of, choose, settle, order, empty_layers, enemy_squares, free_squares, size_of_set}
 use Rattle.dob_rank.specs.Marks.{one_if, marks_below}
 use Rattle.dob_rank.specs.ClassRows.{marked_place}
-use Rattle.dob_rank.specs.Families.{IsPositionIn, is_present, is_marked}
+use Rattle.dob_rank.specs.Families.{IsPositionOf, is_present, is_marked}
 use Rattle.dob_rank.specs.Runs.{runs_in, run_size, run_start, run_kind, run_of, local_of, lion_pairs, form_bases, IsInRun}
 use Rattle.dob_rank.specs.Stretches.{local_marks}
 use Rattle.dob_rank.specs.Weights.{may_have, are_allowed}
@@ -22,7 +22,7 @@ use Rattle.dob_rank.proofs.Representatives.{place_found}
 use Rattle.dob_rank.proofs.RunPlaces.{marked_first, marked_later, spot_there, run_start-is, place_in_run, run_size-small}
 use Rattle.dob_rank.proofs.MixedRuns.{marks_by_lions}
 use Rattle.dob_rank.proofs.RunMarks.{marks_agree, marks_from, lions_run, run_start_next}
-use Rattle.dob_rank.proofs.BlockTables.{place_below_size}
+use Rattle.dob_rank.proofs.Blocks.{place_below_size}
 use Rattle.dob_rank.proofs.RunPresent.{allowed_in_run}
 use Rattle.dob_rank.proofs.Present.{present}
 
@@ -72,7 +72,7 @@ places_agree f g number (suc size) same =
 -- ---- a run's positions of a family
 
 -- a place of a run is below the set's size
-pub in_set : (set : PieceSet) (block run local : ℕ) → IsInRun set block run local → run_start set block run + local < size_of set
+pub in_set : (set : PieceSet) (block run local : ℕ) → IsInRun set block run local → run_start set block run + local < size_of_set set
 in_set set block run local h =
     let start = run_start-is set block run in
     let below = place_below_size set block (run * run_size set block + local) h.block_below (place_in_run set block run local h) in
@@ -167,15 +167,15 @@ pub later_mark_in : (family : Family) (block run number : ℕ) → IsInRunOf fam
 later_mark_in family block run number at kind =
     marked_later family.set block run (place_of_number family block run number) (numbered family block run number at).in_run kind
 
-pub first_marks_in : (family : Family) (block run number : ℕ) → block < product (block_bases family.set) → run < runs_in family.set block
+pub first_marks : (family : Family) (block run number : ℕ) → block < product (block_bases family.set) → run < runs_in family.set block
     → number ≤ run_size_in family block run → run_kind (run % lion_pairs) ≡ First → marks_below (local_marks_in family block run) number ≡ number
-first_marks_in family block run number within below upto kind =
+first_marks family block run number within below upto kind =
     all_marked (local_marks_in family block run) number
     (λ k low. first_mark_in family block run k (record { block_below = within; run_below = below; number_below = omega (arith, low, upto) }) kind)
 
-pub later_marks_in : (family : Family) (block run number : ℕ) → block < product (block_bases family.set) → run < runs_in family.set block
+pub later_marks : (family : Family) (block run number : ℕ) → block < product (block_bases family.set) → run < runs_in family.set block
     → number ≤ run_size_in family block run → run_kind (run % lion_pairs) ≡ Later → marks_below (local_marks_in family block run) number ≡ 0
-later_marks_in family block run number within below upto kind =
+later_marks family block run number within below upto kind =
     none_marked (local_marks_in family block run) number
     (λ k low. later_mark_in family block run k (record { block_below = within; run_below = below; number_below = omega (arith, low, upto) }) kind)
 
@@ -230,7 +230,7 @@ alike_by_lions family block run within below kind = record {
 
 -- ---- the place of a position
 
-pub number_of_position : (family : Family) (s : Setup) → IsPositionIn family s
+pub number_of_position : (family : Family) (s : Setup) → IsPositionOf family s
     → IsNumbered family (block_of family.set s) (run_of family.set s)
     (marks_below (is_there family (block_of family.set s) (run_of family.set s)) (local_of s)) (local_of s)
 number_of_position family s p =

@@ -3,6 +3,7 @@ use Rattle.std.proofs.Common.{◌≡◌, ℕ, zero, suc, ◌<◌, ◌≤◌, ◌
 use Rattle.std.proofs.lemmas.Bool.{cases_lt, both_ways}
 use Rattle.std.proofs.Math.Nat.{min-eq_left, min-eq_right, min_comm}
 use Rattle.dob_pieces.specs.declared.profile.Family.{Family}
+use Rattle.dob_pieces.specs.declared.profile.Profile.{Profile}
 use Rattle.dob_pieces.specs.declared.profile.Profile.TheVariants.{A}
 use Rattle.dob_pieces.specs.declared.setup.Setup.{Setup}
 use Rattle.dob_pieces.specs.Profiles.{IsAllowed}
@@ -10,34 +11,32 @@ use Rattle.dob_pieces.specs.Setups.{mirrored}
 use Rattle.dob_pieces.proofs.Allowed.{IsAllowed-mirrored}
 use Rattle.dob_pieces.proofs.Symmetries.{mirrored-mirrored}
 use Rattle.dob_rank.specs.Order.{IsEither, IsFirstOfTwo, RepresentativeOf}
-use Rattle.dob_rank.specs.Numbers.{size_of, rank_of}
-use Rattle.dob_rank.specs.Marks.{one_if, marks_below, is_first, classes_of}
-use Rattle.dob_rank.specs.Families.{IsPositionIn, IsRepresentativeIn, HasClassIn, IsInClassIn, is_present, is_marked, size_in, classes_in, class_number_in}
-use Rattle.dob_rank.proofs.Numbering.{rank_of-below, rank_of-same}
-use Rattle.dob_rank.proofs.Found.{IsPositionOf-mirrored}
-use Rattle.dob_rank.proofs.Present.{HasClassIn-marked, marked, represents, there}
-use Rattle.dob_rank.proofs.Marks.{marks_below-marked}
+use Rattle.dob_rank.specs.Numbers.{size_of_set, rank_of_set}
+use Rattle.dob_rank.specs.Marks.{one_if, marks_below, is_first}
+use Rattle.dob_rank.specs.Families.{family_of, IsPositionOf, IsRepresentative, HasClass, IsInClass, is_present, is_marked, size_of, classes_of, class_number}
+use Rattle.dob_rank.proofs.Numbering.{rank_of_set-below, rank_of_set-same}
+use Rattle.dob_rank.proofs.Found.{IsPositionOfSet-mirrored}
+use Rattle.dob_rank.proofs.Present.{HasClass-marked, marked, represents, there}
 use Rattle.dob_rank.proofs.Words.{marks_below_more, marks_below_none}
-use Rattle.dob_rank.proofs.RunMarks.{marks_agree}
 use Rattle.dob_rank.proofs.ClassNumbers.{earlier, marks_below-rises, marks_below-same}
 use Rattle.dob_rank.proofs.Representatives.{first_by_rank, rank_of_first}
 
 -- the mirror image is allowed as the position is
-pub representative_allowed : (family : Family) (s other : Setup) → IsPositionIn family s → IsEither s other → IsAllowed family.profile other
+pub representative_allowed : (family : Family) (s other : Setup) → IsPositionOf family s → IsEither s other → IsAllowed family.profile other
 representative_allowed family s other p (inl same) = subst (IsAllowed family.profile) (sym same) p.allowed
 representative_allowed family s other p (inr same) =
     subst (IsAllowed family.profile) (sym same) (IsAllowed-mirrored family.profile s p.of_set.legal.squares p.allowed)
 
-pub IsInClassIn-class_number_in : (family : Family) (s : Setup) → IsPositionIn family s → IsInClassIn family s (class_number_in family s)
-unfolding class_number_in
-IsInClassIn-class_number_in family s p =
+pub IsInClass-class_number : (family : Family) (s : Setup) → IsPositionOf family s → IsInClass family s (class_number family s)
+unfolding class_number
+IsInClass-class_number family s p =
     let e = earlier family.set s p.of_set in
     record {
       position = p;
       representative = e.0;
       stands = e.1.stands;
-      before = subst (HasClassIn family e.0) (sym (ap (marks_below (is_marked family)) e.1.rank_is))
-          (HasClassIn-marked family e.0 (record { of_set = e.1.position; allowed = representative_allowed family s e.0 p e.1.stands.0 }));
+      before = subst (HasClass family e.0) (sym (ap (marks_below (is_marked family)) e.1.rank_is))
+          (HasClass-marked family e.0 (record { of_set = e.1.position; allowed = representative_allowed family s e.0 p e.1.stands.0 }));
     }
 
 -- ---- as those of a set (proofs/ClassNumbers), by the marks of the family
@@ -45,56 +44,56 @@ IsInClassIn-class_number_in family s p =
 -- the position of the lower rank
 pub record IsEarlierIn (family : Family) (s representative : Setup) : Type 0 where
   pub stands : RepresentativeOf s representative
-  pub position : IsPositionIn family representative
-  pub number_is : class_number_in family s ≡ marks_below (is_marked family) (rank_of family.set representative)
+  pub position : IsPositionOf family representative
+  pub number_is : class_number family s ≡ marks_below (is_marked family) (rank_of_set family.set representative)
 
 -- the position is the representative of the class of that number
-pub record IsAtClassIn (family : Family) (s : Setup) (class : ℕ) : Type 0 where
-  pub representative : IsRepresentativeIn family s
-  pub before : HasClassIn family s class
-  pub number_is : class_number_in family s ≡ class
+pub record IsAtClass (family : Family) (s : Setup) (class : ℕ) : Type 0 where
+  pub representative : IsRepresentative family s
+  pub before : HasClass family s class
+  pub number_is : class_number family s ≡ class
 
-pub IsPositionIn-mirrored : (family : Family) (s : Setup) → IsPositionIn family s → IsPositionIn family (mirrored s)
-IsPositionIn-mirrored family s p = record {
-  of_set = IsPositionOf-mirrored family.set s p.of_set;
+pub IsPositionOf-mirrored : (family : Family) (s : Setup) → IsPositionOf family s → IsPositionOf family (mirrored s)
+IsPositionOf-mirrored family s p = record {
+  of_set = IsPositionOfSet-mirrored family.set s p.of_set;
   allowed = IsAllowed-mirrored family.profile s p.of_set.legal.squares p.allowed;
 }
 
-pub class_number_in-is : (family : Family) (s : Setup)
-    → class_number_in family s ≡ marks_below (is_marked family) (min (rank_of family.set s) (rank_of family.set (mirrored s)))
-unfolding class_number_in
-class_number_in-is family s = refl
+pub class_number-is : (family : Family) (s : Setup)
+    → class_number family s ≡ marks_below (is_marked family) (min (rank_of_set family.set s) (rank_of_set family.set (mirrored s)))
+unfolding class_number
+class_number-is family s = refl
 
 -- the earlier of a position of the family and its mirror image
-pub earlier_in : (family : Family) (s : Setup) → IsPositionIn family s → (representative : Setup) × IsEarlierIn family s representative
+pub earlier_in : (family : Family) (s : Setup) → IsPositionOf family s → (representative : Setup) × IsEarlierIn family s representative
 earlier_in family s p =
     let e = earlier family.set s p.of_set in (
       e.0,
       record {
         stands = e.1.stands;
         position = record { of_set = e.1.position; allowed = representative_allowed family s e.0 p e.1.stands.0 };
-        number_is = class_number_in-is family s ∙ ap (marks_below (is_marked family)) e.1.rank_is;
+        number_is = class_number-is family s ∙ ap (marks_below (is_marked family)) e.1.rank_is;
       },
     )
 
-pub class_number_in-below : (family : Family) (s : Setup) → IsPositionIn family s → class_number_in family s < classes_in family
-unfolding classes_in
-class_number_in-below family s p =
+pub class_number-below : (family : Family) (s : Setup) → IsPositionOf family s → class_number family s < classes_of family
+unfolding classes_of
+class_number-below family s p =
     let e = earlier_in family s p in
-    subst (λ (x : ℕ). x < marks_below (is_marked family) (size_of family.set)) (sym e.1.number_is)
-    (marks_below-rises (is_marked family) (rank_of family.set e.0) (size_of family.set) (marked family e.0 (e.1.position, e.1.stands.1))
-    (rank_of-below family.set e.0 e.1.position.of_set))
+    subst (λ (x : ℕ). x < marks_below (is_marked family) (size_of_set family.set)) (sym e.1.number_is)
+    (marks_below-rises (is_marked family) (rank_of_set family.set e.0) (size_of_set family.set) (marked family e.0 (e.1.position, e.1.stands.1))
+    (rank_of_set-below family.set e.0 e.1.position.of_set))
 
 -- one number: one position, or a position and its mirror image
-pub class_once_in : (family : Family) (s t : Setup) → IsPositionIn family s → IsPositionIn family t → class_number_in family s ≡ class_number_in family t
+pub class_once : (family : Family) (s t : Setup) → IsPositionOf family s → IsPositionOf family t → class_number family s ≡ class_number family t
     → (s ≡ t) ⊎ (s ≡ mirrored t)
-class_once_in family s t p q e =
+class_once family s t p q e =
     let a = earlier_in family s p in
     let b = earlier_in family t q in
-    let ranks : rank_of family.set a.0 ≡ rank_of family.set b.0
-    = marks_below-same (is_marked family) (rank_of family.set a.0) (rank_of family.set b.0) (marked family a.0 (a.1.position, a.1.stands.1))
+    let ranks : rank_of_set family.set a.0 ≡ rank_of_set family.set b.0
+    = marks_below-same (is_marked family) (rank_of_set family.set a.0) (rank_of_set family.set b.0) (marked family a.0 (a.1.position, a.1.stands.1))
     (marked family b.0 (b.1.position, b.1.stands.1)) (sym a.1.number_is ∙ e ∙ b.1.number_is) in
-    let same : a.0 ≡ b.0 = rank_of-same family.set a.0 b.0 a.1.position.of_set b.1.position.of_set ranks in
+    let same : a.0 ≡ b.0 = rank_of_set-same family.set a.0 b.0 a.1.position.of_set b.1.position.of_set ranks in
     let back_s : mirrored (mirrored s) ≡ s = mirrored-mirrored s p.of_set.legal.squares in
     let back_t : mirrored (mirrored t) ≡ t = mirrored-mirrored t q.of_set.legal.squares in
     elim a.1.stands.0 [
@@ -109,53 +108,53 @@ class_once_in family s t p q e =
     ]
 
 -- the mirror image is in the same class
-pub class_number_in-mirrored : (family : Family) (s : Setup) → IsPositionIn family s → class_number_in family (mirrored s) ≡ class_number_in family s
-class_number_in-mirrored family s p =
+pub class_number-mirrored : (family : Family) (s : Setup) → IsPositionOf family s → class_number family (mirrored s) ≡ class_number family s
+class_number-mirrored family s p =
     let back : mirrored (mirrored s) ≡ s = mirrored-mirrored s p.of_set.legal.squares in
-    class_number_in-is family (mirrored s)
-    ∙ ap (marks_below (is_marked family)) (ap (λ (x : Setup). min (rank_of family.set (mirrored s)) (rank_of family.set x)) back
-    ∙ min_comm (rank_of family.set (mirrored s)) (rank_of family.set s))
-    ∙ sym (class_number_in-is family s)
+    class_number-is family (mirrored s)
+    ∙ ap (marks_below (is_marked family)) (ap (λ (x : Setup). min (rank_of_set family.set (mirrored s)) (rank_of_set family.set x)) back
+    ∙ min_comm (rank_of_set family.set (mirrored s)) (rank_of_set family.set s))
+    ∙ sym (class_number-is family s)
 
 -- a representative's class number is the number of marks below its rank
-pub class_number_in-representative : (family : Family) (s : Setup) → IsPositionIn family s → IsFirstOfTwo s
-    → class_number_in family s ≡ marks_below (is_marked family) (rank_of family.set s)
-class_number_in-representative family s p first =
-    class_number_in-is family s ∙ ap (marks_below (is_marked family)) (min-eq_left (rank_of_first family.set s p.of_set first))
+pub class_number-representative : (family : Family) (s : Setup) → IsPositionOf family s → IsFirstOfTwo s
+    → class_number family s ≡ marks_below (is_marked family) (rank_of_set family.set s)
+class_number-representative family s p first =
+    class_number-is family s ∙ ap (marks_below (is_marked family)) (min-eq_left (rank_of_first family.set s p.of_set first))
 
 -- the position of a marked rank is the representative of its class
-pub at_class_in : (family : Family) (s : Setup) (class : ℕ) → IsPositionIn family s → is_marked family (rank_of family.set s) ≡ true
-    → marks_below (is_marked family) (rank_of family.set s) ≡ class → IsAtClassIn family s class
-at_class_in family s class p on is =
+pub at_class : (family : Family) (s : Setup) (class : ℕ) → IsPositionOf family s → is_marked family (rank_of_set family.set s) ≡ true
+    → marks_below (is_marked family) (rank_of_set family.set s) ≡ class → IsAtClass family s class
+at_class family s class p on is =
     let first : IsFirstOfTwo s = (represents family s p.of_set on).1 in
     record {
       representative = (p, first);
-      before = subst (HasClassIn family s) is (HasClassIn-marked family s p);
-      number_is = class_number_in-representative family s p first ∙ is;
+      before = subst (HasClass family s) is (HasClass-marked family s p);
+      number_is = class_number-representative family s p first ∙ is;
     }
 
 -- a position without a mark is later than its mirror image
-pub later_unmarked_in : (family : Family) (s : Setup) → IsPositionIn family s → is_marked family (rank_of family.set s) ≡ false → ¬ IsFirstOfTwo s
-later_unmarked_in family s p off first =
-    let on : is_marked family (rank_of family.set s) ≡ true = marked family s (p, first) in
-    both_ways (is_marked family (rank_of family.set s)) off on
+pub later_unmarked : (family : Family) (s : Setup) → IsPositionOf family s → is_marked family (rank_of_set family.set s) ≡ false → ¬ IsFirstOfTwo s
+later_unmarked family s p off first =
+    let on : is_marked family (rank_of_set family.set s) ≡ true = marked family s (p, first) in
+    both_ways (is_marked family (rank_of_set family.set s)) off on
 
 -- ---- the class of a position by the mark of its rank
 
-pub class_of_marked_in : (family : Family) (s : Setup) (class : ℕ) → IsPositionIn family s → is_marked family (rank_of family.set s) ≡ true
-    → class ≡ marks_below (is_marked family) (rank_of family.set s) → class ≡ class_number_in family s
-class_of_marked_in family s class p on is = sym (at_class_in family s class p on (sym is)).number_is
+pub class_of_marked : (family : Family) (s : Setup) (class : ℕ) → IsPositionOf family s → is_marked family (rank_of_set family.set s) ≡ true
+    → class ≡ marks_below (is_marked family) (rank_of_set family.set s) → class ≡ class_number family s
+class_of_marked family s class p on is = sym (at_class family s class p on (sym is)).number_is
 
-pub class_of_unmarked_in : (family : Family) (s t : Setup) (class : ℕ) → IsPositionIn family s → is_marked family (rank_of family.set s) ≡ false
-    → t ≡ mirrored s → class ≡ marks_below (is_marked family) (rank_of family.set t) → class ≡ class_number_in family s
-class_of_unmarked_in family s t class p off image is =
-    is ∙ ap (λ q. marks_below (is_marked family) (rank_of family.set q)) image
-    ∙ ap (marks_below (is_marked family)) (sym (lower (rank_of family.set s) (rank_of family.set (mirrored s))
-    (elim (cases_lt (rank_of family.set (mirrored s)) (rank_of family.set s)) [
+pub class_of_unmarked : (family : Family) (s t : Setup) (class : ℕ) → IsPositionOf family s → is_marked family (rank_of_set family.set s) ≡ false
+    → t ≡ mirrored s → class ≡ marks_below (is_marked family) (rank_of_set family.set t) → class ≡ class_number family s
+class_of_unmarked family s t class p off image is =
+    is ∙ ap (λ q. marks_below (is_marked family) (rank_of_set family.set q)) image
+    ∙ ap (marks_below (is_marked family)) (sym (lower (rank_of_set family.set s) (rank_of_set family.set (mirrored s))
+    (elim (cases_lt (rank_of_set family.set (mirrored s)) (rank_of_set family.set s)) [
       | inl lt ↦ lt
-      | inr ge ↦ absurd (later_unmarked_in family s p off (first_by_rank family.set s p.of_set ge))
+      | inr ge ↦ absurd (later_unmarked family s p off (first_by_rank family.set s p.of_set ge))
     ])))
-    ∙ sym (class_number_in-is family s)
+    ∙ sym (class_number-is family s)
   where
     lower : (own image : ℕ) → image < own → min own image ≡ image
     lower own image lt = min-eq_right (let le : image ≤ own = omega arith in le)
@@ -166,14 +165,8 @@ marked_there : (family : Family) (k : ℕ) → family.profile ≡ A → is_marke
 unfolding is_marked
 marked_there family k a = ap (λ (b : Bool). b && is_first family.set k) (there family k a)
 
-pub classes_in-whole : (family : Family) → family.profile ≡ A → classes_in family ≡ classes_of family.set
-unfolding classes_in classes_of
-classes_in-whole family a =
-    marks_agree (is_marked family) (is_first family.set) (size_of family.set) (λ k low. marked_there family k a)
-    ∙ sym (marks_below-marked family.set (size_of family.set) (at_most (size_of family.set)))
-  where
-    at_most : (n : ℕ) → n ≤ n
-    at_most n = omega arith
+pub classes_of-whole : (family : Family) → family.profile ≡ A → classes_of family ≡ classes_of (family_of family.set A)
+classes_of-whole family a = ap (λ (p : Profile). classes_of (family_of family.set p)) a
 
 -- ---- a family has no more classes than positions
 
@@ -191,6 +184,6 @@ fewer_marked on mark (suc n) =
     no_more true false = omega arith
     no_more false b = omega arith
 
-pub classes_in-few : (family : Family) → classes_in family ≤ size_in family
-unfolding classes_in size_in is_marked
-classes_in-few family = fewer_marked (is_present family) (is_first family.set) (size_of family.set)
+pub classes_of-few : (family : Family) → classes_of family ≤ size_of family
+unfolding classes_of size_of is_marked
+classes_of-few family = fewer_marked (is_present family) (is_first family.set) (size_of_set family.set)

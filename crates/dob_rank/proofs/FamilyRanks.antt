@@ -6,12 +6,12 @@ use Rattle.dob_pieces.specs.declared.piece_set.PieceSet.{PieceSet}
 use Rattle.dob_pieces.specs.declared.profile.Family.{Family}
 use Rattle.dob_pieces.specs.declared.profile.Profile.{Profile}
 use Rattle.dob_pieces.specs.declared.setup.Setup.{Setup}
-use Rattle.dob_rank.specs.Order.{IsPositionOf}
+use Rattle.dob_rank.specs.Order.{IsPositionOfSet}
 use Rattle.dob_rank.specs.Numbers.{product, number_of, sum_below, choose, choice, block_bases, block_of, start_of, on_board, digits, layer, forms_number}
 use Rattle.dob_rank.specs.Numbers.{free_squares, enemy_squares, order, settle, empty_layers}
 use Rattle.dob_rank.specs.Marks.{one_if, marks_below}
 use Rattle.dob_rank.specs.Runs.{runs_in, run_start, run_of, local_of, lions_of, lion_pairs, square_bases, form_bases}
-use Rattle.dob_rank.specs.Families.{IsPositionIn, is_present, rank_in}
+use Rattle.dob_rank.specs.Families.{IsPositionOf, is_present, rank_of}
 use Rattle.dob_rank.specs.Weights.{hand_size, place_in, weight, forms_on, may_have, are_allowed, lions_in, choice_weight, forms_before, lions_before, allowed_number, others_squares, others_forms}
 use Rattle.dob_rank.specs.declared.layers.Layer.TheVariants.{OwnLion, EnemyLion, Chicks, Elephants, Giraffes}
 use Rattle.dob_rank.proofs.MixedRadix.{number_of-append, number_of-below, digit_below}
@@ -77,7 +77,7 @@ present_at family block run c q g d f at =
 -- ---- a position's place
 
 -- the lions of a position's run are its own
-pub own_lions : (set : PieceSet) (s : Setup) → IsPositionOf set s → lions_in (run_of set s) ≡ lions_by (digits s)
+pub own_lions : (set : PieceSet) (s : Setup) → IsPositionOfSet set s → lions_in (run_of set s) ≡ lions_by (digits s)
 own_lions set s p =
     let whole = run_of-lions set s in
     let below = lions_of-below set s p in
@@ -99,7 +99,7 @@ own_lions set s p =
 abbrev chicks_form : Profile → Setup → ℕ → Bool
 chicks_form profile s n = are_allowed (may_have profile) 4 (order Chicks) n 0 (map layer s.board)
 
-settled_form : (profile : Profile) (set : PieceSet) (s : Setup) → IsPositionOf set s → (n : ℕ)
+settled_form : (profile : Profile) (set : PieceSet) (s : Setup) → IsPositionOfSet set s → (n : ℕ)
     → are_allowed (may_have profile) 4 (order Chicks) n 0 (settle (order Chicks) (slice_index (on_board s) 0) (slice_index (digits s) 5) (lions_in (run_of set s)))
     ≡ chicks_form profile s n
 settled_form profile set s p n =
@@ -114,7 +114,7 @@ settled_form profile set s p n =
     ∙ ap (are_allowed (may_have profile) 4 (order Chicks) n 0) (layers_by-back set s (HasParts-from_position set s p))
 
 -- of the forms of the position's run and choice those before its own
-pub own_forms : (family : Family) (s : Setup) (r f : ℕ) → IsPositionIn family s → 0 < r → f < r
+pub own_forms : (family : Family) (s : Setup) (r f : ℕ) → IsPositionOf family s → 0 < r → f < r
     → marks_below (is_form family.profile (run_of family.set s) (slice_index (on_board s) 0) r (slice_index (digits s) 5)) (forms_number (order Chicks) s.board * r + f)
     ≡ allowed_number (may_have family.profile) 4 (order Chicks) 0 s.board * r + f
 own_forms family s r f p some low =
@@ -163,7 +163,7 @@ local_parts s =
     (slice_index (digits s) 8 ∷ slice_index (digits s) 9 ∷ slice_index (digits s) 10 ∷ []) refl
 
 -- the position's place in its run
-pub own_place : (family : Family) (s : Setup) → IsPositionIn family s
+pub own_place : (family : Family) (s : Setup) → IsPositionOf family s
     → IsPlaceIn family (block_of family.set s) (run_of family.set s) (slice_index (digits s) 5) (squares_number s) (forms_number (order Chicks) s.board)
     (allowed_number (may_have family.profile) 4 (order Chicks) 0 s.board) (others_number s)
 own_place family s p =
@@ -212,12 +212,12 @@ same_weights profile run lions ob c n q d r f e = ap (λ (m : ℕ). (sum_below (
     weight_by : ℕ → ℕ → ℕ
     weight_by m c = weight (forms_on profile) (order Chicks) 0 (settle (order Chicks) (slice_index ob 0) c (lions_layers m))
 
-pub rank_in-parts : (family : Family) (s : Setup) → IsPositionIn family s
-    → rank_in family s
+pub rank_of-parts : (family : Family) (s : Setup) → IsPositionOf family s
+    → rank_of family s
     ≡ marks_below (is_present family) (start_of family.set (block_of family.set s))
     + place_in family.profile (on_board s) (digits s) (hand_of family.set s) (lions_of s) (allowed_number (may_have family.profile) 4 (order Chicks) 0 s.board)
-unfolding rank_in place_in hand_size
-rank_in-parts family s p =
+unfolding rank_of place_in hand_size
+rank_of-parts family s p =
     let set = family.set in
     let run : ℕ = run_of family.set s in
     let e : ob_of family (block_of family.set s) ≡ on_board s = on_board-block family.set s p.of_set in

@@ -1,36 +1,31 @@
 -- The classes of a block of a family as a sum over the runs of one hand.
-use Rattle.std.proofs.Common.{◌≡◌, ℕ, zero, suc, ◌+◌, ◌*◌, ◌/◌, ◌%◌, ◌<◌, ◌≤◌, refl, sym, ap, ◌∙◌, subst, arith}
-use Rattle.std.proofs.lemmas.Nat.{mod-mul-add}
+use Rattle.std.proofs.Common.{◌≡◌, ℕ, zero, suc, ◌+◌, ◌%◌, ◌<◌, ◌≤◌, refl, sym, ap, ◌∙◌, arith}
 use Rattle.dob_pieces.specs.declared.profile.Family.{Family}
 use Rattle.dob_rank.specs.declared.runs.RunKind.{RunKind}
 use Rattle.dob_rank.specs.declared.runs.RunKind.TheVariants.{First, Later, Mixed}
-use Rattle.dob_rank.specs.Numbers.{product, sum_below, block_bases, block_size, start_of}
+use Rattle.dob_rank.specs.Numbers.{product, sum_below, block_bases, start_of}
 use Rattle.dob_rank.specs.Marks.{marks_below}
 use Rattle.dob_rank.specs.Families.{is_marked}
 use Rattle.dob_rank.specs.Runs.{runs_in, run_size, run_start, run_kind, lion_pairs}
 use Rattle.dob_rank.specs.FamilyRuns.{is_there, run_size_in, local_marks_in}
-use Rattle.dob_rank.proofs.Sums.{sum_same, sum_blocks, sum_alike}
-use Rattle.dob_rank.proofs.MixedRadix.{digit_below}
-use Rattle.dob_rank.proofs.Blocks.{sum_below_more}
-use Rattle.dob_rank.proofs.RunMarks.{run_start_first, run_start_end, lions_run, marks_agree}
-use Rattle.dob_rank.proofs.RunSums.{runs_by_hand}
-use Rattle.dob_rank.proofs.FamilyMarks.{first_marks_in, later_marks_in, classes_before_next, there_by_lions, alike_by_lions}
-use Rattle.dob_rank.proofs.FamilyTables.{same_upto}
+use Rattle.dob_rank.proofs.RunMarks.{run_start_first, lions_run, marks_agree}
+use Rattle.dob_rank.proofs.FamilyMarks.{first_marks, later_marks, classes_before_next, there_by_lions, alike_by_lions}
+use Rattle.dob_rank.proofs.RunTables.{same_upto}
 
 -- how many classes a run has
-abbrev pub run_marks_in : Family → ℕ → ℕ → ℕ
-run_marks_in family block run = marks_below (local_marks_in family block run) (run_size_in family block run)
+abbrev pub run_marks : Family → ℕ → ℕ → ℕ
+run_marks family block run = marks_below (local_marks_in family block run) (run_size_in family block run)
 
 -- each position of a run whose lions say first is a representative
-pub first_run_in : (family : Family) (block run : ℕ) → block < product (block_bases family.set) → run < runs_in family.set block
-    → run_kind (run % lion_pairs) ≡ First → run_size_in family block run ≡ run_marks_in family block run
-first_run_in family block run within below kind =
-    sym (first_marks_in family block run (run_size_in family block run) within below (same_upto (run_size_in family block run)) kind)
+pub first_run : (family : Family) (block run : ℕ) → block < product (block_bases family.set) → run < runs_in family.set block
+    → run_kind (run % lion_pairs) ≡ First → run_size_in family block run ≡ run_marks family block run
+first_run family block run within below kind =
+    sym (first_marks family block run (run_size_in family block run) within below (same_upto (run_size_in family block run)) kind)
 
-pub later_run_in : (family : Family) (block run : ℕ) → block < product (block_bases family.set) → run < runs_in family.set block
-    → run_kind (run % lion_pairs) ≡ Later → 0 ≡ run_marks_in family block run
-later_run_in family block run within below kind =
-    sym (later_marks_in family block run (run_size_in family block run) within below (same_upto (run_size_in family block run)) kind)
+pub later_run : (family : Family) (block run : ℕ) → block < product (block_bases family.set) → run < runs_in family.set block
+    → run_kind (run % lion_pairs) ≡ Later → 0 ≡ run_marks family block run
+later_run family block run within below kind =
+    sym (later_marks family block run (run_size_in family block run) within below (same_upto (run_size_in family block run)) kind)
 
 -- its lions alone say how many
 lower_run : (run runs : ℕ) → run < runs → run % lion_pairs < runs
@@ -44,19 +39,19 @@ size_by_lions family block run within below =
     (record { block_below = within; run_below = lower_run run (runs_in family.set block) below; local_below = low })
     (record { block_below = within; run_below = below; local_below = low }) (lions_run run))
 
-pub marks_of_lions_in : (family : Family) (block run : ℕ) → block < product (block_bases family.set) → run < runs_in family.set block
-    → run_marks_in family block (run % lion_pairs) ≡ run_marks_in family block run
-marks_of_lions_in family block run within below = by_kind (run_kind (run % lion_pairs)) refl
+pub marks_of_lions : (family : Family) (block run : ℕ) → block < product (block_bases family.set) → run < runs_in family.set block
+    → run_marks family block (run % lion_pairs) ≡ run_marks family block run
+marks_of_lions family block run within below = by_kind (run_kind (run % lion_pairs)) refl
   where
     lower : run % lion_pairs < runs_in family.set block
     lower = lower_run run (runs_in family.set block) below
 
-    by_kind : (kind : RunKind) → run_kind (run % lion_pairs) ≡ kind → run_marks_in family block (run % lion_pairs) ≡ run_marks_in family block run
+    by_kind : (kind : RunKind) → run_kind (run % lion_pairs) ≡ kind → run_marks family block (run % lion_pairs) ≡ run_marks family block run
     by_kind First is =
-        sym (first_run_in family block (run % lion_pairs) within lower (ap run_kind (lions_run run) ∙ is))
-        ∙ size_by_lions family block run within below ∙ first_run_in family block run within below is
+        sym (first_run family block (run % lion_pairs) within lower (ap run_kind (lions_run run) ∙ is))
+        ∙ size_by_lions family block run within below ∙ first_run family block run within below is
     by_kind Later is =
-        sym (later_run_in family block (run % lion_pairs) within lower (ap run_kind (lions_run run) ∙ is)) ∙ later_run_in family block run within below is
+        sym (later_run family block (run % lion_pairs) within lower (ap run_kind (lions_run run) ∙ is)) ∙ later_run family block run within below is
     by_kind Mixed is =
         let alike = alike_by_lions family block run within below is in
         ap (marks_below (local_marks_in family block (run % lion_pairs))) alike.size_is
@@ -64,45 +59,15 @@ marks_of_lions_in family block run within below = by_kind (run_kind (run % lion_
 
 -- ---- sums
 
-marks_of_runs_in : (family : Family) (block run : ℕ) → block < product (block_bases family.set) → run ≤ runs_in family.set block
-    → marks_below (is_marked family) (start_of family.set block) + sum_below (run_marks_in family block) run
+pub marks_of_runs : (family : Family) (block run : ℕ) → block < product (block_bases family.set) → run ≤ runs_in family.set block
+    → marks_below (is_marked family) (start_of family.set block) + sum_below (run_marks family block) run
     ≡ marks_below (is_marked family) (run_start family.set block run)
-marks_of_runs_in family block zero within upto =
+marks_of_runs family block zero within upto =
     let none = ap (marks_below (is_marked family)) (run_start_first family.set block) in
     omega (arith, none)
-marks_of_runs_in family block (suc run) within upto =
-    let rest = marks_of_runs_in family block run within (omega (arith, upto)) in
+marks_of_runs family block (suc run) within upto =
+    let rest = marks_of_runs family block run within (omega (arith, upto)) in
     let next = classes_before_next family block run within (omega (arith, upto)) in
     let same : marks_below (is_marked family) (run_start family.set block (run + 1)) ≡ marks_below (is_marked family) (run_start family.set block (suc run)) =
     ap (λ n. marks_below (is_marked family) (run_start family.set block n)) (let e : run + 1 ≡ suc run = omega arith in e) in
     omega (arith, rest, next, same)
-
--- each hand has as many
-marks_of_hands_in : (family : Family) (block hands : ℕ) → block < product (block_bases family.set) → hands * lion_pairs ≡ runs_in family.set block
-    → sum_below (run_marks_in family block) (runs_in family.set block) ≡ hands * sum_below (run_marks_in family block) lion_pairs
-marks_of_hands_in family block hands within whole =
-    ap (sum_below (run_marks_in family block)) (sym whole ∙ none_more (hands * lion_pairs))
-    ∙ sum_blocks (run_marks_in family block) lion_pairs hands 0
-    ∙ sym (none_more (sum_below (λ q. sum_below (λ r. run_marks_in family block (q * lion_pairs + r)) lion_pairs) hands))
-    ∙ sum_same (λ q. sum_below (λ r. run_marks_in family block (q * lion_pairs + r)) lion_pairs) (λ q. sum_below (run_marks_in family block) lion_pairs) hands
-    (λ q earlier. sum_same (λ r. run_marks_in family block (q * lion_pairs + r)) (run_marks_in family block) lion_pairs
-    (λ r low. sym (marks_of_lions_in family block (q * lion_pairs + r) within
-    (subst (λ n. q * lion_pairs + r < n) whole (digit_below q hands lion_pairs r earlier low)))
-    ∙ ap (run_marks_in family block) (mod-mul-add q lion_pairs r low)))
-    ∙ sum_alike (sum_below (run_marks_in family block) lion_pairs) hands
-  where
-    none_more : (n : ℕ) → n ≡ n + 0
-    none_more n = omega arith
-
--- what the loop over the lions of one hand counts
-pub marks_in_block_in : (family : Family) (block hands lions count : ℕ) → block < product (block_bases family.set)
-    → hands ≡ runs_in family.set block / lion_pairs → lions ≡ lion_pairs → count ≡ sum_below (run_marks_in family block) lions
-    → marks_below (is_marked family) (start_of family.set block) + hands * count ≡ marks_below (is_marked family) (start_of family.set (block + 1))
-marks_in_block_in family block hands lions count within hands_are lions_are counted =
-    let parts = runs_by_hand family.set block in
-    let whole : hands * lion_pairs ≡ runs_in family.set block = omega (arith, hands_are, parts) in
-    ap (λ n. marks_below (is_marked family) (start_of family.set block) + hands * n) (counted ∙ ap (sum_below (run_marks_in family block)) lions_are)
-    ∙ ap (λ n. marks_below (is_marked family) (start_of family.set block) + n) (sym (marks_of_hands_in family block hands within whole))
-    ∙ marks_of_runs_in family block (runs_in family.set block) within (same_upto (runs_in family.set block))
-    ∙ ap (marks_below (is_marked family)) (run_start_end family.set block)
-    ∙ ap (marks_below (is_marked family)) (sym (sum_below_more (block_size family.set) block))

@@ -10,7 +10,7 @@ use Rattle.dob_rank.specs.declared.layers.Layer.TheVariants.{Chicks}
 use Rattle.dob_rank.specs.Numbers.{product, digits_of, sum_below, choose, settle, order, block_bases, block_of, free_squares, on_board, digits, forms_number}
 use Rattle.dob_rank.specs.Marks.{one_if, marks_below}
 use Rattle.dob_rank.specs.Runs.{AreFewOnBoard, square_bases, runs_in, run_size, run_start, run_of, local_of, lion_pairs}
-use Rattle.dob_rank.specs.Families.{family_of, IsPositionIn, is_present}
+use Rattle.dob_rank.specs.Families.{family_of, IsPositionOf, is_present}
 use Rattle.dob_rank.specs.FamilyRuns.{is_there, local_in}
 use Rattle.dob_rank.specs.Weights.{weight, forms_on, may_have, are_allowed, forms_stand, lions_in, choice_weight, forms_before, allowed_number}
 use Rattle.dob_rank.specs.Weights.{others_squares, others_forms}
@@ -274,7 +274,7 @@ all_there family block run n a = all_marked (is_there family block run) n (λ k 
 
 -- ---- a position's number in its run
 
-pub number_by_digits : (set : PieceSet) (s : Setup) (ob ds : List ℕ) (run lions forms number : ℕ) → IsPositionIn (family_of set B) s → ob ≡ on_board s
+pub number_by_digits : (set : PieceSet) (s : Setup) (ob ds : List ℕ) (run lions forms number : ℕ) → IsPositionOf (family_of set B) s → ob ≡ on_board s
     → ds ≡ digits s → run ≡ run_of set s → lions ≡ run % lion_pairs → forms ≡ allowed_number (may_have B) 4 (order Chicks) 0 s.board
     → number ≡ local_in B ob ds lions forms
     → number ≡ marks_below (is_there (family_of set B) (block_of set s) (run_of set s)) (local_of s)

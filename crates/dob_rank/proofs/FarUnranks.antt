@@ -8,21 +8,21 @@ use Rattle.dob_pieces.specs.declared.profile.Profile.{Profile}
 use Rattle.dob_pieces.specs.declared.profile.Profile.TheVariants.{A, B}
 use Rattle.dob_pieces.specs.declared.setup.Setup.{Setup}
 use Rattle.dob_pieces.specs.Profiles.{is_allowed}
-use Rattle.dob_rank.specs.Order.{IsPositionOf}
-use Rattle.dob_rank.specs.Numbers.{product, number_of, digits_of, block_bases, start_of, free_squares, nth, size_of, rank_of, HasBlock}
+use Rattle.dob_rank.specs.Order.{IsPositionOfSet}
+use Rattle.dob_rank.specs.Numbers.{product, number_of, digits_of, block_bases, start_of, free_squares, nth, size_of_set, rank_of_set, HasBlock}
 use Rattle.dob_rank.specs.Marks.{marks_below}
 use Rattle.dob_rank.specs.Runs.{AreFewOnBoard, runs_in, run_size, run_start, lion_pairs, local_bases}
-use Rattle.dob_rank.specs.Families.{family_of, IsPositionIn, HasRankIn, IsRanked, is_present, size_in, rank_in}
+use Rattle.dob_rank.specs.Families.{family_of, IsPositionOf, HasRank, IsRanked, is_present, size_of, rank_of}
 use Rattle.dob_rank.specs.Places.{IsPlaceFor, IsPresentIn, IsSpotFor}
 use Rattle.dob_rank.specs.Weights.{forms_in, lions_before, hand_size, others_squares, others_forms}
 use Rattle.dob_rank.proofs.Blocks.{sum_below_more, choose-positive, room_left}
 use Rattle.dob_rank.proofs.Words.{marks_below-le}
 use Rattle.dob_rank.proofs.RunMarks.{start_small}
-use Rattle.dob_rank.proofs.Numbering.{rank_of-block, nth-rank_of}
+use Rattle.dob_rank.proofs.Numbering.{rank_of_set-block, nth-rank_of_set}
 use Rattle.dob_rank.proofs.Found.{made_in_block}
 use Rattle.dob_rank.proofs.RunPlaces.{run_start-is, hand_bases}
 use Rattle.dob_rank.proofs.RunSums.{runs_by_hand}
-use Rattle.dob_rank.proofs.Present.{size_in-end, size_in-whole, rank_in-whole, HasRankIn-rank_in}
+use Rattle.dob_rank.proofs.Present.{size_of-end, size_of-whole, rank_of-whole, HasRank-rank_of}
 use Rattle.dob_rank.proofs.FamilyOrder.{ranked_at}
 use Rattle.dob_rank.proofs.FamilyRuns.{present_before_run, block_present}
 use Rattle.dob_rank.proofs.FarSpots.{in_choice, hand_size_is}
@@ -31,12 +31,12 @@ use Rattle.dob_rank.proofs.FamilyMarks.{in_set}
 -- ---- the block
 
 -- past the last block nothing is left
-pub none_beyond : (set : PieceSet) (rank start block blocks : ℕ) → rank < size_in (family_of set B) → blocks ≡ product (block_bases set) → blocks ≤ block
+pub none_beyond : (set : PieceSet) (rank start block blocks : ℕ) → rank < size_of (family_of set B) → blocks ≡ product (block_bases set) → blocks ≤ block
     → block ≤ blocks → start ≡ marks_below (is_present (family_of set B)) (start_of set block) → start ≤ rank → ⊥
 none_beyond set rank start block blocks below is low high start_is upto =
     let same : block ≡ product (block_bases set) = equal block blocks (product (block_bases set)) low high is in
-    let whole = size_in-end (family_of set B) block start refl same start_is in
-    over (size_in (family_of set B)) start rank below whole upto
+    let whole = size_of-end (family_of set B) block start refl same start_is in
+    over (size_of (family_of set B)) start rank below whole upto
   where
     equal : (a b c : ℕ) → b ≤ a → a ≤ b → b ≡ c → a ≡ c
     equal a b c h k l = omega (arith, h, k, l)
@@ -162,10 +162,10 @@ pub far_ranked : (set : PieceSet) (block number rank run local : ℕ) (ob : List
 far_ranked set block number rank run local ob s within ob_is at is made =
     let here = made_in_block set block run local ob s within ob_is made in
     let start = run_start-is set block run in
-    let rank_is : rank_of set s ≡ run_start set block run + local
-    = rank_of-block set block (run * run_size set block + local) s here ∙ joined _ _ _ _ start in
+    let rank_is : rank_of_set set s ≡ run_start set block run + local
+    = rank_of_set-block set block (run * run_size set block + local) s here ∙ joined _ _ _ _ start in
     let below = in_set set block run local (record { block_below = within; run_below = at.run_below; local_below = at.local_below }) in
-    let back : nth set (run_start set block run + local) ≡ s = ap (nth set) (sym rank_is) ∙ nth-rank_of set s here.position in
+    let back : nth set (run_start set block run + local) ≡ s = ap (nth set) (sym rank_is) ∙ nth-rank_of_set set s here.position in
     subst (λ (x : Setup). IsRanked (family_of set B) x rank) back
     (subst (IsRanked (family_of set B) (nth set (run_start set block run + local))) (at.before ∙ is)
     (ranked_at (family_of set B) (run_start set block run + local) below at.present))
@@ -175,21 +175,21 @@ far_ranked set block number rank run local ob s within ob_is at is made =
 
 -- ---- the two profiles
 
-pub below_in_A : (family : Family) (rank : ℕ) → family.profile ≡ A → rank < size_in family → rank < size_of family.set
-below_in_A family rank a low = subst (λ (n : ℕ). rank < n) (size_in-whole family a) low
+pub below_in_A : (family : Family) (rank : ℕ) → family.profile ≡ A → rank < size_of family → rank < size_of_set family.set
+below_in_A family rank a low = subst (λ (n : ℕ). rank < n) (size_of-whole family a) low
 
-pub ranked_in_A : (family : Family) (rank : ℕ) (s : Setup) → family.profile ≡ A → IsPositionOf family.set s → rank_of family.set s ≡ rank → IsRanked family s rank
+pub ranked_in_A : (family : Family) (rank : ℕ) (s : Setup) → family.profile ≡ A → IsPositionOfSet family.set s → rank_of_set family.set s ≡ rank → IsRanked family s rank
 ranked_in_A family rank s a p is =
     let allowed : is_allowed family.profile s ≡ true = ap (λ (q : Profile). is_allowed q s) a in
-    let here : IsPositionIn family s = record { of_set = p; allowed = allowed } in
-    let rank_is : rank_in family s ≡ rank = rank_in-whole family s a ∙ is in
-    record { position = here; rank_is = rank_is; count = subst (HasRankIn family s) rank_is (HasRankIn-rank_in family s here) }
+    let here : IsPositionOf family s = record { of_set = p; allowed = allowed } in
+    let rank_is : rank_of family s ≡ rank = rank_of-whole family s a ∙ is in
+    record { position = here; rank_is = rank_is; count = subst (HasRank family s) rank_is (HasRank-rank_of family s here) }
 
 same_family : (family : Family) → family.profile ≡ B → family_of family.set B ≡ family
 same_family family b = ap (family_of family.set) (sym b)
 
-pub below_in_B : (family : Family) (rank : ℕ) → family.profile ≡ B → rank < size_in family → rank < size_in (family_of family.set B)
-below_in_B family rank b low = subst (λ (f : Family). rank < size_in f) (sym (same_family family b)) low
+pub below_in_B : (family : Family) (rank : ℕ) → family.profile ≡ B → rank < size_of family → rank < size_of (family_of family.set B)
+below_in_B family rank b low = subst (λ (f : Family). rank < size_of f) (sym (same_family family b)) low
 
 pub ranked_in_B : (family : Family) (rank : ℕ) (s : Setup) → family.profile ≡ B → IsRanked (family_of family.set B) s rank → IsRanked family s rank
 ranked_in_B family rank s b at = subst (λ (f : Family). IsRanked f s rank) (same_family family b) at
@@ -217,10 +217,10 @@ squares_some ob few =
     one_some : 0 < 1
     one_some = omega arith
 
-size_small : (set : PieceSet) → size_in (family_of set B) < 2 ^ 42
-unfolding size_in size_of
+size_small : (set : PieceSet) → size_of (family_of set B) < 2 ^ 42
+unfolding size_of size_of_set
 size_small set =
-    let few = marks_below-le (is_present (family_of set B)) (size_of set) in
+    let few = marks_below-le (is_present (family_of set B)) (size_of_set set) in
     let small = start_small set (product (block_bases set)) (all_blocks (product (block_bases set))) in
     omega (arith, few, small)
   where
@@ -228,7 +228,7 @@ size_small set =
     all_blocks n = omega arith
 
 -- the number of a rank is below all ranks
-pub number_small : (set : PieceSet) (start number rank : ℕ) → start + number ≡ rank → rank < size_in (family_of set B) → number < 2 ^ 42
+pub number_small : (set : PieceSet) (start number rank : ℕ) → start + number ≡ rank → rank < size_of (family_of set B) → number < 2 ^ 42
 number_small set start number rank is below =
     let few = size_small set in
     omega (arith, is, below, few)

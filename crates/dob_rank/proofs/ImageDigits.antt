@@ -9,7 +9,7 @@ use Rattle.dob_pieces.specs.declared.setup.Setup.{Setup}
 use Rattle.dob_pieces.specs.Squares.{mirrored_square}
 use Rattle.dob_pieces.specs.Setups.{Cell, board_by, mirrored}
 use Rattle.dob_rank.specs.declared.layers.Layer.TheVariants.{Chicks, Elephants, Giraffes, Empty}
-use Rattle.dob_rank.specs.Order.{IsPositionOf, form}
+use Rattle.dob_rank.specs.Order.{IsPositionOfSet, form}
 use Rattle.dob_rank.specs.Numbers.{order, layer, count, choice, settle, base_of, cell_of, forms_number, on_board}
 use Rattle.dob_rank.specs.Runs.{lions_of}
 use Rattle.dob_rank.proofs.Choices.{count_other}
@@ -47,7 +47,7 @@ hide_more t p q low same number chosen =
     ∙ settle-choice t (map layer q.board) low (AreLayers-map q.board)
 
 -- the same lions
-lions_hidden : (set : PieceSet) (p q : Setup) → IsPositionOf set p → IsPositionOf set q → lions_of p ≡ lions_of q →
+lions_hidden : (set : PieceSet) (p q : Setup) → IsPositionOfSet set p → IsPositionOfSet set q → lions_of p ≡ lions_of q →
     hide (order Chicks) (map layer p.board) ≡ hide (order Chicks) (map layer q.board)
 lions_hidden set p q hp hq same =
     sym (lions_layers-of (map layer p.board) (HasPair-from_position set p hp))
@@ -163,8 +163,8 @@ giraffe_squares s = choice (order Giraffes) (map layer s.board)
 
 -- two positions with the same numbers on the board and the same lions
 pub record ArePair (set : PieceSet) (p q : Setup) : Type 0 where
-  pub first : IsPositionOf set p
-  pub second : IsPositionOf set q
+  pub first : IsPositionOfSet set p
+  pub second : IsPositionOfSet set q
   pub on_board_is : on_board p ≡ on_board q
   pub lions_are : lions_of p ≡ lions_of q
 

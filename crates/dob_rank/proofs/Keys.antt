@@ -9,7 +9,7 @@ use Rattle.dob_pieces.specs.declared.piece_set.PieceSet.{PieceSet}
 use Rattle.dob_pieces.specs.declared.setup.Setup.{Setup}
 use Rattle.dob_pieces.specs.Setups.{Cell, holds_lion, holds_kind}
 use Rattle.dob_pieces.proofs.Lists.{append-same}
-use Rattle.dob_rank.specs.Order.{IsPositionOf, Precedes, Before, key, forms, form}
+use Rattle.dob_rank.specs.Order.{IsPositionOfSet, Precedes, Before, key, forms, form}
 use Rattle.dob_rank.specs.Numbers.{layer, count, choice, forms_number, on_board, digits, order}
 use Rattle.dob_rank.specs.declared.layers.Layer.TheVariants.{OwnLion, EnemyLion, Chicks, Elephants, Giraffes}
 use Rattle.dob_rank.proofs.Choices.{Alike, Alike-next, choice-rises, layer_squares}
@@ -157,7 +157,7 @@ digits-rise set p q hp hq e h = elim (Precedes-split (hand_list p) (hand_list q)
 ]
 
 -- an earlier position has earlier numbers on the board, or the same and earlier digits
-pub Before-digits : (set : PieceSet) (p q : Setup) → IsPositionOf set p → IsPositionOf set q → Before p q
+pub Before-digits : (set : PieceSet) (p q : Setup) → IsPositionOfSet set p → IsPositionOfSet set q → Before p q
     → Precedes (on_board p) (on_board q) ⊎ ((on_board p ≡ on_board q) × Precedes (digits p) (digits q))
 unfolding Before
 Before-digits set p q hp hq h =
@@ -237,7 +237,7 @@ same_squares set p q hp hq e h =
     five_same _ _ _ _ _ _ _ _ _ _ _ _ s0.choice_is s1.choice_is s2.choice_is s3.choice_is s4.choice_is (same_forms p q e s4.rest_is)
 
 -- positions of one set with the same key have the same numbers on the board and the same digits
-pub key-same : (set : PieceSet) (p q : Setup) → IsPositionOf set p → IsPositionOf set q → key p ≡ key q → (on_board p ≡ on_board q) × (digits p ≡ digits q)
+pub key-same : (set : PieceSet) (p q : Setup) → IsPositionOfSet set p → IsPositionOfSet set q → key p ≡ key q → (on_board p ≡ on_board q) × (digits p ≡ digits q)
 key-same set p q hp hq e =
     let whole : on_board p ++ (hand_list p ++ squares_key p) ≡ on_board q ++ (hand_list q ++ squares_key q) = sym (key-layers p) ∙ e ∙ key-layers q in
     let r = append-same (on_board p) (on_board q) (hand_list p ++ squares_key p) (hand_list q ++ squares_key q) refl whole in

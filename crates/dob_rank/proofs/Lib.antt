@@ -27,6 +27,9 @@ pub mod Planes  -- masks of layers and what their bits count
 pub mod BoardMasks  -- what the masks of a position say
 pub mod BitPlanes  -- sets of squares in one pass over a board
 pub mod BitSquares  -- layers and forms by sets of squares
+pub mod BitChanges  -- sets of squares when one square changes
+pub mod BitPlaced  -- sets of squares with a piece more, seen from either side
+pub mod BitMasks  -- the masks of a setup by its sets of squares
 pub mod BitNumbers  -- the digits of a position that sets of squares show
 -- Classes.
 pub mod Marks  -- marked ranks are representatives
@@ -40,10 +43,10 @@ pub mod ImageDigits  -- the digits of a mirror image, one after another
 pub mod MixedRuns  -- the marks of mixed runs
 pub mod StretchLists  -- stretches of marks
 pub mod RunMarks  -- the marks of runs
-pub mod RunTables  -- the tables of runs and stretches grow
 pub mod RunSums  -- the marks of a block as a sum over runs
-pub mod BlockTables  -- the blocks of a set
 pub mod DigitParts  -- the digits of a place, part by part
+pub mod KeptDigits  -- the digits that the positions of a run have in common
+pub mod PlaceTables  -- the tables of the places of a block grow and are read
 pub mod Pairs  -- the tables of choices of two squares
 -- Families: the positions of a set that a profile allows.
 pub mod Present  -- a family's positions among the ranks of its set
@@ -68,9 +71,11 @@ pub mod FarCounts  -- how many positions of profile B a run has up to a place
 pub mod FarUnranks  -- the position of a rank of profile B
 pub mod FamilyNumbers  -- class numbers of a family are marks below
 pub mod FamilyRepresentatives  -- one representative and one number a class of a family
-pub mod FamilyTables  -- the tables of runs of a family grow and are read
+pub mod RunTables  -- the tables of runs of a family grow and are read
+pub mod IndexedRuns  -- the index of a block's runs grows and is read
 pub mod FamilyBlocks  -- the blocks of a family
 pub mod FamilySums  -- the classes of a block of a family as a sum over runs
+pub mod ClassesBefore  -- the classes before a run and before a place of one
 pub mod ClassBounds  -- how many positions and classes a set has at most
 -- Long lists.
 pub mod Segmentation  -- lists in segments

@@ -12,7 +12,7 @@ use Rattle.dob_pieces.specs.Setups.{Cell, piece_of, board_by, mirrored}
 use Rattle.dob_pieces.proofs.Boards.{all_below, all_below-at}
 use Rattle.dob_rank.specs.declared.runs.RunKind.{RunKind}
 use Rattle.dob_rank.specs.declared.runs.RunKind.TheVariants.{First, Later, Mixed}
-use Rattle.dob_rank.specs.Order.{IsPositionOf}
+use Rattle.dob_rank.specs.Order.{IsPositionOfSet}
 use Rattle.dob_rank.specs.Numbers.{layer, count, choice, settle, own_squares, enemy_squares, order, empty_layers}
 use Rattle.dob_rank.specs.Runs.{lions_of, enemy_square, run_kind, lion_pairs}
 use Rattle.dob_rank.specs.declared.layers.Layer.TheVariants.{OwnLion, EnemyLion, Chicks, Empty}
@@ -93,7 +93,7 @@ image-of_pair ls h =
     ∙ ap (λ xs. lions_in (mirror_layers xs)) (sym (lions_layers-of ls h))
 
 -- so has each position
-pub HasPair-from_position : (set : PieceSet) (s : Setup) → IsPositionOf set s → HasPair (map layer s.board)
+pub HasPair-from_position : (set : PieceSet) (s : Setup) → IsPositionOfSet set s → HasPair (map layer s.board)
 HasPair-from_position set s p =
     let h : HasParts set s = HasParts-from_position set s p in
     record {
@@ -104,11 +104,11 @@ HasPair-from_position set s p =
       below = (HasDigits-digits set s h).1.1.1.1.0;
     }
 
-pub lions_of-mirrored : (set : PieceSet) (s : Setup) → IsPositionOf set s → lions_of (mirrored s) ≡ image_lions (lions_of s)
+pub lions_of-mirrored : (set : PieceSet) (s : Setup) → IsPositionOfSet set s → lions_of (mirrored s) ≡ image_lions (lions_of s)
 lions_of-mirrored set s p =
     ap lions_in (layers-mirrored s p.legal.squares) ∙ image-of_pair (map layer s.board) (HasPair-from_position set s p)
 
-pub lions_of-below : (set : PieceSet) (s : Setup) → IsPositionOf set s → lions_of s < lion_pairs
+pub lions_of-below : (set : PieceSet) (s : Setup) → IsPositionOfSet set s → lions_of s < lion_pairs
 lions_of-below set s p =
     let h : HasParts set s = HasParts-from_position set s p in
     let below : choice (order EnemyLion) (map layer s.board) < enemy_squares = (HasDigits-digits set s h).1.1.1.1.0 in

@@ -9,7 +9,7 @@ use Rattle.dob_pieces.specs.declared.kind.Side.TheVariants.{Mover, Enemy}
 use Rattle.dob_pieces.specs.declared.piece_set.PieceSet.{PieceSet}
 use Rattle.dob_pieces.specs.declared.setup.Setup.{Setup}
 use Rattle.dob_pieces.specs.Setups.{Cell, holds_lion, holds_kind, total, HasLions, HasLionOffFarRow}
-use Rattle.dob_rank.specs.Order.{IsPositionOf, pieces_of}
+use Rattle.dob_rank.specs.Order.{IsPositionOfSet, pieces_of}
 use Rattle.dob_rank.specs.Numbers.{layer, count, count_from, choose, choice, settle, HasDigits, base_of, forms_number, board_of, bases, order, empty_layers}
 use Rattle.dob_rank.specs.Numbers.{block_bases, on_board, digits, numbers_by, setup_by, own_squares, enemy_squares, free_squares}
 use Rattle.dob_rank.specs.declared.layers.Layer.TheVariants.{OwnLion, EnemyLion, Chicks, Elephants, Giraffes, Empty}
@@ -179,8 +179,8 @@ made_home set i j k n0 n1 n2 n3 n4 ls s m square le e =
     let low : n0 < own_squares = m.home in
     omega arith
 
-pub IsPositionOf-made : (set : PieceSet) (i j k n0 n1 n2 n3 n4 : ℕ) (ls : List ℕ) (s : Setup) → IsMade set i j k n0 n1 n2 n3 n4 ls s → IsPositionOf set s
-IsPositionOf-made set i j k n0 n1 n2 n3 n4 ls s m =
+pub IsPositionOfSet-made : (set : PieceSet) (i j k n0 n1 n2 n3 n4 : ℕ) (ls : List ℕ) (s : Setup) → IsMade set i j k n0 n1 n2 n3 n4 ls s → IsPositionOfSet set s
+IsPositionOfSet-made set i j k n0 n1 n2 n3 n4 ls s m =
     let pieces : (kind : HandKind) → total kind s ≡ pieces_of set kind = made_pieces set i j k n0 n1 n2 n3 n4 ls s m in
     record {
       legal = record {

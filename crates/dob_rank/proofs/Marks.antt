@@ -9,12 +9,12 @@ use Rattle.std.proofs.lemmas.List.Quantifiers.{all_pairs_push}
 use Rattle.dob_pieces.specs.declared.piece_set.PieceSet.{PieceSet}
 use Rattle.dob_pieces.specs.declared.setup.Setup.{Setup}
 use Rattle.dob_pieces.specs.Setups.{mirrored}
-use Rattle.dob_rank.specs.Order.{IsPositionOf, Before, HasCount, IsFirstOfTwo, IsRepresentative, HasClasses, HasClass}
-use Rattle.dob_rank.specs.Numbers.{size_of, rank_of, nth}
-use Rattle.dob_rank.specs.Marks.{one_if, marks_below, is_first, marked, classes_of}
+use Rattle.dob_rank.specs.Order.{IsPositionOfSet, HasCount, IsFirstOfTwo}
+use Rattle.dob_rank.specs.Numbers.{size_of_set, rank_of_set, nth}
+use Rattle.dob_rank.specs.Marks.{one_if, marks_below, is_first, marked}
 use Rattle.dob_rank.proofs.Counts.{IsNumbering}
-use Rattle.dob_rank.proofs.Numbering.{nth-block, nth-rank_of, rank_of-nth, rank_of-below, rank_of-rises, Before-from_rank}
-use Rattle.dob_rank.proofs.Found.{IsPositionOf-mirrored}
+use Rattle.dob_rank.proofs.Numbering.{nth-block, nth-rank_of_set, rank_of_set-nth, rank_of_set-below, rank_of_set-rises, Before-from_rank}
+use Rattle.dob_rank.proofs.Found.{IsPositionOfSet-mirrored}
 
 -- the same setups are as many
 pub HasCount-same : (P Q : Setup → Type 0) (n : ℕ) → ((s : Setup) → P s → Q s) → ((s : Setup) → Q s → P s) → HasCount P n → HasCount Q n
@@ -97,72 +97,36 @@ HasCount-marked P size nth index mark h (suc n) le =
 
 -- ---- first setups
 
-pub numbering : (set : PieceSet) → IsNumbering (IsPositionOf set) (size_of set) (nth set) (rank_of set)
+pub numbering : (set : PieceSet) → IsNumbering (IsPositionOfSet set) (size_of_set set) (nth set) (rank_of_set set)
 numbering set = record {
   sound = λ i h. (nth-block set i h).position;
-  below = λ s p. rank_of-below set s p;
-  back = λ s p. nth-rank_of set s p;
-  forth = λ i h. rank_of-nth set i h;
+  below = λ s p. rank_of_set-below set s p;
+  back = λ s p. nth-rank_of_set set s p;
+  forth = λ i h. rank_of_set-nth set i h;
 }
 
 -- a position's rank is marked just where the position is no later than its mirror image
-pub first-marked : (set : PieceSet) (s : Setup) → IsPositionOf set s → IsFirstOfTwo s → is_first set (rank_of set s) ≡ true
+pub first-marked : (set : PieceSet) (s : Setup) → IsPositionOfSet set s → IsFirstOfTwo s → is_first set (rank_of_set set s) ≡ true
 first-marked set s p first =
-    let image : IsPositionOf set (mirrored s) = IsPositionOf-mirrored set s p in
-    ap (λ (x : Setup). leb (rank_of set s) (rank_of set (mirrored x))) (nth-rank_of set s p)
-    ∙ le-leb (rank_of set s) (rank_of set (mirrored s))
-    (elim (cases_lt (rank_of set (mirrored s)) (rank_of set s)) [
+    let image : IsPositionOfSet set (mirrored s) = IsPositionOfSet-mirrored set s p in
+    ap (λ (x : Setup). leb (rank_of_set set s) (rank_of_set set (mirrored x))) (nth-rank_of_set set s p)
+    ∙ le-leb (rank_of_set set s) (rank_of_set set (mirrored s))
+    (elim (cases_lt (rank_of_set set (mirrored s)) (rank_of_set set s)) [
       | inl lt ↦ absurd (first (Before-from_rank set (mirrored s) s image p lt))
       | inr ge ↦ ge
     ])
 
-pub marked-first : (set : PieceSet) (s : Setup) → IsPositionOf set s → is_first set (rank_of set s) ≡ true → IsFirstOfTwo s
+pub marked-first : (set : PieceSet) (s : Setup) → IsPositionOfSet set s → is_first set (rank_of_set set s) ≡ true → IsFirstOfTwo s
 marked-first set s p on b =
-    let image : IsPositionOf set (mirrored s) = IsPositionOf-mirrored set s p in
-    let low : rank_of set (mirrored s) < rank_of set s = rank_of-rises set (mirrored s) s image p b in
-    let le : rank_of set s ≤ rank_of set (mirrored s) = leb-true (rank_of set s) (rank_of set (mirrored s))
-    (ap (λ (x : Setup). leb (rank_of set s) (rank_of set (mirrored x))) (sym (nth-rank_of set s p)) ∙ on) in
+    let image : IsPositionOfSet set (mirrored s) = IsPositionOfSet-mirrored set s p in
+    let low : rank_of_set set (mirrored s) < rank_of_set set s = rank_of_set-rises set (mirrored s) s image p b in
+    let le : rank_of_set set s ≤ rank_of_set set (mirrored s) = leb-true (rank_of_set set s) (rank_of_set set (mirrored s))
+    (ap (λ (x : Setup). leb (rank_of_set set s) (rank_of_set set (mirrored x))) (sym (nth-rank_of_set set s p)) ∙ on) in
     omega arith
-
--- the classes are the marked ranks
-pub HasClasses-marks : (set : PieceSet) → HasClasses set (marks_below (is_first set) (size_of set))
-HasClasses-marks set =
-    HasCount-same (IsMarkedBelow (IsPositionOf set) (is_first set) (rank_of set) (size_of set))
-    (IsRepresentative set) (marks_below (is_first set) (size_of set))
-    (λ s q. (q.0, marked-first set s q.0 q.1))
-    (λ s q. (q.0, first-marked set s q.0 q.1, rank_of-below set s q.0))
-    (HasCount-marked (IsPositionOf set) (size_of set) (nth set) (rank_of set) (is_first set) (numbering set) (size_of set) (omega arith))
-
--- a class number is the number of marked ranks below the representative's
-pub HasClass-marks : (set : PieceSet) (s : Setup) → IsPositionOf set s → HasClass set s (marks_below (is_first set) (rank_of set s))
-HasClass-marks set s p =
-    let low : rank_of set s < size_of set = rank_of-below set s p in
-    HasCount-same (IsMarkedBelow (IsPositionOf set) (is_first set) (rank_of set) (rank_of set s))
-    (λ (q : Setup). IsRepresentative set q × Before q s) (marks_below (is_first set) (rank_of set s))
-    (λ q h. ((h.0, marked-first set q h.0 h.1), Before-from_rank set q s h.0 p h.2))
-    (λ q h. (h.0.0, first-marked set q h.0.0 h.0.1, rank_of-rises set q s h.0.0 p h.1))
-    (HasCount-marked (IsPositionOf set) (size_of set) (nth set) (rank_of set) (is_first set) (numbering set) (rank_of set s) (omega arith))
 
 -- ---- the marks of a whole set
 
 -- below the size the marks are those of first setups
-pub marked-first_of : (set : PieceSet) (r : ℕ) → r < size_of set → marked set r ≡ is_first set r
+pub marked-first_of : (set : PieceSet) (r : ℕ) → r < size_of_set set → marked set r ≡ is_first set r
 unfolding marked
-marked-first_of set r h = ap (λ (b : Bool). b && is_first set r) (lt-ltb r (size_of set) h)
-
-pub marks_below-marked : (set : PieceSet) (n : ℕ) → n ≤ size_of set → marks_below (marked set) n ≡ marks_below (is_first set) n
-unfolding marks_below
-marks_below-marked set zero h = refl
-marks_below-marked set (suc n) h =
-    let rest : marks_below (marked set) n ≡ marks_below (is_first set) n = marks_below-marked set n (omega arith) in
-    let one : one_if (marked set n) ≡ one_if (is_first set n) = ap one_if (marked-first_of set n h) in
-    omega arith
-
-pub HasClasses-classes_of : (set : PieceSet) → HasClasses set (classes_of set)
-unfolding classes_of
-HasClasses-classes_of set = subst (HasClasses set) (sym (marks_below-marked set (size_of set) (omega arith))) (HasClasses-marks set)
-
-pub HasClass-marked : (set : PieceSet) (s : Setup) → IsPositionOf set s → HasClass set s (marks_below (marked set) (rank_of set s))
-HasClass-marked set s p =
-    subst (HasClass set s) (sym (marks_below-marked set (rank_of set s) (let low : rank_of set s < size_of set = rank_of-below set s p in omega arith)))
-    (HasClass-marks set s p)
+marked-first_of set r h = ap (λ (b : Bool). b && is_first set r) (lt-ltb r (size_of_set set) h)

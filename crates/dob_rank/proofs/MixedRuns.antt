@@ -11,7 +11,7 @@ use Rattle.dob_pieces.specs.declared.piece_set.PieceSet.{PieceSet}
 use Rattle.dob_pieces.specs.declared.setup.Setup.{Setup}
 use Rattle.dob_pieces.specs.Setups.{mirrored}
 use Rattle.dob_rank.specs.declared.runs.RunKind.TheVariants.{Mixed}
-use Rattle.dob_rank.specs.Order.{IsPositionOf}
+use Rattle.dob_rank.specs.Order.{IsPositionOfSet}
 use Rattle.dob_rank.specs.Numbers.{product, number_of, digits_of, HasDigits, block_bases, on_board, HasBlock, place_of}
 use Rattle.dob_rank.specs.Numbers.{setup_in, bases_by}
 use Rattle.dob_rank.specs.Marks.{marked}
@@ -21,7 +21,7 @@ use Rattle.dob_rank.proofs.MixedRadix.{number_of-below, number_of-append, digits
 use Rattle.dob_rank.proofs.Loops.{HasDigits-drop, HasDigits-length}
 use Rattle.dob_rank.proofs.Digits.{HasParts-from_position, HasDigits-digits}
 use Rattle.dob_rank.proofs.Numbering.{on_board-block, HasBlock-setup_in}
-use Rattle.dob_rank.proofs.Found.{IsPositionOf-mirrored}
+use Rattle.dob_rank.proofs.Found.{IsPositionOfSet-mirrored}
 use Rattle.dob_rank.proofs.Lions.{image_lions, lions_of-below, mixed_lions}
 use Rattle.dob_rank.proofs.RunPlaces.{local_digits, local_size, local_size-block, local_of-below, place_of-run, run_of-lions, hand_of}
 use Rattle.dob_rank.proofs.RunPlaces.{on_board-mirrored, place-parts, image-parts, place_in_run, marked_by_place, unmarked_by_place, mark_of_spot}
@@ -59,7 +59,7 @@ same_digits bs xs ys h k e = sym (digits_of-number_of bs xs h) ∙ ap (digits_of
 abbrev pub weight : List ℕ → ℕ → ℕ
 weight ob n = product (drop n (local_bases ob))
 
-HasDigits-local : (set : PieceSet) (s : Setup) (ob : List ℕ) → IsPositionOf set s → on_board s ≡ ob → HasDigits (local_bases ob) (local_digits s)
+HasDigits-local : (set : PieceSet) (s : Setup) (ob : List ℕ) → IsPositionOfSet set s → on_board s ≡ ob → HasDigits (local_bases ob) (local_digits s)
 HasDigits-local set s ob p is =
     subst (λ (xs : List ℕ). HasDigits (local_bases xs) (local_digits s)) is (HasDigits-digits set s (HasParts-from_position set s p)).1.1.1.1.1
 
@@ -67,7 +67,7 @@ local_of-digits : (s : Setup) → local_of s ≡ number_of (local_bases (on_boar
 unfolding local_of
 local_of-digits s = refl
 
-first_part : (set : PieceSet) (s : Setup) (ob : List ℕ) (n : ℕ) → IsPositionOf set s → on_board s ≡ ob →
+first_part : (set : PieceSet) (s : Setup) (ob : List ℕ) (n : ℕ) → IsPositionOfSet set s → on_board s ≡ ob →
     local_of s / weight ob n ≡ number_of (take n (local_bases ob)) (take n (local_digits s))
 first_part set s ob n p is =
     ap (λ (x : ℕ). x / weight ob n) (local_of-digits s ∙ ap (λ (xs : List ℕ). number_of (local_bases xs) (local_digits s)) is)
@@ -83,14 +83,14 @@ image_part set p q ob n two is same =
     (HasDigits-take (local_bases ob) (local_digits p) n (HasDigits-local set p ob two.first is))
     (HasDigits-take (local_bases ob) (local_digits q) n (HasDigits-local set q ob two.second is_q))
     (sym (first_part set p ob n two.first is) ∙ same ∙ first_part set q ob n two.second is_q) in
-    first_part set (mirrored p) ob n (IsPositionOf-mirrored set p two.first) (on_board-mirrored p two.first.legal.squares ∙ is)
+    first_part set (mirrored p) ob n (IsPositionOfSet-mirrored set p two.first) (on_board-mirrored p two.first.legal.squares ∙ is)
     ∙ ap (number_of (take n (local_bases ob))) (image_digits set p q two n taken)
-    ∙ sym (first_part set (mirrored q) ob n (IsPositionOf-mirrored set q two.second) (on_board-mirrored q two.second.legal.squares ∙ is_q))
+    ∙ sym (first_part set (mirrored q) ob n (IsPositionOfSet-mirrored set q two.second) (on_board-mirrored q two.second.legal.squares ∙ is_q))
 
 -- ---- the position at a spot
 
 pub record IsAtSpot (set : PieceSet) (block run local : ℕ) (s : Setup) : Type 0 where
-  pub position : IsPositionOf set s
+  pub position : IsPositionOfSet set s
   pub on_board_is : on_board s ≡ digits_of (block_bases set) block
   pub run_is : run_of set s ≡ run
   pub local_is : local_of s ≡ local

@@ -3,52 +3,51 @@ use Rattle.std.proofs.Common.{◌≡◌, ℕ, zero, suc, ◌+◌, ◌-◌, ◌<�
 use Rattle.std.proofs.lemmas.Bool.{cases_lt, lt-ltb, le-ltb}
 use Rattle.dob_pieces.specs.declared.piece_set.PieceSet.{PieceSet}
 use Rattle.dob_pieces.specs.declared.setup.Setup.{Setup}
-use Rattle.dob_rank.specs.Order.{IsPositionOf, Before, key, HasSize, HasRank}
+use Rattle.dob_rank.specs.Order.{IsPositionOfSet, Before, key}
 use Rattle.dob_rank.specs.Numbers.{product, number_of, digits_of, HasDigits, sum_below, block_bases, bases_by, on_board, digits}
-use Rattle.dob_rank.specs.Numbers.{block_of, block_size, size_of, rank_of, setup_by, setup_in, find, nth}
+use Rattle.dob_rank.specs.Numbers.{block_of, block_size, size_of_set, rank_of_set, setup_by, setup_in, find, nth}
 pub use Rattle.dob_rank.specs.Numbers.{place_of, HasBlock}
 use Rattle.dob_rank.proofs.MixedRadix.{number_of-below, number_of-rises, HasDigits-digits_of, number_of-digits_of, digits_of-number_of}
 use Rattle.dob_rank.proofs.Sums.{sum_below-rises, same_block}
-use Rattle.dob_rank.proofs.Counts.{HasCount-from_numbering}
 use Rattle.dob_rank.proofs.Digits.{HasParts, HasParts-from_position, HasDigits-on_board, HasDigits-digits, setup_by-back}
-use Rattle.dob_rank.proofs.Made.{HasPlace, made, IsMade-made, IsPositionOf-made, on_board-made, digits-made, all_settled}
+use Rattle.dob_rank.proofs.Made.{HasPlace, made, IsMade-made, IsPositionOfSet-made, on_board-made, digits-made, all_settled}
 use Rattle.dob_rank.proofs.Keys.{Before-digits, key-same}
 use Rattle.dob_rank.proofs.Order.{Precedes-total}
 
 -- ---- a rank is the start of its block and the place there
 
-pub rank_of-place : (set : PieceSet) (s : Setup) → rank_of set s ≡ sum_below (block_size set) (block_of set s) + place_of set s
-unfolding rank_of
-rank_of-place set s = refl
+pub rank_of_set-place : (set : PieceSet) (s : Setup) → rank_of_set set s ≡ sum_below (block_size set) (block_of set s) + place_of set s
+unfolding rank_of_set
+rank_of_set-place set s = refl
 
 pub block_size-product : (set : PieceSet) (block : ℕ) → block_size set block ≡ product (bases_by set (digits_of (block_bases set) block))
 unfolding block_size
 block_size-product set block = refl
 
-pub block_of-below : (set : PieceSet) (s : Setup) → IsPositionOf set s → block_of set s < product (block_bases set)
+pub block_of-below : (set : PieceSet) (s : Setup) → IsPositionOfSet set s → block_of set s < product (block_bases set)
 block_of-below set s p = number_of-below (block_bases set) (on_board s) (HasDigits-on_board set s (HasParts-from_position set s p))
 
-pub on_board-block : (set : PieceSet) (s : Setup) → IsPositionOf set s → digits_of (block_bases set) (block_of set s) ≡ on_board s
+pub on_board-block : (set : PieceSet) (s : Setup) → IsPositionOfSet set s → digits_of (block_bases set) (block_of set s) ≡ on_board s
 on_board-block set s p = digits_of-number_of (block_bases set) (on_board s) (HasDigits-on_board set s (HasParts-from_position set s p))
 
-pub place_of-below : (set : PieceSet) (s : Setup) → IsPositionOf set s → place_of set s < block_size set (block_of set s)
+pub place_of-below : (set : PieceSet) (s : Setup) → IsPositionOfSet set s → place_of set s < block_size set (block_of set s)
 place_of-below set s p =
     subst (λ (n : ℕ). place_of set s < n) (ap (λ (xs : List ℕ). product (bases_by set xs)) (sym (on_board-block set s p))
     ∙ sym (block_size-product set (block_of set s)))
     (number_of-below (bases_by set (on_board s)) (digits s) (HasDigits-digits set s (HasParts-from_position set s p)))
 
-pub rank_of-below : (set : PieceSet) (s : Setup) → IsPositionOf set s → rank_of set s < size_of set
-unfolding size_of
-rank_of-below set s p =
+pub rank_of_set-below : (set : PieceSet) (s : Setup) → IsPositionOfSet set s → rank_of_set set s < size_of_set set
+unfolding size_of_set
+rank_of_set-below set s p =
     let a : block_of set s < product (block_bases set) = block_of-below set s p in
     let b : place_of set s < block_size set (block_of set s) = place_of-below set s p in
     let c : sum_below (block_size set) (block_of set s) + block_size set (block_of set s) ≤ sum_below (block_size set) (product (block_bases set))
     = sum_below-rises (block_size set) (block_of set s) (product (block_bases set)) a in
-    let d : rank_of set s ≡ sum_below (block_size set) (block_of set s) + place_of set s = rank_of-place set s in
+    let d : rank_of_set set s ≡ sum_below (block_size set) (block_of set s) + place_of set s = rank_of_set-place set s in
     omega arith
 
 -- the block and place of a position give it back
-pub setup_in-back : (set : PieceSet) (s : Setup) → IsPositionOf set s → setup_in set (block_of set s) (place_of set s) ≡ s
+pub setup_in-back : (set : PieceSet) (s : Setup) → IsPositionOfSet set s → setup_in set (block_of set s) (place_of set s) ≡ s
 setup_in-back set s p =
     let h : HasParts set s = HasParts-from_position set s p in
     ap (λ (xs : List ℕ). setup_by set xs (digits_of (bases_by set xs) (place_of set s))) (on_board-block set s p)
@@ -65,7 +64,7 @@ pub record IsPlace (set : PieceSet) (block place : ℕ) : Type 0 where
 
 -- what the setup of digits has
 record HasBoth (set : PieceSet) (ob ds : List ℕ) (s : Setup) : Type 0 where
-  position : IsPositionOf set s
+  position : IsPositionOfSet set s
   on_board_is : on_board s ≡ ob
   digits_are : digits s ≡ ds
 
@@ -87,7 +86,7 @@ from_digits set i j k (h1 ∷ h2 ∷ h3 ∷ n0 ∷ n1 ∷ n2 ∷ n3 ∷ n4 ∷ f
     let p : HasPlace set i j k h1 h2 h3 n0 n1 n2 n3 n4 f2 f3 f4 = record { on_board_below = h; digits_below = d } in
     let m = IsMade-made set i j k h1 h2 h3 n0 n1 n2 n3 n4 f2 f3 f4 p in
     record {
-      position = IsPositionOf-made set i j k n0 n1 n2 n3 n4
+      position = IsPositionOfSet-made set i j k n0 n1 n2 n3 n4
           (all_settled i j k n0 n1 n2 n3 n4) (made set i j k h1 h2 h3 n0 n1 n2 n3 n4 f2 f3 f4) m;
       on_board_is = on_board-made set i j k n0 n1 n2 n3 n4
           (all_settled i j k n0 n1 n2 n3 n4) (made set i j k h1 h2 h3 n0 n1 n2 n3 n4 f2 f3 f4) m;
@@ -128,10 +127,10 @@ cancel a b x y h k = omega arith
 
 -- ---- the order
 
-pub rank_of-rises : (set : PieceSet) (p q : Setup) → IsPositionOf set p → IsPositionOf set q → Before p q → rank_of set p < rank_of set q
-rank_of-rises set p q hp hq h =
-    let rp : rank_of set p ≡ sum_below (block_size set) (block_of set p) + place_of set p = rank_of-place set p in
-    let rq : rank_of set q ≡ sum_below (block_size set) (block_of set q) + place_of set q = rank_of-place set q in
+pub rank_of_set-rises : (set : PieceSet) (p q : Setup) → IsPositionOfSet set p → IsPositionOfSet set q → Before p q → rank_of_set set p < rank_of_set set q
+rank_of_set-rises set p q hp hq h =
+    let rp : rank_of_set set p ≡ sum_below (block_size set) (block_of set p) + place_of set p = rank_of_set-place set p in
+    let rq : rank_of_set set q ≡ sum_below (block_size set) (block_of set q) + place_of set q = rank_of_set-place set q in
     elim (Before-digits set p q hp hq h) [
       | inl lt ↦ (let a : block_of set p < block_of set q
           = number_of-rises (block_bases set) (on_board p) (on_board q) (HasDigits-on_board set p (HasParts-from_position set p hp))
@@ -139,7 +138,7 @@ rank_of-rises set p q hp hq h =
           let b : place_of set p < block_size set (block_of set p) = place_of-below set p hp in
           let c : sum_below (block_size set) (block_of set p) + block_size set (block_of set p) ≤ sum_below (block_size set) (block_of set q)
           = sum_below-rises (block_size set) (block_of set p) (block_of set q) a in
-          lower (rank_of set p) (rank_of set q) (sum_below (block_size set) (block_of set p)) (place_of set p) (block_size set (block_of set p))
+          lower (rank_of_set set p) (rank_of_set set q) (sum_below (block_size set) (block_of set p)) (place_of set p) (block_size set (block_of set p))
           (sum_below (block_size set) (block_of set q)) (place_of set q) rp rq b c)
       | inr r ↦ (let dp : HasDigits (bases_by set (on_board q)) (digits p)
           = subst (λ (xs : List ℕ). HasDigits (bases_by set xs) (digits p)) r.0 (HasDigits-digits set p (HasParts-from_position set p hp)) in
@@ -148,15 +147,15 @@ rank_of-rises set p q hp hq h =
           let b : place_of set p ≡ number_of (bases_by set (on_board q)) (digits p) = ap (λ (xs : List ℕ). number_of (bases_by set xs) (digits p)) r.0 in
           let c : sum_below (block_size set) (block_of set p) ≡ sum_below (block_size set) (block_of set q)
           = ap (λ (xs : List ℕ). sum_below (block_size set) (number_of (block_bases set) xs)) r.0 in
-          nearer (rank_of set p) (rank_of set q) (sum_below (block_size set) (block_of set p)) (place_of set p)
+          nearer (rank_of_set set p) (rank_of_set set q) (sum_below (block_size set) (block_of set p)) (place_of set p)
           (number_of (bases_by set (on_board q)) (digits p)) (sum_below (block_size set) (block_of set q)) (place_of set q) rp rq a b c)
     ]
 
 -- positions of one set with one rank are one
-pub rank_of-same : (set : PieceSet) (p q : Setup) → IsPositionOf set p → IsPositionOf set q → rank_of set p ≡ rank_of set q → p ≡ q
-rank_of-same set p q hp hq e =
+pub rank_of_set-same : (set : PieceSet) (p q : Setup) → IsPositionOfSet set p → IsPositionOfSet set q → rank_of_set set p ≡ rank_of_set set q → p ≡ q
+rank_of_set-same set p q hp hq e =
     let sums : sum_below (block_size set) (block_of set p) + place_of set p ≡ sum_below (block_size set) (block_of set q) + place_of set q
-    = sym (rank_of-place set p) ∙ e ∙ rank_of-place set q in
+    = sym (rank_of_set-place set p) ∙ e ∙ rank_of_set-place set q in
     let block : block_of set p ≡ block_of set q
     = same_block (block_size set) (block_of set p) (block_of set q) (place_of set p) (place_of set q)
     (place_of-below set p hp) (place_of-below set q hq) sums in
@@ -166,24 +165,24 @@ rank_of-same set p q hp hq e =
     sym (setup_in-back set p hp) ∙ ap (λ (b : ℕ). setup_in set b (place_of set p)) block ∙ ap (setup_in set (block_of set q)) place ∙ setup_in-back set q hq
 
 -- positions of one key have one rank
-same_key : (set : PieceSet) (p q : Setup) → IsPositionOf set p → IsPositionOf set q → rank_of set p < rank_of set q → key p ≡ key q → ⊥
+same_key : (set : PieceSet) (p q : Setup) → IsPositionOfSet set p → IsPositionOfSet set q → rank_of_set set p < rank_of_set set q → key p ≡ key q → ⊥
 same_key set p q hp hq lt e =
     let k = key-same set p q hp hq e in
-    let same : rank_of set p ≡ rank_of set q
-    = rank_of-place set p
+    let same : rank_of_set set p ≡ rank_of_set set q
+    = rank_of_set-place set p
     ∙ ap (λ (xs : List ℕ). sum_below (block_size set) (number_of (block_bases set) xs) + number_of (bases_by set xs) (digits p)) k.0
     ∙ ap (λ (xs : List ℕ). sum_below (block_size set) (block_of set q) + number_of (bases_by set (on_board q)) xs) k.1
-    ∙ sym (rank_of-place set q) in
+    ∙ sym (rank_of_set-place set q) in
     omega arith
 
 -- a lower rank stands before
-pub Before-from_rank : (set : PieceSet) (p q : Setup) → IsPositionOf set p → IsPositionOf set q → rank_of set p < rank_of set q → Before p q
+pub Before-from_rank : (set : PieceSet) (p q : Setup) → IsPositionOfSet set p → IsPositionOfSet set q → rank_of_set set p < rank_of_set set q → Before p q
 unfolding Before
 Before-from_rank set p q hp hq lt = elim (Precedes-total (key p) (key q)) [
   | inl h ↦ h
   | inr o ↦ absurd (elim o [
     | inl e ↦ same_key set p q hp hq lt e
-    | inr h ↦ (let up : rank_of set q < rank_of set p = rank_of-rises set q p hq hp h in omega arith)
+    | inr h ↦ (let up : rank_of_set set q < rank_of_set set p = rank_of_set-rises set q p hq hp h in omega arith)
   ])
 ]
 
@@ -209,12 +208,12 @@ pub nth-is : (set : PieceSet) (n : ℕ)
 unfolding nth
 nth-is set n = refl
 
-nth-found : (set : PieceSet) (n : ℕ) → n < size_of set
+nth-found : (set : PieceSet) (n : ℕ) → n < size_of_set set
     → IsFound (block_size set) (product (block_bases set)) n (find (block_size set) (product (block_bases set)) n)
-unfolding size_of
+unfolding size_of_set
 nth-found set n h = find-found (block_size set) (product (block_bases set)) n h
 
-pub nth-block : (set : PieceSet) (n : ℕ) → n < size_of set
+pub nth-block : (set : PieceSet) (n : ℕ) → n < size_of_set set
     → HasBlock set (find (block_size set) (product (block_bases set)) n).0 (find (block_size set) (product (block_bases set)) n).1 (nth set n)
 nth-block set n h =
     let r = nth-found set n h in
@@ -223,41 +222,17 @@ nth-block set n h =
     (record { block_below = r.block_below; place_below = r.place_below }))
 
 -- the setup of a place has the rank of that place
-pub rank_of-block : (set : PieceSet) (block place : ℕ) (s : Setup) → HasBlock set block place s → rank_of set s ≡ sum_below (block_size set) block + place
-rank_of-block set block place s h =
-    rank_of-place set s ∙ ap (λ (b : ℕ). sum_below (block_size set) b + place_of set s) h.block_is
+pub rank_of_set-block : (set : PieceSet) (block place : ℕ) (s : Setup) → HasBlock set block place s → rank_of_set set s ≡ sum_below (block_size set) block + place
+rank_of_set-block set block place s h =
+    rank_of_set-place set s ∙ ap (λ (b : ℕ). sum_below (block_size set) b + place_of set s) h.block_is
     ∙ ap (λ (x : ℕ). sum_below (block_size set) block + x) h.place_is
 
-pub rank_of-nth : (set : PieceSet) (n : ℕ) → n < size_of set → rank_of set (nth set n) ≡ n
-rank_of-nth set n h =
-    rank_of-block set (find (block_size set) (product (block_bases set)) n).0
+pub rank_of_set-nth : (set : PieceSet) (n : ℕ) → n < size_of_set set → rank_of_set set (nth set n) ≡ n
+rank_of_set-nth set n h =
+    rank_of_set-block set (find (block_size set) (product (block_bases set)) n).0
     (find (block_size set) (product (block_bases set)) n).1 (nth set n) (nth-block set n h)
     ∙ (nth-found set n h).whole
 
-pub nth-rank_of : (set : PieceSet) (s : Setup) → IsPositionOf set s → nth set (rank_of set s) ≡ s
-nth-rank_of set s p = rank_of-same set (nth set (rank_of set s)) s (nth-block set (rank_of set s) (rank_of-below set s p)).position p
-    (rank_of-nth set (rank_of set s) (rank_of-below set s p))
-
--- ---- the counts
-
--- the set has just so many positions
-pub HasSize-size_of : (set : PieceSet) → HasSize set (size_of set)
-HasSize-size_of set = HasCount-from_numbering (IsPositionOf set) (size_of set) (nth set) (rank_of set) (record {
-  sound = λ i h. (nth-block set i h).position;
-  below = λ s p. rank_of-below set s p;
-  back = λ s p. nth-rank_of set s p;
-  forth = λ i h. rank_of-nth set i h;
-})
-
--- just so many positions of the set stand before one
-pub HasRank-rank_of : (set : PieceSet) (s : Setup) → IsPositionOf set s → HasRank set s (rank_of set s)
-HasRank-rank_of set s p =
-    let low : rank_of set s < size_of set = rank_of-below set s p in
-    HasCount-from_numbering (λ (q : Setup). IsPositionOf set q × Before q s) (rank_of set s) (nth set) (rank_of set) (record {
-      sound = λ i h. (let h' : i < size_of set = omega arith in
-          let at : IsPositionOf set (nth set i) = (nth-block set i h').position in
-          (at, Before-from_rank set (nth set i) s at p (subst (λ (x : ℕ). x < rank_of set s) (sym (rank_of-nth set i h')) h)));
-      below = λ q h. rank_of-rises set q s h.0 p h.1;
-      back = λ q h. nth-rank_of set q h.0;
-      forth = λ i h. rank_of-nth set i (let h' : i < size_of set = omega arith in h');
-    })
+pub nth-rank_of_set : (set : PieceSet) (s : Setup) → IsPositionOfSet set s → nth set (rank_of_set set s) ≡ s
+nth-rank_of_set set s p = rank_of_set-same set (nth set (rank_of_set set s)) s (nth-block set (rank_of_set set s) (rank_of_set-below set s p)).position p
+    (rank_of_set-nth set (rank_of_set set s) (rank_of_set-below set s p))

@@ -1,11 +1,11 @@
 -- Pieces placed one after another on the squares that are left make the board of the settled layers.
-use Rattle.std.proofs.Common.{◌≡◌, ℕ, zero, suc, ◌+◌, ◌-◌, ◌*◌, ◌/◌, ◌%◌, ◌^◌, ◌<◌, ◌≤◌, List, [], ◌∷◌, length, replicate, slice_index, set}
+use Rattle.std.proofs.Common.{◌≡◌, ℕ, zero, suc, ◌+◌, ◌-◌, ◌*◌, ◌/◌, ◌%◌, ◌^◌, ◌<◌, ◌≤◌, List, [], ◌∷◌, length, replicate, slice_index, slice_index_or, set, ◌≢◌}
 use Rattle.std.proofs.Common.{None, refl, sym, ap, ◌∙◌, subst, inl, inr, arith}
 use Rattle.std.proofs.lemmas.Bool.{cases_eq, cases_lt, lt-ltb, le-ltb}
 use Rattle.std.proofs.Math.Nat.{pow-zero, pow-succ'}
 use Rattle.dob_pieces.specs.Setups.{Cell}
 use Rattle.dob_rank.specs.Numbers.{count, choose, settle, base_of, cell_of, board_of, numbers_by, layers_by, own_squares, enemy_squares, free_squares}
-use Rattle.dob_rank.specs.Placing.{past, lower_of, higher_of, first_place, second_place, put, AreChoices}
+use Rattle.dob_rank.specs.Placing.{past, lower_of, higher_of, first_place, second_place, put, AreChoices, AreFree}
 use Rattle.dob_rank.specs.Numbers.{order, empty_layers}
 use Rattle.dob_rank.specs.declared.layers.Layer.TheVariants.{OwnLion, EnemyLion, Chicks, Elephants, Giraffes, Empty}
 use Rattle.dob_rank.proofs.Choices.{count_same, count_other, choose-split}
@@ -299,6 +299,59 @@ second_below numbers t (suc zero) n m ls cells f few low s some = absurd (omega 
 second_below numbers t (suc (suc zero)) n m ls cells f few low s some = place_below numbers t (higher_of m n) m ls cells f (choice_of m n low).below s
 second_below numbers t (suc (suc (suc p))) n m ls cells f few low s some = absurd (omega arith)
 
+-- ---- the squares of a choice are empty, and two
+
+none_at : (numbers : ℕ → ℕ) (t s : ℕ) (ls : List ℕ) → IsOpen s t ls → slice_index_or (board_of numbers ls) s None ≡ None
+none_at numbers t s [] o = refl
+none_at numbers t zero (l ∷ ls) o = subst (λ (x : ℕ). cell_of x (numbers x / base_of x ^ count x ls % base_of x) ≡ None) (sym o) refl
+none_at numbers t (suc s) (l ∷ ls) o = none_at numbers t s ls o.1
+
+not_open : (t s : ℕ) (ls : List ℕ) → (t ≡ order Empty → ⊥) → IsOpen s t (set ls s t) → ⊥
+not_open t s [] h o = o
+not_open t zero (l ∷ ls) h o = h o
+not_open t (suc s) (l ∷ ls) h o = not_open t s ls h o.1
+
+pub free_at : (numbers : ℕ → ℕ) (t m : ℕ) (ls : List ℕ) (cells : List Cell) (f : ℕ → ℕ) → t < order Empty → Stand numbers t m ls cells f
+    → (n : ℕ) → n < m → slice_index_or cells (f n) None ≡ None
+free_at numbers t m ls cells f h s n low =
+    let five : order Empty ≡ t → ⊥ = λ (e : order Empty ≡ t). absurd (omega arith) in
+    let same : count (order Empty) ls ≡ m = s.empty_is in
+    ap (λ (cs : List Cell). slice_index_or cs (f n) None) s.board_is
+    ∙ ap (λ (x : ℕ). slice_index_or (board_of numbers ls) x None) (sym (s.place_is n low))
+    ∙ none_at numbers t (empty_place ls n) ls (open_one t n ls five (none_shown t ls h s.shown) (omega arith))
+
+apart_at : (numbers : ℕ → ℕ) (t m : ℕ) (ls : List ℕ) (cells : List Cell) (f : ℕ → ℕ) → t < order Empty → Stand numbers t m ls cells f
+    → (a b : ℕ) → a < b → b < m → f a ≢ f b
+apart_at numbers t m ls cells f h s a b less low =
+    let five : order Empty ≡ t → ⊥ = λ (e : order Empty ≡ t). absurd (omega arith) in
+    let other : t ≡ order Empty → ⊥ = λ (e : t ≡ order Empty). absurd (omega arith) in
+    let same : count (order Empty) ls ≡ m = s.empty_is in
+    λ (e : f a ≡ f b).
+    not_open t (empty_place ls b) ls other
+    (subst (λ (x : ℕ). IsOpen x t (set ls (empty_place ls b) t))
+    (s.place_is a (omega arith) ∙ e ∙ sym (s.place_is b low))
+    (open_two t a b ls five (none_shown t ls h s.shown) less (omega arith)))
+
+pub are_free : (numbers : ℕ → ℕ) (t p n m : ℕ) (ls : List ℕ) (cells : List Cell) (f : ℕ → ℕ) → t < order Empty → p ≤ 2 → n < choose m p
+    → Stand numbers t m ls cells f → AreFree p (f (first_place m p n)) (f (second_place m p n)) cells
+are_free numbers t zero n m ls cells f h few low s =
+    record { first_free = λ some. absurd (omega arith); second_free = λ some. absurd (omega arith); are_two = λ some. absurd (omega arith) }
+are_free numbers t (suc zero) n m ls cells f h few low s = record {
+  first_free = λ some. free_at numbers t m ls cells f h s n (subst (λ (x : ℕ). n < x) (choose_one m) low);
+  second_free = λ some. absurd (omega arith);
+  are_two = λ some. absurd (omega arith);
+}
+are_free numbers t (suc (suc zero)) n m ls cells f h few low s =
+    let choice = choice_of m n low in
+    let rising : lower_of m n < higher_of m n = choice.rising in
+    let below : higher_of m n < m = choice.below in
+    record {
+      first_free = λ some. free_at numbers t m ls cells f h s (lower_of m n) (omega arith);
+      second_free = λ some. free_at numbers t m ls cells f h s (higher_of m n) below;
+      are_two = λ some. apart_at numbers t m ls cells f h s (lower_of m n) (higher_of m n) rising below;
+    }
+are_free numbers t (suc (suc (suc p))) n m ls cells f h few low s = absurd (omega arith)
+
 -- ---- the empty board
 
 all_empty : (n : ℕ) → AreShown (order OwnLion) (replicate n (order Empty))
@@ -380,15 +433,21 @@ chicks_by ob ds = settle (order Chicks) (slice_index ob 0) (slice_index ds 5) (l
 abbrev pub elephants_by : List ℕ → List ℕ → List ℕ
 elephants_by ob ds = settle (order Elephants) (slice_index ob 1) (slice_index ds 6) (chicks_by ob ds)
 
-pub lions_stand : (ob ds : List ℕ) → AreChoices ob ds → Stand (numbers_by ds) (order Chicks) free_squares (lions_by ds) (with_lions ds) (after_lions ds)
-lions_stand ob ds c =
+-- the board with the mover's lion alone
+pub own_lion_stands : (ob ds : List ℕ) → AreChoices ob ds → Stand (numbers_by ds) (order EnemyLion) enemy_squares
+    (settle (order OwnLion) 1 (slice_index ds 3) empty_layers)
+    (set (replicate 12 None) (slice_index ds 3) (cell_of (order OwnLion) 0)) (past (slice_index ds 3))
+own_lion_stands ob ds c =
     let own : slice_index ds 3 < own_squares = c.own_lion in
     let zero_low : order OwnLion < order Empty = omega arith in
+    stage_one (numbers_by ds) (order OwnLion) (slice_index ds 3) 12 empty_layers (replicate 12 None) (λ n. n) zero_low (omega arith) (start (numbers_by ds))
+
+pub lions_stand : (ob ds : List ℕ) → AreChoices ob ds → Stand (numbers_by ds) (order Chicks) free_squares (lions_by ds) (with_lions ds) (after_lions ds)
+lions_stand ob ds c =
     let one_low : order EnemyLion < order Empty = omega arith in
     stage_one (numbers_by ds) (order EnemyLion) (slice_index ds 4) enemy_squares (settle (order OwnLion) 1 (slice_index ds 3) empty_layers)
     (set (replicate 12 None) (slice_index ds 3) (cell_of (order OwnLion) 0))
-    (past (slice_index ds 3)) one_low c.other_lion
-    (stage_one (numbers_by ds) (order OwnLion) (slice_index ds 3) 12 empty_layers (replicate 12 None) (λ n. n) zero_low (omega arith) (start (numbers_by ds)))
+    (past (slice_index ds 3)) one_low c.other_lion (own_lion_stands ob ds c)
 
 pub chicks_stand : (ob ds : List ℕ) → AreChoices ob ds →
     Stand (numbers_by ds) (order Elephants) (free_squares - slice_index ob 0) (chicks_by ob ds) (with_chicks ob ds) (after_chicks ob ds)

@@ -5,46 +5,46 @@ use Rattle.dob_pieces.specs.declared.profile.Profile.{Profile}
 use Rattle.dob_pieces.specs.declared.profile.Profile.TheVariants.{A, B}
 use Rattle.dob_pieces.specs.declared.setup.Setup.{Setup}
 use Rattle.dob_pieces.specs.Profiles.{is_allowed}
-use Rattle.dob_rank.specs.Order.{IsPositionOf, Before}
-use Rattle.dob_rank.specs.Numbers.{size_of, rank_of, nth, product, block_bases, start_of}
+use Rattle.dob_rank.specs.Order.{IsPositionOfSet, Before}
+use Rattle.dob_rank.specs.Numbers.{size_of_set, rank_of_set, nth, product, block_bases, start_of}
 use Rattle.dob_rank.specs.Marks.{one_if, marks_below, is_first}
-use Rattle.dob_rank.specs.Families.{IsPositionIn, HasSizeIn, HasRankIn, IsRepresentativeIn, HasClassesIn, HasClassIn}
-use Rattle.dob_rank.specs.Families.{family_of, is_present, is_marked, size_in, rank_in, classes_in}
-use Rattle.dob_rank.proofs.Numbering.{nth-rank_of, rank_of-below, rank_of-rises, Before-from_rank}
+use Rattle.dob_rank.specs.Families.{IsPositionOf, HasSize, HasRank, IsRepresentative, HasClasses, HasClass}
+use Rattle.dob_rank.specs.Families.{family_of, is_present, is_marked, size_of, rank_of, classes_of}
+use Rattle.dob_rank.proofs.Numbering.{nth-rank_of_set, rank_of_set-below, rank_of_set-rises, Before-from_rank}
 use Rattle.dob_rank.proofs.Marks.{HasCount-same, HasCount-marked, IsMarkedBelow, numbering, first-marked, marked-first}
 
 -- a position's number is present just where the position is one of the family
-pub present : (family : Family) (s : Setup) → IsPositionIn family s → is_present family (rank_of family.set s) ≡ true
+pub present : (family : Family) (s : Setup) → IsPositionOf family s → is_present family (rank_of_set family.set s) ≡ true
 unfolding is_present
-present family s p = ap (is_allowed family.profile) (nth-rank_of family.set s p.of_set) ∙ p.allowed
+present family s p = ap (is_allowed family.profile) (nth-rank_of_set family.set s p.of_set) ∙ p.allowed
 
-pub allowed : (family : Family) (s : Setup) → IsPositionOf family.set s → is_present family (rank_of family.set s) ≡ true → IsPositionIn family s
+pub allowed : (family : Family) (s : Setup) → IsPositionOfSet family.set s → is_present family (rank_of_set family.set s) ≡ true → IsPositionOf family s
 unfolding is_present
 allowed family s p on = record {
   of_set = p;
-  allowed = ap (is_allowed family.profile) (sym (nth-rank_of family.set s p)) ∙ on;
+  allowed = ap (is_allowed family.profile) (sym (nth-rank_of_set family.set s p)) ∙ on;
 }
 
-pub HasSizeIn-size_in : (family : Family) → HasSizeIn family (size_in family)
-unfolding size_in
-HasSizeIn-size_in family =
-    HasCount-same (IsMarkedBelow (IsPositionOf family.set) (is_present family) (rank_of family.set) (size_of family.set)) (IsPositionIn family)
-    (marks_below (is_present family) (size_of family.set))
+pub HasSize-size_of : (family : Family) → HasSize family (size_of family)
+unfolding size_of
+HasSize-size_of family =
+    HasCount-same (IsMarkedBelow (IsPositionOfSet family.set) (is_present family) (rank_of_set family.set) (size_of_set family.set)) (IsPositionOf family)
+    (marks_below (is_present family) (size_of_set family.set))
     (λ s q. allowed family s q.0 q.1)
-    (λ s p. (p.of_set, present family s p, rank_of-below family.set s p.of_set))
-    (HasCount-marked (IsPositionOf family.set) (size_of family.set) (nth family.set) (rank_of family.set) (is_present family) (numbering family.set)
-    (size_of family.set) (omega arith))
+    (λ s p. (p.of_set, present family s p, rank_of_set-below family.set s p.of_set))
+    (HasCount-marked (IsPositionOfSet family.set) (size_of_set family.set) (nth family.set) (rank_of_set family.set) (is_present family) (numbering family.set)
+    (size_of_set family.set) (omega arith))
 
-pub HasRankIn-rank_in : (family : Family) (s : Setup) → IsPositionIn family s → HasRankIn family s (rank_in family s)
-unfolding rank_in
-HasRankIn-rank_in family s p =
-    let low : rank_of family.set s < size_of family.set = rank_of-below family.set s p.of_set in
-    HasCount-same (IsMarkedBelow (IsPositionOf family.set) (is_present family) (rank_of family.set) (rank_of family.set s))
-    (λ (q : Setup). IsPositionIn family q × Before q s) (marks_below (is_present family) (rank_of family.set s))
+pub HasRank-rank_of : (family : Family) (s : Setup) → IsPositionOf family s → HasRank family s (rank_of family s)
+unfolding rank_of
+HasRank-rank_of family s p =
+    let low : rank_of_set family.set s < size_of_set family.set = rank_of_set-below family.set s p.of_set in
+    HasCount-same (IsMarkedBelow (IsPositionOfSet family.set) (is_present family) (rank_of_set family.set) (rank_of_set family.set s))
+    (λ (q : Setup). IsPositionOf family q × Before q s) (marks_below (is_present family) (rank_of_set family.set s))
     (λ q h. (allowed family q h.0 h.1, Before-from_rank family.set q s h.0 p.of_set h.2))
-    (λ q h. (h.0.of_set, present family q h.0, rank_of-rises family.set q s h.0.of_set p.of_set h.1))
-    (HasCount-marked (IsPositionOf family.set) (size_of family.set) (nth family.set) (rank_of family.set) (is_present family) (numbering family.set)
-    (rank_of family.set s) (omega arith))
+    (λ q h. (h.0.of_set, present family q h.0, rank_of_set-rises family.set q s h.0.of_set p.of_set h.1))
+    (HasCount-marked (IsPositionOfSet family.set) (size_of_set family.set) (nth family.set) (rank_of_set family.set) (is_present family) (numbering family.set)
+    (rank_of_set family.set s) (omega arith))
 
 and_left : (a b : Bool) → a && b ≡ true → a ≡ true
 and_left true b e = refl
@@ -57,38 +57,38 @@ and_right false b e = absurd (let e' : false ≡ true = e in cc)
 and_both : (a b : Bool) → a ≡ true → b ≡ true → a && b ≡ true
 and_both a b e f = ap (λ (x : Bool). x && b) e ∙ f
 
-pub marked : (family : Family) (s : Setup) → IsRepresentativeIn family s → is_marked family (rank_of family.set s) ≡ true
+pub marked : (family : Family) (s : Setup) → IsRepresentative family s → is_marked family (rank_of_set family.set s) ≡ true
 unfolding is_marked
-marked family s h = and_both (is_present family (rank_of family.set s)) (is_first family.set (rank_of family.set s)) (present family s h.0)
+marked family s h = and_both (is_present family (rank_of_set family.set s)) (is_first family.set (rank_of_set family.set s)) (present family s h.0)
     (first-marked family.set s h.0.of_set h.1)
 
-pub represents : (family : Family) (s : Setup) → IsPositionOf family.set s → is_marked family (rank_of family.set s) ≡ true → IsRepresentativeIn family s
+pub represents : (family : Family) (s : Setup) → IsPositionOfSet family.set s → is_marked family (rank_of_set family.set s) ≡ true → IsRepresentative family s
 unfolding is_marked
 represents family s p on = (
-  allowed family s p (and_left (is_present family (rank_of family.set s)) (is_first family.set (rank_of family.set s)) on),
-  marked-first family.set s p (and_right (is_present family (rank_of family.set s)) (is_first family.set (rank_of family.set s)) on),
+  allowed family s p (and_left (is_present family (rank_of_set family.set s)) (is_first family.set (rank_of_set family.set s)) on),
+  marked-first family.set s p (and_right (is_present family (rank_of_set family.set s)) (is_first family.set (rank_of_set family.set s)) on),
 )
 
-pub HasClassesIn-classes_in : (family : Family) → HasClassesIn family (classes_in family)
-unfolding classes_in
-HasClassesIn-classes_in family =
-    HasCount-same (IsMarkedBelow (IsPositionOf family.set) (is_marked family) (rank_of family.set) (size_of family.set)) (IsRepresentativeIn family)
-    (marks_below (is_marked family) (size_of family.set))
+pub HasClasses-classes_of : (family : Family) → HasClasses family (classes_of family)
+unfolding classes_of
+HasClasses-classes_of family =
+    HasCount-same (IsMarkedBelow (IsPositionOfSet family.set) (is_marked family) (rank_of_set family.set) (size_of_set family.set)) (IsRepresentative family)
+    (marks_below (is_marked family) (size_of_set family.set))
     (λ s q. represents family s q.0 q.1)
-    (λ s h. (h.0.of_set, marked family s h, rank_of-below family.set s h.0.of_set))
-    (HasCount-marked (IsPositionOf family.set) (size_of family.set) (nth family.set) (rank_of family.set) (is_marked family) (numbering family.set)
-    (size_of family.set) (omega arith))
+    (λ s h. (h.0.of_set, marked family s h, rank_of_set-below family.set s h.0.of_set))
+    (HasCount-marked (IsPositionOfSet family.set) (size_of_set family.set) (nth family.set) (rank_of_set family.set) (is_marked family) (numbering family.set)
+    (size_of_set family.set) (omega arith))
 
-pub HasClassIn-marked : (family : Family) (s : Setup) → IsPositionIn family s
-    → HasClassIn family s (marks_below (is_marked family) (rank_of family.set s))
-HasClassIn-marked family s p =
-    let low : rank_of family.set s < size_of family.set = rank_of-below family.set s p.of_set in
-    HasCount-same (IsMarkedBelow (IsPositionOf family.set) (is_marked family) (rank_of family.set) (rank_of family.set s))
-    (λ (q : Setup). IsRepresentativeIn family q × Before q s) (marks_below (is_marked family) (rank_of family.set s))
+pub HasClass-marked : (family : Family) (s : Setup) → IsPositionOf family s
+    → HasClass family s (marks_below (is_marked family) (rank_of_set family.set s))
+HasClass-marked family s p =
+    let low : rank_of_set family.set s < size_of_set family.set = rank_of_set-below family.set s p.of_set in
+    HasCount-same (IsMarkedBelow (IsPositionOfSet family.set) (is_marked family) (rank_of_set family.set) (rank_of_set family.set s))
+    (λ (q : Setup). IsRepresentative family q × Before q s) (marks_below (is_marked family) (rank_of_set family.set s))
     (λ q h. (represents family q h.0 h.1, Before-from_rank family.set q s h.0 p.of_set h.2))
-    (λ q h. (h.0.0.of_set, marked family q h.0, rank_of-rises family.set q s h.0.0.of_set p.of_set h.1))
-    (HasCount-marked (IsPositionOf family.set) (size_of family.set) (nth family.set) (rank_of family.set) (is_marked family) (numbering family.set)
-    (rank_of family.set s) (omega arith))
+    (λ q h. (h.0.0.of_set, marked family q h.0, rank_of_set-rises family.set q s h.0.0.of_set p.of_set h.1))
+    (HasCount-marked (IsPositionOfSet family.set) (size_of_set family.set) (nth family.set) (rank_of_set family.set) (is_marked family) (numbering family.set)
+    (rank_of_set family.set s) (omega arith))
 
 -- ---- in profile A every setup of the set is there
 
@@ -103,19 +103,19 @@ all_present family (suc n) a =
     let rest : marks_below (is_present family) n ≡ n = all_present family n a in
     let one : one_if (is_present family n) ≡ 1 = ap one_if (there family n a) in omega arith
 
-pub size_in-whole : (family : Family) → family.profile ≡ A → size_in family ≡ size_of family.set
-unfolding size_in
-size_in-whole family a = all_present family (size_of family.set) a
+pub size_of-whole : (family : Family) → family.profile ≡ A → size_of family ≡ size_of_set family.set
+unfolding size_of
+size_of-whole family a = all_present family (size_of_set family.set) a
 
-pub rank_in-whole : (family : Family) (s : Setup) → family.profile ≡ A → rank_in family s ≡ rank_of family.set s
-unfolding rank_in
-rank_in-whole family s a = all_present family (rank_of family.set s) a
+pub rank_of-whole : (family : Family) (s : Setup) → family.profile ≡ A → rank_of family s ≡ rank_of_set family.set s
+unfolding rank_of
+rank_of-whole family s a = all_present family (rank_of_set family.set s) a
 
 -- ---- in profile B those before the end of the last block are all
 
-pub size_in-end : (family : Family) (blocks number : ℕ) → family.profile ≡ B → blocks ≡ product (block_bases family.set)
-    → number ≡ marks_below (is_present (family_of family.set B)) (start_of family.set blocks) → number ≡ size_in family
-unfolding size_in size_of
-size_in-end family blocks number b whole is =
+pub size_of-end : (family : Family) (blocks number : ℕ) → family.profile ≡ B → blocks ≡ product (block_bases family.set)
+    → number ≡ marks_below (is_present (family_of family.set B)) (start_of family.set blocks) → number ≡ size_of family
+unfolding size_of size_of_set
+size_of-end family blocks number b whole is =
     is ∙ ap (λ (n : ℕ). marks_below (is_present (family_of family.set B)) (start_of family.set n)) whole
     ∙ ap (λ (p : Profile). marks_below (is_present (family_of family.set p)) (start_of family.set (product (block_bases family.set)))) (sym b)

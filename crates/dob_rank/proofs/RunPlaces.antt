@@ -11,18 +11,18 @@ use Rattle.dob_pieces.specs.declared.piece_set.PieceSet.{PieceSet}
 use Rattle.dob_pieces.specs.declared.setup.Setup.{Setup}
 use Rattle.dob_pieces.specs.Setups.{mirrored}
 use Rattle.dob_rank.specs.declared.runs.RunKind.TheVariants.{First, Later}
-use Rattle.dob_rank.specs.Order.{IsPositionOf}
+use Rattle.dob_rank.specs.Order.{IsPositionOfSet}
 use Rattle.dob_rank.specs.Numbers.{layer, count, choice, forms_number, product, number_of, digits_of, sum_below, block_bases, bases_by, order}
-use Rattle.dob_rank.specs.Numbers.{on_board, block_of, block_size, rank_of, setup_in, own_squares, enemy_squares}
+use Rattle.dob_rank.specs.Numbers.{on_board, block_of, block_size, rank_of_set, setup_in, own_squares, enemy_squares}
 use Rattle.dob_rank.specs.Marks.{is_first, marked}
 use Rattle.dob_rank.specs.Runs.{run_bases, local_bases, runs_in, run_size, run_start, run_of, local_of, IsInRun, lions_of, run_kind, lion_pairs}
 use Rattle.dob_rank.specs.declared.layers.Layer.TheVariants.{OwnLion, EnemyLion, Chicks, Elephants, Giraffes}
 use Rattle.dob_rank.proofs.Blocks.{AreBases-by, few_in_block, block_size-small, run_bases-few}
 use Rattle.dob_rank.proofs.MixedRadix.{digit_below, number_of-below, product-append, number_of-append}
 use Rattle.dob_rank.proofs.Digits.{HasParts-from_position, HasDigits-digits}
-use Rattle.dob_rank.proofs.Numbering.{place_of, rank_of-place, block_of-below, block_size-product, on_board-block}
-use Rattle.dob_rank.proofs.Numbering.{HasBlock, HasBlock-setup_in, rank_of-block, rank_of-below}
-use Rattle.dob_rank.proofs.Found.{IsPositionOf-mirrored}
+use Rattle.dob_rank.proofs.Numbering.{HasBlock, place_of, rank_of_set-place, block_of-below, block_size-product, on_board-block}
+use Rattle.dob_rank.proofs.Numbering.{HasBlock-setup_in, rank_of_set-block, rank_of_set-below}
+use Rattle.dob_rank.proofs.Found.{IsPositionOfSet-mirrored}
 use Rattle.dob_rank.proofs.Marks.{first-marked, marked-first, marked-first_of}
 use Rattle.dob_rank.proofs.Representatives.{first_by_rank, rank_of_first}
 use Rattle.dob_rank.proofs.Lions.{mirror_layers, layers-mirrored, image_lions, lions_of-mirrored, lions_of-below, first_lions, later_lions}
@@ -63,7 +63,7 @@ run_of-lions set s =
     number_of-append (hand_bases set (on_board s)) (own_squares ∷ enemy_squares ∷ []) (hand_digits s) (lions_digits s) refl in
     omega (arith, split)
 
-pub local_of-below : (set : PieceSet) (s : Setup) → IsPositionOf set s → local_of s < local_size s
+pub local_of-below : (set : PieceSet) (s : Setup) → IsPositionOfSet set s → local_of s < local_size s
 unfolding local_of local_size
 local_of-below set s p =
     number_of-below (local_bases (on_board s)) (local_digits s) (HasDigits-digits set s (HasParts-from_position set s p)).1.1.1.1.1
@@ -92,7 +92,7 @@ pub local_size-mirrored : (s : Setup) → length s.board ≡ 12 → local_size (
 unfolding local_size
 local_size-mirrored s eq = ap (λ xs. product (local_bases xs)) (on_board-mirrored s eq)
 
-pub block_of-mirrored : (set : PieceSet) (s : Setup) → IsPositionOf set s → block_of set (mirrored s) ≡ block_of set s
+pub block_of-mirrored : (set : PieceSet) (s : Setup) → IsPositionOfSet set s → block_of set (mirrored s) ≡ block_of set s
 block_of-mirrored set s p = ap (number_of (block_bases set)) (on_board-mirrored s p.legal.squares)
 
 -- runs with the same hands stand in the order of their lions
@@ -109,30 +109,30 @@ place-parts set s size lions same is =
     place_of-run set s ∙ ap (λ n. run_of set s * n + local_of s) same
     ∙ ap (λ n. n * size + local_of s) (run_of-lions set s ∙ ap (λ n. hand_of set s * lion_pairs + n) is)
 
-pub image-parts : (set : PieceSet) (s : Setup) → IsPositionOf set s →
+pub image-parts : (set : PieceSet) (s : Setup) → IsPositionOfSet set s →
     place_of set (mirrored s) ≡ (hand_of set s * lion_pairs + image_lions (lions_of s)) * local_size s + local_of (mirrored s)
 image-parts set s p =
     place-parts set (mirrored s) (local_size s) (image_lions (lions_of s)) (local_size-mirrored s p.legal.squares) (lions_of-mirrored set s p)
     ∙ ap (λ n. (n * lion_pairs + image_lions (lions_of s)) * local_size s + local_of (mirrored s)) (hand_of-mirrored set s p.legal.squares)
 
 -- the earlier place of a position and its mirror image has the lower rank
-rank_by_place : (set : PieceSet) (s : Setup) → IsPositionOf set s →
-    rank_of set (mirrored s) ≡ sum_below (block_size set) (block_of set s) + place_of set (mirrored s)
+rank_by_place : (set : PieceSet) (s : Setup) → IsPositionOfSet set s →
+    rank_of_set set (mirrored s) ≡ sum_below (block_size set) (block_of set s) + place_of set (mirrored s)
 rank_by_place set s p =
-    rank_of-place set (mirrored s) ∙ ap (λ b. sum_below (block_size set) b + place_of set (mirrored s)) (block_of-mirrored set s p)
+    rank_of_set-place set (mirrored s) ∙ ap (λ b. sum_below (block_size set) b + place_of set (mirrored s)) (block_of-mirrored set s p)
 
-pub first_by_place : (set : PieceSet) (s : Setup) → IsPositionOf set s → place_of set s ≤ place_of set (mirrored s) →
-    is_first set (rank_of set s) ≡ true
+pub first_by_place : (set : PieceSet) (s : Setup) → IsPositionOfSet set s → place_of set s ≤ place_of set (mirrored s) →
+    is_first set (rank_of_set set s) ≡ true
 first_by_place set s p le =
-    let own = rank_of-place set s in
+    let own = rank_of_set-place set s in
     let image = rank_by_place set s p in
     first-marked set s p (first_by_rank set s p (omega (arith, own, image)))
 
-pub later_by_place : (set : PieceSet) (s : Setup) → IsPositionOf set s → place_of set (mirrored s) < place_of set s →
-    is_first set (rank_of set s) ≡ false
-later_by_place set s p lt = elim (cases_Bool (is_first set (rank_of set s))) [
+pub later_by_place : (set : PieceSet) (s : Setup) → IsPositionOfSet set s → place_of set (mirrored s) < place_of set s →
+    is_first set (rank_of_set set s) ≡ false
+later_by_place set s p lt = elim (cases_Bool (is_first set (rank_of_set set s))) [
   | inl on ↦
-      let own = rank_of-place set s in
+      let own = rank_of_set-place set s in
       let image = rank_by_place set s p in
       let first = rank_of_first set s p (marked-first set s p on) in
       absurd (omega (arith, own, image, first))
@@ -143,8 +143,8 @@ later_by_place set s p lt = elim (cases_Bool (is_first set (rank_of set s))) [
 
 -- the position that stands there
 pub record StandsIn (set : PieceSet) (block run local : ℕ) (s : Setup) : Type 0 where
-  pub position : IsPositionOf set s
-  pub rank_is : rank_of set s ≡ run_start set block run + local
+  pub position : IsPositionOfSet set s
+  pub rank_is : rank_of_set set s ≡ run_start set block run + local
   pub lions_are : lions_of s ≡ run % lion_pairs
 
 pub block_size-runs : (set : PieceSet) (block : ℕ) → block_size set block ≡ runs_in set block * run_size set block
@@ -153,7 +153,7 @@ block_size-runs set block =
     let ob = digits_of (block_bases set) block in
     block_size-product set block ∙ product-append (run_bases set ob) (local_bases ob)
 
-pub local_size-block : (set : PieceSet) (block : ℕ) (s : Setup) → IsPositionOf set s → block_of set s ≡ block → local_size s ≡ run_size set block
+pub local_size-block : (set : PieceSet) (block : ℕ) (s : Setup) → IsPositionOfSet set s → block_of set s ≡ block → local_size s ≡ run_size set block
 unfolding local_size run_size
 local_size-block set block s p is =
     ap (λ xs. product (local_bases xs)) (sym (on_board-block set s p) ∙ ap (digits_of (block_bases set)) is)
@@ -188,7 +188,7 @@ stands_in set block run local h =
       s,
       record {
         position = there.position;
-        rank_is = rank_of-block set block place s there ∙ from_start (sum_below (block_size set) block) (run * run_size set block) local
+        rank_is = rank_of_set-block set block place s there ∙ from_start (sum_below (block_size set) block) (run * run_size set block) local
             ∙ ap (λ n. n + local) (sym (run_start-is set block run));
         lions_are = remainder (hand_of set s) (lions_of s) (run_of set s) run run_is whole lions;
       },
@@ -203,21 +203,21 @@ stands_in set block run local h =
 -- a position's own spot
 pub record HasSpot (set : PieceSet) (s : Setup) (of : PieceSet) (block run local : ℕ) : Type 0 where
   pub there : IsInRun of block run local
-  pub rank_is : run_start of block run + local ≡ rank_of set s
+  pub rank_is : run_start of block run + local ≡ rank_of_set set s
 
-pub run_of-below : (set : PieceSet) (s : Setup) → IsPositionOf set s → run_of set s < runs_in set (block_of set s)
+pub run_of-below : (set : PieceSet) (s : Setup) → IsPositionOfSet set s → run_of set s < runs_in set (block_of set s)
 unfolding run_of runs_in
 run_of-below set s p =
     let h = HasDigits-digits set s (HasParts-from_position set s p) in
     subst (λ xs. run_of set s < product (run_bases set xs)) (sym (on_board-block set s p))
     (number_of-below (run_bases set (on_board s)) (hand_digits s ++ lions_digits s) (h.0, (h.1.0, (h.1.1.0, (h.1.1.1.0, (h.1.1.1.1.0, tt))))))
 
-own_spot : (set : PieceSet) (s : Setup) → IsPositionOf set s → HasSpot set s set (block_of set s) (run_of set s) (local_of s)
+own_spot : (set : PieceSet) (s : Setup) → IsPositionOfSet set s → HasSpot set s set (block_of set s) (run_of set s) (local_of s)
 own_spot set s p =
     let size : local_size s ≡ run_size set (block_of set s) = local_size-block set (block_of set s) s p refl in
     let place : place_of set s ≡ run_of set s * run_size set (block_of set s) + local_of s =
     place_of-run set s ∙ ap (λ n. run_of set s * n + local_of s) size in
-    let rank = rank_of-place set s in
+    let rank = rank_of_set-place set s in
     let start = run_start-is set (block_of set s) (run_of set s) in
     record {
       there = record {
@@ -228,17 +228,17 @@ own_spot set s p =
       rank_is = omega (arith, place, rank, start);
     }
 
-pub spot_there : (set : PieceSet) (s : Setup) (of : PieceSet) (block run local : ℕ) → IsPositionOf set s → of ≡ set → block ≡ block_of set s →
+pub spot_there : (set : PieceSet) (s : Setup) (of : PieceSet) (block run local : ℕ) → IsPositionOfSet set s → of ≡ set → block ≡ block_of set s →
     run ≡ run_of set s → local ≡ local_of s → HasSpot set s of block run local
 spot_there set s of block run local p of_is block_is run_is local_is =
     subst (λ q. HasSpot set s q block run local) (sym of_is) (subst (λ n. HasSpot set s set n run local) (sym block_is)
     (subst (λ n. HasSpot set s set (block_of set s) n local) (sym run_is)
     (subst (λ n. HasSpot set s set (block_of set s) (run_of set s) n) (sym local_is) (own_spot set s p))))
 
-pub mark_at : (set : PieceSet) (block run local : ℕ) (s : Setup) (on : Bool) → StandsIn set block run local s → is_first set (rank_of set s) ≡ on →
+pub mark_at : (set : PieceSet) (block run local : ℕ) (s : Setup) (on : Bool) → StandsIn set block run local s → is_first set (rank_of_set set s) ≡ on →
     marked set (run_start set block run + local) ≡ on
 mark_at set block run local s on there is =
-    ap (marked set) (sym there.rank_is) ∙ marked-first_of set (rank_of set s) (rank_of-below set s there.position) ∙ is
+    ap (marked set) (sym there.rank_is) ∙ marked-first_of set (rank_of_set set s) (rank_of_set-below set s there.position) ∙ is
 
 -- where the lions' columns say first each position of a run is marked
 pub marked_first : (set : PieceSet) (block run local : ℕ) → IsInRun set block run local → run_kind (run % lion_pairs) ≡ First →
@@ -267,7 +267,7 @@ marked_later set block run local h kind =
     let own = place-parts set s (local_size s) (lions_of s) refl refl in
     let image = image-parts set s p in
     let below : local_of (mirrored s) < local_size s =
-    subst (λ n. local_of (mirrored s) < n) (local_size-mirrored s p.legal.squares) (local_of-below set (mirrored s) (IsPositionOf-mirrored set s p)) in
+    subst (λ n. local_of (mirrored s) < n) (local_size-mirrored s p.legal.squares) (local_of-below set (mirrored s) (IsPositionOfSet-mirrored set s p)) in
     let apart = runs_apart (hand_of set s) (image_lions (lions_of s)) (lions_of s) (local_size s) (local_of (mirrored s)) (local_of s) lions below in
     mark_at set block run local s false at.1 (later_by_place set s p (omega (arith, own, image, apart)))
 
@@ -336,10 +336,10 @@ run_size-small set block within =
 
 -- ---- the mark of a place
 
-mark_of_place : (set : PieceSet) (block place : ℕ) (s : Setup) (on : Bool) → HasBlock set block place s → is_first set (rank_of set s) ≡ on →
+mark_of_place : (set : PieceSet) (block place : ℕ) (s : Setup) (on : Bool) → HasBlock set block place s → is_first set (rank_of_set set s) ≡ on →
     marked set (sum_below (block_size set) block + place) ≡ on
 mark_of_place set block place s on there is =
-    ap (marked set) (sym (rank_of-block set block place s there)) ∙ marked-first_of set (rank_of set s) (rank_of-below set s there.position) ∙ is
+    ap (marked set) (sym (rank_of_set-block set block place s there)) ∙ marked-first_of set (rank_of_set set s) (rank_of_set-below set s there.position) ∙ is
 
 pub marked_by_place : (set : PieceSet) (block place other : ℕ) (s t : Setup) → HasBlock set block place s → t ≡ mirrored s → other ≡ place_of set t →
     place ≤ other → marked set (sum_below (block_size set) block + place) ≡ true

@@ -6,9 +6,9 @@ use Rattle.dob_pieces.specs.declared.profile.Profile.{Profile}
 use Rattle.dob_pieces.specs.declared.setup.Setup.{Setup}
 use Rattle.dob_pieces.specs.Profiles.{may_all_stand, is_allowed}
 use Rattle.dob_pieces.proofs.Allowed.{is_allowed-stand}
-use Rattle.dob_rank.specs.Order.{IsPositionOf}
+use Rattle.dob_rank.specs.Order.{IsPositionOfSet}
 use Rattle.dob_rank.specs.Numbers.{choose, settle, order, layer, board_of, numbers_by, empty_layers, on_board, digits}
-use Rattle.dob_rank.specs.Numbers.{product, digits_of, block_bases, bases_by, setup_in, nth, rank_of, HasBlock, free_squares, enemy_squares, sum_below, block_size}
+use Rattle.dob_rank.specs.Numbers.{product, digits_of, block_bases, bases_by, setup_in, nth, rank_of_set, HasBlock, free_squares, enemy_squares, sum_below, block_size}
 use Rattle.dob_rank.specs.Runs.{local_bases, form_bases, runs_in, run_size, run_start, IsInRun, lion_pairs}
 use Rattle.dob_rank.specs.Families.{is_present}
 use Rattle.dob_rank.specs.Weights.{may_have, are_allowed}
@@ -16,7 +16,7 @@ use Rattle.dob_rank.specs.declared.layers.Layer.TheVariants.{OwnLion, EnemyLion,
 use Rattle.dob_rank.proofs.FormDigits.{AreLayers-map, board_of-back}
 use Rattle.dob_rank.proofs.Digits.{HasParts-from_position, HasDigits-digits, layers_by-back, numbers-back}
 use Rattle.dob_rank.proofs.MixedRadix.{digits_of-number_of}
-use Rattle.dob_rank.proofs.Numbering.{HasBlock-setup_in, rank_of-block, nth-rank_of, on_board-block}
+use Rattle.dob_rank.proofs.Numbering.{HasBlock-setup_in, rank_of_set-block, nth-rank_of_set, on_board-block}
 use Rattle.dob_rank.proofs.RunPlaces.{place_in_run, run_start-is}
 use Rattle.dob_rank.proofs.DigitParts.{parts_are}
 use Rattle.dob_rank.proofs.FarChicks.{board_allowed}
@@ -31,7 +31,7 @@ chicks_allowed profile ob ds =
     are_allowed (may_have profile) 4 (order Chicks) (slice_index ds 8) 0 (settle (order Chicks) (slice_index ob 0) (slice_index ds 5) (lions_by ds))
 
 -- a position is allowed just where its digits say so
-pub allowed_by_digits : (profile : Profile) (set : PieceSet) (s : Setup) → IsPositionOf set s → is_allowed profile s ≡ chicks_allowed profile (on_board s) (digits s)
+pub allowed_by_digits : (profile : Profile) (set : PieceSet) (s : Setup) → IsPositionOfSet set s → is_allowed profile s ≡ chicks_allowed profile (on_board s) (digits s)
 allowed_by_digits profile set s p =
     let parts = HasParts-from_position set s p in
     let ob : List ℕ = on_board s in
@@ -58,9 +58,9 @@ allowed_at family block place low below =
     let set = family.set in
     let s : Setup = setup_in family.set block place in
     let there : HasBlock family.set block place s = HasBlock-setup_in family.set block place (record { block_below = low; place_below = below }) in
-    let number : rank_of family.set s ≡ sum_below (block_size family.set) block + place = rank_of-block family.set block place s there in
+    let number : rank_of_set family.set s ≡ sum_below (block_size family.set) block + place = rank_of_set-block family.set block place s there in
     let it : nth family.set (sum_below (block_size family.set) block + place) ≡ s
-    = ap (nth family.set) (sym number) ∙ nth-rank_of family.set s there.position in
+    = ap (nth family.set) (sym number) ∙ nth-rank_of_set family.set s there.position in
     let ob : digits_of (block_bases family.set) block ≡ on_board s
     = ap (digits_of (block_bases family.set)) (sym there.block_is) ∙ on_board-block family.set s there.position in
     let parts = HasParts-from_position family.set s there.position in

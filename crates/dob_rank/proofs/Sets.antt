@@ -6,18 +6,18 @@ use Rattle.dob_pieces.specs.declared.kind.HandKind.TheVariants as hand
 use Rattle.dob_pieces.specs.declared.piece_set.PieceSet.{PieceSet}
 use Rattle.dob_pieces.specs.declared.setup.Setup.{Setup}
 use Rattle.dob_pieces.specs.Setups.{total, IsLegal}
-use Rattle.dob_rank.specs.Order.{IsPositionOf, pieces_of, HasRank}
+use Rattle.dob_rank.specs.Order.{IsPositionOfSet, pieces_of}
 use Rattle.dob_rank.specs.Numbers.{layer, count, product, number_of, digits_of, sum_below, block_bases, bases, bases_by, on_board, digits, order}
-use Rattle.dob_rank.specs.Numbers.{block_of, block_size, rank_of}
+use Rattle.dob_rank.specs.Numbers.{block_of, block_size, rank_of_set}
 use Rattle.dob_rank.specs.declared.layers.Layer.TheVariants.{OwnLion, EnemyLion, Chicks, Elephants, Giraffes, Empty}
 use Rattle.dob_rank.proofs.Digits.{HasParts, HasParts-from_position}
 use Rattle.dob_rank.proofs.Sums.{sum_same}
-use Rattle.dob_rank.proofs.Numbering.{block_size-product, rank_of-place, place_of, HasRank-rank_of}
+use Rattle.dob_rank.proofs.Numbering.{place_of, block_size-product, rank_of_set-place}
 
 -- a legal setup with the totals of the set
-pub IsPositionOf-totals : (set : PieceSet) (s : Setup) → IsLegal s → set.chicks ≡ total hand.Chick s
-    → set.elephants ≡ total hand.Elephant s → set.giraffes ≡ total hand.Giraffe s → IsPositionOf set s
-IsPositionOf-totals set s legal c e g = record { legal = legal; pieces = by_kind set s c e g }
+pub IsPositionOfSet-totals : (set : PieceSet) (s : Setup) → IsLegal s → set.chicks ≡ total hand.Chick s
+    → set.elephants ≡ total hand.Elephant s → set.giraffes ≡ total hand.Giraffe s → IsPositionOfSet set s
+IsPositionOfSet-totals set s legal c e g = record { legal = legal; pieces = by_kind set s c e g }
   where
     by_kind : (set : PieceSet) (s : Setup) → set.chicks ≡ total hand.Chick s → set.elephants ≡ total hand.Elephant s
         → set.giraffes ≡ total hand.Giraffe s → (kind : HandKind) → total kind s ≡ pieces_of set kind
@@ -36,8 +36,8 @@ set_of s legal = record {
   few_giraffes = legal.few hand.Giraffe;
 }
 
-pub IsPositionOf-set_of : (s : Setup) (legal : IsLegal s) → IsPositionOf (set_of s legal) s
-IsPositionOf-set_of s legal = IsPositionOf-totals (set_of s legal) s legal refl refl refl
+pub IsPositionOfSet-set_of : (s : Setup) (legal : IsLegal s) → IsPositionOfSet (set_of s legal) s
+IsPositionOfSet-set_of s legal = IsPositionOfSet-totals (set_of s legal) s legal refl refl refl
 
 few_left : (n a b c : ℕ) → n + a + b ≡ c → c ≤ 2 → n ≤ 2
 few_left n a b c h l = omega arith
@@ -50,7 +50,7 @@ pub few_in_layer : (s : Setup) (t : ℕ) → IsLegal s → t < order Empty → c
 few_in_layer s t legal below = by_layer t below
   where
     parts : HasParts (set_of s legal) s
-    parts = HasParts-from_position (set_of s legal) s (IsPositionOf-set_of s legal)
+    parts = HasParts-from_position (set_of s legal) s (IsPositionOfSet-set_of s legal)
 
     by_layer : (t : ℕ) → t < order Empty → count t (map layer s.board) ≤ 2
     by_layer zero h = one_few (count (order OwnLion) (map layer s.board)) parts.own_lion
@@ -81,21 +81,17 @@ block_size-same p q b c e g =
     (slice_index (digits_of (block_bases q) b) 2) c e g)
     ∙ sym (block_size-product q b)
 
-pub rank_of-sets : (p q : PieceSet) (s : Setup) → IsPositionOf p s → IsPositionOf q s → rank_of p s ≡ rank_of q s
-rank_of-sets p q s hp hq =
+pub rank_of_set-sets : (p q : PieceSet) (s : Setup) → IsPositionOfSet p s → IsPositionOfSet q s → rank_of_set p s ≡ rank_of_set q s
+rank_of_set-sets p q s hp hq =
     let c : p.chicks ≡ q.chicks = sym (hp.pieces hand.Chick) ∙ hq.pieces hand.Chick in
     let e : p.elephants ≡ q.elephants = sym (hp.pieces hand.Elephant) ∙ hq.pieces hand.Elephant in
     let g : p.giraffes ≡ q.giraffes = sym (hp.pieces hand.Giraffe) ∙ hq.pieces hand.Giraffe in
-    rank_of-place p s
+    rank_of_set-place p s
     ∙ ap (λ (xs : List ℕ). sum_below (block_size p) (number_of xs (on_board s)) + place_of p s) (block_bases-same p q c e g)
     ∙ ap (λ (n : ℕ). n + place_of p s) (sum_same (block_size p) (block_size q) (block_of q s) (λ n low. block_size-same p q n c e g))
     ∙ ap (λ (xs : List ℕ). sum_below (block_size q) (block_of q s) + number_of xs (digits s))
     (bases-same p q (count (order Chicks) (map layer s.board)) (count (order Elephants) (map layer s.board)) (count (order Giraffes) (map layer s.board)) c e g)
-    ∙ sym (rank_of-place q s)
-
--- the rank found for one set is that of each set of the position
-pub HasRank-sets : (p q : PieceSet) (s : Setup) (n : ℕ) → IsPositionOf p s → IsPositionOf q s → n ≡ rank_of p s → HasRank q s n
-HasRank-sets p q s n hp hq e = subst (HasRank q s) (sym (e ∙ rank_of-sets p q s hp hq)) (HasRank-rank_of q s hq)
+    ∙ sym (rank_of_set-place q s)
 
 abbrev set_with : (c e g : ℕ) → c ≤ 2 → e ≤ 2 → g ≤ 2 → PieceSet
 set_with c e g few_c few_e few_g = record { chicks = c; elephants = e; giraffes = g; few_chicks = few_c; few_elephants = few_e; few_giraffes = few_g }
@@ -113,7 +109,7 @@ same_numbers p q c e g =
     (λ f. ap (λ (h : p.giraffes ≤ 2). set_with q.chicks q.elephants p.giraffes q.few_chicks q.few_elephants h) (le_prop p.few_giraffes f)) q.few_giraffes
 
 -- so the pieces of a position tell its set
-pub set_of_position : (p q : PieceSet) (s : Setup) → IsPositionOf p s → IsPositionOf q s → p ≡ q
+pub set_of_position : (p q : PieceSet) (s : Setup) → IsPositionOfSet p s → IsPositionOfSet q s → p ≡ q
 set_of_position p q s hp hq =
     same_numbers p q (sym (hp.pieces hand.Chick) ∙ hq.pieces hand.Chick) (sym (hp.pieces hand.Elephant) ∙ hq.pieces hand.Elephant)
     (sym (hp.pieces hand.Giraffe) ∙ hq.pieces hand.Giraffe)

@@ -12,8 +12,8 @@ use Rattle.dob_rank.specs.declared.layers.Layer.{Layer}
 use Rattle.dob_rank.specs.declared.layers.Layer.TheVariants.{OwnLion, EnemyLion, Chicks, Elephants, Giraffes}
 use Rattle.dob_rank.specs.Masks.{layer_mask}
 use Rattle.dob_rank.specs.Numbers.{order, layer, count}
-use Rattle.dob_rank.specs.Order.{IsPositionOf}
-use Rattle.dob_rank.specs.Families.{IsPositionIn}
+use Rattle.dob_rank.specs.Order.{IsPositionOfSet}
+use Rattle.dob_rank.specs.Families.{IsPositionOf}
 
 -- a piece of that layer
 abbrev pub is_of : Layer → Cell → Bool
@@ -55,13 +55,13 @@ pub record AreBitboards (setup : Setup) (bits : Bitboards) : Type 0 where
   pub hands_are : bits.hands ≡ setup.hands
 
 -- they show a position of the set
-pub record IsShown (set : PieceSet) (setup : Setup) (bits : Bitboards) : Type 0 where
-  pub position : IsPositionOf set setup
+pub record IsShownOfSet (set : PieceSet) (setup : Setup) (bits : Bitboards) : Type 0 where
+  pub position : IsPositionOfSet set setup
   pub squares : AreBitboards setup bits
 
 -- they show a position of the family
-pub record IsShownIn (family : Family) (setup : Setup) (bits : Bitboards) : Type 0 where
-  pub position : IsPositionIn family setup
+pub record IsShown (family : Family) (setup : Setup) (bits : Bitboards) : Type 0 where
+  pub position : IsPositionOf family setup
   pub squares : AreBitboards setup bits
 
 -- and those of a layer with so many pieces

@@ -1,12 +1,12 @@
--- The blocks of a set, each with its classes.
+-- The blocks of a family, each with its classes.
 use Rattle.std.specs.Prelude.{◌≡◌, ℕ, ◌<◌, List, length, slice_index_or}
-use Rattle.dob_pieces.specs.declared.piece_set.PieceSet.{PieceSet}
+use Rattle.dob_pieces.specs.declared.profile.Family.{Family}
 use Rattle.dob_rank.specs.declared.block_classes.BlockClasses.{BlockClasses}
 
--- each block of the list stands at its number, and is one of the set
-pub record IsBlock (set : PieceSet) (number : ℕ) (block : BlockClasses) : Type 0 where
-  pub set_is : block.set ≡ set
+-- each block of the list stands at its number, and is one of the family
+pub record IsBlock (family : Family) (number : ℕ) (block : BlockClasses) : Type 0 where
+  pub family_is : block.family ≡ family
   pub number_is : block.number ≡ number
 
-abbrev pub AreBlocks : PieceSet → List BlockClasses → Type 0
-AreBlocks set blocks = (number : ℕ) (other : BlockClasses) → number < length blocks → IsBlock set number (slice_index_or blocks number other)
+abbrev pub AreBlocks : Family → List BlockClasses → Type 0
+AreBlocks family blocks = (number : ℕ) (other : BlockClasses) → number < length blocks → IsBlock family number (slice_index_or blocks number other)

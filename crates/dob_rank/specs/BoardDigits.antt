@@ -8,7 +8,7 @@ use Rattle.dob_rank.specs.declared.layers.Layer.TheVariants.{Chicks, Elephants, 
 use Rattle.dob_rank.specs.declared.masks.Masks.{Masks}
 use Rattle.dob_rank.specs.BoardMasks.{AreMasks}
 use Rattle.dob_rank.specs.Numbers.{order, forms_number, on_board, digits}
-use Rattle.dob_rank.specs.Order.{IsPositionOf}
+use Rattle.dob_rank.specs.Order.{IsPositionOfSet}
 
 -- the numbers of the forms of chicks, elephants and giraffes
 abbrev pub forms_in : Setup → List ℕ
@@ -25,6 +25,6 @@ pub record ArePartsOf (hand : Hand) (masks : Masks) (numbers forms : List ℕ) (
 
 -- the numbers on the board of a position of the set, and its digits
 pub record AreNumbersOf (set : PieceSet) (numbers all : List ℕ) (setup : Setup) : Type 0 where
-  pub position : IsPositionOf set setup
+  pub position : IsPositionOfSet set setup
   pub numbers_are : numbers ≡ on_board setup
   pub digits_are : all ≡ digits setup

@@ -6,8 +6,8 @@ use Rattle.dob_pieces.specs.declared.profile.Profile.{Profile}
 use Rattle.dob_pieces.specs.declared.setup.Setup.{Setup}
 use Rattle.dob_pieces.specs.Profiles.{is_allowed, IsAllowed}
 use Rattle.dob_pieces.specs.Setups.{mirrored}
-use Rattle.dob_rank.specs.Order.{IsPositionOf, Before, HasCount, IsFirstOfTwo, RepresentativeOf}
-use Rattle.dob_rank.specs.Numbers.{size_of, rank_of, nth}
+use Rattle.dob_rank.specs.Order.{IsPositionOfSet, Before, HasCount, IsFirstOfTwo, RepresentativeOf}
+use Rattle.dob_rank.specs.Numbers.{size_of_set, rank_of_set, nth}
 use Rattle.dob_rank.specs.Marks.{marks_below, is_first}
 use Rattle.dob_rank.specs.ClassRows.{marked_place}
 
@@ -15,33 +15,33 @@ abbrev pub family_of : PieceSet → Profile → Family
 family_of set profile = record { set = set; profile = profile }
 
 -- a position of the family's set that its profile allows
-pub record IsPositionIn (family : Family) (setup : Setup) : Type 0 where
-  pub of_set : IsPositionOf family.set setup
+pub record IsPositionOf (family : Family) (setup : Setup) : Type 0 where
+  pub of_set : IsPositionOfSet family.set setup
   pub allowed : IsAllowed family.profile setup
 
 -- the family has so many positions
-abbrev pub HasSizeIn : Family → ℕ → Type 0
-HasSizeIn family number = HasCount (IsPositionIn family) number
+abbrev pub HasSize : Family → ℕ → Type 0
+HasSize family number = HasCount (IsPositionOf family) number
 
 -- so many positions of the family stand before this one
-abbrev pub HasRankIn : Family → Setup → ℕ → Type 0
-HasRankIn family setup number = HasCount (λ (p : Setup). IsPositionIn family p × Before p setup) number
+abbrev pub HasRank : Family → Setup → ℕ → Type 0
+HasRank family setup number = HasCount (λ (p : Setup). IsPositionOf family p × Before p setup) number
 
 -- a representative of its class: a position of the family that is no later than its mirror image
-abbrev pub IsRepresentativeIn : Family → Setup → Type 0
-IsRepresentativeIn family setup = IsPositionIn family setup × IsFirstOfTwo setup
+abbrev pub IsRepresentative : Family → Setup → Type 0
+IsRepresentative family setup = IsPositionOf family setup × IsFirstOfTwo setup
 
 -- the family has so many classes
-abbrev pub HasClassesIn : Family → ℕ → Type 0
-HasClassesIn family number = HasCount (IsRepresentativeIn family) number
+abbrev pub HasClasses : Family → ℕ → Type 0
+HasClasses family number = HasCount (IsRepresentative family) number
 
 -- so many representatives of the family stand before this one
-abbrev pub HasClassIn : Family → Setup → ℕ → Type 0
-HasClassIn family setup number = HasCount (λ (p : Setup). IsRepresentativeIn family p × Before p setup) number
+abbrev pub HasClass : Family → Setup → ℕ → Type 0
+HasClass family setup number = HasCount (λ (p : Setup). IsRepresentative family p × Before p setup) number
 
 -- the setup is the representative of the class of the family with that number
-abbrev pub RepresentsClassIn : Family → Setup → ℕ → Type 0
-RepresentsClassIn family setup number = IsRepresentativeIn family setup × HasClassIn family setup number
+abbrev pub RepresentsClass : Family → Setup → ℕ → Type 0
+RepresentsClass family setup number = IsRepresentative family setup × HasClass family setup number
 
 -- ---- the same by the ranks of the set
 
@@ -54,34 +54,34 @@ unfoldable pub is_marked : Family → ℕ → Bool
 is_marked family r = is_present family r && is_first family.set r
 
 -- how many positions the family has, how many of them stand before a setup, and how many classes it has
-unfoldable pub size_in : Family → ℕ
-size_in family = marks_below (is_present family) (size_of family.set)
+unfoldable pub size_of : Family → ℕ
+size_of family = marks_below (is_present family) (size_of_set family.set)
 
-unfoldable pub rank_in : Family → Setup → ℕ
-rank_in family setup = marks_below (is_present family) (rank_of family.set setup)
+unfoldable pub rank_of : Family → Setup → ℕ
+rank_of family setup = marks_below (is_present family) (rank_of_set family.set setup)
 
-unfoldable pub classes_in : Family → ℕ
-classes_in family = marks_below (is_marked family) (size_of family.set)
+unfoldable pub classes_of : Family → ℕ
+classes_of family = marks_below (is_marked family) (size_of_set family.set)
 
 -- a position of the family and its rank
 pub record IsRanked (family : Family) (setup : Setup) (number : ℕ) : Type 0 where
-  pub position : IsPositionIn family setup
-  pub rank_is : rank_in family setup ≡ number
-  pub count : HasRankIn family setup number
+  pub position : IsPositionOf family setup
+  pub rank_is : rank_of family setup ≡ number
+  pub count : HasRank family setup number
 
 -- ---- classes
 
 -- the position of the family is in the class of that number: so many representatives of the family stand before its own
-pub record IsInClassIn (family : Family) (setup : Setup) (number : ℕ) : Type 0 where
-  pub position : IsPositionIn family setup
+pub record IsInClass (family : Family) (setup : Setup) (number : ℕ) : Type 0 where
+  pub position : IsPositionOf family setup
   pub representative : Setup
   pub stands : RepresentativeOf setup representative
-  pub before : HasClassIn family representative number
+  pub before : HasClass family representative number
 
 -- the number of the setup's class: the representatives below its rank or that of its mirror image, whichever is lower
-unfoldable pub class_number_in : Family → Setup → ℕ
-class_number_in family setup = marks_below (is_marked family) (min (rank_of family.set setup) (rank_of family.set (mirrored setup)))
+unfoldable pub class_number : Family → Setup → ℕ
+class_number family setup = marks_below (is_marked family) (min (rank_of_set family.set setup) (rank_of_set family.set (mirrored setup)))
 
 -- the representative with so many representatives of the family before it
-unfoldable pub class_setup_in : Family → ℕ → Setup
-class_setup_in family class = nth family.set (marked_place (is_marked family) class (size_of family.set))
+unfoldable pub class_setup : Family → ℕ → Setup
+class_setup family class = nth family.set (marked_place (is_marked family) class (size_of_set family.set))

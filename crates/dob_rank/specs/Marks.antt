@@ -1,9 +1,8 @@
 -- Marked ranks.
-use Rattle.std.specs.Prelude.{ℕ, ◌&&◌, nat_lt, nat_le, min, Bool, true, false}
+use Rattle.std.specs.Prelude.{ℕ, ◌&&◌, nat_lt, nat_le, Bool, true, false}
 use Rattle.dob_pieces.specs.declared.piece_set.PieceSet.{PieceSet}
-use Rattle.dob_pieces.specs.declared.setup.Setup.{Setup}
 use Rattle.dob_pieces.specs.Setups.{mirrored}
-use Rattle.dob_rank.specs.Numbers.{sum_below, size_of, rank_of, nth}
+use Rattle.dob_rank.specs.Numbers.{sum_below, size_of_set, rank_of_set, nth}
 
 abbrev pub one_if : Bool → ℕ
 one_if true = 1
@@ -15,16 +14,8 @@ marks_below mark n = sum_below (λ (r : ℕ). one_if (mark r)) n
 
 -- the setup of the rank is no later than its mirror image
 abbrev pub is_first : PieceSet → ℕ → Bool
-is_first set r = nat_le r (rank_of set (mirrored (nth set r)))
+is_first set r = nat_le r (rank_of_set set (mirrored (nth set r)))
 
 -- the same, for a rank of the set alone
 unfoldable pub marked : PieceSet → ℕ → Bool
-marked set r = nat_lt r (size_of set) && is_first set r
-
--- the number of classes of the set
-unfoldable pub classes_of : PieceSet → ℕ
-classes_of set = marks_below (marked set) (size_of set)
-
--- the number of the setup's class: the marks below its rank or that of its mirror image, whichever is lower
-unfoldable pub class_number : PieceSet → Setup → ℕ
-class_number set setup = marks_below (marked set) (min (rank_of set setup) (rank_of set (mirrored setup)))
+marked set r = nat_lt r (size_of_set set) && is_first set r

@@ -13,7 +13,7 @@ pub use Rattle.dob_pieces.specs.Lists.{sum_below}
 use Rattle.dob_pieces.specs.Setups.{Cell, piece_of}
 use Rattle.dob_rank.specs.declared.layers.Layer.{Layer}
 use Rattle.dob_rank.specs.declared.layers.Layer.TheVariants.{OwnLion, EnemyLion, Chicks, Elephants, Giraffes, Empty}
-use Rattle.dob_rank.specs.Order.{form, IsPositionOf}
+use Rattle.dob_rank.specs.Order.{form, IsPositionOfSet}
 
 -- ---- mixed radix numbers: a list of bases, and for each base a digit below it, the first of most weight
 
@@ -257,16 +257,16 @@ place_of set setup = number_of (bases_by set (on_board setup)) (digits setup)
 
 -- the position of the set at that place of that block
 pub record HasBlock (set : PieceSet) (block place : ℕ) (setup : Setup) : Type 0 where
-  pub position : IsPositionOf set setup
+  pub position : IsPositionOfSet set setup
   pub block_is : block_of set setup ≡ block
   pub place_is : place_of set setup ≡ place
 
 -- the number of positions of the set, and the number of those before a setup
-unfoldable pub size_of : PieceSet → ℕ
-size_of set = sum_below (block_size set) (product (block_bases set))
+unfoldable pub size_of_set : PieceSet → ℕ
+size_of_set set = sum_below (block_size set) (product (block_bases set))
 
-unfoldable pub rank_of : PieceSet → Setup → ℕ
-rank_of set setup =
+unfoldable pub rank_of_set : PieceSet → Setup → ℕ
+rank_of_set set setup =
     sum_below (block_size set) (block_of set setup)
     + number_of (bases_by set (on_board setup)) (digits setup)
 

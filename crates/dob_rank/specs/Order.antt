@@ -19,7 +19,7 @@ pieces_of set hand.Elephant = set.elephants
 pieces_of set hand.Giraffe = set.giraffes
 
 -- a position with just the pieces of the set
-pub record IsPositionOf (set : PieceSet) (setup : Setup) : Type 0 where
+pub record IsPositionOfSet (set : PieceSet) (setup : Setup) : Type 0 where
   pub legal : IsLegal setup
   pub pieces : (kind : HandKind) → total kind setup ≡ pieces_of set kind
 
@@ -90,14 +90,6 @@ pub record HasCount (P : Setup → Type 0) (number : ℕ) : Type 0 where
   pub once : AllPairs (λ (p q : Setup). p ≢ q) list
   pub counted : length list ≡ number
 
--- the piece set has so many positions
-abbrev pub HasSize : PieceSet → ℕ → Type 0
-HasSize set number = HasCount (IsPositionOf set) number
-
--- so many positions of the set stand before this one
-abbrev pub HasRank : PieceSet → Setup → ℕ → Type 0
-HasRank set setup number = HasCount (λ (p : Setup). IsPositionOf set p × Before p setup) number
-
 -- the setup is no later than its mirror image
 abbrev pub IsFirstOfTwo : Setup → Type 0
 IsFirstOfTwo setup = Before (mirrored setup) setup → ⊥
@@ -107,28 +99,9 @@ abbrev pub IsEither : Setup → Setup → Type 0
 IsEither setup other = (other ≡ setup) ⊎ (other ≡ mirrored setup)
 
 -- a representative of its class: a position of the set that is no later than its mirror image
-abbrev pub IsRepresentative : PieceSet → Setup → Type 0
-IsRepresentative set setup = IsPositionOf set setup × IsFirstOfTwo setup
+abbrev pub IsRepresentativeOfSet : PieceSet → Setup → Type 0
+IsRepresentativeOfSet set setup = IsPositionOfSet set setup × IsFirstOfTwo setup
 
 -- the setup is the earlier of another one and its mirror image
 abbrev pub RepresentativeOf : Setup → Setup → Type 0
 RepresentativeOf setup representative = IsEither setup representative × IsFirstOfTwo representative
-
--- the piece set has so many classes
-abbrev pub HasClasses : PieceSet → ℕ → Type 0
-HasClasses set number = HasCount (IsRepresentative set) number
-
--- so many representatives stand before this one
-abbrev pub HasClass : PieceSet → Setup → ℕ → Type 0
-HasClass set setup number = HasCount (λ (p : Setup). IsRepresentative set p × Before p setup) number
-
--- the setup is the representative of the class with that number
-abbrev pub RepresentsIn : PieceSet → Setup → ℕ → Type 0
-RepresentsIn set setup number = IsRepresentative set setup × HasClass set setup number
-
--- the position of the set is in the class of that number: so many representatives stand before its own
-pub record IsInClass (set : PieceSet) (setup : Setup) (number : ℕ) : Type 0 where
-  pub position : IsPositionOf set setup
-  pub representative : Setup
-  pub stands : RepresentativeOf setup representative
-  pub before : HasClass set representative number

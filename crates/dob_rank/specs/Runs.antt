@@ -7,6 +7,7 @@ use Rattle.dob_pieces.specs.Squares.{column}
 use Rattle.dob_rank.specs.declared.layers.Layer.TheVariants.{OwnLion, EnemyLion}
 use Rattle.dob_rank.specs.Numbers.{product, number_of, digits_of, order, layer, choose, choice, block_bases, start_of, on_board, digits}
 use Rattle.dob_rank.specs.Numbers.{own_squares, enemy_squares, free_squares}
+use Rattle.dob_rank.specs.declared.runs.RunDigits.{RunDigits}
 use Rattle.dob_rank.specs.declared.runs.RunKind.{RunKind}
 use Rattle.dob_rank.specs.declared.runs.RunKind.TheVariants.{First, Later, Mixed}
 
@@ -15,6 +16,10 @@ abbrev pub run_bases : PieceSet → List ℕ → List ℕ
 run_bases set on_board =
     (set.chicks - slice_index on_board 0 + 1) ∷ (set.elephants - slice_index on_board 1 + 1)
     ∷ (set.giraffes - slice_index on_board 2 + 1) ∷ own_squares ∷ enemy_squares ∷ []
+
+-- those digits as they are kept
+abbrev pub run_digits : RunDigits → List ℕ
+run_digits digits = digits.hand.chicks ∷ digits.hand.elephants ∷ digits.hand.giraffes ∷ digits.own ∷ digits.enemy ∷ []
 
 -- the bases of the squares and forms, whose digits tell the place in a run
 abbrev pub local_bases : List ℕ → List ℕ

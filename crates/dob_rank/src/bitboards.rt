@@ -2,10 +2,11 @@
 ghost use Rattle.std.specs.Prelude.{◌≡◌, ◌<◌, ◌≤◌, ◌/◌, ◌%◌, length};
 ghost use Rattle.std.specs.Int.{bit_at};
 ghost use Rattle.dob_pieces.specs.declared.setup.Setup.{Setup};
+ghost use Rattle.dob_pieces.specs.Masks.{AreMasks as AreSetupMasks};
 ghost use Rattle.dob_pieces.specs.Setups.{at, setup_of, turned};
 ghost use Rattle.dob_rank.specs.Bitboards.{AreBitboards, HasOfLayer};
 ghost use Rattle.dob_rank.specs.BoardMasks.{AreMasks};
-ghost use Rattle.dob_rank.specs.Numbers.{order, forms_number};
+ghost use Rattle.dob_rank.specs.Numbers.{order, layer, forms_number};
 ghost use Rattle.dob_rank.specs.Order.{form};
 
 use crate::forms::base_of;
@@ -29,6 +30,9 @@ pub struct Bitboards {
     pub enemies: u16,
     pub hands: Hands,
 }
+
+// All squares of the board.
+const ALL: u16 = 0b111_111_111_111;
 
 // The lowest bits of five planes of a word: the lions of both, ..
 const LIONS: u64 = 1;
@@ -97,6 +101,25 @@ impl Bitboards {
         }
     }
 
+    /// The masks of the setup.
+    pub fn masks(&self) -> dob_pieces::Masks
+        ensures { (setup : Setup) → AreBitboards setup self.now → AreSetupMasks setup result }
+    {
+        let pieces = self.chicks | self.elephants | self.giraffes;
+        let empty = ALL & !(self.own_lion | self.enemy_lion | pieces);
+        dob_pieces::Masks {
+            lion: self.own_lion,
+            giraffes: self.giraffes & !self.enemies,
+            elephants: self.elephants & !self.enemies,
+            chicks: self.chicks & !(self.hens | self.enemies),
+            hens: self.hens & !self.enemies,
+            own: self.own_lion | pieces & !self.enemies,
+            ends: empty | self.enemies,
+            empty,
+            enemy_lion: self.enemy_lion,
+        }
+    }
+
     /// The squares of each layer.
     pub(crate) fn layers(&self) -> Masks
         ensures { (setup : Setup) → AreBitboards setup self.now → length setup.board ≡ 12 → AreMasks setup.board result }
@@ -119,24 +142,26 @@ impl Bitboards {
         if pieces == 0 {
             return 0;
         }
-        let first = self.form_at(mask.trailing_zeros());
+        let first = self.form_at(of_layer, mask.trailing_zeros());
         if pieces == 1 {
             return first;
         }
         let rest = mask & mask.saturating_sub(1);
-        let second = self.form_at(rest.trailing_zeros());
+        let second = self.form_at(of_layer, rest.trailing_zeros());
         first * base_of(of_layer) + second
     }
 
-    /// The form of the piece on the square of that number.
-    fn form_at(&self, square: u32) -> u64
+    /// The form of the piece of that layer on the square of that number.
+    fn form_at(&self, of_layer: Layer, square: u32) -> u64
         requires { square < 12 }
-        ensures value { (setup : Setup) → AreBitboards setup self.now → result ≡ form (at setup square) }
+        ensures value { (setup : Setup) → AreBitboards setup self.now → layer (at setup square) ≡ order of_layer → result ≡ form (at setup square) }
         ensures bound { result ≤ 3 }
     {
-        let enemy_chicks = self.enemies & self.chicks;
-        let others = self.enemies & !self.chicks | self.hens;
-        u64::from(2 * bit_of(enemy_chicks, square) + bit_of(others, square))
+        let enemy = bit_of(self.enemies, square);
+        match of_layer {
+            Layer::Chicks => u64::from(2 * enemy + bit_of(self.hens, square)),
+            _ => u64::from(enemy),
+        }
     }
 }
 

@@ -1,13 +1,13 @@
 // The blocks of a piece set: the positions with the same numbers of chicks, elephants and giraffes on the board.
 // The blocks stand in the order of those numbers.
-ghost use Rattle.std.specs.Prelude.{◌≡◌, ◌<◌, ◌≤◌, ◌+◌, ◌*◌, ◌^◌, slice_index};
+ghost use Rattle.std.specs.Prelude.{◌≡◌, ◌<◌, ◌≤◌, ◌+◌, ◌*◌, ◌/◌, ◌^◌, slice_index};
 ghost use Rattle.dob_rank.specs.Numbers.{choose, product, HasDigits, number_of, digits_of, sum_below, bases_by, block_bases};
-ghost use Rattle.dob_rank.specs.Numbers.{block_size, size_of};
-ghost use Rattle.dob_rank.specs.Runs.{runs_in, run_size, run_bases, square_bases, form_bases, local_bases, run_number, local_number, AreFewOnBoard};
+ghost use Rattle.dob_rank.specs.Numbers.{block_size, size_of_set};
+ghost use Rattle.dob_rank.specs.Runs.{runs_in, run_size, run_bases, square_bases, form_bases, local_bases, run_number, local_number, run_digits, AreFewOnBoard};
 
-use crate::runs::{ENEMY_SQUARES, FREE_SQUARES, LIONS, OWN_SQUARES, Spot};
+use crate::runs::{ENEMY_SQUARES, FREE_SQUARES, LIONS, OWN_SQUARES, RunDigits, Spot};
 use crate::{radix, starts};
-use dob_pieces::PieceSet;
+use dob_pieces::{Hand, PieceSet};
 
 /// One number for each kind of piece: chicks (hens counted with them), elephants, giraffes.
 pub(crate) type EachKind = [u64; 3];
@@ -113,18 +113,61 @@ pub(crate) fn digits_in(
     requires local { spot.local < product (local_bases on_board.now) }
     ensures { result ≡ digits_of (bases_by set on_board.now) (spot.run * product (local_bases on_board.now) + spot.local) }
 {
+    digits_with(
+        set,
+        on_board,
+        choices,
+        run_digits_in(set, on_board, spot.run),
+        spot,
+    )
+}
+
+/// The digits of a run of those numbers on the board.
+pub(crate) fn run_digits_in(set: PieceSet, on_board: &EachKind, run: u64) -> RunDigits
+    requires on_board { HasDigits (block_bases set) on_board.now }
+    requires run { run < product (run_bases set on_board.now) }
+    ensures { run_digits result ≡ digits_of (run_bases set on_board.now) run }
+{
     let bases = bases_in(set, on_board);
-    let hands = radix::three_digits(&[bases[0], bases[1], bases[2]], spot.run / LIONS);
-    let lions = spot.run % LIONS;
+    let hands = radix::three_digits(&[bases[0], bases[1], bases[2]], run / LIONS);
+    let lions = run % LIONS;
+    RunDigits {
+        hand: Hand {
+            chicks: hands[0] as u8,
+            elephants: hands[1] as u8,
+            giraffes: hands[2] as u8,
+        },
+        own: (lions / ENEMY_SQUARES) as u8,
+        enemy: (lions % ENEMY_SQUARES) as u8,
+    }
+}
+
+/// The digits of a spot in the block of those numbers on the board and choices of squares, by those of its run. Within its callers, so
+/// that digits that nobody reads are not found.
+#[inline(always)]
+pub(crate) fn digits_with(
+    set: PieceSet,
+    on_board: &EachKind,
+    choices: &EachKind,
+    run: RunDigits,
+    spot: Spot,
+) -> [u64; DIGITS]
+    requires on_board { HasDigits (block_bases set) on_board.now }
+    requires choices { choices.now ≡ square_bases on_board.now }
+    requires digits { run_digits run ≡ digits_of (run_bases set on_board.now) spot.run }
+    requires run { spot.run < product (run_bases set on_board.now) }
+    requires local { spot.local < product (local_bases on_board.now) }
+    ensures { result ≡ digits_of (bases_by set on_board.now) (spot.run * product (local_bases on_board.now) + spot.local) }
+{
     let (square, form) = radix::split_by_power(spot.local, form_bits(on_board));
     let squares = radix::three_digits(choices, square);
     let forms = form_digits(on_board, form);
     [
-        hands[0],
-        hands[1],
-        hands[2],
-        lions / ENEMY_SQUARES,
-        lions % ENEMY_SQUARES,
+        u64::from(run.hand.chicks),
+        u64::from(run.hand.elephants),
+        u64::from(run.hand.giraffes),
+        u64::from(run.own),
+        u64::from(run.enemy),
         squares[0],
         squares[1],
         squares[2],
@@ -132,6 +175,14 @@ pub(crate) fn digits_in(
         forms[1],
         forms[2],
     ]
+}
+
+/// The number of the choice of all squares at a place of a run of those numbers on the board.
+pub(crate) fn squares_at(on_board: &EachKind, local: u64) -> u64
+    requires { AreFewOnBoard on_board.now }
+    ensures { result ≡ local / product (form_bases on_board.now) }
+{
+    radix::split_by_power(local, form_bits(on_board)).0
 }
 
 /// The spot that those digits write in the block of those numbers on the board.
@@ -292,7 +343,7 @@ pub(crate) fn run_size_in(set: PieceSet, block: u64) -> u64
 
 /// The block in which a rank below the set's size lies, and the place there.
 pub(crate) fn find_block(set: PieceSet, rank: u64) -> (u64, u64)
-    requires { rank < size_of set }
+    requires { rank < size_of_set set }
     ensures block { result.0 < product (block_bases set) }
     ensures place { result.1 < block_size set result.0 }
     ensures whole { sum_below (block_size set) result.0 + result.1 ≡ rank }

@@ -1,72 +1,74 @@
-// The classes of a piece set, block by block.
-ghost use Rattle.std.specs.Prelude.{◌≡◌, ◌↔◌, ◌<◌, ◌≤◌, ◌+◌, ◌^◌, IfOk, IsErrOf, IfSome, MatchOption, vec_len};
-ghost use Rattle.dob_rank.specs.Limits.{IsTooLarge};
-ghost use Rattle.dob_rank.specs.Order.{IsPositionOf, IsFirstOfTwo, IsRepresentative, HasClasses, HasClass, IsInClass};
-ghost use Rattle.dob_rank.specs.Numbers.{product, block_bases, start_of, rank_of};
-ghost use Rattle.dob_rank.specs.Marks.{marked, marks_below, classes_of, class_number};
+// The classes of a family, block by block.
+ghost use Rattle.std.specs.Prelude.{◌≡◌, ◌<◌, ◌≤◌, ◌+◌, ◌^◌, IfOk, IfSome, MatchOption, vec_len};
+ghost use Rattle.dob_rank.specs.Order.{IsFirstOfTwo};
+ghost use Rattle.dob_rank.specs.Families.{IsPositionOf, IsRepresentative, HasClasses, HasClass, IsInClass, is_marked, classes_of, class_number};
+ghost use Rattle.dob_rank.specs.Numbers.{product, block_bases, start_of, rank_of_set};
+ghost use Rattle.dob_rank.specs.Marks.{marks_below};
 ghost use Rattle.dob_rank.specs.BlockTables.{AreBlocks};
 ghost use Rattle.dob_pieces.specs.declared.setup.Setup.{Setup};
-ghost use Rattle.dob_rank.specs.Bitboards.{IsShown};
+ghost use Rattle.dob_rank.specs.Bitboards.{AreBitboards, IsShown};
+ghost use Rattle.dob_rank.specs.Views.{seen_by};
 ghost use Rattle.dob_rank.specs.BoardMasks.{AreMasks};
 
 use crate::bitboards::Bitboards;
 use crate::block;
 use crate::block_classes::BlockClasses;
-use crate::fault::Fault;
-use crate::limit::is_too_large;
 use crate::masks::{Masks, masks_of};
-use crate::ranks::{position_by, spot_by, spot_shown};
-use dob_pieces::{PieceSet, Position};
+use crate::set_ranks::{position_by, shown_by};
+use crate::shown::Shown;
+use crate::spots::{spot_in, spot_shown_in};
+use dob_pieces::{Family, Memory, Position, Side};
 use std::alloc::Global;
 
-/// The classes of a piece set, each with its number.
+/// The classes of a family, each with its number.
 #[derive(Debug, Drop)]
 pub struct Classes {
-    /// The set whose classes these are.
-    pub set: PieceSet,
+    /// The family whose classes these are.
+    pub family: Family,
     blocks: Vec<BlockClasses>,
     count: u64,
-    ghost whole: { vec_len blocks ≡ product (block_bases set) },
-    ghost table: { AreBlocks set blocks.items },
-    ghost counted: { count ≡ classes_of set },
+    ghost whole: { vec_len blocks ≡ product (block_bases family.set) },
+    ghost table: { AreBlocks family blocks.items },
+    ghost counted: { count ≡ classes_of family },
 }
 
 impl Classes {
-    /// Opens the classes of a set of at most `MOST_PIECES` pieces besides the lions; E8 for more, E23 where no memory is
-    /// left.
-    pub fn open(alloc: Global, set: PieceSet) -> Result<Classes, Fault>
-        ensures set { IfOk result (λ classes. classes.set ≡ set) }
-        ensures too_large { IsErrOf result Fault.SetTooLarge ↔ IsTooLarge set }
+    /// Opens the classes of a family.
+    ///
+    /// Error: `Memory`.
+    pub fn open(alloc: Global, family: Family) -> Result<Classes, Memory>
+        ensures family { IfOk result (λ classes. classes.family ≡ family) }
     {
-        if is_too_large(set) {
-            return Err(Fault::SetTooLarge);
-        }
         let mut blocks = Vec::new(alloc);
         let mut count = 0;
-        for number in 0..block::blocks(set) {
-            let block = BlockClasses::open(alloc, set, number, count)?;
+        for number in 0..block::blocks(family.set) {
+            let block = BlockClasses::open(alloc, family, number, count)?;
             count = block.after;
             blocks.push(block)?;
         }
-        Ok(Classes { set, blocks, count })
+        Ok(Classes {
+            family,
+            blocks,
+            count,
+        })
     }
 
-    /// How many classes the set has.
+    /// How many classes the family has.
     pub fn class_count(&self) -> u64
-        ensures count { HasClasses self.now.set result }
-        ensures number { result ≡ classes_of self.now.set }
+        ensures count { HasClasses self.now.family result }
+        ensures number { result ≡ classes_of self.now.family }
         ensures bound { result < 2 ^ 31 }
     {
         self.count
     }
 
-    /// The number of the class of a position of the set: how many representatives stand before the earlier of it
+    /// The number of the class of a position of the family: how many representatives stand before the earlier of it
     /// and its mirror image.
     pub fn class_of(&self, position: &Position) -> u64
-        requires { IsPositionOf self.now.set position.now.setup }
-        ensures class { IsInClass self.now.set position.now.setup result }
-        ensures number { result ≡ class_number self.now.set position.now.setup }
-        ensures bound { result < classes_of self.now.set }
+        requires { IsPositionOf self.now.family position.now.setup }
+        ensures class { IsInClass self.now.family position.now.setup result }
+        ensures number { result ≡ class_number self.now.family position.now.setup }
+        ensures bound { result < classes_of self.now.family }
     {
         let masks = masks_of(&position.setup.board);
         if masks.stand_later() {
@@ -79,9 +81,9 @@ impl Classes {
 
     /// The same by the position's masks. It takes longer where the mirror image is the earlier one.
     fn class_by(&self, position: &Position, masks: Masks) -> u64
-        requires position { IsPositionOf self.now.set position.now.setup }
+        requires position { IsPositionOf self.now.family position.now.setup }
         requires masks { AreMasks position.now.setup.board masks }
-        ensures { result ≡ class_number self.now.set position.now.setup }
+        ensures { result ≡ class_number self.now.family position.now.setup }
     {
         let (is_representative, class) = self.look_up_by(position, masks);
         if is_representative {
@@ -91,14 +93,14 @@ impl Classes {
         }
     }
 
-    /// The number of the class whose representative the position of the set is; `None` where its mirror image is
+    /// The number of the class whose representative the position of the family is; `None` where its mirror image is
     /// earlier.
     pub fn class_of_representative(&self, position: &Position) -> Option<u64>
-        requires { IsPositionOf self.now.set position.now.setup }
+        requires { IsPositionOf self.now.family position.now.setup }
         ensures class { MatchOption result (¬ IsFirstOfTwo position.now.setup)
-            (λ class. IsFirstOfTwo position.now.setup × HasClass self.now.set position.now.setup class) }
-        ensures number { IfSome result (λ class. class ≡ class_number self.now.set position.now.setup) }
-        ensures bound { IfSome result (λ class. class < classes_of self.now.set) }
+            (λ class. IsFirstOfTwo position.now.setup × HasClass self.now.family position.now.setup class) }
+        ensures number { IfSome result (λ class. class ≡ class_number self.now.family position.now.setup) }
+        ensures bound { IfSome result (λ class. class < classes_of self.now.family) }
     {
         let (is_representative, class) = self.look_up(position);
         if is_representative { Some(class) } else { None }
@@ -106,11 +108,11 @@ impl Classes {
 
     /// The same by the sets of squares that show the position.
     pub fn class_of_shown(&self, bits: &Bitboards) -> Option<u64>
-        requires { (setup : Setup) × IsShown self.now.set setup bits.now }
-        ensures class { (setup : Setup) → IsShown self.now.set setup bits.now → MatchOption result (¬ IsFirstOfTwo setup)
-            (λ class. IsFirstOfTwo setup × HasClass self.now.set setup class) }
-        ensures number { (setup : Setup) → IsShown self.now.set setup bits.now → IfSome result (λ class. class ≡ class_number self.now.set setup) }
-        ensures bound { IfSome result (λ class. class < classes_of self.now.set) }
+        requires { (setup : Setup) × IsShown self.now.family setup bits.now }
+        ensures class { (setup : Setup) → IsShown self.now.family setup bits.now → MatchOption result (¬ IsFirstOfTwo setup)
+            (λ class. IsFirstOfTwo setup × HasClass self.now.family setup class) }
+        ensures number { (setup : Setup) → IsShown self.now.family setup bits.now → IfSome result (λ class. class ≡ class_number self.now.family setup) }
+        ensures bound { IfSome result (λ class. class < classes_of self.now.family) }
     {
         let (is_first, class) = self.look_up_shown(bits);
         if is_first { Some(class) } else { None }
@@ -118,26 +120,49 @@ impl Classes {
 
     /// The representative of the class of that number, which is below the number of classes.
     pub fn class_at(&self, class: u64) -> Position
-        requires { class < classes_of self.now.set }
-        ensures representative { IsRepresentative self.now.set result.setup }
-        ensures class { HasClass self.now.set result.setup class }
-        ensures number { class_number self.now.set result.setup ≡ class }
+        requires { class < classes_of self.now.family }
+        ensures representative { IsRepresentative self.now.family result.setup }
+        ensures class { HasClass self.now.family result.setup class }
+        ensures number { class_number self.now.family result.setup ≡ class }
     {
         let block = &self.blocks[self.block_at(class)];
         position_by(
-            self.set,
+            self.family.set,
             &block.on_board,
             &block.choices,
             block.spot_at(class),
         )
     }
 
+    /// The same with the sets of squares that the side sees of the representative: the mover those of the setup, the enemy those of the
+    /// turned one. They are found without its board, which isn't made where it isn't read.
+    #[inline(always)]
+    pub fn shown_at(&self, class: u64, side: Side) -> Shown
+        requires { class < classes_of self.now.family }
+        ensures representative { IsRepresentative self.now.family result.position.setup }
+        ensures class { HasClass self.now.family result.position.setup class }
+        ensures number { class_number self.now.family result.position.setup ≡ class }
+        ensures bits { AreBitboards (seen_by side result.position.setup) result.bits }
+    {
+        let block = &self.blocks[self.block_at(class)];
+        let spot = block.spot_at(class);
+        shown_by(
+            self.family.set,
+            &block.on_board,
+            &block.choices,
+            &block.places,
+            block.digits_of(spot.run),
+            spot,
+            side,
+        )
+    }
+
     /// The block in which the representative of that class stands: the last one with no more classes before it.
     fn block_at(&self, class: u64) -> usize
-        requires { class < classes_of self.now.set }
-        ensures block { result < product (block_bases self.now.set) }
-        ensures low { marks_below (marked self.now.set) (start_of self.now.set result) ≤ class }
-        ensures high { class < marks_below (marked self.now.set) (start_of self.now.set (result + 1)) }
+        requires { class < classes_of self.now.family }
+        ensures block { result < product (block_bases self.now.family.set) }
+        ensures low { marks_below (is_marked self.now.family) (start_of self.now.family.set result) ≤ class }
+        ensures high { class < marks_below (is_marked self.now.family) (start_of self.now.family.set (result + 1)) }
     {
         for block in (0..self.blocks.len()).rev() {
             if self.blocks[block].before <= class {
@@ -147,33 +172,36 @@ impl Classes {
         0
     }
 
-    /// Whether a position of the set is a representative, and how many stand before it.
+    /// Whether a position of the family is a representative, and how many stand before it.
     fn look_up(&self, position: &Position) -> (bool, u64)
-        requires { IsPositionOf self.now.set position.now.setup }
-        ensures mark { result.0 ≡ marked self.now.set (rank_of self.now.set position.now.setup) }
-        ensures before { result.1 ≡ marks_below (marked self.now.set) (rank_of self.now.set position.now.setup) }
+        requires { IsPositionOf self.now.family position.now.setup }
+        ensures mark { result.0 ≡ is_marked self.now.family (rank_of_set self.now.family.set position.now.setup) }
+        ensures before { result.1 ≡ marks_below (is_marked self.now.family) (rank_of_set self.now.family.set position.now.setup) }
     {
         self.look_up_by(position, masks_of(&position.setup.board))
     }
 
     /// The same by the position's masks.
+    #[inline(always)]
     fn look_up_by(&self, position: &Position, masks: Masks) -> (bool, u64)
-        requires position { IsPositionOf self.now.set position.now.setup }
+        requires position { IsPositionOf self.now.family position.now.setup }
         requires masks { AreMasks position.now.setup.board masks }
-        ensures mark { result.0 ≡ marked self.now.set (rank_of self.now.set position.now.setup) }
-        ensures before { result.1 ≡ marks_below (marked self.now.set) (rank_of self.now.set position.now.setup) }
+        ensures mark { result.0 ≡ is_marked self.now.family (rank_of_set self.now.family.set position.now.setup) }
+        ensures before { result.1 ≡ marks_below (is_marked self.now.family) (rank_of_set self.now.family.set position.now.setup) }
     {
-        let (block, spot) = spot_by(self.set, position, masks);
+        let (block, spot) = spot_in(self.family, position, masks);
         self.blocks[block as usize].look_up(spot)
     }
 
     /// The same by the sets of squares that show the position.
     fn look_up_shown(&self, bits: &Bitboards) -> (bool, u64)
-        requires { (setup : Setup) × IsShown self.now.set setup bits.now }
-        ensures mark { (setup : Setup) → IsShown self.now.set setup bits.now → result.0 ≡ marked self.now.set (rank_of self.now.set setup) }
-        ensures before { (setup : Setup) → IsShown self.now.set setup bits.now → result.1 ≡ marks_below (marked self.now.set) (rank_of self.now.set setup) }
+        requires { (setup : Setup) × IsShown self.now.family setup bits.now }
+        ensures mark { (setup : Setup) → IsShown self.now.family setup bits.now
+            → result.0 ≡ is_marked self.now.family (rank_of_set self.now.family.set setup) }
+        ensures before { (setup : Setup) → IsShown self.now.family setup bits.now
+            → result.1 ≡ marks_below (is_marked self.now.family) (rank_of_set self.now.family.set setup) }
     {
-        let (block, spot) = spot_shown(self.set, bits);
+        let (block, spot) = spot_shown_in(self.family, bits);
         self.blocks[block as usize].look_up(spot)
     }
 }

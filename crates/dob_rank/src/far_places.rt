@@ -13,10 +13,10 @@ ghost use Rattle.dob_rank.specs.Weights.{others_squares, others_forms};
 ghost use Rattle.dob_rank.specs.Places.{AreChickParts, IsPlaceFor};
 
 use crate::block::{self, EachKind};
-use crate::family_ranks::weight_of;
 use crate::far_rows::{before_choice, before_lions};
 use crate::layers::Layer;
 use crate::placing;
+use crate::ranks::weight_of;
 use crate::runs::{ENEMY_SQUARES, FREE_SQUARES, LIONS};
 use dob_pieces::PieceSet;
 

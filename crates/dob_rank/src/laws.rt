@@ -1,53 +1,27 @@
 // Laws of ranks and classes, each the contract of a function that does nothing.
 ghost use Rattle.dob_rank.specs.Laws.{OneClass, OneRepresentative, RanksKeepOrder, ClassesKeepOrder, RowsAreRepresentatives};
-ghost use Rattle.dob_rank.specs.Laws.{OneClassIn, OneRepresentativeIn, RanksKeepOrderIn, ClassesKeepOrderIn, RowsAreRepresentativesIn};
 
-/// A position of a piece set is in one class, and that class has one number.
+/// A position of a family is in one class, and that class has one number.
 pub fn one_class()
     ensures { OneClass }
 {}
 
-/// A class number has one representative.
+/// A class number of a family has one representative.
 pub fn one_representative()
     ensures { OneRepresentative }
 {}
 
-/// Of two positions of a piece set the earlier has the lower rank.
+/// Of two positions of a family the earlier has the lower rank.
 pub fn ranks_keep_order()
     ensures { RanksKeepOrder }
 {}
 
-/// Of two representatives the earlier has the lower class number.
+/// Of two representatives of a family the earlier has the lower class number.
 pub fn classes_keep_order()
     ensures { ClassesKeepOrder }
 {}
 
-/// The setup that stands for a class number in a row of classes is the representative of that number.
+/// The setup that stands for a class number in a family's row of classes is the representative of that number.
 pub fn rows_are_representatives()
     ensures { RowsAreRepresentatives }
-{}
-
-/// A position of a family is in one class there, and that class has one number.
-pub fn one_class_in()
-    ensures { OneClassIn }
-{}
-
-/// A class number of a family has one representative.
-pub fn one_representative_in()
-    ensures { OneRepresentativeIn }
-{}
-
-/// Of two positions of a family the earlier has the lower rank there.
-pub fn ranks_keep_order_in()
-    ensures { RanksKeepOrderIn }
-{}
-
-/// Of two representatives of a family the earlier has the lower class number.
-pub fn classes_keep_order_in()
-    ensures { ClassesKeepOrderIn }
-{}
-
-/// The setup that stands for a class number in a family's row of classes is the representative of that number.
-pub fn rows_are_representatives_in()
-    ensures { RowsAreRepresentativesIn }
 {}

@@ -7,43 +7,39 @@
 // block a position is a number in mixed radix, with a digit for each further part of the key.
 #![tactic(auto)]
 
+mod bit_placing;
 mod bitboards;
 mod block;
 mod block_classes;
 mod class_counts;
+mod class_numbers;
 mod classes;
-mod family_blocks;
-mod family_classes;
-mod family_counts;
-mod family_ranks;
-mod family_spots;
-mod family_stretches;
 mod far_places;
 mod far_rows;
 mod far_starts;
-mod fault;
 mod forms;
 pub mod laws;
 mod layers;
-mod limit;
 mod masks;
 mod placing;
 mod radix;
 mod ranks;
+mod run_index;
 mod runs;
 mod segment_length;
 mod segmented;
+mod set_ranks;
+mod shown;
+mod spots;
 mod starts;
+mod stretch_tables;
 mod stretches;
 
 pub use bitboards::Bitboards;
 pub use class_counts::count_classes;
+pub use class_numbers::class_number;
 pub use classes::Classes;
-pub use family_classes::FamilyClasses;
-pub use family_counts::count_classes_in;
-pub use family_ranks::{rank_in, size_in, unrank_in};
-pub use fault::Fault;
-pub use limit::{MOST_PIECES, is_too_large};
 pub use ranks::{rank, representative, size, unrank};
 pub use segment_length::SegmentLength;
 pub use segmented::{Segments, SegmentsIter};
+pub use shown::Shown;

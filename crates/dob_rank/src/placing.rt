@@ -1,13 +1,16 @@
 // Placing pieces: the squares that a choice takes of those that are left, and a board with a piece on each of them.
-ghost use Rattle.std.specs.Prelude.{◌≡◌, ◌<◌, ◌≤◌, ◌+◌, ◌^◌};
+ghost use Rattle.std.specs.Prelude.{◌≡◌, ◌<◌, ◌≤◌, ◌+◌, ◌^◌, IfOk, slice_index};
 ghost use Rattle.dob_rank.specs.Numbers.{order, choose, board_of, numbers_by, layers_by};
-ghost use Rattle.dob_rank.specs.Placing.{past, lower_of, higher_of, first_place, second_place, put, AreChoices};
+ghost use Rattle.dob_rank.specs.Placing.{past, lower_of, higher_of, first_place, second_place, put, AreChoices, AreSquareChoices, ArePlaces, AreAllPlaces};
+ghost use Rattle.dob_rank.specs.Runs.{AreFewOnBoard, square_bases};
 
 use crate::block::{DIGITS, EachKind};
 use crate::forms::{base_of, cell_of};
 use crate::layers::Layer;
+use crate::radix;
 use crate::runs::FREE_SQUARES;
-use dob_pieces::{Piece, Square};
+use dob_pieces::{Memory, Piece, Square};
+use std::alloc::Global;
 
 /// The place of a piece that isn't there, beyond all squares.
 const NOWHERE: u64 = 12;
@@ -50,6 +53,73 @@ pub(crate) fn among(taken: (u64, u64), places: (u64, u64)) -> (u64, u64)
     )
 }
 
+/// The places of the pieces of each kind among the squares that the lions leave: of two the lower first, and beyond all places where
+/// there is no piece.
+#[derive(Clone, Copy, Debug)]
+pub(crate) struct Places {
+    pub(crate) chicks: (u8, u8),
+    pub(crate) elephants: (u8, u8),
+    pub(crate) giraffes: (u8, u8),
+}
+
+/// The places that those choices of squares take.
+pub(crate) fn places_by(on_board: &EachKind, choices: &EachKind) -> Places
+    requires { AreSquareChoices on_board.now choices.now }
+    ensures { ArePlaces on_board.now (slice_index choices.now 0) (slice_index choices.now 1) (slice_index choices.now 2) result }
+{
+    let chicks = places_of(FREE_SQUARES, on_board[0], choices[0]);
+    let elephants = places_of(FREE_SQUARES - on_board[0], on_board[1], choices[1]);
+    let giraffes = places_of(
+        FREE_SQUARES - on_board[0] - on_board[1],
+        on_board[2],
+        choices[2],
+    );
+    Places {
+        chicks: narrow(chicks),
+        elephants: narrow(among(chicks, elephants)),
+        giraffes: narrow(among(chicks, among(elephants, giraffes))),
+    }
+}
+
+/// The places of each choice of the squares of all kinds, by its number.
+///
+/// Error: `Memory`.
+pub(crate) fn all_places(
+    alloc: Global,
+    on_board: &EachKind,
+    choices: &EachKind,
+) -> Result<Vec<Places>, Memory>
+    requires few { AreFewOnBoard on_board.now }
+    requires choices { choices.now ≡ square_bases on_board.now }
+    ensures { IfOk result (λ table. AreAllPlaces on_board.now table.items) }
+{
+    let mut table = Vec::new(alloc);
+    for number in 0..radix::product(choices) {
+        let places = places_by(on_board, &radix::three_digits(choices, number));
+        table.push(places)?;
+    }
+    Ok(table)
+}
+
+/// Two places as they are kept, and as numbers again.
+fn narrow(places: (u64, u64)) -> (u8, u8)
+    requires first { places.0 ≤ 255 }
+    requires second { places.1 ≤ 255 }
+    ensures first { result.0 ≡ places.0 }
+    ensures second { result.1 ≡ places.1 }
+{
+    (places.0 as u8, places.1 as u8)
+}
+
+pub(crate) fn wide(places: (u8, u8)) -> (u64, u64)
+    ensures first { result.0 ≡ places.0 }
+    ensures second { result.1 ≡ places.1 }
+    ensures first_bound { result.0 ≤ 255 }
+    ensures second_bound { result.1 ≤ 255 }
+{
+    (u64::from(places.0), u64::from(places.1))
+}
+
 /// The board of those numbers on the board and those digits.
 pub(crate) fn board_by(
     on_board: &EachKind,
@@ -58,20 +128,14 @@ pub(crate) fn board_by(
     requires { AreChoices on_board.now digits.now }
     ensures { result ≡ board_of (numbers_by digits.now) (layers_by on_board.now digits.now) }
 {
-    let chicks = places_of(FREE_SQUARES, on_board[0], digits[5]);
-    let elephants = places_of(FREE_SQUARES - on_board[0], on_board[1], digits[6]);
-    let giraffes = places_of(
-        FREE_SQUARES - on_board[0] - on_board[1],
-        on_board[2],
-        digits[7],
-    );
+    let places = places_by(on_board, &[digits[5], digits[6], digits[7]]);
     let own = digits[3];
     let enemy = digits[4];
     let lions = (enemy, own);
     let mut board = [None; Square::COUNT];
     board[own as usize] = cell_of(Layer::OwnLion, 0);
     board[past(own, enemy) as usize] = cell_of(Layer::EnemyLion, 0);
-    let chick_squares = among(lions, chicks);
+    let chick_squares = among(lions, wide(places.chicks));
     put(
         &mut board,
         Layer::Chicks,
@@ -79,7 +143,7 @@ pub(crate) fn board_by(
         chick_squares,
         digits[8],
     );
-    let elephant_squares = among(lions, among(chicks, elephants));
+    let elephant_squares = among(lions, wide(places.elephants));
     put(
         &mut board,
         Layer::Elephants,
@@ -87,7 +151,7 @@ pub(crate) fn board_by(
         elephant_squares,
         digits[9],
     );
-    let giraffe_squares = among(lions, among(chicks, among(elephants, giraffes)));
+    let giraffe_squares = among(lions, wide(places.giraffes));
     put(
         &mut board,
         Layer::Giraffes,

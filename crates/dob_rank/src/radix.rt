@@ -25,7 +25,8 @@ pub(crate) fn number_of(bases: &[u64; 3], digits: &[u64; 3]) -> u64
     (digits[0] * bases[1] + digits[1]) * bases[2] + digits[2]
 }
 
-/// The three digits of a number.
+/// The three digits of a number. Within its callers, so that digits that nobody reads are not found.
+#[inline(always)]
 pub(crate) fn three_digits(bases: &[u64; 3], number: u64) -> [u64; 3]
     requires { number < product bases.now }
     ensures { result ≡ digits_of bases.now number }
@@ -56,6 +57,7 @@ pub(crate) fn join_by_power(quotient: u64, rest: u64, exponent: u64) -> u64
 
 /// The quotient and the remainder by a base. The bases of sets of up to three pieces are listed, so that there is no
 /// division by a variable, which takes longer than the rest of a rank.
+#[inline(always)]
 fn split(number: u64, base: u64) -> (u64, u64)
     requires { 0 < base }
     ensures quotient { result.0 ≡ number / base }

@@ -1,275 +1,246 @@
-// The rank of a position, the position of a rank, and the representative of a class.
-ghost use Rattle.std.specs.Prelude.{◌≡◌, ◌<◌, ◌≤◌, ◌+◌, ◌*◌, ◌^◌};
-ghost use Rattle.dob_pieces.specs.Setups.{total};
-ghost use Rattle.dob_pieces.specs.declared.setup.Setup.{Setup};
-ghost use Rattle.dob_rank.specs.Bitboards.{IsShown};
-ghost use Rattle.dob_rank.specs.BoardDigits.{ArePartsOf, AreNumbersOf};
+// Ranks: the positions of a family, those of a piece set that a profile allows, in the order of their key. In profile A these are all positions of the
+// set (src/set_ranks.rt). In profile B a choice of the chicks' squares has as many forms as its squares let it have, so that a place in a run is a sum of
+// such numbers in place of a number in mixed radix.
+ghost use Rattle.std.specs.Prelude.{◌≡◌, ◌<◌, ◌≤◌, ◌+◌, ◌*◌, ◌/◌, ◌%◌, ◌^◌, map, slice_index};
+ghost use Rattle.dob_pieces.specs.Profiles.{IsAllowed};
+ghost use Rattle.dob_pieces.specs.declared.profile.Profile.TheVariants.{B};
 ghost use Rattle.dob_rank.specs.BoardMasks.{AreMasks};
-ghost use Rattle.dob_rank.specs.Order.{IsPositionOf, HasSize, HasRank, RepresentativeOf};
-ghost use Rattle.dob_rank.specs.Numbers.{size_of, rank_of, product, number_of, block_bases, block_of};
-ghost use Rattle.dob_rank.specs.Numbers.{HasBlock, bases_by, on_board as on_board_of, digits as all_digits_of, setup_by, hands_by};
-ghost use Rattle.dob_rank.specs.Numbers.{HasDigits};
-ghost use Rattle.dob_rank.specs.Runs.{runs_in, run_size, run_bases, square_bases, local_bases, run_of, local_of};
+ghost use Rattle.dob_pieces.specs.declared.setup.Setup.{Setup};
+ghost use Rattle.dob_rank.specs.Families.{family_of, IsPositionOf, HasSize, HasRank, IsRanked, is_present, size_of, rank_of};
+ghost use Rattle.dob_rank.specs.Marks.{marks_below};
+ghost use Rattle.dob_rank.specs.Masks.{layer_mask};
+ghost use Rattle.dob_rank.specs.Numbers.{product, block_bases, start_of, block_of, order, layer, count, choose, free_squares, on_board as on_board_of};
+ghost use Rattle.dob_rank.specs.Order.{IsPositionOfSet, RepresentativeOf};
+ghost use Rattle.dob_rank.specs.Places.{IsSpotFor};
+ghost use Rattle.dob_rank.specs.Runs.{AreFewOnBoard, lion_pairs, square_bases};
+ghost use Rattle.dob_rank.specs.Weights.{may_have, allowed_number, choice_weight, forms_before, lions_before, others_squares, others_forms};
+ghost use Rattle.dob_rank.specs.Weights.{squares_by, others_by, hand_size, place_in};
 
-use crate::bitboards::Bitboards;
 use crate::block::{self, DIGITS, EachKind};
+use crate::far_places::{lions_at, local_at};
+use crate::far_rows::{before_choice, before_lions, forms_below, hand_size};
+use crate::far_starts::far_start;
+use crate::forms::form_of;
 use crate::layers::Layer;
 use crate::masks::{self, Masks};
-use crate::runs::Spot;
-use crate::{placing, radix, starts};
-use dob_pieces::{Hand, HandKind, Hands, PieceSet, Position, Setup};
+use crate::radix;
+use crate::runs::{FREE_SQUARES, LIONS, Spot};
+use crate::set_ranks::{
+    digits_of, numbers_on_board, piece_set_of, position_by, rank_in_set, size_of_set, unrank_in_set,
+};
+use dob_pieces::{Family, Piece, PieceSet, Position, Profile, Square};
 
-/// How many positions the piece set has.
-pub fn size(set: PieceSet) -> u64
-    ensures count { HasSize set result }
-    ensures number { result ≡ size_of set }
+/// How many positions the family has.
+pub fn size(family: Family) -> u64
+    ensures count { HasSize family result }
+    ensures number { result ≡ size_of family }
     ensures bound { result < 2 ^ 31 }
 {
-    starts::block_start(set, block::blocks(set))
-}
-
-/// How many positions of its piece set stand before the position.
-pub fn rank(position: &Position) -> u64
-    ensures count { (set : PieceSet) → IsPositionOf set position.now.setup → HasRank set position.now.setup result }
-    ensures number { (set : PieceSet) → IsPositionOf set position.now.setup → result ≡ rank_of set position.now.setup }
-{
-    let masks = masks::masks_of(&position.setup.board);
-    let on_board = numbers_on_board(position, masks);
-    let set = piece_set_of(position, &on_board);
-    let (block, spot) = spot_with(set, position, masks, &on_board);
-    starts::block_start(set, block) + block::place_of(&on_board, spot)
-}
-
-/// The position of the set that has that rank, which is below the set's size.
-pub fn unrank(set: PieceSet, rank: u64) -> Position
-    requires { rank < size_of set }
-    ensures position { IsPositionOf set result.setup }
-    ensures count { HasRank set result.setup rank }
-    ensures number { rank_of set result.setup ≡ rank }
-    ensures only { (p : Setup) → IsPositionOf set p → rank_of set p ≡ rank → p ≡ result.setup }
-{
-    let (block, place) = block::find_block(set, rank);
-    let on_board = block::numbers_in(set, block);
-    let choices = block::choices_in(&on_board);
-    let spot = block::spot_at(set, &on_board, &choices, place);
-    position_by(set, &on_board, &choices, spot)
-}
-
-/// The number of the block of a position of the set, and the position's spot there.
-pub(crate) fn spot_of(set: PieceSet, position: &Position) -> (u64, Spot)
-    requires { IsPositionOf set position.now.setup }
-    ensures block { result.0 ≡ block_of set position.now.setup }
-    ensures run { result.1.run ≡ run_of set position.now.setup }
-    ensures local { result.1.local ≡ local_of position.now.setup }
-{
-    spot_by(set, position, masks::masks_of(&position.setup.board))
-}
-
-/// The same by the masks of the position.
-pub(crate) fn spot_by(set: PieceSet, position: &Position, masks: Masks) -> (u64, Spot)
-    requires position { IsPositionOf set position.now.setup }
-    requires masks { AreMasks position.now.setup.board masks }
-    ensures block { result.0 ≡ block_of set position.now.setup }
-    ensures run { result.1.run ≡ run_of set position.now.setup }
-    ensures local { result.1.local ≡ local_of position.now.setup }
-{
-    spot_with(set, position, masks, &numbers_on_board(position, masks))
-}
-
-/// The same by the masks of the position and the numbers on its board.
-fn spot_with(set: PieceSet, position: &Position, masks: Masks, on_board: &EachKind) -> (u64, Spot)
-    requires position { IsPositionOf set position.now.setup }
-    requires masks { AreMasks position.now.setup.board masks }
-    requires on_board { on_board.now ≡ on_board_of position.now.setup }
-    ensures block { result.0 ≡ block_of set position.now.setup }
-    ensures run { result.1.run ≡ run_of set position.now.setup }
-    ensures local { result.1.local ≡ local_of position.now.setup }
-{
-    spot_from(set, on_board, &digits_of(position, masks, on_board))
-}
-
-/// The same by the sets of squares that show the position.
-pub(crate) fn spot_shown(set: PieceSet, bits: &Bitboards) -> (u64, Spot)
-    requires { (setup : Setup) × IsShown set setup bits.now }
-    ensures block { (setup : Setup) → IsShown set setup bits.now → result.0 ≡ block_of set setup }
-    ensures run { (setup : Setup) → IsShown set setup bits.now → result.1.run ≡ run_of set setup }
-    ensures local { (setup : Setup) → IsShown set setup bits.now → result.1.local ≡ local_of setup }
-{
-    let masks = bits.layers();
-    let on_board = numbers_in(masks);
-    let forms = [
-        bits.forms_of(masks.chicks, Layer::Chicks, on_board[0]),
-        bits.forms_of(masks.elephants, Layer::Elephants, on_board[1]),
-        bits.forms_of(masks.giraffes, Layer::Giraffes, on_board[2]),
-    ];
-    let digits = digits_from(bits.hands.mover, masks, &on_board, &forms);
-    spot_from(set, &on_board, &digits)
-}
-
-/// The same by the position's numbers on the board and its digits.
-fn spot_from(set: PieceSet, on_board: &EachKind, digits: &[u64; DIGITS]) -> (u64, Spot)
-    requires { (setup : Setup) × AreNumbersOf set on_board.now digits.now setup }
-    ensures block { (setup : Setup) → AreNumbersOf set on_board.now digits.now setup → result.0 ≡ block_of set setup }
-    ensures run { (setup : Setup) → AreNumbersOf set on_board.now digits.now setup → result.1.run ≡ run_of set setup }
-    ensures local { (setup : Setup) → AreNumbersOf set on_board.now digits.now setup → result.1.local ≡ local_of setup }
-{
-    let block = radix::number_of(&block::block_bases_of(set), on_board);
-    (block, block::spot_from(set, on_board, digits))
-}
-
-/// The piece set of a position, by the numbers on its board.
-pub(crate) fn piece_set_of(position: &Position, on_board: &EachKind) -> PieceSet
-    requires { on_board.now ≡ on_board_of position.now.setup }
-    ensures chicks { result.chicks ≡ total HandKind.Chick position.now.setup }
-    ensures elephants { result.elephants ≡ total HandKind.Elephant position.now.setup }
-    ensures giraffes { result.giraffes ≡ total HandKind.Giraffe position.now.setup }
-{
-    let mover = position.setup.hands.mover;
-    let enemy = position.setup.hands.enemy;
-    PieceSet {
-        chicks: in_all(on_board[0], mover.chicks, enemy.chicks),
-        elephants: in_all(on_board[1], mover.elephants, enemy.elephants),
-        giraffes: in_all(on_board[2], mover.giraffes, enemy.giraffes),
+    match family.profile {
+        Profile::A => size_of_set(family.set),
+        Profile::B => far_start(family.set, block::blocks(family.set)),
     }
 }
 
-/// How many pieces of a kind there are, on the board and in the hands.
-fn in_all(on_board: u64, mover: u8, enemy: u8) -> u8
-    requires { on_board + mover + enemy ≤ 2 }
-    ensures value { result ≡ on_board + mover + enemy }
-    ensures bound { result ≤ 2 }
+/// How many positions of its piece set that the profile allows stand before the position, which is one of them.
+pub fn rank(profile: Profile, position: &Position) -> u64
+    requires { IsAllowed profile position.now.setup }
+    ensures count { (set : PieceSet) → IsPositionOfSet set position.now.setup → HasRank (family_of set profile) position.now.setup result }
+    ensures number { (set : PieceSet) → IsPositionOfSet set position.now.setup → result ≡ rank_of (family_of set profile) position.now.setup }
 {
-    on_board as u8 + mover + enemy
+    match profile {
+        Profile::A => rank_in_set(position),
+        Profile::B => far_rank(position),
+    }
 }
 
-/// The position of the set at that spot of the block of that number.
-pub(crate) fn position_at(set: PieceSet, block: u64, spot: Spot) -> Position
-    requires block { block < product (block_bases set) }
-    requires run { spot.run < runs_in set block }
-    requires local { spot.local < run_size set block }
-    ensures { HasBlock set block (spot.run * run_size set block + spot.local) result.setup }
+/// The position of the family before which there are so many of them, fewer than it has.
+pub fn unrank(family: Family, rank: u64) -> Position
+    requires { rank < size_of family }
+    ensures position { IsPositionOf family result.setup }
+    ensures count { HasRank family result.setup rank }
+    ensures number { rank_of family result.setup ≡ rank }
+    ensures only { (p : Setup) → IsPositionOf family p → rank_of family p ≡ rank → p ≡ result.setup }
 {
-    let on_board = block::numbers_in(set, block);
-    position_by(set, &on_board, &block::choices_in(&on_board), spot)
+    match family.profile {
+        Profile::A => unrank_in_set(family.set, rank),
+        Profile::B => far_unrank(family.set, rank),
+    }
 }
 
-/// The position of the set at that spot of the block of those numbers on the board and choices of squares.
-pub(crate) fn position_by(
-    set: PieceSet,
-    on_board: &EachKind,
-    choices: &EachKind,
-    spot: Spot,
-) -> Position
-    requires on_board { HasDigits (block_bases set) on_board.now }
-    requires choices { choices.now ≡ square_bases on_board.now }
-    requires run { spot.run < product (run_bases set on_board.now) }
-    requires local { spot.local < product (local_bases on_board.now) }
-    ensures { HasBlock set (number_of (block_bases set) on_board.now) (spot.run * product (local_bases on_board.now) + spot.local) result.setup }
-{
-    let digits = block::digits_in(set, on_board, choices, spot);
-    Position::new(setup_of(set, on_board, &digits))
-}
-
-/// The earlier of a position and its mirror image.
-pub fn representative(position: &Position) -> Position
-    ensures { RepresentativeOf position.now.setup result.setup }
+/// The earlier of a position of the profile and its mirror image.
+pub fn representative(profile: Profile, position: &Position) -> Position
+    requires { IsAllowed profile position.now.setup }
+    ensures earlier { RepresentativeOf position.now.setup result.setup }
+    ensures allowed { IsAllowed profile result.setup }
 {
     let image = position.mirrored();
-    if rank(&image) < rank(position) {
+    if rank(profile, &image) < rank(profile, position) {
         image
     } else {
         *position
     }
 }
 
-/// How many chicks, elephants and giraffes stand on the board.
-pub(crate) fn numbers_on_board(position: &Position, masks: Masks) -> EachKind
-    requires { AreMasks position.now.setup.board masks }
-    ensures { result ≡ on_board_of position.now.setup }
+/// The position of profile B of that rank.
+fn far_unrank(set: PieceSet, rank: u64) -> Position
+    requires { rank < size_of (family_of set B) }
+    ensures { IsRanked (family_of set B) result.setup rank }
 {
-    numbers_in(masks)
+    let (block, number) = find_far_block(set, rank);
+    let on_board = block::numbers_in(set, block);
+    let choices = block::choices_in(&on_board);
+    let spot = far_spot_at(&on_board, &choices, number);
+    position_by(set, &on_board, &choices, spot)
 }
 
-/// The same by the masks alone.
-fn numbers_in(masks: Masks) -> EachKind
-    ensures { (setup : Setup) → AreMasks setup.board masks → result ≡ on_board_of setup }
+/// The block in which a rank of profile B is, and how many positions of the profile the block has before it.
+fn find_far_block(set: PieceSet, rank: u64) -> (u64, u64)
+    requires { rank < size_of (family_of set B) }
+    ensures block { result.0 < product (block_bases set) }
+    ensures number { marks_below (is_present (family_of set B)) (start_of set result.0) + result.1 ≡ rank }
+    ensures within { rank < marks_below (is_present (family_of set B)) (start_of set (result.0 + 1)) }
 {
-    [
-        masks::count(masks.chicks),
-        masks::count(masks.elephants),
-        masks::count(masks.giraffes),
-    ]
+    let blocks = block::blocks(set);
+    let mut start = 0;
+    for block in 0..blocks {
+        let end = far_start(set, block + 1);
+        if rank < end {
+            return (block, rank - start);
+        }
+        start = end;
+    }
+    (blocks, 0)
 }
 
-/// The digits of a position in its block.
-pub(crate) fn digits_of(position: &Position, masks: Masks, on_board: &EachKind) -> [u64; DIGITS]
-    requires masks { AreMasks position.now.setup.board masks }
-    requires on_board { on_board.now ≡ on_board_of position.now.setup }
-    ensures { result ≡ all_digits_of position.now.setup }
+/// The spot of a block of those numbers on the board before which the block has so many positions of profile B.
+fn far_spot_at(on_board: &EachKind, choices: &EachKind, number: u64) -> Spot
+    requires few { AreFewOnBoard on_board.now }
+    requires choices { choices.now ≡ square_bases on_board.now }
+    requires small { number < 2 ^ 42 }
+    ensures { IsSpotFor on_board.now number result.run result.local }
 {
-    let board = &position.setup.board;
-    let forms = [
-        masks::forms_of(board, masks.chicks, Layer::Chicks, on_board[0]),
-        masks::forms_of(board, masks.elephants, Layer::Elephants, on_board[1]),
-        masks::forms_of(board, masks.giraffes, Layer::Giraffes, on_board[2]),
-    ];
-    digits_from(position.setup.hands.mover, masks, on_board, &forms)
-}
-
-/// The digits of the position with that hand of the mover, those masks, and those numbers on the board and of its forms. Within
-/// its callers, since a call of its own hands over all of these, and eleven digits back, by memory.
-#[inline(always)]
-fn digits_from(hand: Hand, masks: Masks, on_board: &EachKind, forms: &EachKind) -> [u64; DIGITS]
-    requires { (setup : Setup) × ArePartsOf hand masks on_board.now forms.now setup }
-    ensures { (setup : Setup) → ArePartsOf hand masks on_board.now forms.now setup → result ≡ all_digits_of setup }
-{
-    let after_own_lion = masks::ALL - masks.own_lion;
-    let after_lions = after_own_lion - masks.enemy_lion;
-    let after_chicks = after_lions - masks.chicks;
-    let after_elephants = after_chicks - masks.elephants;
-    let empty = after_elephants - masks.giraffes;
-    [
-        u64::from(hand.chicks),
-        u64::from(hand.elephants),
-        u64::from(hand.giraffes),
-        masks::choice_of(masks.own_lion, after_own_lion, 1),
-        masks::choice_of(masks.enemy_lion, after_lions, 1),
-        masks::choice_of(masks.chicks, after_chicks, on_board[0]),
-        masks::choice_of(masks.elephants, after_elephants, on_board[1]),
-        masks::choice_of(masks.giraffes, empty, on_board[2]),
-        forms[0],
-        forms[1],
-        forms[2],
-    ]
-}
-
-/// The setup of those numbers on the board and those digits.
-fn setup_of(set: PieceSet, on_board: &EachKind, digits: &[u64; DIGITS]) -> Setup
-    requires on_board { HasDigits (block_bases set) on_board.now }
-    requires digits { HasDigits (bases_by set on_board.now) digits.now }
-    ensures { result ≡ setup_by set on_board.now digits.now }
-{
-    Setup {
-        board: placing::board_by(on_board, digits),
-        hands: hands_of(set, on_board, digits),
+    let chicks = on_board[0];
+    let squares = choices[1] * choices[2];
+    let forms = block::power(2, on_board[1]) * block::power(2, on_board[2]);
+    let others = squares * forms;
+    let in_hand = hand_size(chicks);
+    let chosen = number / others;
+    let hands = chosen / in_hand;
+    let lions = lions_at(chicks, chosen % in_hand);
+    let before = hands * in_hand + before_lions(chicks, lions);
+    let local = local_at(on_board, lions, number - before * others);
+    Spot {
+        run: hands * LIONS + lions,
+        local,
     }
 }
 
-/// The hands: the mover's has what the digits say, the enemy's all that is neither there nor on the board.
-fn hands_of(set: PieceSet, on_board: &EachKind, digits: &[u64; DIGITS]) -> Hands
-    requires on_board { HasDigits (block_bases set) on_board.now }
-    requires digits { HasDigits (bases_by set on_board.now) digits.now }
-    ensures { result ≡ hands_by set on_board.now digits.now }
+/// The rank of a position of profile B.
+fn far_rank(position: &Position) -> u64
+    requires { IsAllowed B position.now.setup }
+    ensures { (set : PieceSet) → IsPositionOfSet set position.now.setup → result ≡ rank_of (family_of set B) position.now.setup }
 {
-    let mover = Hand {
-        chicks: digits[0] as u8,
-        elephants: digits[1] as u8,
-        giraffes: digits[2] as u8,
-    };
-    let enemy = Hand {
-        chicks: set.chicks - on_board[0] as u8 - mover.chicks,
-        elephants: set.elephants - on_board[1] as u8 - mover.elephants,
-        giraffes: set.giraffes - on_board[2] as u8 - mover.giraffes,
-    };
-    Hands { mover, enemy }
+    let masks = masks::masks_of(&position.setup.board);
+    let on_board = numbers_on_board(position, masks);
+    let set = piece_set_of(position, &on_board);
+    let block = radix::number_of(&block::block_bases_of(set), &on_board);
+    far_start(set, block) + far_place(set, position, masks, &on_board)
+}
+
+/// How many positions of profile B stand before one of the set in its block.
+fn far_place(set: PieceSet, position: &Position, masks: Masks, on_board: &EachKind) -> u64
+    requires allowed { IsAllowed B position.now.setup }
+    requires position { IsPositionOfSet set position.now.setup }
+    requires masks { AreMasks position.now.setup.board masks }
+    requires on_board { on_board.now ≡ on_board_of position.now.setup }
+    ensures { marks_below (is_present (family_of set B)) (start_of set (block_of set position.now.setup)) + result ≡ rank_of (family_of set B) position.now.setup }
+{
+    let digits = digits_of(position, masks, on_board);
+    let run = block::spot_from(set, on_board, &digits).run;
+    let forms = allowed_forms(&position.setup.board, masks.chicks, on_board[0]);
+    place_by(on_board, &digits, run, forms)
+}
+
+/// The place in a block that those numbers write: of a run, of the digits of squares and forms, and of so many allowed forms of the chicks before.
+fn place_by(on_board: &EachKind, digits: &[u64; DIGITS], run: u64, forms: u64) -> u64
+    requires few { AreFewOnBoard on_board.now }
+    requires run { run < 2 ^ 12 }
+    requires choice { slice_index digits.now 5 < choose free_squares (slice_index on_board.now 0) }
+    requires squares { squares_by on_board.now digits.now < others_squares on_board.now }
+    requires others { others_by on_board.now digits.now < others_forms on_board.now }
+    requires forms { forms ≤ 20 }
+    ensures value { result ≡ place_in B on_board.now digits.now (run / lion_pairs) (run % lion_pairs) forms }
+    ensures bound { result ≤ 2 ^ 42 }
+{
+    let chicks = on_board[0];
+    let choices = block::choices_in(on_board);
+    let lions = run % LIONS;
+    let chosen = chosen_before(chicks, run / LIONS, lions, digits[5]);
+    let squares = digits[6] * choices[2] + digits[7];
+    let placed = add_product(
+        chosen,
+        choices[1] * choices[2],
+        squares * weight_of(chicks, lions, digits[5]) + forms,
+    );
+    let giraffes = block::power(2, on_board[2]);
+    add_product(
+        placed,
+        block::power(2, on_board[1]) * giraffes,
+        digits[9] * giraffes + digits[10],
+    )
+}
+
+/// A product of numbers that are small enough, and a third.
+pub(crate) fn add_product(a: u64, b: u64, c: u64) -> u64
+    requires a { a ≤ 2 ^ 34 }
+    requires b { b ≤ 2 ^ 11 }
+    requires c { c ≤ 2 ^ 32 }
+    ensures { result ≡ a * b + c }
+{
+    a * b + c
+}
+
+/// How many choices of the chicks' squares with forms stand before one, in the runs before and in its own.
+fn chosen_before(chicks: u64, hands: u64, lions: u64, choice: u64) -> u64
+    requires chicks { chicks ≤ 2 }
+    requires hands { hands ≤ 41 }
+    requires lions { lions < LIONS }
+    requires choice { choice < choose FREE_SQUARES chicks }
+    ensures value { result ≡ hands * hand_size B chicks + lions_before B chicks lions + forms_before B lions chicks choice }
+    ensures bound { result ≤ 2 ^ 22 }
+{
+    hands * hand_size(chicks) + before_lions(chicks, lions) + before_choice(chicks, lions, choice)
+}
+
+/// How many forms that choice has.
+pub(crate) fn weight_of(chicks: u64, lions: u64, choice: u64) -> u64
+    requires chicks { chicks ≤ 2 }
+    requires lions { lions < LIONS }
+    requires choice { choice < choose FREE_SQUARES chicks }
+    ensures value { result ≡ choice_weight B lions chicks choice }
+    ensures bound { result ≤ 582 }
+{
+    before_choice(chicks, lions, choice + 1) - before_choice(chicks, lions, choice)
+}
+
+/// How many numbers of allowed forms of the chicks, at most two on those squares, stand before theirs.
+pub(crate) fn allowed_forms(board: &[Option<Piece>; Square::COUNT], mask: u64, pieces: u64) -> u64
+    requires few { pieces ≤ 2 }
+    requires mask { mask ≡ layer_mask (order Layer.Chicks) (map layer board.now) }
+    requires pieces { pieces ≡ count (order Layer.Chicks) (map layer board.now) }
+    ensures value { result ≡ allowed_number (may_have B) 4 (order Layer.Chicks) 0 board.now }
+    ensures bound { result ≤ 20 }
+{
+    if pieces == 0 {
+        return 0;
+    }
+    let first = mask.trailing_zeros() as usize;
+    let place = forms_below(first, form_of(board[first]));
+    if pieces == 1 {
+        return place;
+    }
+    let rest = mask & mask.saturating_sub(1);
+    let second = rest.trailing_zeros() as usize;
+    place * forms_below(second, 4) + forms_below(second, form_of(board[second]))
 }

@@ -3,6 +3,8 @@
 ghost use Rattle.std.specs.Prelude.{◌≡◌, ◌<◌};
 ghost use Rattle.dob_rank.specs.Runs.{run_kind};
 
+use dob_pieces::Hand;
+
 /// On how many squares the mover's lion can stand: those off its far row.
 pub(crate) const OWN_SQUARES: u64 = 9;
 
@@ -48,11 +50,21 @@ pub(crate) struct Spot {
     pub(crate) local: u64,
 }
 
-/// A run of positions: the number of classes before it, the number of its table of stretches if its kind is mixed, and that kind,
-/// so that a look-up needs no division for it.
+/// The digits that the positions of a run have in common: the mover's hand, the square of the mover's lion, and that of the
+/// enemy's by its number among those that the other one leaves.
+#[derive(Clone, Copy, Debug)]
+pub(crate) struct RunDigits {
+    pub(crate) hand: Hand,
+    pub(crate) own: u8,
+    pub(crate) enemy: u8,
+}
+
+/// A run of positions: the number of classes before it, the number of its table of stretches if its kind is mixed, and that kind and the
+/// run's digits, so that a look-up needs no division for them.
 #[derive(Clone, Copy, Debug)]
 pub(crate) struct Run {
     pub(crate) before: u64,
     pub(crate) table: usize,
     pub(crate) kind: RunKind,
+    pub(crate) digits: RunDigits,
 }

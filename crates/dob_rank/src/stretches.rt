@@ -10,8 +10,8 @@ ghost use Rattle.dob_rank.specs.Stretches.{AreStretches, IsGrowing, EndsWith, Is
 ghost use Rattle.dob_rank.specs.declared.runs.RunKind.TheVariants.{Mixed};
 
 use crate::block;
-use crate::ranks::{position_at, spot_of};
 use crate::runs::Spot;
+use crate::set_ranks::{position_at, spot_of};
 use dob_pieces::{Memory, PieceSet};
 use std::alloc::Global;
 
@@ -21,107 +21,6 @@ pub(crate) struct Stretch {
     pub(crate) start: u64,
     pub(crate) before: u64,
     pub(crate) is_marked: bool,
-}
-
-/// The stretches of a run.
-#[derive(Debug, Drop)]
-pub(crate) struct Stretches {
-    pub(crate) set: PieceSet,
-    pub(crate) block: u64,
-    pub(crate) run: u64,
-    pub(crate) count: u64,
-    list: Vec<Stretch>,
-    ghost within: { block < product (block_bases set) },
-    ghost there: { run < runs_in set block },
-    ghost table: { AreStretches (local_marks set block run) (run_size set block) list.items },
-    ghost counted: { count ≡ marks_below (local_marks set block run) (run_size set block) },
-}
-
-impl Stretches {
-    /// The stretches of a run whose lions both stand on column b.
-    ///
-    /// Error: `Memory`.
-    pub(crate) fn open(
-        alloc: Global,
-        set: PieceSet,
-        block: u64,
-        run: u64,
-    ) -> Result<Stretches, Memory>
-        requires block { block < product (block_bases set) }
-        requires run { run < runs_in set block }
-        requires kind { run_kind (run % lion_pairs) ≡ Mixed }
-        ensures set { IfOk result (λ stretches. stretches.set ≡ set) }
-        ensures block { IfOk result (λ stretches. stretches.block ≡ block) }
-        ensures run { IfOk result (λ stretches. stretches.run ≡ run) }
-    {
-        let size = block::run_size_in(set, block);
-        let bases = block::local_bases_in(set, block);
-        let mut list = Vec::new(alloc);
-        let mut place = 0;
-        let mut count = 0;
-        let mut last = false;
-        while place < size {
-            let (is_marked, end) = stretch_from(set, block, run, place, &bases);
-            push_stretch(&mut list, place, count, is_marked, last)?;
-            last = is_marked;
-            if is_marked {
-                count += end - place;
-            }
-            place = end;
-        }
-        Ok(Stretches {
-            set,
-            block,
-            run,
-            count,
-            list,
-        })
-    }
-
-    /// Whether a place of the run is marked, and how many marked ones are before it in the run.
-    pub(crate) fn look_up(&self, place: u64) -> (bool, u64)
-        requires { place < run_size self.now.set self.now.block }
-        ensures mark { result.0 ≡ marked self.now.set (run_start self.now.set self.now.block self.now.run + place) }
-        ensures before { result.1 ≡ marks_below (local_marks self.now.set self.now.block self.now.run) place }
-    {
-        let mut low = 0;
-        let mut high = self.list.len();
-        while 1 < high - low {
-            let middle = low + (high - low) / 2;
-            if self.list[middle].start <= place {
-                low = middle;
-            } else {
-                high = middle;
-            }
-        }
-        let stretch = self.list[low];
-        if stretch.is_marked {
-            (true, stretch.before + (place - stretch.start))
-        } else {
-            (false, stretch.before)
-        }
-    }
-
-    /// The marked place of the run before which there are so many marked ones in the run.
-    pub(crate) fn place_at(&self, number: u64) -> u64
-        requires { number < self.now.count }
-        ensures place { result < run_size self.now.set self.now.block }
-        ensures mark { local_marks self.now.set self.now.block self.now.run result ≡ true }
-        ensures number { marks_below (local_marks self.now.set self.now.block self.now.run) result ≡ number }
-    {
-        let mut low = 0;
-        let mut high = self.list.len();
-        while 1 < high - low {
-            let middle = low + (high - low) / 2;
-            if self.list[middle].before <= number {
-                low = middle;
-            } else {
-                high = middle;
-            }
-        }
-        let stretch = self.list[low];
-        stretch.start + (number - stretch.before)
-    }
 }
 
 /// Appends the entry of the places from one on, before which there are so many marks, unless the last entry's marks go on.

@@ -5,9 +5,9 @@ use Rattle.dob_rank.proofs.block_classes.push_table.Goals as goal
 
 pub returns-clause-table : goal.returns-clause-table
 returns-clause-table c =
-    HasTable-new c.args.set c.args.block c.args.run c.len-number.result c.args.mixed.now.items _ c.in_ok-table.table c.requires.first
-    (c.len-number.ensures ∙ c.args.mixed.now.ok.0) c.in_ok-push.ensures.items c.in_ok-table.ensures.set c.in_ok-table.ensures.block c.in_ok-table.ensures.run
+    HasTable-new c.args.family c.args.block c.args.run c.len-number.result c.args.mixed.now.items _ c.in_ok-table.table c.requires.first
+    (c.len-number.ensures ∙ c.args.mixed.now.ok.0) c.in_ok-push.ensures.items c.in_ok-table.ensures.family c.in_ok-table.ensures.block c.in_ok-table.ensures.run
 
 pub returns-clause-runs : goal.returns-clause-runs
 returns-clause-runs c = λ count runs are.
-    AreRuns-more c.args.set c.args.block count runs c.args.mixed.now.items _ c.in_ok-table.table c.in_ok-push.ensures.items are
+    AreRuns-more c.args.family c.args.block count runs c.args.mixed.now.items _ c.in_ok-table.table c.in_ok-push.ensures.items are

@@ -4,4 +4,4 @@ use Rattle.dob_rank.proofs.block_classes.table_of.Goals as goal
 
 pub returns-then-run-ge-LIONS-clause-table : goal.returns-then-run-ge-LIONS-clause-table
 returns-then-run-ge-LIONS-clause-table c =
-    HasTable-again c.args.set c.args.block c.args.run c.args.runs.now.items c.args.mixed.now.items c.index.result.now c.requires.runs c.if-run-ge-LIONS.true c.index.ensures
+    HasTable-again c.args.family c.args.block c.args.run c.args.runs.now.items c.args.mixed.now.items c.index.result.now c.requires.runs c.if-run-ge-LIONS.true c.index.ensures

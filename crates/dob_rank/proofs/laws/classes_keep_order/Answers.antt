@@ -1,5 +1,5 @@
 -- The law, from the numbering of the representatives.
-use Rattle.dob_rank.proofs.Representatives.{classes_keep_order as law}
+use Rattle.dob_rank.proofs.FamilyRepresentatives.{classes_keep_order as law}
 use Rattle.dob_rank.proofs.laws.classes_keep_order.Goals as goal
 
 pub returns : goal.returns

@@ -1,5 +1,5 @@
 -- The law, from the numbering of the positions.
-use Rattle.dob_rank.proofs.Representatives.{ranks_keep_order as law}
+use Rattle.dob_rank.proofs.FamilyRepresentatives.{ranks_keep_order as law}
 use Rattle.dob_rank.proofs.laws.ranks_keep_order.Goals as goal
 
 pub returns : goal.returns

@@ -1,56 +1,25 @@
--- A rank is the start of the position's block and its place there, and the same under each set of the position.
-use Rattle.std.proofs.Common.{◌∙◌, arith}
-use Rattle.dob_rank.proofs.DigitParts.{AreFewOnBoard-digits}
-use Rattle.dob_rank.proofs.Sets.{IsPositionOf-totals, HasRank-sets, rank_of-sets}
-use Rattle.dob_rank.proofs.Found.{HasDigits-board, block_upto, spot_small, place_is_of, ranked, rank_small}
+-- In profile A the positions of the family are those of the set.
+use Rattle.std.proofs.Common.{sym, ap, ◌∙◌, subst}
+use Rattle.dob_rank.specs.Families.{family_of, HasRank, rank_of}
+use Rattle.dob_rank.proofs.Present.{HasRank-rank_of, rank_of-whole}
 use Rattle.dob_rank.proofs.ranks.rank.Goals as goal
 
-pub spot_with-block-requires-clause-position : goal.spot_with-block-requires-clause-position
-spot_with-block-requires-clause-position c =
-    let of_set = c.piece_set_of-set.ensures in
-    IsPositionOf-totals c.piece_set_of-set.result c.args.position.now.setup c.args.position.now.legal of_set.chicks of_set.elephants of_set.giraffes
+pub returns-in-A-clause-number : goal.returns-in-A-clause-number
+returns-in-A-clause-number c = λ set of_set.
+    c.rank_in_set.ensures set of_set ∙ sym (rank_of-whole (family_of set c.args.profile) c.args.position.now.setup c.in-A.is)
 
-pub block_start-requires : goal.block_start-requires
-block_start-requires c =
-    let of_set = c.piece_set_of-set.ensures in
-    let is = IsPositionOf-totals c.piece_set_of-set.result c.args.position.now.setup c.args.position.now.legal of_set.chicks of_set.elephants of_set.giraffes in
-    block_upto c.piece_set_of-set.result c.args.position.now.setup _ is c.spot_with-block.ensures.block
+pub returns-in-A-clause-count : goal.returns-in-A-clause-count
+returns-in-A-clause-count c = λ set of_set.
+    subst (HasRank (family_of set c.args.profile) c.args.position.now.setup)
+    (sym (c.rank_in_set.ensures set of_set ∙ sym (rank_of-whole (family_of set c.args.profile) c.args.position.now.setup c.in-A.is)))
+    (HasRank-rank_of (family_of set c.args.profile) c.args.position.now.setup (record { of_set = of_set; allowed = c.requires }))
 
-pub place_of-requires : goal.place_of-requires
-place_of-requires c =
-    let of_set = c.piece_set_of-set.ensures in
-    let is = IsPositionOf-totals c.piece_set_of-set.result c.args.position.now.setup c.args.position.now.legal of_set.chicks of_set.elephants of_set.giraffes in
-    let small = spot_small c.piece_set_of-set.result c.args.position.now.setup _ _ _ is c.numbers_on_board-on_board.ensures
-    c.spot_with-block.ensures.run c.spot_with-block.ensures.local in
-    record {
-      few = AreFewOnBoard-digits c.piece_set_of-set.result _
-          (HasDigits-board c.piece_set_of-set.result c.args.position.now.setup _ is c.numbers_on_board-on_board.ensures);
-      run = small.0;
-      local = small.1;
-    }
+pub returns-in-B-clause-number : goal.returns-in-B-clause-number
+returns-in-B-clause-number c = λ set of_set.
+    c.far_rank.ensures set of_set ∙ ap (λ p. rank_of (family_of set p) c.args.position.now.setup) (sym c.in-B.is)
 
-pub overflow_add-result : goal.overflow_add-result
-overflow_add-result c =
-    let of_set = c.piece_set_of-set.ensures in
-    let is = IsPositionOf-totals c.piece_set_of-set.result c.args.position.now.setup c.args.position.now.legal of_set.chicks of_set.elephants of_set.giraffes in
-    let place = place_is_of c.piece_set_of-set.result c.args.position.now.setup _ _ _ _ c.numbers_on_board-on_board.ensures
-    c.spot_with-block.ensures.run c.spot_with-block.ensures.local c.place_of.ensures in
-    omega (arith, rank_small c.piece_set_of-set.result c.args.position.now.setup c.block_start.result c.place_of.result is c.block_start.ensures.bound place)
-
-pub returns-clause-count : goal.returns-clause-count
-returns-clause-count c = λ set is_of.
-    let of_set = c.piece_set_of-set.ensures in
-    let is = IsPositionOf-totals c.piece_set_of-set.result c.args.position.now.setup c.args.position.now.legal of_set.chicks of_set.elephants of_set.giraffes in
-    let place = place_is_of c.piece_set_of-set.result c.args.position.now.setup _ _ _ _ c.numbers_on_board-on_board.ensures
-    c.spot_with-block.ensures.run c.spot_with-block.ensures.local c.place_of.ensures in
-    HasRank-sets c.piece_set_of-set.result set c.args.position.now.setup _ is is_of
-    (ranked c.piece_set_of-set.result c.args.position.now.setup _ _ _ c.spot_with-block.ensures.block place c.block_start.ensures.value)
-
-pub returns-clause-number : goal.returns-clause-number
-returns-clause-number c = λ set is_of.
-    let of_set = c.piece_set_of-set.ensures in
-    let is = IsPositionOf-totals c.piece_set_of-set.result c.args.position.now.setup c.args.position.now.legal of_set.chicks of_set.elephants of_set.giraffes in
-    let place = place_is_of c.piece_set_of-set.result c.args.position.now.setup _ _ _ _ c.numbers_on_board-on_board.ensures
-    c.spot_with-block.ensures.run c.spot_with-block.ensures.local c.place_of.ensures in
-    ranked c.piece_set_of-set.result c.args.position.now.setup _ _ _ c.spot_with-block.ensures.block place c.block_start.ensures.value
-    ∙ rank_of-sets c.piece_set_of-set.result set c.args.position.now.setup is is_of
+pub returns-in-B-clause-count : goal.returns-in-B-clause-count
+returns-in-B-clause-count c = λ set of_set.
+    subst (HasRank (family_of set c.args.profile) c.args.position.now.setup)
+    (sym (c.far_rank.ensures set of_set ∙ ap (λ p. rank_of (family_of set p) c.args.position.now.setup) (sym c.in-B.is)))
+    (HasRank-rank_of (family_of set c.args.profile) c.args.position.now.setup (record { of_set = of_set; allowed = c.requires }))

@@ -1,11 +1,28 @@
--- Both ranks are of one set, so that the lower one is the earlier position's.
-use Rattle.dob_rank.proofs.Found.{image_first, itself_first}
+-- Both ranks are of one family, so that the lower one is the earlier position's.
+use Rattle.std.proofs.Common.{sym, subst}
+use Rattle.dob_pieces.specs.Profiles.{IsAllowed}
+use Rattle.dob_pieces.proofs.Allowed.{IsAllowed-mirrored}
+use Rattle.dob_rank.proofs.FamilyRepresentatives.{image_first, itself_first}
 use Rattle.dob_rank.proofs.ranks.representative.Goals as goal
 
-pub returns-then-rank : goal.returns-then-rank
-returns-then-rank c = image_first c.args.position.now.setup c.mirrored-image.result.setup c.args.position.now.legal c.rank.result c.rank-2.result
-    c.mirrored-image.ensures c.rank.ensures.number c.rank-2.ensures.number c.if-rank.true
+pub rank-requires : goal.rank-requires
+rank-requires c =
+    subst (IsAllowed c.args.profile) (sym c.mirrored-image.ensures) (IsAllowed-mirrored c.args.profile c.args.position.now.setup c.args.position.now.legal.squares c.requires)
 
-pub returns-else-rank : goal.returns-else-rank
-returns-else-rank c = itself_first c.args.position.now.setup c.mirrored-image.result.setup c.args.position.now.legal c.rank.result c.rank-2.result
-    c.mirrored-image.ensures c.rank.ensures.number c.rank-2.ensures.number c.if-rank.false
+pub returns-then-rank-clause-earlier : goal.returns-then-rank-clause-earlier
+returns-then-rank-clause-earlier c =
+    image_first c.args.profile c.args.position.now.setup c.mirrored-image.result.setup c.args.position.now.legal c.rank.result c.rank-2.result
+    c.mirrored-image.ensures c.requires
+    (subst (IsAllowed c.args.profile) (sym c.mirrored-image.ensures) (IsAllowed-mirrored c.args.profile c.args.position.now.setup c.args.position.now.legal.squares c.requires))
+    c.rank.ensures.number c.rank-2.ensures.number c.if-rank.true
+
+pub returns-then-rank-clause-allowed : goal.returns-then-rank-clause-allowed
+returns-then-rank-clause-allowed c =
+    subst (IsAllowed c.args.profile) (sym c.mirrored-image.ensures) (IsAllowed-mirrored c.args.profile c.args.position.now.setup c.args.position.now.legal.squares c.requires)
+
+pub returns-else-rank-clause-earlier : goal.returns-else-rank-clause-earlier
+returns-else-rank-clause-earlier c =
+    itself_first c.args.profile c.args.position.now.setup c.mirrored-image.result.setup c.args.position.now.legal c.rank.result c.rank-2.result
+    c.mirrored-image.ensures c.requires
+    (subst (IsAllowed c.args.profile) (sym c.mirrored-image.ensures) (IsAllowed-mirrored c.args.profile c.args.position.now.setup c.args.position.now.legal.squares c.requires))
+    c.rank.ensures.number c.rank-2.ensures.number c.if-rank.false

@@ -1,43 +1,38 @@
--- The position at the place of the rank has that rank.
-use Rattle.std.proofs.Common.{◌∙◌, sym, subst}
-use Rattle.dob_rank.specs.Order.{HasRank}
-use Rattle.dob_rank.specs.Numbers.{HasBlock}
-use Rattle.dob_rank.proofs.Blocks.{HasDigits-numbers}
-use Rattle.dob_rank.proofs.DigitParts.{AreFewOnBoard-digits}
-use Rattle.dob_rank.proofs.Found.{place_in, made_at_place}
-use Rattle.dob_rank.proofs.Numbering.{rank_of-block, rank_of-same, HasRank-rank_of}
+-- In profile A a position of the set is one of the family, and its rank is that in the set.
+use Rattle.dob_rank.proofs.FarUnranks.{ranked_in_A, below_in_A, ranked_in_B, below_in_B}
+use Rattle.dob_rank.proofs.FamilyOrder.{only_ranked}
 use Rattle.dob_rank.proofs.ranks.unrank.Goals as goal
 
-pub choices_in-choices-requires : goal.choices_in-choices-requires
-choices_in-choices-requires c =
-    AreFewOnBoard-digits c.args.set _ (HasDigits-numbers c.args.set _ _ c.find_block-block.ensures.block c.numbers_in-on_board.ensures)
+pub unrank_in_set-requires : goal.unrank_in_set-requires
+unrank_in_set-requires c = below_in_A c.args.family c.args.rank c.in-A.is c.requires
 
-pub spot_at-spot-requires-clause-on_board : goal.spot_at-spot-requires-clause-on_board
-spot_at-spot-requires-clause-on_board c = HasDigits-numbers c.args.set _ _ c.find_block-block.ensures.block c.numbers_in-on_board.ensures
+pub far_unrank-requires : goal.far_unrank-requires
+far_unrank-requires c = below_in_B c.args.family c.args.rank c.in-B.is c.requires
 
-pub spot_at-spot-requires-clause-place : goal.spot_at-spot-requires-clause-place
-spot_at-spot-requires-clause-place c = place_in c.args.set _ _ _ c.find_block-block.ensures.place c.numbers_in-on_board.ensures
+pub returns-in-A-clause-position : goal.returns-in-A-clause-position
+returns-in-A-clause-position c = (ranked_in_A c.args.family c.args.rank c.unrank_in_set.result.setup c.in-A.is c.unrank_in_set.ensures.position c.unrank_in_set.ensures.number).position
 
-pub position_by-requires-clause-on_board : goal.position_by-requires-clause-on_board
-position_by-requires-clause-on_board c = HasDigits-numbers c.args.set _ _ c.find_block-block.ensures.block c.numbers_in-on_board.ensures
+pub returns-in-A-clause-count : goal.returns-in-A-clause-count
+returns-in-A-clause-count c = (ranked_in_A c.args.family c.args.rank c.unrank_in_set.result.setup c.in-A.is c.unrank_in_set.ensures.position c.unrank_in_set.ensures.number).count
 
-found : (c : goal.After-position_by) → HasBlock c.args.set c.find_block-block.result.0 c.find_block-block.result.1 c.position_by.result.setup
-found c =
-    made_at_place c.args.set c.find_block-block.result.0 c.find_block-block.result.1 _ _ _ c.position_by.result.setup c.find_block-block.ensures.block
-    c.numbers_in-on_board.ensures c.spot_at-spot.ensures.place c.position_by.ensures
+pub returns-in-A-clause-number : goal.returns-in-A-clause-number
+returns-in-A-clause-number c = (ranked_in_A c.args.family c.args.rank c.unrank_in_set.result.setup c.in-A.is c.unrank_in_set.ensures.position c.unrank_in_set.ensures.number).rank_is
 
-pub returns-clause-position : goal.returns-clause-position
-returns-clause-position c = c.position_by.ensures.position
+pub returns-in-A-clause-only : goal.returns-in-A-clause-only
+returns-in-A-clause-only c =
+    (only_ranked c.args.family c.unrank_in_set.result.setup c.args.rank
+    (ranked_in_A c.args.family c.args.rank c.unrank_in_set.result.setup c.in-A.is c.unrank_in_set.ensures.position c.unrank_in_set.ensures.number)).only
 
-pub returns-clause-count : goal.returns-clause-count
-returns-clause-count c =
-    let rank = rank_of-block c.args.set _ _ c.position_by.result.setup (found c) ∙ c.find_block-block.ensures.whole in
-    subst (HasRank c.args.set c.position_by.result.setup) rank (HasRank-rank_of c.args.set c.position_by.result.setup c.position_by.ensures.position)
+pub returns-in-B-clause-position : goal.returns-in-B-clause-position
+returns-in-B-clause-position c = (ranked_in_B c.args.family c.args.rank c.far_unrank.result.setup c.in-B.is c.far_unrank.ensures).position
 
-pub returns-clause-number : goal.returns-clause-number
-returns-clause-number c = rank_of-block c.args.set _ _ c.position_by.result.setup (found c) ∙ c.find_block-block.ensures.whole
+pub returns-in-B-clause-count : goal.returns-in-B-clause-count
+returns-in-B-clause-count c = (ranked_in_B c.args.family c.args.rank c.far_unrank.result.setup c.in-B.is c.far_unrank.ensures).count
 
-pub returns-clause-only : goal.returns-clause-only
-returns-clause-only c = λ p is same.
-    let rank = rank_of-block c.args.set _ _ c.position_by.result.setup (found c) ∙ c.find_block-block.ensures.whole in
-    rank_of-same c.args.set p c.position_by.result.setup is c.position_by.ensures.position (same ∙ sym rank)
+pub returns-in-B-clause-number : goal.returns-in-B-clause-number
+returns-in-B-clause-number c = (ranked_in_B c.args.family c.args.rank c.far_unrank.result.setup c.in-B.is c.far_unrank.ensures).rank_is
+
+pub returns-in-B-clause-only : goal.returns-in-B-clause-only
+returns-in-B-clause-only c =
+    (only_ranked c.args.family c.far_unrank.result.setup c.args.rank
+    (ranked_in_B c.args.family c.args.rank c.far_unrank.result.setup c.in-B.is c.far_unrank.ensures)).only

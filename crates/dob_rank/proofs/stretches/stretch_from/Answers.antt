@@ -2,16 +2,16 @@
 use Rattle.std.proofs.Common.{◌<◌, ℕ, sym, ap, subst, arith}
 use Rattle.std.specs.List.{All}
 use Rattle.std.proofs.Math.Nat.{div-le_self}
-use Rattle.dob_rank.specs.Order.{IsPositionOf}
+use Rattle.dob_rank.specs.Order.{IsPositionOfSet}
 use Rattle.dob_rank.specs.Numbers.{product}
-use Rattle.dob_rank.proofs.Found.{IsPositionOf-mirrored}
+use Rattle.dob_rank.proofs.Found.{IsPositionOfSet-mirrored}
 use Rattle.dob_rank.proofs.RunPlaces.{run_size-small}
 use Rattle.dob_rank.proofs.MixedRuns.{stretch_told, local_bases-positive, run_size-bases}
 use Rattle.dob_rank.proofs.stretches.stretch_from.Goals as goal
 
 pub spot_of-other-requires : goal.spot_of-other-requires
 spot_of-other-requires c =
-    subst (IsPositionOf c.args.set) (sym c.mirrored-image.ensures) (IsPositionOf-mirrored c.args.set c.position_at.result.setup c.position_at.ensures.position)
+    subst (IsPositionOfSet c.args.set) (sym c.mirrored-image.ensures) (IsPositionOfSet-mirrored c.args.set c.position_at.result.setup c.position_at.ensures.position)
 
 pub width_of-width-requires-clause-positive : goal.width_of-width-requires-clause-positive
 width_of-width-requires-clause-positive c =

@@ -1,6 +1,7 @@
 -- The lowest bit of a mask is the square of the layer's first piece.
 use Rattle.std.proofs.Common.{sym, ◌∙◌, arith}
 use Rattle.dob_rank.specs.Numbers.{order}
+use Rattle.dob_rank.proofs.BitSquares.{first_of_layer, second_of_layer}
 use Rattle.dob_rank.proofs.Planes.{no_form, form_found, forms_found, first_on_board, second_on_board}
 use Rattle.dob_rank.proofs.bitboards.Bitboards.forms_of.Goals as goal
 
@@ -16,7 +17,8 @@ form_at-first-requires c =
 pub returns-then-pieces-eq1 : goal.returns-then-pieces-eq1
 returns-then-pieces-eq1 c = λ setup has.
     form_found (order c.args.of_layer) setup.board c.args.mask _ has.long has.mask_is (sym has.pieces_are ∙ c.if-pieces-eq1.true)
-    (c.form_at-first.ensures.value setup has.squares)
+    (c.form_at-first.ensures.value setup has.squares
+    (first_of_layer (order c.args.of_layer) setup.board c.args.mask has.long has.mask_is (let one = sym has.pieces_are ∙ c.if-pieces-eq1.true in omega (arith, one))))
 
 pub form_at-second-requires : goal.form_at-second-requires
 form_at-second-requires c =
@@ -30,4 +32,8 @@ returns c = λ setup has.
     let few = c.requires.few in
     let some = has.pieces_are in
     forms_found (order c.args.of_layer) setup.board c.args.mask _ _ _ _ has.long has.mask_is c.saturating_sub.ensures (omega (arith, some, few))
-    (c.form_at-first.ensures.value setup has.squares) (c.form_at-second.ensures.value setup has.squares) c.base_of.ensures.value
+    (c.form_at-first.ensures.value setup has.squares
+    (first_of_layer (order c.args.of_layer) setup.board c.args.mask has.long has.mask_is (omega (arith, some, few))))
+    (c.form_at-second.ensures.value setup has.squares
+    (second_of_layer (order c.args.of_layer) setup.board c.args.mask _ has.long has.mask_is c.saturating_sub.ensures (omega (arith, some, few))))
+    c.base_of.ensures.value

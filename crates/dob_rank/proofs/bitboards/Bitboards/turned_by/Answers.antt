@@ -37,11 +37,11 @@ returns c =
     c.loop-square.invariant ∙ ap (λ (k : ℕ). word_of (drop k (turned (setup_of c.args.board.now c.args.hands)).board)) none in
     let a = word_planes (turned (setup_of c.args.board.now c.args.hands)).board le in
     let unit = λ (unit : ℕ). ap (λ (word : ℕ). word / unit % 4096) word in
-    let lions = are_squares setup is_lion c.plane-lions.result twelve (c.plane-lions.ensures ∙ unit 1 ∙ a.0) in
-    let foes = are_squares setup is_foe c.plane-enemies.result twelve (c.plane-enemies.ensures ∙ unit 4096 ∙ a.1) in
-    let chicks = are_squares setup (is_of Chicks) c.plane-chicks.result twelve (c.plane-chicks.ensures ∙ unit 16777216 ∙ a.2) in
-    let elephants = are_squares setup (is_of Elephants) c.plane-elephants.result twelve (c.plane-elephants.ensures ∙ unit 68719476736 ∙ a.3) in
-    let long = are_squares setup is_giraffe_or_hen c.plane-giraffes_and_hens.result twelve (c.plane-giraffes_and_hens.ensures ∙ unit 281474976710656 ∙ a.4) in
+    let lions = are_squares setup is_lion c.plane-lions.result twelve (c.plane-lions.ensures ∙ unit 1 ∙ a.first) in
+    let foes = are_squares setup is_foe c.plane-enemies.result twelve (c.plane-enemies.ensures ∙ unit 4096 ∙ a.second) in
+    let chicks = are_squares setup (is_of Chicks) c.plane-chicks.result twelve (c.plane-chicks.ensures ∙ unit 16777216 ∙ a.third) in
+    let elephants = are_squares setup (is_of Elephants) c.plane-elephants.result twelve (c.plane-elephants.ensures ∙ unit 68719476736 ∙ a.fourth) in
+    let long = are_squares setup is_giraffe_or_hen c.plane-giraffes_and_hens.result twelve (c.plane-giraffes_and_hens.ensures ∙ unit 281474976710656 ∙ a.fifth) in
     record {
       own_lion_is = of_first setup is_lion is_foe (is_of OwnLion) c.plane-lions.result c.plane-enemies.result refl lions foes;
       enemy_lion_is = of_both setup is_lion is_foe (is_of EnemyLion) c.plane-lions.result c.plane-enemies.result refl lions foes;

@@ -1,11 +1,11 @@
--- The search starts between the block's start and its end.
-use Rattle.std.proofs.Common.{◌∙◌}
-use Rattle.dob_rank.proofs.RunMarks.{run_search}
+-- The index leads to the last run with no more classes before it.
+use Rattle.dob_rank.proofs.IndexedRuns.{run_found}
 use Rattle.dob_rank.proofs.block_classes.BlockClasses.run_at.Goals as goal
 
-pub loop-high-init : goal.loop-high-init
-loop-high-init c =
-    let block = c.args.self.now in
-    let start = run_search block.set block.number block.before block.after c.len-high.result c.args.class block.within block.starts block.ends
-    (c.len-high.ensures ∙ block.whole) c.requires.low c.requires.high in
-    record { some = start.some; within = start.within; low_is = start.low_is; high_is = start.high_is }
+pub run_at-requires-clause-index : goal.run_at-requires-clause-index
+run_at-requires-clause-index c = (let block = c.args.self.now in (block.after, c.requires.high, block.indexed))
+
+pub returns : goal.returns
+returns c =
+    let found = run_found c.args.self.now c.run_at.result c.args.class c.requires.high c.run_at.ensures.run c.run_at.ensures.last in
+    record { run = found.run_below; low = found.low_is; high = found.high_is }

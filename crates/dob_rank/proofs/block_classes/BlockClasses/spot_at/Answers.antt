@@ -1,19 +1,15 @@
--- In a run whose lions say first the place is found by subtraction, in a mixed one by its table, and no class stands in another one.
-use Rattle.std.proofs.Common.{sym, ◌∙◌}
-use Rattle.dob_rank.proofs.RunMarks.{first_spot, none_in_later}
+-- The representative of that number in its run.
+use Rattle.dob_rank.proofs.FamilyBlocks.{representative_at, left_in_run}
 use Rattle.dob_rank.proofs.block_classes.BlockClasses.spot_at.Goals as goal
 
-pub returns-in-First : goal.returns-in-First
-returns-in-First c =
+pub number_at-number-requires-clause-left : goal.number_at-number-requires-clause-left
+number_at-number-requires-clause-left c =
     let block = c.args.self.now in
-    let found = first_spot block.set block.number c.run_at-run.result c.before_run.result c.args.class block.within
-    (record { run_below = c.run_at-run.ensures.run; low_is = c.run_at-run.ensures.low; high_is = c.run_at-run.ensures.high })
-    (sym c.kind_of.ensures ∙ c.in-First.is) c.before_run.ensures in
-    record { run = c.run_at-run.ensures.run; local = found.local_below; mark = found.mark_is; class = found.class_is }
+    left_in_run block.family block.number c.run_at-run.result c.before_run.result c.args.class c.before_run.ensures c.run_at-run.ensures.low c.run_at-run.ensures.high
 
-pub unreachable-requires : goal.unreachable-requires
-unreachable-requires c =
+pub returns : goal.returns
+returns c =
     let block = c.args.self.now in
-    none_in_later block.set block.number c.run_at-run.result c.args.class block.within
-    (record { run_below = c.run_at-run.ensures.run; low_is = c.run_at-run.ensures.low; high_is = c.run_at-run.ensures.high })
-    (sym c.kind_of.ensures ∙ c.in-Later.is)
+    let at = representative_at block.family block.number c.run_at-run.result c.number_at-number.result c.place_at.result c.before_run.result c.args.class
+    c.place_at.ensures c.number_at-number.ensures.mark c.number_at-number.ensures.left c.before_run.ensures c.run_at-run.ensures.low in
+    record { run = c.run_at-run.ensures.run; local = at.local_below; mark = at.mark_is; class = at.class_is }

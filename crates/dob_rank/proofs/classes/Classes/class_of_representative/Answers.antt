@@ -1,17 +1,13 @@
 -- The mark of the position's rank tells whether it is a representative, and the marks before it are its class.
-use Rattle.std.proofs.Common.{◌<◌, ℕ, refl, sym, ◌∙◌, subst}
-use Rattle.dob_rank.specs.Marks.{classes_of}
-use Rattle.dob_rank.specs.Numbers.{rank_of}
-use Rattle.dob_rank.proofs.Numbering.{rank_of-below}
-use Rattle.dob_rank.proofs.ClassNumbers.{IsAtClass, at_class, later_unmarked, class_number-below}
+use Rattle.std.proofs.Common.{◌<◌, ℕ, sym, ◌∙◌, subst}
+use Rattle.dob_rank.specs.Families.{classes_of}
+use Rattle.dob_rank.proofs.FamilyNumbers.{IsAtClass, at_class, later_unmarked, class_number-below}
 use Rattle.dob_rank.proofs.classes.Classes.class_of_representative.Goals as goal
 
 -- a marked rank is that of its class's representative
-found : (c : goal.Then-is_representative) → IsAtClass c.args.self.now.set c.args.position.now.setup c.look_up-is_representative.result.1
+found : (c : goal.Then-is_representative) → IsAtClass c.args.self.now.family c.args.position.now.setup c.look_up-is_representative.result.1
 found c =
-    let set = c.args.self.now.set in
-    let s = c.args.position.now.setup in
-    at_class set s (rank_of set s) c.look_up-is_representative.result.1 c.requires refl (rank_of-below set s c.requires)
+    at_class c.args.self.now.family c.args.position.now.setup c.look_up-is_representative.result.1 c.requires
     (sym c.look_up-is_representative.ensures.mark ∙ c.if-is_representative.true) (sym c.look_up-is_representative.ensures.before)
 
 pub returns-then-is_representative-clause-class : goal.returns-then-is_representative-clause-class
@@ -22,9 +18,9 @@ returns-then-is_representative-clause-number c = sym (found c).number_is
 
 pub returns-then-is_representative-clause-bound : goal.returns-then-is_representative-clause-bound
 returns-then-is_representative-clause-bound c =
-    let set = c.args.self.now.set in
-    subst (λ (n : ℕ). n < classes_of set) (found c).number_is (class_number-below set c.args.position.now.setup c.requires)
+    let family = c.args.self.now.family in
+    subst (λ (n : ℕ). n < classes_of family) (found c).number_is (class_number-below family c.args.position.now.setup c.requires)
 
 pub returns-else-is_representative-clause-class : goal.returns-else-is_representative-clause-class
 returns-else-is_representative-clause-class c =
-    later_unmarked c.args.self.now.set c.args.position.now.setup _ c.requires refl (sym c.look_up-is_representative.ensures.mark ∙ c.if-is_representative.false)
+    later_unmarked c.args.self.now.family c.args.position.now.setup c.requires (sym c.look_up-is_representative.ensures.mark ∙ c.if-is_representative.false)

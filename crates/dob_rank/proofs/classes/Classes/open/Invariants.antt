@@ -1,13 +1,14 @@
 -- The first blocks stand, and the count is of the classes in them.
 use Rattle.std.proofs.Common.{◌≡◌, vec_len}
 use Rattle.dob_rank.specs.Numbers.{start_of}
-use Rattle.dob_rank.specs.Marks.{marked, marks_below}
+use Rattle.dob_rank.specs.Marks.{marks_below}
+use Rattle.dob_rank.specs.Families.{is_marked}
 use Rattle.dob_rank.specs.BlockTables.{AreBlocks}
 use Rattle.dob_rank.proofs.classes.Classes.open.Given as goal
 
 abbrev pub invariant-loop-number : goal.invariant-loop-number
 invariant-loop-number l = record {
-  blocks_are : AreBlocks l.set l.blocks.items;
+  blocks_are : AreBlocks l.family l.blocks.items;
   long : vec_len l.blocks ≡ l.number;
-  count_is : l.count ≡ marks_below (marked l.set) (start_of l.set l.number);
+  count_is : l.count ≡ marks_below (is_marked l.family) (start_of l.family.set l.number);
 }

@@ -1,5 +1,5 @@
 -- The shift is below 32.
-use Rattle.std.proofs.Common.{◌≤◌, ◌<◌, arith, ◌∙◌}
+use Rattle.std.proofs.Common.{◌<◌, arith}
 use Rattle.dob_rank.proofs.segment_length.SegmentLength.split.Goals as goal
 
 pub split_by_power-requires : goal.split_by_power-requires

@@ -1,9 +1,0 @@
--- The count is of the classes in the blocks so far.
-use Rattle.std.proofs.Common.{◌≡◌}
-use Rattle.dob_rank.specs.Numbers.{start_of}
-use Rattle.dob_rank.specs.Marks.{marks_below}
-use Rattle.dob_rank.specs.Families.{is_marked}
-use Rattle.dob_rank.proofs.family_counts.count_classes_in.Given as goal
-
-abbrev pub invariant-loop-block : goal.invariant-loop-block
-invariant-loop-block l = l.count ≡ marks_below (is_marked l.family) (start_of l.family.set l.block)

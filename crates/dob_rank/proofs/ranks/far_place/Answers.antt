@@ -1,0 +1,57 @@
+-- The digits are below their bases, and the place that they write is the position's.
+use Rattle.std.proofs.Common.{refl}
+use Rattle.dob_rank.proofs.Found.{HasDigits-board, HasDigits-place, run_is_of}
+use Rattle.dob_rank.proofs.DigitParts.{AreFewOnBoard-digits}
+use Rattle.dob_rank.proofs.FarPlaces.{far_parts, far_place_is, chicks_on_board}
+use Rattle.dob_rank.proofs.ranks.far_place.Goals as goal
+
+pub spot_from-run-requires-clause-on_board : goal.spot_from-run-requires-clause-on_board
+spot_from-run-requires-clause-on_board c = HasDigits-board c.args.set c.args.position.now.setup _ c.requires.position c.requires.on_board
+
+pub spot_from-run-requires-clause-digits : goal.spot_from-run-requires-clause-digits
+spot_from-run-requires-clause-digits c =
+    HasDigits-place c.args.set c.args.position.now.setup _ _ _ c.requires.position c.requires.on_board refl c.digits_of-digits.ensures
+
+pub allowed_forms-forms-requires-clause-few : goal.allowed_forms-forms-requires-clause-few
+allowed_forms-forms-requires-clause-few c =
+    (AreFewOnBoard-digits c.args.set _ (HasDigits-board c.args.set c.args.position.now.setup _ c.requires.position c.requires.on_board)).chicks
+
+pub allowed_forms-forms-requires-clause-mask : goal.allowed_forms-forms-requires-clause-mask
+allowed_forms-forms-requires-clause-mask c = c.requires.masks.chicks
+
+pub allowed_forms-forms-requires-clause-pieces : goal.allowed_forms-forms-requires-clause-pieces
+allowed_forms-forms-requires-clause-pieces c = chicks_on_board c.args.position.now.setup _ c.requires.on_board
+
+pub place_by-requires-clause-few : goal.place_by-requires-clause-few
+place_by-requires-clause-few c =
+    AreFewOnBoard-digits c.args.set _ (HasDigits-board c.args.set c.args.position.now.setup _ c.requires.position c.requires.on_board)
+
+pub place_by-requires-clause-run : goal.place_by-requires-clause-run
+place_by-requires-clause-run c =
+    (far_parts c.args.set c.args.position.now.setup _ _ _ c.requires.position c.requires.on_board c.digits_of-digits.ensures
+    (run_is_of c.args.set c.args.position.now.setup _ _ _ c.requires.on_board c.digits_of-digits.ensures c.spot_from-run.ensures.run)).run_few
+
+pub place_by-requires-clause-choice : goal.place_by-requires-clause-choice
+place_by-requires-clause-choice c =
+    (far_parts c.args.set c.args.position.now.setup _ _ _ c.requires.position c.requires.on_board c.digits_of-digits.ensures
+    (run_is_of c.args.set c.args.position.now.setup _ _ _ c.requires.on_board c.digits_of-digits.ensures c.spot_from-run.ensures.run)).choice_below
+
+pub place_by-requires-clause-squares : goal.place_by-requires-clause-squares
+place_by-requires-clause-squares c =
+    (far_parts c.args.set c.args.position.now.setup _ _ _ c.requires.position c.requires.on_board c.digits_of-digits.ensures
+    (run_is_of c.args.set c.args.position.now.setup _ _ _ c.requires.on_board c.digits_of-digits.ensures c.spot_from-run.ensures.run)).squares_below
+
+pub place_by-requires-clause-others : goal.place_by-requires-clause-others
+place_by-requires-clause-others c =
+    (far_parts c.args.set c.args.position.now.setup _ _ _ c.requires.position c.requires.on_board c.digits_of-digits.ensures
+    (run_is_of c.args.set c.args.position.now.setup _ _ _ c.requires.on_board c.digits_of-digits.ensures c.spot_from-run.ensures.run)).others_below
+
+pub place_by-requires-clause-forms : goal.place_by-requires-clause-forms
+place_by-requires-clause-forms c = c.allowed_forms-forms.ensures.bound
+
+pub returns : goal.returns
+returns c =
+    far_place_is c.args.set c.args.position.now.setup _ _ _ _ _ (record { of_set = c.requires.position; allowed = c.requires.allowed })
+    c.requires.on_board c.digits_of-digits.ensures
+    (run_is_of c.args.set c.args.position.now.setup _ _ _ c.requires.on_board c.digits_of-digits.ensures c.spot_from-run.ensures.run)
+    c.allowed_forms-forms.ensures.value c.place_by.ensures.value

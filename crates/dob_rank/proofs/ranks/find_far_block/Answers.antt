@@ -1,0 +1,25 @@
+-- Past the last block no rank is left.
+use Rattle.std.proofs.Common.{sym, arith}
+use Rattle.dob_pieces.specs.declared.profile.Profile.TheVariants.{B}
+use Rattle.dob_rank.specs.Families.{family_of, is_present}
+use Rattle.dob_rank.proofs.Words.{marks_below_none}
+use Rattle.dob_rank.proofs.FarUnranks.{none_beyond}
+use Rattle.dob_rank.proofs.ranks.find_far_block.Goals as goal
+
+pub loop-block-init : goal.loop-block-init
+loop-block-init c = record { start_is = sym (marks_below_none (is_present (family_of c.args.set B))); upto = omega arith }
+
+pub returns-clause-block : goal.returns-clause-block
+returns-clause-block c =
+    absurd (none_beyond c.args.set c.args.rank c.loop-block.start c.loop-block.block _ c.requires c.blocks-blocks.ensures.value c.loop-block-test.false
+    c.loop-block.auto.block-end c.loop-block.invariant.start_is c.loop-block.invariant.upto)
+
+pub returns-clause-number : goal.returns-clause-number
+returns-clause-number c =
+    absurd (none_beyond c.args.set c.args.rank c.loop-block.start c.loop-block.block _ c.requires c.blocks-blocks.ensures.value c.loop-block-test.false
+    c.loop-block.auto.block-end c.loop-block.invariant.start_is c.loop-block.invariant.upto)
+
+pub returns-clause-within : goal.returns-clause-within
+returns-clause-within c =
+    absurd (none_beyond c.args.set c.args.rank c.loop-block.start c.loop-block.block _ c.requires c.blocks-blocks.ensures.value c.loop-block-test.false
+    c.loop-block.auto.block-end c.loop-block.invariant.start_is c.loop-block.invariant.upto)

@@ -1,0 +1,13 @@
+-- The rank is at or behind the start of the block reached.
+use Rattle.std.proofs.Common.{◌≡◌, ◌≤◌}
+use Rattle.dob_pieces.specs.declared.profile.Profile.TheVariants.{B}
+use Rattle.dob_rank.specs.Numbers.{start_of}
+use Rattle.dob_rank.specs.Marks.{marks_below}
+use Rattle.dob_rank.specs.Families.{family_of, is_present}
+use Rattle.dob_rank.proofs.ranks.find_far_block.Given as goal
+
+abbrev pub invariant-loop-block : goal.invariant-loop-block
+invariant-loop-block l = record {
+  start_is : l.start ≡ marks_below (is_present (family_of l.set B)) (start_of l.set l.block);
+  upto : l.start ≤ l.rank;
+}

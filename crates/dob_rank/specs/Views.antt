@@ -1,0 +1,25 @@
+-- A board as a side sees it: the mover as it stands, the enemy turned.
+use Rattle.std.specs.Prelude.{ℕ, ◌-◌}
+use Rattle.dob_pieces.specs.declared.hand.Hands.{Hands}
+use Rattle.dob_pieces.specs.declared.kind.Side.{Side}
+use Rattle.dob_pieces.specs.declared.kind.Side.TheVariants.{Mover, Enemy}
+use Rattle.dob_pieces.specs.declared.setup.Setup.{Setup}
+use Rattle.dob_pieces.specs.Setups.{turned}
+use Rattle.dob_pieces.specs.Squares.{turned_square}
+
+abbrev pub seen_by : Side → Setup → Setup
+seen_by Mover setup = setup
+seen_by Enemy setup = turned setup
+
+abbrev pub seen_square : Side → ℕ → ℕ
+seen_square Mover square = square
+seen_square Enemy square = turned_square square
+
+abbrev pub seen_hands : Side → Hands → Hands
+seen_hands Mover hands = hands
+seen_hands Enemy hands = record { mover = hands.enemy; enemy = hands.mover }
+
+-- 1 where a piece is foreign to the side, 0 where it is its own; the mover tells it so
+abbrev pub seen_owner : Side → ℕ → ℕ
+seen_owner Mover owner = owner
+seen_owner Enemy owner = 1 - owner

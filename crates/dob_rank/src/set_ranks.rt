@@ -1,0 +1,295 @@
+// The numbering of all positions of a piece set, those of profile A: their ranks, and where each stands among the runs of its block. On it stand the ranks
+// (src/ranks.rt) and the classes of families.
+ghost use Rattle.std.specs.Prelude.{◌≡◌, ◌<◌, ◌≤◌, ◌+◌, ◌*◌, ◌^◌};
+ghost use Rattle.dob_pieces.specs.Setups.{total};
+ghost use Rattle.dob_pieces.specs.declared.setup.Setup.{Setup};
+ghost use Rattle.dob_rank.specs.Bitboards.{AreBitboards, IsShownOfSet};
+ghost use Rattle.dob_rank.specs.Views.{seen_by};
+ghost use Rattle.dob_rank.specs.Placing.{AreAllPlaces};
+ghost use Rattle.dob_rank.specs.BoardDigits.{ArePartsOf, AreNumbersOf};
+ghost use Rattle.dob_rank.specs.BoardMasks.{AreMasks};
+ghost use Rattle.dob_rank.specs.Order.{IsPositionOfSet};
+ghost use Rattle.dob_rank.specs.Numbers.{size_of_set, rank_of_set, product, number_of, block_bases, block_of};
+ghost use Rattle.dob_rank.specs.Numbers.{HasBlock, bases_by, on_board as on_board_of, digits as all_digits_of, setup_by, hands_by};
+ghost use Rattle.dob_rank.specs.Numbers.{HasDigits, digits_of};
+ghost use Rattle.dob_rank.specs.Runs.{runs_in, run_size, run_bases, square_bases, local_bases, run_of, local_of, run_digits};
+
+use crate::bit_placing::bits_by;
+use crate::bitboards::Bitboards;
+use crate::block::{self, DIGITS, EachKind};
+use crate::layers::Layer;
+use crate::masks::{self, Masks};
+use crate::placing::{self, Places};
+use crate::runs::{RunDigits, Spot};
+use crate::shown::Shown;
+use crate::{radix, starts};
+use dob_pieces::{Hand, HandKind, Hands, PieceSet, Position, Setup, Side};
+
+/// How many positions the piece set has.
+pub(crate) fn size_of_set(set: PieceSet) -> u64
+    ensures number { result ≡ size_of_set set }
+    ensures bound { result < 2 ^ 31 }
+{
+    starts::block_start(set, block::blocks(set))
+}
+
+/// How many positions of its piece set stand before the position.
+pub(crate) fn rank_in_set(position: &Position) -> u64
+    ensures { (set : PieceSet) → IsPositionOfSet set position.now.setup → result ≡ rank_of_set set position.now.setup }
+{
+    let masks = masks::masks_of(&position.setup.board);
+    let on_board = numbers_on_board(position, masks);
+    let set = piece_set_of(position, &on_board);
+    let (block, spot) = spot_with(set, position, masks, &on_board);
+    starts::block_start(set, block) + block::place_of(&on_board, spot)
+}
+
+/// The position of the set that has that rank, which is below the set's size.
+pub(crate) fn unrank_in_set(set: PieceSet, rank: u64) -> Position
+    requires { rank < size_of_set set }
+    ensures position { IsPositionOfSet set result.setup }
+    ensures number { rank_of_set set result.setup ≡ rank }
+{
+    let (block, place) = block::find_block(set, rank);
+    let on_board = block::numbers_in(set, block);
+    let choices = block::choices_in(&on_board);
+    let spot = block::spot_at(set, &on_board, &choices, place);
+    position_by(set, &on_board, &choices, spot)
+}
+
+/// The number of the block of a position of the set, and the position's spot there.
+pub(crate) fn spot_of(set: PieceSet, position: &Position) -> (u64, Spot)
+    requires { IsPositionOfSet set position.now.setup }
+    ensures block { result.0 ≡ block_of set position.now.setup }
+    ensures run { result.1.run ≡ run_of set position.now.setup }
+    ensures local { result.1.local ≡ local_of position.now.setup }
+{
+    spot_by(set, position, masks::masks_of(&position.setup.board))
+}
+
+/// The same by the masks of the position.
+pub(crate) fn spot_by(set: PieceSet, position: &Position, masks: Masks) -> (u64, Spot)
+    requires position { IsPositionOfSet set position.now.setup }
+    requires masks { AreMasks position.now.setup.board masks }
+    ensures block { result.0 ≡ block_of set position.now.setup }
+    ensures run { result.1.run ≡ run_of set position.now.setup }
+    ensures local { result.1.local ≡ local_of position.now.setup }
+{
+    spot_with(set, position, masks, &numbers_on_board(position, masks))
+}
+
+/// The same by the masks of the position and the numbers on its board.
+fn spot_with(set: PieceSet, position: &Position, masks: Masks, on_board: &EachKind) -> (u64, Spot)
+    requires position { IsPositionOfSet set position.now.setup }
+    requires masks { AreMasks position.now.setup.board masks }
+    requires on_board { on_board.now ≡ on_board_of position.now.setup }
+    ensures block { result.0 ≡ block_of set position.now.setup }
+    ensures run { result.1.run ≡ run_of set position.now.setup }
+    ensures local { result.1.local ≡ local_of position.now.setup }
+{
+    spot_from(set, on_board, &digits_of(position, masks, on_board))
+}
+
+/// The same by the sets of squares that show the position.
+pub(crate) fn spot_shown(set: PieceSet, bits: &Bitboards) -> (u64, Spot)
+    requires { (setup : Setup) × IsShownOfSet set setup bits.now }
+    ensures block { (setup : Setup) → IsShownOfSet set setup bits.now → result.0 ≡ block_of set setup }
+    ensures run { (setup : Setup) → IsShownOfSet set setup bits.now → result.1.run ≡ run_of set setup }
+    ensures local { (setup : Setup) → IsShownOfSet set setup bits.now → result.1.local ≡ local_of setup }
+{
+    let masks = bits.layers();
+    let on_board = numbers_in(masks);
+    let forms = [
+        bits.forms_of(masks.chicks, Layer::Chicks, on_board[0]),
+        bits.forms_of(masks.elephants, Layer::Elephants, on_board[1]),
+        bits.forms_of(masks.giraffes, Layer::Giraffes, on_board[2]),
+    ];
+    let digits = digits_from(bits.hands.mover, masks, &on_board, &forms);
+    spot_from(set, &on_board, &digits)
+}
+
+/// The same by the position's numbers on the board and its digits.
+fn spot_from(set: PieceSet, on_board: &EachKind, digits: &[u64; DIGITS]) -> (u64, Spot)
+    requires { (setup : Setup) × AreNumbersOf set on_board.now digits.now setup }
+    ensures block { (setup : Setup) → AreNumbersOf set on_board.now digits.now setup → result.0 ≡ block_of set setup }
+    ensures run { (setup : Setup) → AreNumbersOf set on_board.now digits.now setup → result.1.run ≡ run_of set setup }
+    ensures local { (setup : Setup) → AreNumbersOf set on_board.now digits.now setup → result.1.local ≡ local_of setup }
+{
+    let block = radix::number_of(&block::block_bases_of(set), on_board);
+    (block, block::spot_from(set, on_board, digits))
+}
+
+/// The piece set of a position, by the numbers on its board.
+pub(crate) fn piece_set_of(position: &Position, on_board: &EachKind) -> PieceSet
+    requires { on_board.now ≡ on_board_of position.now.setup }
+    ensures chicks { result.chicks ≡ total HandKind.Chick position.now.setup }
+    ensures elephants { result.elephants ≡ total HandKind.Elephant position.now.setup }
+    ensures giraffes { result.giraffes ≡ total HandKind.Giraffe position.now.setup }
+{
+    let mover = position.setup.hands.mover;
+    let enemy = position.setup.hands.enemy;
+    PieceSet {
+        chicks: in_all(on_board[0], mover.chicks, enemy.chicks),
+        elephants: in_all(on_board[1], mover.elephants, enemy.elephants),
+        giraffes: in_all(on_board[2], mover.giraffes, enemy.giraffes),
+    }
+}
+
+/// How many pieces of a kind there are, on the board and in the hands.
+fn in_all(on_board: u64, mover: u8, enemy: u8) -> u8
+    requires { on_board + mover + enemy ≤ 2 }
+    ensures value { result ≡ on_board + mover + enemy }
+    ensures bound { result ≤ 2 }
+{
+    on_board as u8 + mover + enemy
+}
+
+/// The position of the set at that spot of the block of that number.
+pub(crate) fn position_at(set: PieceSet, block: u64, spot: Spot) -> Position
+    requires block { block < product (block_bases set) }
+    requires run { spot.run < runs_in set block }
+    requires local { spot.local < run_size set block }
+    ensures { HasBlock set block (spot.run * run_size set block + spot.local) result.setup }
+{
+    let on_board = block::numbers_in(set, block);
+    position_by(set, &on_board, &block::choices_in(&on_board), spot)
+}
+
+/// The position of the set at that spot of the block of those numbers on the board and choices of squares.
+pub(crate) fn position_by(
+    set: PieceSet,
+    on_board: &EachKind,
+    choices: &EachKind,
+    spot: Spot,
+) -> Position
+    requires on_board { HasDigits (block_bases set) on_board.now }
+    requires choices { choices.now ≡ square_bases on_board.now }
+    requires run { spot.run < product (run_bases set on_board.now) }
+    requires local { spot.local < product (local_bases on_board.now) }
+    ensures { HasBlock set (number_of (block_bases set) on_board.now) (spot.run * product (local_bases on_board.now) + spot.local) result.setup }
+{
+    let digits = block::digits_in(set, on_board, choices, spot);
+    Position::new(setup_of(set, on_board, &digits))
+}
+
+/// The same with the sets of squares that the side sees of it, by the table of the block's places and the digits of the spot's run.
+#[inline(always)]
+pub(crate) fn shown_by(
+    set: PieceSet,
+    on_board: &EachKind,
+    choices: &EachKind,
+    places: &Vec<Places>,
+    run: RunDigits,
+    spot: Spot,
+    side: Side,
+) -> Shown
+    requires on_board { HasDigits (block_bases set) on_board.now }
+    requires choices { choices.now ≡ square_bases on_board.now }
+    requires places { AreAllPlaces on_board.now places.now.items }
+    requires digits { run_digits run ≡ digits_of (run_bases set on_board.now) spot.run }
+    requires run { spot.run < product (run_bases set on_board.now) }
+    requires local { spot.local < product (local_bases on_board.now) }
+    ensures position { HasBlock set (number_of (block_bases set) on_board.now)
+        (spot.run * product (local_bases on_board.now) + spot.local) result.position.setup }
+    ensures bits { AreBitboards (seen_by side result.position.setup) result.bits }
+{
+    let digits = block::digits_with(set, on_board, choices, run, spot);
+    let squares = block::squares_at(on_board, spot.local);
+    let hands = hands_of(set, on_board, &digits);
+    Shown {
+        position: Position::new(setup_of(set, on_board, &digits)),
+        bits: bits_by(side, on_board, &digits, &places[squares as usize], hands),
+    }
+}
+
+/// How many chicks, elephants and giraffes stand on the board.
+pub(crate) fn numbers_on_board(position: &Position, masks: Masks) -> EachKind
+    requires { AreMasks position.now.setup.board masks }
+    ensures { result ≡ on_board_of position.now.setup }
+{
+    numbers_in(masks)
+}
+
+/// The same by the masks alone.
+fn numbers_in(masks: Masks) -> EachKind
+    ensures { (setup : Setup) → AreMasks setup.board masks → result ≡ on_board_of setup }
+{
+    [
+        masks::count(masks.chicks),
+        masks::count(masks.elephants),
+        masks::count(masks.giraffes),
+    ]
+}
+
+/// The digits of a position in its block.
+pub(crate) fn digits_of(position: &Position, masks: Masks, on_board: &EachKind) -> [u64; DIGITS]
+    requires masks { AreMasks position.now.setup.board masks }
+    requires on_board { on_board.now ≡ on_board_of position.now.setup }
+    ensures { result ≡ all_digits_of position.now.setup }
+{
+    let board = &position.setup.board;
+    let forms = [
+        masks::forms_of(board, masks.chicks, Layer::Chicks, on_board[0]),
+        masks::forms_of(board, masks.elephants, Layer::Elephants, on_board[1]),
+        masks::forms_of(board, masks.giraffes, Layer::Giraffes, on_board[2]),
+    ];
+    digits_from(position.setup.hands.mover, masks, on_board, &forms)
+}
+
+/// The digits of the position with that hand of the mover, those masks, and those numbers on the board and of its forms. Within
+/// its callers, since a call of its own hands over all of these, and eleven digits back, by memory.
+#[inline(always)]
+fn digits_from(hand: Hand, masks: Masks, on_board: &EachKind, forms: &EachKind) -> [u64; DIGITS]
+    requires { (setup : Setup) × ArePartsOf hand masks on_board.now forms.now setup }
+    ensures { (setup : Setup) → ArePartsOf hand masks on_board.now forms.now setup → result ≡ all_digits_of setup }
+{
+    let after_own_lion = masks::ALL - masks.own_lion;
+    let after_lions = after_own_lion - masks.enemy_lion;
+    let after_chicks = after_lions - masks.chicks;
+    let after_elephants = after_chicks - masks.elephants;
+    let empty = after_elephants - masks.giraffes;
+    [
+        u64::from(hand.chicks),
+        u64::from(hand.elephants),
+        u64::from(hand.giraffes),
+        masks::choice_of(masks.own_lion, after_own_lion, 1),
+        masks::choice_of(masks.enemy_lion, after_lions, 1),
+        masks::choice_of(masks.chicks, after_chicks, on_board[0]),
+        masks::choice_of(masks.elephants, after_elephants, on_board[1]),
+        masks::choice_of(masks.giraffes, empty, on_board[2]),
+        forms[0],
+        forms[1],
+        forms[2],
+    ]
+}
+
+/// The setup of those numbers on the board and those digits.
+fn setup_of(set: PieceSet, on_board: &EachKind, digits: &[u64; DIGITS]) -> Setup
+    requires on_board { HasDigits (block_bases set) on_board.now }
+    requires digits { HasDigits (bases_by set on_board.now) digits.now }
+    ensures { result ≡ setup_by set on_board.now digits.now }
+{
+    Setup {
+        board: placing::board_by(on_board, digits),
+        hands: hands_of(set, on_board, digits),
+    }
+}
+
+/// The hands: the mover's has what the digits say, the enemy's all that is neither there nor on the board.
+fn hands_of(set: PieceSet, on_board: &EachKind, digits: &[u64; DIGITS]) -> Hands
+    requires on_board { HasDigits (block_bases set) on_board.now }
+    requires digits { HasDigits (bases_by set on_board.now) digits.now }
+    ensures { result ≡ hands_by set on_board.now digits.now }
+{
+    let mover = Hand {
+        chicks: digits[0] as u8,
+        elephants: digits[1] as u8,
+        giraffes: digits[2] as u8,
+    };
+    let enemy = Hand {
+        chicks: set.chicks - on_board[0] as u8 - mover.chicks,
+        elephants: set.elephants - on_board[1] as u8 - mover.elephants,
+        giraffes: set.giraffes - on_board[2] as u8 - mover.giraffes,
+    };
+    Hands { mover, enemy }
+}
