@@ -13,9 +13,9 @@ use Rattle.dob_pieces.proofs.Boards.{within-from_piece}
 use Rattle.dob_rank.specs.declared.bitboards.Bitboards.{Bitboards}
 use Rattle.dob_rank.specs.Bitboards.{AreBitboards}
 use Rattle.dob_unmove.specs.declared.undo.Undo.TheVariants.{Unstep, Unput}
-use Rattle.dob_unmove.specs.Changes.{IsWith}
+use Rattle.dob_rank.specs.Changes.{IsWith}
 use Rattle.dob_unmove.specs.Undoes.{CanUnstep, CanUndo, earlier, enemy_cell, without_caught}
-use Rattle.dob_unmove.proofs.BitChanges.{with_cell, with_cells, with_one, with_hands}
+use Rattle.dob_rank.proofs.BitChanges.{with_cell, with_cells, with_one, with_hands}
 
 -- a square on which nothing stands isn't one with a piece
 apart : (s : Setup) (from to : ℕ) (kind : Kind) → at s from ≡ None → at s to ≡ Some (piece_of Mover kind) → from ≢ to

@@ -8,6 +8,7 @@ use Rattle.std.proofs.lemmas.List.Elements.{Contains-append_left, Contains-appen
 use Rattle.std.proofs.lemmas.List.Elements.{All-nil}
 use Rattle.std.proofs.lemmas.List.Kept.{AllPairs-cons}
 use Rattle.std.proofs.lemmas.List.Sums.{sum_by_push}
+use Rattle.dob_pieces.specs.declared.profile.Profile.TheVariants.{A}
 use Rattle.dob_pieces.specs.declared.setup.Setup.{Setup}
 use Rattle.dob_pieces.specs.Setups.{turned, mirrored}
 use Rattle.dob_pieces.proofs.Lists.{cons_cases}
@@ -15,15 +16,15 @@ pub use Rattle.dob_rank.proofs.Counted.{pairs-head, pairs-tail}
 use Rattle.dob_pieces.proofs.Boards.{length-turned, length-mirrored}
 use Rattle.dob_moves.specs.declared.game_move.Move.{Move}
 use Rattle.dob_moves.specs.declared.position_status.Status.TheVariants.{Open}
-use Rattle.dob_moves.specs.Moves.{Goes}
+use Rattle.dob_moves.specs.Moves.{HasOutcome}
 use Rattle.dob_moves.specs.Statuses.{HasStatus}
-use Rattle.dob_moves.proofs.Outcomes.{Goes-is}
+use Rattle.dob_moves.proofs.Outcomes.{HasOutcome-is}
 use Rattle.dob_unmove.specs.declared.undo.Undo.{Undo}
 use Rattle.dob_unmove.specs.Undoes.{choice, earlier, CanUndo}
 use Rattle.dob_unmove.specs.Walks.{TakesAll, undoes}
 use Rattle.dob_unmove.specs.Unmoves.{HasEdges, CountEdges, IsNumbering}
 use Rattle.dob_unmove.specs.Gathers.{IsOpenRepresentative, Finds, Adds, Gathers}
-use Rattle.dob_unmove.proofs.Undone.{Goes-from_undo, undo_from_Goes, same_undo}
+use Rattle.dob_unmove.proofs.Undone.{HasOutcome-from_undo, undo_from_HasOutcome, same_undo}
 use Rattle.dob_unmove.proofs.Listed.{undoes_sound, undoes_whole}
 use Rattle.dob_unmove.proofs.Once.{undoes_once}
 
@@ -181,8 +182,8 @@ module _ (Represents : Setup → ℕ → Type 0) (n : IsNumbering Represents) wh
 
       -- the moves of the representative that lead to q itself
       record Leading (ms : List Move) : Type 0 where
-        sound : (m : Move) → Contains ms m → HasStatus p Open × Goes p m q
-        whole : (m : Move) → HasStatus p Open → Goes p m q → Contains ms m
+        sound : (m : Move) → Contains ms m → HasStatus A p Open × HasOutcome p m q
+        whole : (m : Move) → HasStatus A p Open → HasOutcome p m q → Contains ms m
         once : AllPairs (λ (a b : Move). a ≢ b) ms
 
       leading_from : (ms : List Move) → Selects (undoes (turned q)) ms → Leading ms
@@ -190,16 +191,16 @@ module _ (Represents : Setup → ℕ → Type 0) (n : IsNumbering Represents) wh
         sound = λ m h.
             let w = s.sound m h in
             let back = n.one_represents _ p class w.3.0 stands in
-            let goes = Goes-from_undo q w.0 twelve (undoes_sound (turned q) w.0 w.1) in (
-              subst (λ (x : Setup). HasStatus x Open) back w.3.1,
-              subst (λ (x : Setup). Goes x m q) back (subst (λ (x : Move). Goes (earlier (turned q) w.0) x q) w.2 goes),
+            let goes = HasOutcome-from_undo q w.0 twelve (undoes_sound (turned q) w.0 w.1) in (
+              subst (λ (x : Setup). HasStatus A x Open) back w.3.1,
+              subst (λ (x : Setup). HasOutcome x m q) back (subst (λ (x : Move). HasOutcome (earlier (turned q) w.0) x q) w.2 goes),
             );
         whole = λ m can goes.
-            let w = undo_from_Goes p m q (n.legal p class stands).squares goes in
+            let w = undo_from_HasOutcome p m q (n.legal p class stands).squares goes in
             let listed = undoes_whole (turned q) w.0 (length-turned q) w.1.0 in
             let back = sym w.1.2 in
             let represents : IsOpenRepresentative Represents (earlier (turned q) w.0) class =
-            (subst (λ (x : Setup). Represents x class) back stands, subst (λ (x : Setup). HasStatus x Open) back can) in
+            (subst (λ (x : Setup). Represents x class) back stands, subst (λ (x : Setup). HasStatus A x Open) back can) in
             subst (Contains ms) w.1.1 (s.whole w.0 listed represents);
         once = s.once;
       }
@@ -213,12 +214,12 @@ module _ (Represents : Setup → ℕ → Type 0) (n : IsNumbering Represents) wh
           let c = select (undoes (turned q)) old new can_all (undoes_once (turned q)) g in
           (c.0, leading_from c.0 c.1, c.2)
 
-    one_outcome : (p : Setup) (m : Move) (a b : Setup) → Goes p m a → Goes p m b → a ≡ b
-    one_outcome p m a b g h = Goes-is p m a g ∙ sym (Goes-is p m b h)
+    one_outcome : (p : Setup) (m : Move) (a b : Setup) → HasOutcome p m a → HasOutcome p m b → a ≡ b
+    one_outcome p m a b g h = HasOutcome-is p m a g ∙ sym (HasOutcome-is p m b h)
 
     -- the walk over a position that is its own mirror image counts the moves into its class
     edges_alone : (q : Setup) (new : List ℕ) → length q.board ≡ 12 → mirrored q ≡ q → Gathers Represents (turned q) (undoes (turned q)) [] new
-        → HasEdges p q (number_of new)
+        → HasEdges A p q (number_of new)
     edges_alone q new twelve own g =
         let c = counted_leading q twelve [] new g in
         record {
@@ -226,14 +227,14 @@ module _ (Represents : Setup → ℕ → Type 0) (n : IsNumbering Represents) wh
           sound = λ m h. let s = c.1.sound m h in (s.0, (q, s.1, inl refl));
           whole = λ m leads.
               let there : leads.1.0 ≡ q = elim leads.1.2 [ inl e ↦ e | inr e ↦ e ∙ own ] in
-              c.1.whole m leads.0 (subst (λ (x : Setup). Goes p m x) there leads.1.1);
+              c.1.whole m leads.0 (subst (λ (x : Setup). HasOutcome p m x) there leads.1.1);
           once = c.1.once;
           counted = omega (arith, c.2);
         }
 
     -- and else the walks over both
     edges_both : (q : Setup) (mid new : List ℕ) → length q.board ≡ 12 → mirrored q ≢ q → Gathers Represents (turned q) (undoes (turned q)) [] mid
-        → Gathers Represents (turned (mirrored q)) (undoes (turned (mirrored q))) mid new → HasEdges p q (number_of new)
+        → Gathers Represents (turned (mirrored q)) (undoes (turned (mirrored q))) mid new → HasEdges A p q (number_of new)
     edges_both q mid new twelve other g h =
         let c = counted_leading q twelve [] mid g in
         let d = counted_leading (mirrored q) (length-mirrored q) mid new h in
@@ -246,14 +247,14 @@ module _ (Represents : Setup → ℕ → Type 0) (n : IsNumbering Represents) wh
               ];
           whole = λ m leads.
               elim leads.1.2 [
-                | inl e ↦ Contains-append_left c.0 d.0 m (c.1.whole m leads.0 (subst (λ (x : Setup). Goes p m x) e leads.1.1))
-                | inr e ↦ Contains-append_right c.0 d.0 m (d.1.whole m leads.0 (subst (λ (x : Setup). Goes p m x) e leads.1.1))
+                | inl e ↦ Contains-append_left c.0 d.0 m (c.1.whole m leads.0 (subst (λ (x : Setup). HasOutcome p m x) e leads.1.1))
+                | inr e ↦ Contains-append_right c.0 d.0 m (d.1.whole m leads.0 (subst (λ (x : Setup). HasOutcome p m x) e leads.1.1))
               ];
           once = pairs-append (λ (a b : Move). a ≢ b) c.0 d.0 c.1.once d.1.once
               (λ a b first second e.
               let s = c.1.sound a first in
               let t = d.1.sound b second in
-              other (one_outcome p b (mirrored q) q t.1 (subst (λ (x : Move). Goes p x q) e s.1)));
+              other (one_outcome p b (mirrored q) q t.1 (subst (λ (x : Move). HasOutcome p x q) e s.1)));
           counted = omega (arith, c.2, d.2, length-append c.0 d.0);
         }
 
@@ -261,14 +262,14 @@ module _ (Represents : Setup → ℕ → Type 0) (n : IsNumbering Represents) wh
   nothing_known = All-nil (λ class. (p : Setup) × Represents p class)
 
   pub counts_alone : (q : Setup) (new : List ℕ) → length q.board ≡ 12 → mirrored q ≡ q → Gathers Represents (turned q) (undoes (turned q)) [] new
-      → CountEdges Represents q new
+      → CountEdges A Represents q new
   counts_alone q new twelve own g = record {
     known = gathered_known (turned q) (undoes (turned q)) [] new g nothing_known;
     edges = λ p class stands. edges_alone p class stands q new twelve own g;
   }
 
   pub counts_both : (q : Setup) (mid new : List ℕ) → length q.board ≡ 12 → mirrored q ≢ q → Gathers Represents (turned q) (undoes (turned q)) [] mid
-      → Gathers Represents (turned (mirrored q)) (undoes (turned (mirrored q))) mid new → CountEdges Represents q new
+      → Gathers Represents (turned (mirrored q)) (undoes (turned (mirrored q))) mid new → CountEdges A Represents q new
   counts_both q mid new twelve other g h = record {
     known =
         gathered_known (turned (mirrored q)) (undoes (turned (mirrored q))) mid new h (gathered_known (turned q) (undoes (turned q)) [] mid g nothing_known);

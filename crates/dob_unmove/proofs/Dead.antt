@@ -4,7 +4,7 @@ use Rattle.std.proofs.Common.{refl, sym, ap, ◌∙◌, subst, inl, inr, arith}
 use Rattle.std.specs.Int.{trailing_zeros, w16}
 use Rattle.std.specs.Option.{is_some}
 use Rattle.std.proofs.lemmas.Bool.{and_parts, cases_Bool, not-true}
-use Rattle.dob_pieces.specs.declared.piece_set.PieceSet.{PieceSet}
+use Rattle.dob_pieces.specs.declared.profile.Family.{Family}
 use Rattle.dob_pieces.specs.declared.kind.Kind.{Kind}
 use Rattle.dob_pieces.specs.declared.kind.Kind.TheVariants.{Lion, Giraffe, Elephant, Chick, Hen}
 use Rattle.dob_pieces.specs.declared.kind.Side.TheVariants.{Mover, Enemy}
@@ -14,8 +14,9 @@ use Rattle.dob_pieces.specs.Setups.{Cell, at, piece_of, IsLegal}
 use Rattle.dob_pieces.specs.Masks.{is_own, is_empty, is_piece}
 use Rattle.dob_pieces.proofs.Attacks.{lion_at}
 use Rattle.dob_pieces.proofs.Boards.{within-from_piece}
-use Rattle.dob_rank.specs.Order.{RepresentsIn}
+use Rattle.dob_rank.specs.Families.{RepresentsClass}
 use Rattle.dob_unmove.specs.declared.attackers.Threat.{Threat}
+use Rattle.dob_unmove.specs.declared.predecessors.Walk.{Walk}
 use Rattle.dob_unmove.specs.declared.undo.Undo.{Undo}
 use Rattle.dob_unmove.specs.declared.undo.Undo.TheVariants.{Unstep, Unput}
 use Rattle.dob_unmove.specs.declared.ways.Ways.{Ways}
@@ -23,7 +24,8 @@ use Rattle.dob_unmove.specs.Classes.{IsTurned}
 use Rattle.dob_unmove.specs.Undoes.{arrives_at, earlier, CanUndo, CanUnstep}
 use Rattle.dob_unmove.specs.Threats.{elsewhere, stood_before}
 use Rattle.dob_unmove.specs.Walks.{stands, uncatch, unsteps_between, unsteps_from, unsteps, undoes_at}
-use Rattle.dob_unmove.specs.Ways.{is_home, may_end, comes_home, may_come, CanWalk}
+use Rattle.dob_unmove.specs.Ends.{CanWalk}
+use Rattle.dob_unmove.specs.Ways.{is_home, may_end, comes_home, may_come}
 use Rattle.dob_unmove.proofs.Kept.{legal_turned}
 use Rattle.dob_unmove.proofs.Homes.{representative_home}
 use Rattle.dob_unmove.proofs.Listed.{at_sound, from_sound, stands-true, free_step}
@@ -36,15 +38,24 @@ use Rattle.dob_unmove.proofs.Gathered.{IsDead, AreDead, gathers_cons, gathers_ap
 abbrev own_lion : Cell
 own_lion = Some (piece_of Mover Lion)
 
-module _ (set : PieceSet) (after : Setup) (ways : Ways) (w : CanWalk set after ways) where
+module _ (walk : Walk) (w : CanWalk walk) where
+  abbrev family : Family
+  family = walk.classes.now.family
+
+  abbrev after : Setup
+  after = walk.after.value
+
+  abbrev ways : Ways
+  ways = walk.ways.now
+
   abbrev threat : Threat
-  threat = ways.threat
+  threat = walk.ways.now.threat
 
   legal : IsTurned IsLegal after
-  legal = legal_turned set after w.of_set
+  legal = legal_turned family after w.of_set
 
   abbrev Dead : Undo → Type 0
-  Dead u = IsDead (RepresentsIn set) after u
+  Dead u = IsDead (RepresentsClass family) after u
 
   dead_stood : (u : Undo) → CanUndo after u → stood_before threat u ≡ true → Dead u
   dead_stood u can stood = λ found. was_not_open after threat legal w.ways_are.threat_is u can stood found.1.1
@@ -58,7 +69,7 @@ module _ (set : PieceSet) (after : Setup) (ways : Ways) (w : CanWalk set after w
 
   dead_away : (u : Undo) (s : ℕ) → CanUndo after u → at (earlier after u) s ≡ own_lion → is_home threat.lion s ≡ false → Dead u
   dead_away u s can there away = λ found.
-      true≢false (sym (representative_home set (earlier after u) found.0 s threat.lion found.1.0 there (enemy_there u can)) ∙ away)
+      true≢false (sym (representative_home family (earlier after u) found.0 s threat.lion found.1.0 there (enemy_there u can)) ∙ away)
 
   -- where no lion moved it stood where it stands
   arrives_no_lion : (kind : Kind) (to : ℕ) (cell : Cell) → cell ≡ Some (piece_of Mover (arrives_at kind to)) → is_piece Mover Lion cell ≡ false → kind ≢ Lion
@@ -109,7 +120,7 @@ module _ (set : PieceSet) (after : Setup) (ways : Ways) (w : CanWalk set after w
   last_fails true true c d e f off = cc
   last_fails false b c d e f off = cc
 
-  pub ends_dead : AreDead (RepresentsIn set) after (may_end after threat w.ways_are.stays) (undoes_at after)
+  pub ends_dead : AreDead (RepresentsClass family) after (may_end after threat w.ways_are.stays) (undoes_at after)
   ends_dead k lt off u inside =
       let can = at_sound after k u inside in
       let on : ends_on u ≡ k = undoes_end after k u inside in
@@ -150,7 +161,7 @@ module _ (set : PieceSet) (after : Setup) (ways : Ways) (w : CanWalk set after w
       (at_from after threat legal w.ways_are.threat_is kind from to caught can ∙ ap (λ (k : Kind). Some (piece_of Mover k)) lion.0) lion.1
 
   pub comes_dead : (kind : Kind) (to : ℕ) → stands (at after to) (arrives_at kind to) ≡ true
-      → AreDead (RepresentsIn set) after (may_come after threat.lion kind to) (unsteps_from after kind to)
+      → AreDead (RepresentsClass family) after (may_come after threat.lion kind to) (unsteps_from after kind to)
   comes_dead kind to there k lt off u inside =
       let f = from_step after kind to k u inside in
       let parts = and_parts (not (is_some (at after k))) (leads kind k to) f.test in

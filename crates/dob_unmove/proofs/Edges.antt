@@ -7,7 +7,9 @@ use Rattle.std.proofs.lemmas.Bool.{cases_lt, eqb-true, eq-eqb}
 use Rattle.std.proofs.lemmas.List.Elements.{All-contains, All-weaker, All-filter, All-contains_itself, Contains-append_right, filter_passes}
 use Rattle.std.proofs.lemmas.List.Kept.{AllPairs-filter}
 use Rattle.std.proofs.lemmas.List.Sums.{length-filter}
-use Rattle.dob_pieces.specs.declared.piece_set.PieceSet.{PieceSet}
+use Rattle.dob_pieces.specs.declared.profile.Family.{Family}
+use Rattle.dob_pieces.specs.declared.profile.Profile.{Profile}
+use Rattle.dob_pieces.specs.declared.profile.Profile.TheVariants.{A}
 use Rattle.dob_pieces.specs.declared.setup.Setup.{Setup}
 use Rattle.dob_pieces.specs.Setups.{turned}
 use Rattle.dob_pieces.proofs.Lists.{none_in_empty, head_in, cons_cases}
@@ -18,14 +20,18 @@ use Rattle.dob_moves.specs.Outcomes.{moved}
 use Rattle.dob_moves.specs.declared.position_status.Status.TheVariants.{Open}
 use Rattle.dob_moves.specs.Statuses.{HasStatus, AreMoves}
 use Rattle.dob_moves.proofs.MoveLists.{AreMoves-moves_of}
-use Rattle.dob_moves.proofs.Outcomes.{Goes-is, Goes-moved, IsLegal-Goes, total-Goes}
-use Rattle.dob_rank.specs.Order.{IsPositionOf, IsEither, RepresentsIn}
-use Rattle.dob_rank.specs.ClassRows.{class_setup}
-use Rattle.dob_rank.specs.Marks.{classes_of, class_number}
+use Rattle.dob_moves.proofs.ByProfile.{goes}
+use Rattle.dob_moves.proofs.Kept.{IsAllowed-Goes}
+use Rattle.dob_moves.proofs.Shared.{share_status}
+use Rattle.dob_moves.proofs.ProfileMoves.{goes_to_allowed, Goes-is, Goes-moved, IsLegal-Goes, total-Goes}
+use Rattle.dob_rank.specs.Order.{IsEither}
+use Rattle.dob_rank.specs.Families.{IsPositionOf, RepresentsClass}
+use Rattle.dob_rank.specs.Families.{class_setup}
+use Rattle.dob_rank.specs.Families.{classes_of, class_number}
 use Rattle.dob_rank.proofs.Counted.{no_longer}
-use Rattle.dob_rank.proofs.Marks.{HasClass-marked, HasClasses-classes_of}
-use Rattle.dob_rank.proofs.ClassNumbers.{class_number-below, class_number-representative, class_number-mirrored, class_once}
-use Rattle.dob_rank.proofs.Representatives.{class_setup_is, class_setup_only, one_number}
+use Rattle.dob_rank.proofs.Present.{HasClass-marked, HasClasses-classes_of}
+use Rattle.dob_rank.proofs.FamilyNumbers.{IsPositionOf-mirrored, class_number-below, class_number-representative, class_number-mirrored, class_once}
+use Rattle.dob_rank.proofs.FamilyRepresentatives.{class_setup_is, class_setup_only, one_number}
 use Rattle.dob_unmove.specs.Unmoves.{LeadsInto, HasEdges, CountEdges, ArePredecessors}
 use Rattle.dob_unmove.specs.Edges.{leads_into, edges, predecessors}
 use Rattle.dob_unmove.proofs.Classes.{IsNumbering-classes}
@@ -34,16 +40,16 @@ use Rattle.dob_unmove.proofs.Ascending.{times, ascending_same, each-below, each-
 
 -- ---- class numbers
 
-pub RepresentsIn-class_setup : (set : PieceSet) (class : ℕ) → class < classes_of set → RepresentsIn set (class_setup set class) class
-RepresentsIn-class_setup set class below = class_setup_is set class (classes_of set) (HasClasses-classes_of set) below
+pub RepresentsClass-class_setup : (family : Family) (class : ℕ) → class < classes_of family → RepresentsClass family (class_setup family class) class
+RepresentsClass-class_setup family class below = class_setup_is family class (classes_of family) (HasClasses-classes_of family) below
 
 -- the representative's number is that of its class
-number_of_representative : (set : PieceSet) (q : Setup) (class : ℕ) → RepresentsIn set q class → class_number set q ≡ class
-number_of_representative set q class is =
-    class_number-representative set q is.0.0 is.0.1 ∙ one_number set q q _ class (HasClass-marked set q is.0.0) is.1 refl
+number_of_representative : (family : Family) (q : Setup) (class : ℕ) → RepresentsClass family q class → class_number family q ≡ class
+number_of_representative family q class is =
+    class_number-representative family q is.0.0 is.0.1 ∙ one_number family q q _ class (HasClass-marked family q is.0.0) is.1 refl
 
-pub representative_below : (set : PieceSet) (q : Setup) (class : ℕ) → RepresentsIn set q class → class < classes_of set
-representative_below set q class is = subst (λ n. n < classes_of set) (number_of_representative set q class is) (class_number-below set q is.0.0)
+pub representative_below : (family : Family) (q : Setup) (class : ℕ) → RepresentsClass family q class → class < classes_of family
+representative_below family q class is = subst (λ n. n < classes_of family) (number_of_representative family q class is) (class_number-below family q is.0.0)
 
 -- ---- the moves into a class
 
@@ -57,141 +63,190 @@ contains_filter {X} test (y ∷ ys) x h is = at (cons_cases y ys x h) (λ later.
   at (inr later) kept true e = Contains-append_right (y ∷ []) (filter test ys) x (kept later)
   at (inr later) kept false e = kept later
 
-position_after : (set : PieceSet) (p : Setup) (m : Move) (q : Setup) → IsPositionOf set p → HasStatus p Open → Goes p m q → IsPositionOf set q
-position_after set p m q is open_to_move goes = record {
-  legal = IsLegal-Goes p m q goes is.legal open_to_move.1;
-  pieces = λ kind. total-Goes p m q goes is.legal.squares kind ∙ is.pieces kind;
+position_after : (family : Family) (p : Setup) (m : Move) (q : Setup) → IsPositionOf family p → HasStatus family.profile p Open →
+    Goes family.profile p m q → IsPositionOf family q
+position_after family p m q is open_to_move goes = record {
+  of_set = record {
+    legal = IsLegal-Goes family.profile p m q goes is.of_set.legal open_to_move.1;
+    pieces = λ kind. total-Goes family.profile p m q goes is.of_set.legal.squares kind ∙ is.of_set.pieces kind;
+  };
+  allowed = IsAllowed-Goes family.profile p m q is.of_set.legal.squares is.allowed goes;
+}
+
+-- ---- between positions of a family the moves are those by its profile
+
+module _ (family : Family) (p q : Setup) (is_p : IsPositionOf family p) (is_q : IsPositionOf family q) where
+  either_is : (s : Setup) → IsEither q s → IsPositionOf family s
+  either_is s either = elim either [
+    | inl same ↦ subst (IsPositionOf family) (sym same) is_q
+    | inr image ↦ subst (IsPositionOf family) (sym image) (IsPositionOf-mirrored family q is_q)
+  ]
+
+  leads_by : (m : Move) → LeadsInto A p q m → LeadsInto family.profile p q m
+  leads_by m leads =
+      let outcome = leads.1 in (
+        (share_status family.profile p Open is_p.of_set.legal).0 leads.0,
+        (
+          outcome.0,
+          goes_to_allowed family.profile p m outcome.0 is_p.of_set.legal.squares outcome.1 (either_is outcome.0 outcome.2).allowed,
+          outcome.2,
+        ),
+      )
+
+  led_by : (m : Move) → LeadsInto family.profile p q m → LeadsInto A p q m
+  led_by m leads = (
+    (share_status family.profile p Open is_p.of_set.legal).1 leads.0,
+    (leads.1.0, goes family.profile p m leads.1.0 leads.1.1, leads.1.2),
+  )
+
+  edges_by : (number : ℕ) → HasEdges A p q number → HasEdges family.profile p q number
+  edges_by number has = record {
+    moves = has.moves;
+    sound = λ m there. leads_by m (has.sound m there);
+    whole = λ m leads. has.whole m (led_by m leads);
+    once = has.once;
+    counted = has.counted;
+  }
+
+-- so classes are counted alike
+counts_by : (family : Family) (q : Setup) (numbers : List ℕ) → IsPositionOf family q → CountEdges A (RepresentsClass family) q numbers →
+    CountEdges family.profile (RepresentsClass family) q numbers
+counts_by family q numbers is_q counts = record {
+  known = counts.known;
+  edges = λ p class is_p. edges_by family p q is_p.0.0 is_q _ (counts.edges p class is_p);
 }
 
 -- of two positions of one class each is the other or its mirror image
-same_class : (set : PieceSet) (s q : Setup) (class : ℕ) → IsPositionOf set s → RepresentsIn set q class → class_number set s ≡ class → IsEither q s
-same_class set s q class is represents e = class_once set s q is represents.0.0 (e ∙ sym (number_of_representative set q class represents))
+same_class : (family : Family) (s q : Setup) (class : ℕ) → IsPositionOf family s → RepresentsClass family q class → class_number family s ≡ class → IsEither q s
+same_class family s q class is represents e = class_once family s q is represents.0.0 (e ∙ sym (number_of_representative family q class represents))
 
-class_of_either : (set : PieceSet) (s q : Setup) (class : ℕ) → RepresentsIn set q class → IsEither q s → class_number set s ≡ class
-class_of_either set s q class represents either = elim either [
-  | inl e ↦ ap (class_number set) e ∙ number_of_representative set q class represents
-  | inr e ↦ ap (class_number set) e ∙ class_number-mirrored set q represents.0.0 ∙ number_of_representative set q class represents
+class_of_either : (family : Family) (s q : Setup) (class : ℕ) → RepresentsClass family q class → IsEither q s → class_number family s ≡ class
+class_of_either family s q class represents either = elim either [
+  | inl e ↦ ap (class_number family) e ∙ number_of_representative family q class represents
+  | inr e ↦ ap (class_number family) e ∙ class_number-mirrored family q represents.0.0 ∙ number_of_representative family q class represents
 ]
 
-module _ (set : PieceSet) (p q : Setup) (from class : ℕ) (is_p : RepresentsIn set p from) (is_q : RepresentsIn set q class) where
-  are : AreMoves p (moves_of p)
-  are = AreMoves-moves_of p is_p.0.0.legal.squares
+module _ (family : Family) (p q : Setup) (from class : ℕ) (is_p : RepresentsClass family p from) (is_q : RepresentsClass family q class) where
+  are : AreMoves family.profile p (moves_of family.profile p)
+  are = AreMoves-moves_of family.profile p is_p.0.0.of_set.legal.squares
 
   abbrev leading : List Move
-  leading = filter (leads_into set p class) (moves_of p)
+  leading = filter (leads_into family p class) (moves_of family.profile p)
 
-  leading_listed : All (Contains (moves_of p)) leading
-  leading_listed = All-filter (leads_into set p class) (Contains (moves_of p)) (moves_of p) (All-contains_itself (moves_of p))
+  leading_listed : All (Contains (moves_of family.profile p)) leading
+  leading_listed = All-filter (leads_into family p class) (Contains (moves_of family.profile p)) (moves_of family.profile p) (All-contains_itself (moves_of family.profile p))
 
-  leading_sound : (m : Move) → Contains leading m → LeadsInto p q m
+  leading_sound : (m : Move) → Contains leading m → LeadsInto family.profile p q m
   leading_sound m here =
-      let is = are.sound m (All-contains (Contains (moves_of p)) leading m leading_listed here) in
-      let goes = Goes-moved p m is.1 in
-      let passes : leads_into set p class m ≡ true =
-      All-contains (λ (x : Move). leads_into set p class x ≡ true) leading m (filter_passes (leads_into set p class) (moves_of p)) here in (
+      let is = are.sound m (All-contains (Contains (moves_of family.profile p)) leading m leading_listed here) in
+      let goes = Goes-moved family.profile p m is.1 in
+      let passes : leads_into family p class m ≡ true =
+      All-contains (λ (x : Move). leads_into family p class x ≡ true) leading m (filter_passes (leads_into family p class) (moves_of family.profile p)) here in (
         is.0,
         (
           turned (moved p m),
           goes,
-          same_class set (turned (moved p m)) q class (position_after set p m (turned (moved p m)) is_p.0.0 is.0 goes) is_q
-              (eqb-true (class_number set (turned (moved p m))) class passes),
+          same_class family (turned (moved p m)) q class (position_after family p m (turned (moved p m)) is_p.0.0 is.0 goes) is_q
+              (eqb-true (class_number family (turned (moved p m))) class passes),
         ),
       )
 
-  leading_whole : (m : Move) → LeadsInto p q m → Contains leading m
+  leading_whole : (m : Move) → LeadsInto family.profile p q m → Contains leading m
   leading_whole m leads =
-      let outcome : leads.1.0 ≡ turned (moved p m) = Goes-is p m leads.1.0 leads.1.1 in
-      contains_filter (leads_into set p class) (moves_of p) m (are.whole m leads.0 (leads.1.0, leads.1.1))
-      (eq-eqb (class_number set (turned (moved p m))) class
-      (ap (class_number set) (sym outcome) ∙ class_of_either set leads.1.0 q class is_q leads.1.2))
+      let outcome : leads.1.0 ≡ turned (moved p m) = Goes-is family.profile p m leads.1.0 leads.1.1 in
+      contains_filter (leads_into family p class) (moves_of family.profile p) m (are.whole m leads.0 (leads.1.0, leads.1.1))
+      (eq-eqb (class_number family (turned (moved p m))) class
+      (ap (class_number family) (sym outcome) ∙ class_of_either family leads.1.0 q class is_q leads.1.2))
 
   leading_once : AllPairs (λ (a b : Move). ¬ (a ≡ b)) leading
   leading_once i j d before within same =
-      let less = AllPairs-filter (λ (a b : Move). place a < place b) (leads_into set p class) (moves_of p) are.ordered i j d before within in
+      let less = AllPairs-filter (λ (a b : Move). place a < place b) (leads_into family p class) (moves_of family.profile p) are.ordered i j d before within in
       let places = ap place same in
       omega (arith, less, places)
 
-  pub HasEdges-edges : HasEdges p q (edges set from class)
+  pub HasEdges-edges : HasEdges family.profile p q (edges family from class)
   unfolding edges
   HasEdges-edges = record {
     moves = leading;
     sound = leading_sound;
     whole = leading_whole;
     once = leading_once;
-    counted = length-filter (leads_into set p class) (moves_of p)
-        ∙ ap (λ (s : Setup). count_by (leads_into set s class) (moves_of s))
-        (class_setup_only set p from (classes_of set) (HasClasses-classes_of set) (representative_below set p from is_p) is_p.0 is_p.1);
+    counted = length-filter (leads_into family p class) (moves_of family.profile p)
+        ∙ ap (λ (s : Setup). count_by (leads_into family s class) (moves_of family.profile s))
+        (class_setup_only family p from (classes_of family) (HasClasses-classes_of family) (representative_below family p from is_p) is_p.0 is_p.1);
   }
 
 -- two numbers of the moves from one to another are one
-same_edges : (p q : Setup) (m n : ℕ) → HasEdges p q m → HasEdges p q n → m ≡ n
-same_edges p q m n a b =
+same_edges : (profile : Profile) (p q : Setup) (m n : ℕ) → HasEdges profile p q m → HasEdges profile p q n → m ≡ n
+same_edges profile p q m n a b =
     let up = no_longer a.moves b.moves a.once (λ x here. b.whole x (a.sound x here)) in
     let down = no_longer b.moves a.moves b.once (λ x here. a.whole x (b.sound x here)) in
     omega (arith, up, down, a.counted, b.counted)
 
 -- ---- the list
 
-module _ (set : PieceSet) (q : Setup) (class : ℕ) (is_q : RepresentsIn set q class) where
+module _ (family : Family) (q : Setup) (class : ℕ) (is_q : RepresentsClass family q class) where
   abbrev number : ℕ → ℕ
-  number from = edges set from class
+  number from = edges family from class
 
-  pub times-predecessors : (from : ℕ) → from < classes_of set → times from (predecessors set class) ≡ edges set from class
+  pub times-predecessors : (from : ℕ) → from < classes_of family → times from (predecessors family class) ≡ edges family from class
   unfolding predecessors
-  times-predecessors from below = times-each number (classes_of set) from below
+  times-predecessors from below = times-each number (classes_of family) from below
 
-  predecessors-below : All (λ (x : ℕ). x < classes_of set) (predecessors set class)
+  predecessors-below : All (λ (x : ℕ). x < classes_of family) (predecessors family class)
   unfolding predecessors
-  predecessors-below = each-below number (classes_of set)
+  predecessors-below = each-below number (classes_of family)
 
-  predecessors-ascends : AllPairs (λ (a b : ℕ). a ≤ b) (predecessors set class)
+  predecessors-ascends : AllPairs (λ (a b : ℕ). a ≤ b) (predecessors family class)
   unfolding predecessors
-  predecessors-ascends = each-ascends number (classes_of set)
+  predecessors-ascends = each-ascends number (classes_of family)
 
   -- The list counts the moves into the class, and ascends.
-  pub ArePredecessors-predecessors : ArePredecessors (RepresentsIn set) q (predecessors set class)
+  pub ArePredecessors-predecessors : ArePredecessors family.profile (RepresentsClass family) q (predecessors family class)
   ArePredecessors-predecessors = record {
     counts = record {
-      known = All-weaker (λ (x : ℕ). x < classes_of set) (λ (from : ℕ). (p : Setup) × RepresentsIn set p from)
-          (λ from below. (class_setup set from, RepresentsIn-class_setup set from below)) (predecessors set class) predecessors-below;
-      edges = λ p from is_p. subst (HasEdges p q) (sym (times-predecessors from (representative_below set p from is_p))) (HasEdges-edges set p q from class is_p is_q);
+      known = All-weaker (λ (x : ℕ). x < classes_of family) (λ (from : ℕ). (p : Setup) × RepresentsClass family p from)
+          (λ from below. (class_setup family from, RepresentsClass-class_setup family from below)) (predecessors family class) predecessors-below;
+      edges = λ p from is_p. subst (HasEdges family.profile p q) (sym (times-predecessors from (representative_below family p from is_p))) (HasEdges-edges family p q from class is_p is_q);
     };
     ascending = predecessors-ascends;
   }
 
-  known_below : (xs : List ℕ) → CountEdges (RepresentsIn set) q xs → All (λ (x : ℕ). x < classes_of set) xs
+  known_below : (xs : List ℕ) → CountEdges family.profile (RepresentsClass family) q xs → All (λ (x : ℕ). x < classes_of family) xs
   known_below xs counts =
-      All-weaker (λ (from : ℕ). (p : Setup) × RepresentsIn set p from) (λ (x : ℕ). x < classes_of set)
-      (λ from is. representative_below set is.0 from is.1) xs counts.known
+      All-weaker (λ (from : ℕ). (p : Setup) × RepresentsClass family p from) (λ (x : ℕ). x < classes_of family)
+      (λ from is. representative_below family is.0 from is.1) xs counts.known
 
-  same_times : (xs : List ℕ) → CountEdges (RepresentsIn set) q xs → (from : ℕ) → times from xs ≡ times from (predecessors set class)
-  same_times xs counts from = elim (cases_lt from (classes_of set)) [
+  same_times : (xs : List ℕ) → CountEdges family.profile (RepresentsClass family) q xs → (from : ℕ) → times from xs ≡ times from (predecessors family class)
+  same_times xs counts from = elim (cases_lt from (classes_of family)) [
     | inl below ↦
-        let p = class_setup set from in
-        let is_p = RepresentsIn-class_setup set from below in
-        same_edges p q (times from xs) (times from (predecessors set class)) (counts.edges p from is_p)
+        let p = class_setup family from in
+        let is_p = RepresentsClass-class_setup family from below in
+        same_edges family.profile p q (times from xs) (times from (predecessors family class)) (counts.edges p from is_p)
         (ArePredecessors-predecessors.counts.edges p from is_p)
     | inr above ↦
-        times-absent from (classes_of set) xs above (known_below xs counts)
-        ∙ sym (times-absent from (classes_of set) (predecessors set class) above predecessors-below)
+        times-absent from (classes_of family) xs above (known_below xs counts)
+        ∙ sym (times-absent from (classes_of family) (predecessors family class) above predecessors-below)
   ]
 
   -- No other list does.
-  pub same_predecessors : (xs : List ℕ) → ArePredecessors (RepresentsIn set) q xs → xs ≡ predecessors set class
+  pub same_predecessors : (xs : List ℕ) → ArePredecessors family.profile (RepresentsClass family) q xs → xs ≡ predecessors family class
   same_predecessors xs are =
-      ascending_same xs (predecessors set class) are.ascending predecessors-ascends (same_times xs are.counts)
+      ascending_same xs (predecessors family class) are.ascending predecessors-ascends (same_times xs are.counts)
 
 -- ---- numbers that count the moves into the representative, once they are sorted
 
-module _ (set : PieceSet) (class : ℕ) (representative : Setup) (numbers sorted : List ℕ) (is : RepresentsIn set representative class)
-    (counts : CountEdges (RepresentsIn set) representative numbers) (moved : IsPermutation numbers sorted)
+module _ (family : Family) (class : ℕ) (representative : Setup) (numbers sorted : List ℕ) (is : RepresentsClass family representative class)
+    (counts : CountEdges A (RepresentsClass family) representative numbers) (moved : IsPermutation numbers sorted)
     (rises : IsNonDecreasingBy (λ (x : ℕ). x) sorted) where
-  pub sorted_predecessors : (q : Setup) → RepresentsIn set q class → ArePredecessors (RepresentsIn set) q sorted
+  pub sorted_predecessors : (q : Setup) → RepresentsClass family q class → ArePredecessors family.profile (RepresentsClass family) q sorted
   sorted_predecessors q is_q =
-      let same = (IsNumbering-classes set).one_represents representative q class is is_q in
-      sorted_counts (RepresentsIn set) q numbers sorted (subst (λ (p : Setup). CountEdges (RepresentsIn set) p numbers) same counts) moved rises
+      let same = (IsNumbering-classes family).one_represents representative q class is is_q in
+      let all = sorted_counts (RepresentsClass family) q numbers sorted
+      (subst (λ (p : Setup). CountEdges A (RepresentsClass family) p numbers) same counts) moved rises in
+      record { counts = counts_by family q sorted is_q.0.0 all.counts; ascending = all.ascending }
 
-  pub sorted_list : class < classes_of set → sorted ≡ predecessors set class
+  pub sorted_list : class < classes_of family → sorted ≡ predecessors family class
   sorted_list below =
-      let is_q = RepresentsIn-class_setup set class below in
-      same_predecessors set (class_setup set class) class is_q sorted (sorted_predecessors (class_setup set class) is_q)
+      let is_q = RepresentsClass-class_setup family class below in
+      same_predecessors family (class_setup family class) class is_q sorted (sorted_predecessors (class_setup family class) is_q)

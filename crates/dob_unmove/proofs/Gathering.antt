@@ -3,6 +3,7 @@ use Rattle.std.proofs.Common.{◌≡◌, ◌≢◌, ℕ, true, false, List, [], 
 use Rattle.std.specs.Option.{MatchOption, is_some}
 use Rattle.std.specs.List.Sorted.{IsPermutation, IsNonDecreasingBy}
 use Rattle.std.proofs.lemmas.List.Sorted.{sum_by-IsPermutation, All-permutation}
+use Rattle.dob_pieces.specs.declared.profile.Profile.TheVariants.{A}
 use Rattle.dob_pieces.specs.declared.setup.Setup.{Setup}
 use Rattle.dob_pieces.specs.Setups.{IsLegal, turned, mirrored}
 use Rattle.dob_moves.specs.declared.position_status.Status.TheVariants.{Open}
@@ -17,10 +18,10 @@ use Rattle.dob_pieces.proofs.Symmetries.{turned-mirrored}
 use Rattle.dob_unmove.proofs.Counting.{all_gathered, counts_alone, counts_both}
 
 -- the answer of the numbering, at the position before the move
-pub finds_from : (Represents : Setup → ℕ → Type 0) (p s : Setup) (o : Option ℕ) → p ≡ s → HasStatus p Open
+pub finds_from : (Represents : Setup → ℕ → Type 0) (p s : Setup) (o : Option ℕ) → p ≡ s → HasStatus A p Open
     → MatchOption o (¬ ((class : ℕ) × Represents p class)) (Represents p) → Finds Represents s o
 finds_from Represents p s None e has h = λ w. h (w.0, subst (λ (x : Setup). Represents x w.0) (sym e) w.1.0)
-finds_from Represents p s (Some class) e has h = (subst (λ (x : Setup). Represents x class) e h, subst (λ (x : Setup). HasStatus x Open) e has)
+finds_from Represents p s (Some class) e has h = (subst (λ (x : Setup). Represents x class) e h, subst (λ (x : Setup). HasStatus A x Open) e has)
 
 -- the walk found no open position, so none that is a representative
 pub finds_none : (Represents : Setup → ℕ → Type 0) (s : Setup) → IsNumbering Represents → ¬ IsOpenPosition s → Finds Represents s None
@@ -42,12 +43,12 @@ other_image Represents q image None w e h none own = h (w.0, subst (λ (x : Setu
 other_image Represents q image (Some class) w e h none own = cc
 
 -- sorting keeps the counts
-pub sorted_counts : (Represents : Setup → ℕ → Type 0) (q : Setup) (xs ys : List ℕ) → CountEdges Represents q xs → IsPermutation xs ys
-    → IsNonDecreasingBy (λ (x : ℕ). x) ys → ArePredecessors Represents q ys
+pub sorted_counts : (Represents : Setup → ℕ → Type 0) (q : Setup) (xs ys : List ℕ) → CountEdges A Represents q xs → IsPermutation xs ys
+    → IsNonDecreasingBy (λ (x : ℕ). x) ys → ArePredecessors A Represents q ys
 sorted_counts Represents q xs ys c moved rises = record {
   counts = record {
     known = All-permutation (λ (class : ℕ). (p : Setup) × Represents p class) xs ys moved c.known;
-    edges = λ p class represents. subst (HasEdges p q) (sym (sum_by-IsPermutation _ xs ys moved)) (c.edges p class represents);
+    edges = λ p class represents. subst (HasEdges A p q) (sym (sum_by-IsPermutation _ xs ys moved)) (c.edges p class represents);
   };
   ascending = λ i j d lt within. rises i j d (omega arith) within;
 }
@@ -77,7 +78,7 @@ fresh_walk Represents q t old new e none h =
 pub walked_alone : (Represents : Classes → Setup → ℕ → Type 0) (q t : Setup) (old new : Gathered)
     → IsNumbering (Represents old.classes.now) → IsLegal q → mirrored q ≡ q
     → t ≡ turned q → old.found.items ≡ [] → TakesAll (Gathering Represents t) old (undoes t) new
-    → CountEdges (Represents old.classes.now) q new.found.items
+    → CountEdges A (Represents old.classes.now) q new.found.items
 walked_alone Represents q t old new n legal own e none h =
     counts_alone (Represents old.classes.now) n q new.found.items legal.squares own (fresh_walk Represents q t old new e none h)
 
@@ -86,7 +87,7 @@ pub walked_both : (Represents : Classes → Setup → ℕ → Type 0) (q image t
     → IsNumbering (Represents old.classes.now) → IsLegal q → mirrored q ≢ q → image ≡ mirrored q
     → t ≡ turned q → s ≡ turned image → old.found.items ≡ [] → TakesAll (Gathering Represents t) old (undoes t) mid
     → next.classes ≡ mid.classes → next.found.items ≡ mid.found.items → TakesAll (Gathering Represents s) next (undoes s) new
-    → CountEdges (Represents old.classes.now) q new.found.items
+    → CountEdges A (Represents old.classes.now) q new.found.items
 walked_both Represents q image t s old mid next new n legal other im e f none h same_classes same_found k =
     let once = fresh_walk Represents q t old mid e none h in
     let kept = same_classes ∙ (gathered_by Represents t (undoes t) old mid h).0 in
@@ -100,14 +101,14 @@ walked_both Represents q image t s old mid next new n legal other im e f none h 
 -- ---- what was found
 
 pub alone_found : (Represents : Setup → ℕ → Type 0) → IsNumbering Represents → (q t : Setup) (old new : List ℕ) → IsLegal q → mirrored q ≡ q
-    → t ≡ turned q → old ≡ [] → Gathers Represents t (undoes t) old new → CountEdges Represents q new
+    → t ≡ turned q → old ≡ [] → Gathers Represents t (undoes t) old new → CountEdges A Represents q new
 alone_found Represents n q t old new legal own e none g =
     counts_alone Represents n q new legal.squares own
     (subst (λ (x : Setup). Gathers Represents x (undoes x) [] new) e (subst (λ (xs : List ℕ). Gathers Represents t (undoes t) xs new) none g))
 
 pub both_found : (Represents : Setup → ℕ → Type 0) → IsNumbering Represents → (q t s : Setup) (old mid new : List ℕ) → IsLegal q → mirrored q ≢ q
     → t ≡ turned q → s ≡ mirrored (turned q) → old ≡ [] → Gathers Represents t (undoes t) old mid → Gathers Represents s (undoes s) mid new
-    → CountEdges Represents q new
+    → CountEdges A Represents q new
 both_found Represents n q t s old mid new legal other e f none g h =
     counts_both Represents n q mid new legal.squares other
     (subst (λ (x : Setup). Gathers Represents x (undoes x) [] mid) e (subst (λ (xs : List ℕ). Gathers Represents t (undoes t) xs mid) none g))

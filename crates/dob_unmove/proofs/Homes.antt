@@ -4,7 +4,7 @@ use Rattle.std.proofs.Common.{get_or, refl, sym, ap, ◌∙◌, subst, arith, in
 use Rattle.std.specs.List.{count_by}
 use Rattle.std.proofs.lemmas.Bool.{cases_Bool, and_parts, ltb-true, eqb-true}
 use Rattle.std.proofs.lemmas.List.Sums.{sum_by-cons}
-use Rattle.dob_pieces.specs.declared.piece_set.PieceSet.{PieceSet}
+use Rattle.dob_pieces.specs.declared.profile.Family.{Family}
 use Rattle.dob_pieces.specs.declared.kind.HandKind.{HandKind}
 use Rattle.dob_pieces.specs.declared.kind.HandKind.TheVariants as hand
 use Rattle.dob_pieces.specs.declared.kind.Kind.TheVariants.{Lion}
@@ -16,8 +16,9 @@ use Rattle.dob_pieces.specs.Squares.{mirrored_square}
 use Rattle.dob_pieces.specs.Setups.{Cell, at, held, piece_of, holds_lion, holds_kind, total, mirrored}
 use Rattle.dob_pieces.proofs.Boards.{all_below, all_below-at, within-from_piece, total-mirrored, own_lion}
 use Rattle.dob_pieces.proofs.Symmetries.{at-image}
-use Rattle.dob_rank.specs.Order.{squares_from, squares, forms, each_kind, key, Precedes, Before, IsPositionOf, RepresentsIn}
-use Rattle.dob_rank.proofs.Found.{IsPositionOf-mirrored}
+use Rattle.dob_rank.specs.Order.{squares_from, squares, forms, each_kind, key, Precedes, Before}
+use Rattle.dob_rank.specs.Families.{IsPositionOf, RepresentsClass}
+use Rattle.dob_rank.proofs.FamilyNumbers.{IsPositionOf-mirrored}
 use Rattle.dob_unmove.specs.Ways.{is_home}
 
 -- ---- the list of one square
@@ -71,11 +72,11 @@ module _ (test : Cell → Bool) where
         ∙ one_square (suc from) k cs (omega (arith, sum, zero_there, one)) (omega arith) is ∙ ap (λ (n : ℕ). n ∷ []) same)
   ]
 
-lion_square : (side : Side) (set : PieceSet) (p : Setup) (s : ℕ) → IsPositionOf set p → at p s ≡ Some (piece_of side Lion)
+lion_square : (side : Side) (family : Family) (p : Setup) (s : ℕ) → IsPositionOf family p → at p s ≡ Some (piece_of side Lion)
     → squares (holds_lion side) p ≡ s ∷ []
-lion_square side set p s is there =
+lion_square side family p s is there =
     let same : 0 + s ≡ s = omega arith in
-    one_square (holds_lion side) 0 s p.board (is.legal.lions side) (within-from_piece p s (piece_of side Lion) there)
+    one_square (holds_lion side) 0 s p.board (is.of_set.legal.lions side) (within-from_piece p s (piece_of side Lion) there)
     (ap (holds_lion side) there ∙ own_lion side) ∙ ap (λ (n : ℕ). n ∷ []) same
 
 -- ---- the order with the mirror image
@@ -137,19 +138,19 @@ key-lions p s e own other =
     ++ (each_kind (held p.hands.mover) ++ (xs ++ (squares (holds_lion Enemy) p ++ rest_of p)))) own
     ∙ ap (λ (xs : List ℕ). each_kind (λ kind. count_by (holds_kind kind) p.board) ++ (each_kind (held p.hands.mover) ++ (s ∷ (xs ++ rest_of p)))) other
 
-image_before : (set : PieceSet) (p : Setup) (s e : ℕ) → IsPositionOf set p → at p s ≡ Some (piece_of Mover Lion) → at p e ≡ Some (piece_of Enemy Lion)
+image_before : (family : Family) (p : Setup) (s e : ℕ) → IsPositionOf family p → at p s ≡ Some (piece_of Mover Lion) → at p e ≡ Some (piece_of Enemy Lion)
     → s < 12 → e < 12 → lions_before (mirrored_square s) (mirrored_square e) s e → Before (mirrored p) p
 unfolding Before
-image_before set p s e is own other low_s low_e less =
-    let image = IsPositionOf-mirrored set p is in
-    let mine = key-lions p s e (lion_square Mover set p s is own) (lion_square Enemy set p e is other) in
+image_before family p s e is own other low_s low_e less =
+    let image = IsPositionOf-mirrored family p is in
+    let mine = key-lions p s e (lion_square Mover family p s is own) (lion_square Enemy family p e is other) in
     let theirs = key-lions (mirrored p) (mirrored_square s) (mirrored_square e)
-    (lion_square Mover set (mirrored p) (mirrored_square s) image (lion-mirrored p Mover s low_s own))
-    (lion_square Enemy set (mirrored p) (mirrored_square e) image (lion-mirrored p Enemy e low_e other)) in
+    (lion_square Mover family (mirrored p) (mirrored_square s) image (lion-mirrored p Mover s low_s own))
+    (lion_square Enemy family (mirrored p) (mirrored_square e) image (lion-mirrored p Enemy e low_e other)) in
     subst (λ (xs : List ℕ). Precedes xs (key p)) (sym theirs)
     (subst (λ (xs : List ℕ). Precedes (counts_first (mirrored p) ++ (mirrored_square s ∷ mirrored_square e ∷ rest_of (mirrored p))) xs) (sym mine)
     (six_before (counts_first (mirrored p)) (counts_first p) (mirrored_square s) (mirrored_square e) s e (rest_of (mirrored p)) (rest_of p)
-    (counts_first-mirrored p is.legal.squares) less))
+    (counts_first-mirrored p is.of_set.legal.squares) less))
 
 pub either_true : (a b : Bool) → (a || b) ≡ true → (a ≡ true) ⊎ (b ≡ true)
 either_true true b h = inl refl
@@ -162,12 +163,12 @@ tells_before s e = is_home e s || (nat_lt 8 s || (nat_lt (mirrored_square s) s |
 all_tell : all_below (λ s. all_below (tells_before s) 12) 12 ≡ true
 all_tell = refl
 
-pub representative_home : (set : PieceSet) (p : Setup) (class s e : ℕ) → RepresentsIn set p class → at p s ≡ Some (piece_of Mover Lion)
+pub representative_home : (family : Family) (p : Setup) (class s e : ℕ) → RepresentsClass family p class → at p s ≡ Some (piece_of Mover Lion)
     → at p e ≡ Some (piece_of Enemy Lion)
     → is_home e s ≡ true
-representative_home set p class s e represents own other =
+representative_home family p class s e represents own other =
     let is = represents.0.0 in
-    let twelve = is.legal.squares in
+    let twelve = is.of_set.legal.squares in
     let in_s = within-from_piece p s (piece_of Mover Lion) own in
     let in_e = within-from_piece p e (piece_of Enemy Lion) other in
     let low_s : s < 12 = omega (arith, in_s, twelve) in
@@ -176,8 +177,8 @@ representative_home set p class s e represents own other =
     elim (either_true (is_home e s) _ told) [
       | inl home ↦ home
       | inr rest ↦ elim (either_true (nat_lt 8 s) _ rest) [
-        | inl far ↦ absurd (is.legal.home s (let high = ltb-true 8 s far in omega (arith, high)) own)
-        | inr image ↦ absurd (represents.0.1 (image_before set p s e is own other low_s low_e (lions image)))
+        | inl far ↦ absurd (is.of_set.legal.home s (let high = ltb-true 8 s far in omega (arith, high)) own)
+        | inr image ↦ absurd (represents.0.1 (image_before family p s e is own other low_s low_e (lions image)))
       ]
     ]
   where

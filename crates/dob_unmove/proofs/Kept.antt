@@ -1,26 +1,28 @@
 -- Taking a move back keeps the lions and the other pieces.
-use Rattle.std.proofs.Common.{◌≡◌, length, refl, sym, ap, ◌∙◌, subst, arith}
+use Rattle.std.proofs.Common.{◌≡◌, true, false, true≢false, length, refl, sym, ap, ◌∙◌, subst, arith}
 use Rattle.std.specs.List.{count_by}
 use Rattle.std.proofs.lemmas.List.{length-set}
-use Rattle.dob_pieces.specs.declared.piece_set.PieceSet.{PieceSet}
+use Rattle.dob_pieces.specs.declared.profile.Family.{Family}
 use Rattle.dob_pieces.specs.declared.kind.HandKind.{HandKind}
 use Rattle.dob_pieces.specs.declared.kind.Side.{Side}
 use Rattle.dob_pieces.specs.declared.kind.Side.TheVariants.{Mover, Enemy}
 use Rattle.dob_pieces.specs.declared.setup.Setup.{Setup}
 use Rattle.dob_pieces.specs.Pieces.{other_side}
+use Rattle.dob_pieces.specs.Profiles.{IsAllowed}
 use Rattle.dob_pieces.specs.Setups.{holds_lion, HasLions, HasFewPieces, HasLionOffFarRow, IsLegal, total, turned, mirrored}
 use Rattle.dob_pieces.proofs.Boards.{length-turned, HasFewPieces-turned, IsLegal-mirrored}
 use Rattle.dob_pieces.proofs.Symmetries.{turned-turned, turned-mirrored}
-use Rattle.dob_moves.proofs.Outcomes.{total-Goes, lions-Goes}
+use Rattle.dob_moves.proofs.Outcomes.{total-HasOutcome, lions-HasOutcome}
 use Rattle.dob_rank.specs.declared.bitboards.Bitboards.{Bitboards}
 use Rattle.dob_rank.specs.Bitboards.{AreBitboards, IsShown}
-use Rattle.dob_rank.specs.Order.{IsPositionOf}
-use Rattle.dob_rank.proofs.Found.{IsPositionOf-mirrored}
+use Rattle.dob_rank.specs.Families.{IsPositionOf}
+use Rattle.dob_rank.proofs.FamilyNumbers.{IsPositionOf-mirrored}
 use Rattle.dob_unmove.specs.declared.undo.Undo.{Undo}
 use Rattle.dob_unmove.specs.declared.undo.Undo.TheVariants.{Unstep, Unput}
-use Rattle.dob_unmove.specs.Undoes.{choice, earlier, CanUndo}
+use Rattle.dob_unmove.specs.Undoes.{choice, earlier, may_give_back, CanUndo}
 use Rattle.dob_unmove.specs.Classes.{IsTurned}
-use Rattle.dob_unmove.proofs.Undone.{Goes-from_undo}
+use Rattle.dob_unmove.proofs.Allowed.{IsAllowed-earlier, gives_back}
+use Rattle.dob_unmove.proofs.Undone.{HasOutcome-from_undo}
 
 length-earlier : (after : Setup) (u : Undo) → length (earlier after u).board ≡ length after.board
 unfolding earlier
@@ -32,10 +34,10 @@ module _ (q : Setup) (u : Undo) (twelve : length q.board ≡ 12) (can : CanUndo 
   squares-earlier = length-earlier (turned q) u ∙ length-turned q
 
   total-earlier : (kind : HandKind) → total kind q ≡ total kind (earlier (turned q) u)
-  total-earlier = total-Goes (earlier (turned q) u) (choice u) q (Goes-from_undo q u twelve can) squares-earlier
+  total-earlier = total-HasOutcome (earlier (turned q) u) (choice u) q (HasOutcome-from_undo q u twelve can) squares-earlier
 
   lions-earlier : (side : Side) → count_by (holds_lion side) q.board ≡ count_by (holds_lion (other_side side)) (earlier (turned q) u).board
-  lions-earlier = lions-Goes (earlier (turned q) u) (choice u) q (Goes-from_undo q u twelve can) squares-earlier
+  lions-earlier = lions-HasOutcome (earlier (turned q) u) (choice u) q (HasOutcome-from_undo q u twelve can) squares-earlier
 
   HasLions-earlier : HasLions q → HasLions (earlier (turned q) u)
   HasLions-earlier lions Mover = sym (lions-earlier Enemy) ∙ lions Enemy
@@ -56,16 +58,28 @@ legal_before after s u can t e home =
     subst IsLegal (sym before)
     (IsLegal-earlier t.0 u t.1.squares (subst (λ (x : Setup). CanUndo x u) t.2 can) t.1 (subst HasLionOffFarRow before home))
 
--- and it has the same pieces
-pub position_before : (set : PieceSet) (after p : Setup) (u : Undo) → CanUndo after u → IsTurned (IsPositionOf set) after → p ≡ earlier after u → IsLegal p
-    → IsPositionOf set p
-position_before set after p u can t e legal = record {
-  legal = legal;
-  pieces = λ kind.
-      ap (total kind) (e ∙ ap (λ (x : Setup). earlier x u) t.2)
-      ∙ sym (total-earlier t.0 u t.1.legal.squares (subst (λ (x : Setup). CanUndo x u) t.2 can) kind)
-      ∙ t.1.pieces kind;
-}
+-- and it has the same pieces, and the profile allows it where the piece that was caught may stand again
+pub position_before : (family : Family) (after p : Setup) (u : Undo) → CanUndo after u → may_give_back family.profile u ≡ true →
+    IsTurned (IsPositionOf family) after → p ≡ earlier after u → IsLegal p → IsPositionOf family p
+position_before family after p u can may t e legal =
+    let before : p ≡ earlier (turned t.0) u = e ∙ ap (λ (x : Setup). earlier x u) t.2 in
+    let can_there = subst (λ (x : Setup). CanUndo x u) t.2 can in
+    record {
+      of_set = record {
+        legal = legal;
+        pieces = λ kind. ap (total kind) before ∙ sym (total-earlier t.0 u t.1.of_set.legal.squares can_there kind) ∙ t.1.of_set.pieces kind;
+      };
+      allowed = subst (IsAllowed family.profile) (sym before)
+          (IsAllowed-earlier family.profile t.0 t.1.of_set.legal.squares u can_there t.1.allowed may);
+    }
+
+-- where the piece that was caught may not stand again no position of the family stood before
+pub barred : (family : Family) (after : Setup) (u : Undo) → CanUndo after u → IsTurned (IsPositionOf family) after →
+    may_give_back family.profile u ≡ false → ¬ IsPositionOf family (earlier after u)
+barred family after u can t isnt is =
+    let there = subst (λ (x : Setup). IsPositionOf family (earlier x u)) t.2 is in
+    let may = gives_back family.profile t.0 t.1.of_set.legal.squares u (subst (λ (x : Setup). CanUndo x u) t.2 can) there.of_set.legal.squares there.allowed in
+    true≢false (sym may ∙ isnt)
 
 pub squares_turned : (after : Setup) → IsTurned IsLegal after → length after.board ≡ 12
 squares_turned after t = ap (λ (s : Setup). length s.board) t.2 ∙ length-turned t.0
@@ -73,34 +87,35 @@ squares_turned after t = ap (λ (s : Setup). length s.board) t.2 ∙ length-turn
 pub few_turned : (after : Setup) → IsTurned IsLegal after → HasFewPieces after
 few_turned after t = subst HasFewPieces (sym t.2) (HasFewPieces-turned t.0 t.1.squares t.1.few)
 
-pub legal_turned : (set : PieceSet) (after : Setup) → IsTurned (IsPositionOf set) after → IsTurned IsLegal after
-legal_turned set after t = (t.0, t.1.legal, t.2)
+pub legal_turned : (family : Family) (after : Setup) → IsTurned (IsPositionOf family) after → IsTurned IsLegal after
+legal_turned family after t = (t.0, t.1.of_set.legal, t.2)
 
 -- what sets of squares show of it
-pub shown_before : (set : PieceSet) (after : Setup) (u : Undo) (bits found : Bitboards) → CanUndo after u → IsTurned (IsPositionOf set) after
+pub shown_before : (family : Family) (after : Setup) (u : Undo) (bits found : Bitboards) → CanUndo after u → may_give_back family.profile u ≡ true
+    → IsTurned (IsPositionOf family) after
     → HasLionOffFarRow (earlier after u) → AreBitboards after bits
-    → ((s : Setup) → CanUndo s u → length s.board ≡ 12 → AreBitboards s bits → AreBitboards (earlier s u) found) → IsShown set (earlier after u) found
-shown_before set after u bits found can t home are before =
-    let legal = legal_turned set after t in
+    → ((s : Setup) → CanUndo s u → length s.board ≡ 12 → AreBitboards s bits → AreBitboards (earlier s u) found) → IsShown family (earlier after u) found
+shown_before family after u bits found can may t home are before =
+    let legal = legal_turned family after t in
     record {
-      position = position_before set after (earlier after u) u can t refl (legal_before after (earlier after u) u can legal refl home);
+      position = position_before family after (earlier after u) u can may t refl (legal_before after (earlier after u) u can legal refl home);
       squares = before after can (squares_turned after legal) are;
     }
 
-pub position_mirrored : (set : PieceSet) (q image : Setup) → IsPositionOf set q → image ≡ mirrored q → IsPositionOf set image
-position_mirrored set q image is e = subst (IsPositionOf set) (sym e) (IsPositionOf-mirrored set q is)
+pub position_mirrored : (family : Family) (q image : Setup) → IsPositionOf family q → image ≡ mirrored q → IsPositionOf family image
+position_mirrored family q image is e = subst (IsPositionOf family) (sym e) (IsPositionOf-mirrored family q is)
 
 -- after a walk over the one position, for the walk over its mirror image
-pub turned_image : (set : PieceSet) (q image t s : Setup) → IsLegal q → image ≡ mirrored q → t ≡ turned q → s ≡ turned image → IsTurned (IsPositionOf set) t
-    → IsTurned (IsPositionOf set) s
-turned_image set q image t s legal im e f walked =
+pub turned_image : (family : Family) (q image t s : Setup) → IsLegal q → image ≡ mirrored q → t ≡ turned q → s ≡ turned image → IsTurned (IsPositionOf family) t
+    → IsTurned (IsPositionOf family) s
+turned_image family q image t s legal im e f walked =
     let same : walked.0 ≡ q
-    = sym (turned-turned walked.0 walked.1.legal.squares) ∙ ap turned (sym walked.2 ∙ e) ∙ turned-turned q legal.squares in
-    (image, position_mirrored set q image (subst (IsPositionOf set) same walked.1) im, f)
+    = sym (turned-turned walked.0 walked.1.of_set.legal.squares) ∙ ap turned (sym walked.2 ∙ e) ∙ turned-turned q legal.squares in
+    (image, position_mirrored family q image (subst (IsPositionOf family) same walked.1) im, f)
 
 -- the mirror image of a turned position is a turned one
 pub turned_legal : (q t : Setup) → IsLegal q → t ≡ mirrored (turned q) → IsTurned IsLegal t
 turned_legal q t legal e = (mirrored q, IsLegal-mirrored q legal, e ∙ sym (turned-mirrored q))
 
-pub turned_position : (set : PieceSet) (q t : Setup) → IsPositionOf set q → t ≡ mirrored (turned q) → IsTurned (IsPositionOf set) t
-turned_position set q t is e = (mirrored q, IsPositionOf-mirrored set q is, e ∙ sym (turned-mirrored q))
+pub turned_position : (family : Family) (q t : Setup) → IsPositionOf family q → t ≡ mirrored (turned q) → IsTurned (IsPositionOf family) t
+turned_position family q t is e = (mirrored q, IsPositionOf-mirrored family q is, e ∙ sym (turned-mirrored q))

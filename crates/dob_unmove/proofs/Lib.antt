@@ -6,6 +6,7 @@ pub mod Listed  -- the list has each way that can undo the last move
 pub mod Once  -- and no way twice
 pub mod Shapes  -- where the ways of a list end, and from where they come
 pub mod Hands  -- what the hands hold
+pub mod Allowed  -- and leads to a setup that the profile allows
 pub mod Kept  -- taking a move back keeps the lions and the other pieces
 -- Counts of the moves that lead into a class.
 pub mod Counting  -- what all ways add counts the moves
@@ -23,7 +24,5 @@ pub mod Standing  -- which ways a piece can have made
 pub mod WayMasks  -- the masks of the ways
 pub mod OwnImages  -- positions that are their own mirror images
 pub mod ImageMasks  -- masks of mirror images
-pub mod BitChanges  -- sets of squares when one square changes
 pub mod BitUndone  -- and when a move is taken back
-pub mod BitImages  -- masks and mirror images of sets of squares
 pub mod OwnKinds  -- the mover's piece on a square

@@ -1,6 +1,7 @@
 -- Before a move some piece could catch the enemy lion exactly where one that didn't move attacks it, or the one that moved
 -- did from where it stood.
 use Rattle.std.proofs.Common.{◌≡◌, ◌≢◌, ℕ, suc, ◌-◌, ◌<◌, ◌==◌, if◌then◌else◌, not, Bool, true, false, true≢false, Option, Some, None, length, set, refl, sym}
+use Rattle.dob_pieces.specs.declared.profile.Profile.TheVariants.{A}
 use Rattle.std.proofs.Common.{ap, ◌∙◌, subst, inl, inr, arith}
 use Rattle.std.proofs.lemmas.Bool.{cases_Bool, cases_lt, cases_eq, eq-eqb, ne_eqb}
 use Rattle.std.proofs.lemmas.List.{length-set, get_or_past, get_or-set_same, get_or-set_other}
@@ -17,7 +18,7 @@ use Rattle.dob_pieces.specs.Pieces.{leads, kind_on_board}
 use Rattle.dob_pieces.specs.Setups.{Cell, at, piece_of, HasLions, IsLegal, turned_cell}
 use Rattle.dob_pieces.proofs.Boards.{length-turned, at-turned, HasLions-turned, one_lion, within-from_piece, leads-to_board, leads-apart}
 use Rattle.dob_moves.specs.declared.game_move.Move.TheVariants.{Step, Put}
-use Rattle.dob_moves.specs.Moves.{Goes, CanGo}
+use Rattle.dob_moves.specs.Moves.{HasOutcome, CanGo}
 use Rattle.dob_moves.specs.declared.position_status.Status.TheVariants.{Open}
 use Rattle.dob_moves.specs.Statuses.{CanCatch, HasTried, HasStatus}
 use Rattle.dob_moves.proofs.Turns.{kind_of, sides_apart, turned_lion}
@@ -29,7 +30,7 @@ use Rattle.dob_unmove.specs.declared.undo.Undo.{Undo}
 use Rattle.dob_unmove.specs.declared.undo.Undo.TheVariants.{Unstep, Unput}
 use Rattle.dob_unmove.specs.Classes.{IsTurned}
 use Rattle.dob_unmove.specs.Undoes.{choice, arrives_at, enemy_cell, earlier, CanGiveBack, CanUnstep, CanUndo}
-use Rattle.dob_unmove.proofs.Undone.{Goes-from_undo}
+use Rattle.dob_unmove.proofs.Undone.{HasOutcome-from_undo}
 use Rattle.dob_pieces.specs.Masks.{attacks_by, attacks}
 use Rattle.dob_unmove.specs.Threats.{elsewhere, stood_before, AreAttackers, IsThreat}
 
@@ -303,12 +304,12 @@ module _ (after : Setup) (threat : Threat) (t : IsTurned IsLegal after) (h : IsT
       sym (at-turned t.0 tried.0 (let low = tried.1 in omega (arith, low))) ∙ ap (λ (x : Setup). at x tried.0) (sym t.2) ∙ now in
       t.1.home (11 - tried.0) (let low = tried.1 in omega (arith, low)) (turned_lion Enemy (at t.0 (11 - tried.0)) seen)
 
-  goes_again : (u : Undo) → CanUndo after u → CanGo (earlier after u) (choice u)
+  goes_again : (u : Undo) → CanUndo after u → CanGo A (earlier after u) (choice u)
   goes_again u can =
-      (t.0, subst (λ (x : Setup). Goes (earlier x u) (choice u) t.0) (sym t.2) (Goes-from_undo t.0 u t.1.squares (subst (λ (x : Setup). CanUndo x u) t.2 can)))
+      (t.0, subst (λ (x : Setup). HasOutcome (earlier x u) (choice u) t.0) (sym t.2) (HasOutcome-from_undo t.0 u t.1.squares (subst (λ (x : Setup). CanUndo x u) t.2 can)))
 
   -- before a move the position was open unless a piece attacked the enemy lion
-  pub was_open : (u : Undo) → CanUndo after u → stood_before threat u ≡ false → HasStatus (earlier after u) Open
+  pub was_open : (u : Undo) → CanUndo after u → stood_before threat u ≡ false → HasStatus A (earlier after u) Open
   was_open u can calm = (
     (λ catching. true≢false (sym ((stood_is u can).1 catching) ∙ calm)),
     untried u can,
@@ -316,5 +317,5 @@ module _ (after : Setup) (threat : Threat) (t : IsTurned IsLegal after) (h : IsT
   )
 
   -- and where one did it wasn't
-  pub was_not_open : (u : Undo) → CanUndo after u → stood_before threat u ≡ true → ¬ HasStatus (earlier after u) Open
+  pub was_not_open : (u : Undo) → CanUndo after u → stood_before threat u ≡ true → ¬ HasStatus A (earlier after u) Open
   was_not_open u can stood open_then = open_then.0 ((stood_is u can).0 stood)

@@ -17,7 +17,7 @@ use Rattle.dob_pieces.proofs.Boards.{length-turned, within-from_piece, leads-to_
 use Rattle.dob_pieces.proofs.Symmetries.{turned-turned}
 use Rattle.dob_moves.specs.declared.game_move.Move.{Move}
 use Rattle.dob_moves.specs.declared.game_move.Move.TheVariants.{Step, Put}
-use Rattle.dob_moves.specs.Moves.{Goes, Steps, Drops, CanTake, hands_after_catch, grows_at}
+use Rattle.dob_moves.specs.Moves.{HasOutcome, Steps, Drops, CanTake, hands_after_catch, grows_at}
 use Rattle.dob_unmove.specs.declared.undo.Undo.{Undo}
 use Rattle.dob_unmove.specs.declared.undo.Undo.TheVariants.{Unstep, Unput}
 use Rattle.dob_unmove.specs.Undoes.{choice, arrives_at, enemy_cell, without_caught, earlier, CanGiveBack, CanUnstep, CanUndo}
@@ -61,12 +61,12 @@ setup_of board hands = record { board = board; hands = hands }
 -- ---- what can be undone was a move
 
 goes_free : (p q : Setup) (kind : Kind) (from to : ℕ) (grows : Bool) → grows_at kind to ≡ grows → at p to ≡ None
-    → Steps p kind from to (cond grows Hen kind) p.hands q → Goes p (Step kind from to false grows) q
+    → Steps p kind from to (cond grows Hen kind) p.hands q → HasOutcome p (Step kind from to false grows) q
 goes_free p q kind from to false e free s = (e, free, s)
 goes_free p q kind from to true e free s = (e, free, s)
 
 goes_catch : (p q : Setup) (kind : Kind) (from to : ℕ) (grows : Bool) (taken : HandKind) → grows_at kind to ≡ grows → CanTake p to taken
-    → Steps p kind from to (cond grows Hen kind) (hands_after_catch p.hands taken) q → Goes p (Step kind from to true grows) q
+    → Steps p kind from to (cond grows Hen kind) (hands_after_catch p.hands taken) q → HasOutcome p (Step kind from to true grows) q
 goes_catch p q kind from to false taken e take s = (e, taken, take, s)
 goes_catch p q kind from to true taken e take s = (e, taken, take, s)
 
@@ -84,7 +84,7 @@ module _ (q : Setup) (twelve : length q.board ≡ 12) (kind : Kind) (from to : �
   unfolding earlier
   at_from = get_or-set_same (set (turned q).board to (enemy_cell caught)) from (Some (piece_of Mover kind)) None (rw length-set from_on_board)
 
-  at_to : at (earlier (turned q) (Unstep kind from to caught)) to ≡ enemy_cell caught
+  pub at_to : at (earlier (turned q) (Unstep kind from to caught)) to ≡ enemy_cell caught
   unfolding earlier
   at_to =
       get_or-set_other (set (turned q).board to (enemy_cell caught)) from to (Some (piece_of Mover kind)) None apart
@@ -111,15 +111,15 @@ caught_hands : (hands : Hands) (caught : Kind) (taken : HandKind) → kind_in_ha
 caught_hands hands caught taken e some =
     rw e (ap (λ (h : Hand). record hands { mover = h }) (one_more-less hands.mover taken some))
 
-pub Goes-from_undo : (q : Setup) (u : Undo) → length q.board ≡ 12 → CanUndo (turned q) u → Goes (earlier (turned q) u) (choice u) q
+pub HasOutcome-from_undo : (q : Setup) (u : Undo) → length q.board ≡ 12 → CanUndo (turned q) u → HasOutcome (earlier (turned q) u) (choice u) q
 unfolding earlier
-Goes-from_undo q (Unstep kind from to None) twelve u =
+HasOutcome-from_undo q (Unstep kind from to None) twelve u =
     goes_free _ q kind from to (grows_at kind to) refl (at_to q twelve kind from to None u) (steps_back q twelve kind from to None u (turned q).hands refl)
-Goes-from_undo q (Unstep kind from to (Some caught)) twelve u =
+HasOutcome-from_undo q (Unstep kind from to (Some caught)) twelve u =
     let hands = caught_hands (turned q).hands caught u.in_hand.0 u.in_hand.1 u.in_hand.2 in
     goes_catch _ q kind from to (grows_at kind to) u.in_hand.0 refl (caught, at_to q twelve kind from to (Some caught) u, u.in_hand.1)
     (steps_back q twelve kind from to (Some caught) u _ hands)
-Goes-from_undo q (Unput kind to) twelve u =
+HasOutcome-from_undo q (Unput kind to) twelve u =
     let here : to < length (turned q).board = within-from_piece (turned q) to (piece_of Mover (kind_on_board kind)) u in
     record {
       in_hand = some_after_more (turned q).hands.mover kind;
@@ -209,18 +209,18 @@ hands_before : (hands : Hands) (caught : Kind) (taken : HandKind) → kind_in_ha
     → record (hands_after_catch hands taken) { mover = without_caught (hands_after_catch hands taken).mover (Some caught) } ≡ hands
 hands_before hands caught taken e = rw e (ap (λ (h : Hand). record hands { mover = h }) (one_less-more hands.mover taken))
 
-pub undo_from_Goes : (p : Setup) (m : Move) (q : Setup) → length p.board ≡ 12 → Goes p m q → (u : Undo) × Undoes p m (turned q) u
-undo_from_Goes p (Step kind from to false false) q twelve g =
+pub undo_from_HasOutcome : (p : Setup) (m : Move) (q : Setup) → length p.board ≡ 12 → HasOutcome p m q → (u : Undo) × Undoes p m (turned q) u
+undo_from_HasOutcome p (Step kind from to false false) q twelve g =
     step_undone p twelve kind from to None p.hands g.2.own g.2.leads g.1 tt refl q false g.0 g.2
-undo_from_Goes p (Step kind from to false true) q twelve g =
+undo_from_HasOutcome p (Step kind from to false true) q twelve g =
     step_undone p twelve kind from to None p.hands g.2.own g.2.leads g.1 tt refl q true g.0 g.2
-undo_from_Goes p (Step kind from to true false) q twelve g =
+undo_from_HasOutcome p (Step kind from to true false) q twelve g =
     step_undone p twelve kind from to (Some g.2.0) (hands_after_catch p.hands g.1) g.3.own g.3.leads g.2.1
     (g.1, g.2.2, some_after_more p.hands.mover g.1) (hands_before p.hands g.2.0 g.1 g.2.2) q false g.0 g.3
-undo_from_Goes p (Step kind from to true true) q twelve g =
+undo_from_HasOutcome p (Step kind from to true true) q twelve g =
     step_undone p twelve kind from to (Some g.2.0) (hands_after_catch p.hands g.1) g.3.own g.3.leads g.2.1
     (g.1, g.2.2, some_after_more p.hands.mover g.1) (hands_before p.hands g.2.0 g.1 g.2.2) q true g.0 g.3
-undo_from_Goes p (Put kind to) q twelve d = drop_undone p q kind to twelve d
+undo_from_HasOutcome p (Put kind to) q twelve d = drop_undone p q kind to twelve d
 
 -- ---- two ways never take the same move back to the same setup
 

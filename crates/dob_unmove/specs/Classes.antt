@@ -2,7 +2,7 @@
 use Rattle.std.specs.Prelude.{◌≡◌}
 use Rattle.dob_pieces.specs.declared.setup.Setup.{Setup}
 use Rattle.dob_pieces.specs.Setups.{turned}
-pub use Rattle.dob_rank.specs.Order.{RepresentsIn}
+pub use Rattle.dob_rank.specs.Families.{RepresentsClass}
 
 -- it is such a setup, seen from the other side
 abbrev pub IsTurned : (Setup → Type 0) → Setup → Type 0

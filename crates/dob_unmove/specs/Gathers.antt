@@ -1,5 +1,6 @@
 -- The numbers that are gathered when the ways to take a move back are gone through.
 use Rattle.std.specs.Prelude.{◌≡◌, ℕ, ◌++◌, [], ◌∷◌, List, Option}
+use Rattle.dob_pieces.specs.declared.profile.Profile.TheVariants.{A}
 use Rattle.std.specs.Option.{MatchOption, option_to_list}
 use Rattle.dob_pieces.specs.declared.setup.Setup.{Setup}
 use Rattle.dob_moves.specs.declared.position_status.Status.TheVariants.{Open}
@@ -9,7 +10,7 @@ use Rattle.dob_unmove.specs.Undoes.{earlier}
 
 -- the setup is an open position, and the representative of that class
 abbrev pub IsOpenRepresentative : (Setup → ℕ → Type 0) → Setup → ℕ → Type 0
-IsOpenRepresentative Represents p class = Represents p class × HasStatus p Open
+IsOpenRepresentative Represents p class = Represents p class × HasStatus A p Open
 
 -- the class of which the setup is the representative, if it is an open position and one
 abbrev pub Finds : (Setup → ℕ → Type 0) → Setup → Option ℕ → Type 0

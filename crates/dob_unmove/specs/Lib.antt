@@ -1,5 +1,4 @@
 pub mod Undoes
-pub mod Changes
 pub mod Walks
 pub mod Unmoves
 pub mod Edges
@@ -7,3 +6,4 @@ pub mod Gathers
 pub mod Classes
 pub mod Threats
 pub mod Ways
+pub mod Ends

@@ -1,13 +1,15 @@
 -- What a move was, and what stood and lay where before it, by the way in which it is taken back.
-use Rattle.std.specs.Prelude.{◌≡◌, ℕ, ◌<◌, true, cond, Option, Some, None, slice_set}
+use Rattle.std.specs.Prelude.{◌≡◌, ℕ, ◌<◌, Bool, true, cond, Option, Some, None, slice_set}
 use Rattle.std.specs.Option.{is_some}
 use Rattle.dob_pieces.specs.declared.kind.Kind.{Kind}
 use Rattle.dob_pieces.specs.declared.kind.Kind.TheVariants.{Hen}
 use Rattle.dob_pieces.specs.declared.kind.HandKind.{HandKind}
 use Rattle.dob_pieces.specs.declared.kind.Side.TheVariants.{Mover, Enemy}
 use Rattle.dob_pieces.specs.declared.hand.Hand.{Hand}
+use Rattle.dob_pieces.specs.declared.profile.Profile.{Profile}
 use Rattle.dob_pieces.specs.declared.setup.Setup.{Setup}
 use Rattle.dob_pieces.specs.Pieces.{leads, kind_in_hand, kind_on_board}
+use Rattle.dob_pieces.specs.Profiles.{may_stand}
 use Rattle.dob_pieces.specs.Setups.{Cell, at, held, piece_of, with_one_more, with_one_less}
 use Rattle.dob_moves.specs.declared.game_move.Move.{Move}
 use Rattle.dob_moves.specs.declared.game_move.Move.TheVariants.{Step, Put}
@@ -48,6 +50,11 @@ earlier after (Unput kind to) = record {
   board = slice_set after.board to None;
   hands = record after.hands { mover = with_one_more after.hands.mover kind };
 }
+
+-- the profile lets the piece that was caught stand where it was
+abbrev pub may_give_back : Profile → Undo → Bool
+may_give_back profile (Unstep kind from to caught) = may_stand profile to (enemy_cell caught)
+may_give_back profile (Unput kind to) = true
 
 -- the hand has the piece that was caught, if there is one
 abbrev pub CanGiveBack : Hand → Option Kind → Type 0

@@ -10,10 +10,7 @@ use Rattle.dob_pieces.specs.Setups.{Cell, at, piece_of}
 use Rattle.dob_pieces.specs.Masks.{IsMask, AreMasks, is_own, is_empty, is_piece}
 use Rattle.dob_unmove.specs.declared.attackers.Threat.{Threat}
 use Rattle.dob_unmove.specs.declared.ways.Ways.{Ways}
-use Rattle.dob_pieces.specs.declared.piece_set.PieceSet.{PieceSet}
 use Rattle.dob_rank.specs.Bitboards.{AreBitboards}
-use Rattle.dob_rank.specs.Order.{IsPositionOf}
-use Rattle.dob_unmove.specs.Classes.{IsTurned}
 use Rattle.dob_unmove.specs.Threats.{elsewhere, IsThreat}
 
 -- Where the mover's lion of a representative stands, by the square of the enemy's: off row 4, and on column a, or on b unless
@@ -55,11 +52,6 @@ pub record AreWays (after : Setup) (ways : Ways) : Type 0 where
   pub stays : Bool
   pub home_is : TellsHome after ways.threat.lion stays
   pub ends_are : IsMask (may_end after ways.threat stays) ways.ends
-
--- the setup after a move of positions of the set, and what is known of it
-pub record CanWalk (set : PieceSet) (after : Setup) (ways : Ways) : Type 0 where
-  pub of_set : IsTurned (IsPositionOf set) after
-  pub ways_are : AreWays after ways
 
 -- the mover's piece that stands there is of that kind, or none of the mover's does
 abbrev pub IsOwnKind : Cell → Option Kind → Type 0

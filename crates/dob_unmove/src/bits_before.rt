@@ -6,7 +6,7 @@ ghost use Rattle.dob_pieces.specs.declared.setup.Setup.{Setup};
 ghost use Rattle.dob_pieces.specs.Setups.{at, held, piece_of, HasFewPieces};
 ghost use Rattle.dob_rank.specs.Bitboards.{AreBitboards};
 ghost use Rattle.dob_unmove.specs.declared.undo.Undo.{Undo};
-ghost use Rattle.dob_unmove.specs.Changes.{IsWith};
+ghost use Rattle.dob_rank.specs.Changes.{IsWith};
 ghost use Rattle.dob_unmove.specs.Undoes.{CanUndo, earlier, enemy_cell};
 
 use crate::earlier::without_caught;

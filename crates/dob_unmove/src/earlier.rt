@@ -1,14 +1,15 @@
 // The position before a move.
 ghost use Rattle.std.specs.Prelude.{◌≡◌, MatchOption};
+ghost use Rattle.dob_pieces.specs.declared.profile.Profile.TheVariants.{A};
 ghost use Rattle.dob_pieces.specs.Setups.{HasFewPieces, IsLegal};
 ghost use Rattle.dob_moves.specs.Statuses.{HasStatus};
 ghost use Rattle.dob_moves.specs.declared.position_status.Status.TheVariants.{Open};
-ghost use Rattle.dob_unmove.specs.Undoes.{CanGiveBack, CanUndo, without_caught, enemy_cell, earlier};
+ghost use Rattle.dob_unmove.specs.Undoes.{CanGiveBack, CanUndo, without_caught, enemy_cell, may_give_back, earlier};
 ghost use Rattle.dob_unmove.specs.Unmoves.{IsOpenPosition};
 ghost use Rattle.dob_unmove.specs.Classes.{IsTurned};
 
 use crate::undo::Undo;
-use dob_pieces::{Hand, HandKind, Hands, Kind, Piece, Position, Setup, Side, Square};
+use dob_pieces::{Hand, HandKind, Hands, Kind, Piece, Position, Profile, Setup, Side, Square};
 
 /// The position before the move, where there was one, if by its status it would be open. In `after` the side that made
 /// the move is still the mover; seen from the other side it is a position. Taking a move back keeps the lions and the
@@ -16,8 +17,8 @@ use dob_pieces::{Hand, HandKind, Hands, Kind, Piece, Position, Setup, Side, Squa
 pub(crate) fn open_before(after: &Setup, undo: Undo) -> Option<Position>
     requires can { CanUndo after.now undo }
     requires legal { IsTurned IsLegal after.now }
-    requires was_open { HasStatus (earlier after.now undo) Open }
-    ensures { MatchOption result (¬ IsOpenPosition (earlier after.now undo)) (λ p. (p.setup ≡ earlier after.now undo) × HasStatus p.setup Open) }
+    requires was_open { HasStatus A (earlier after.now undo) Open }
+    ensures { MatchOption result (¬ IsOpenPosition (earlier after.now undo)) (λ p. (p.setup ≡ earlier after.now undo) × HasStatus A p.setup Open) }
 {
     let setup = earlier(after, undo);
     if setup.has_lion_off_far_row() {
@@ -81,6 +82,16 @@ fn before_put(after: &Setup, kind: HandKind, to: Square) -> Setup
             mover,
             enemy: after.hands.enemy,
         },
+    }
+}
+
+/// Whether the profile lets the piece that was caught stand where it was: in profile B no chick on row 1.
+pub(crate) fn may_give_back(profile: Profile, undo: &Undo) -> bool
+    ensures { result ≡ may_give_back profile undo.now }
+{
+    match undo {
+        Undo::Unstep { to, caught, .. } => profile.may_stand(*to, enemy_cell(*caught)),
+        Undo::Unput { .. } => true,
     }
 }
 

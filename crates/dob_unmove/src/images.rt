@@ -1,13 +1,11 @@
-// What the sets of squares of a setup say of its masks, and of the sets of its mirror image: no look at a board.
+// What the sets of squares of a setup say of those of its mirror image: no look at a board.
 ghost use Rattle.std.specs.Prelude.{ℕ, Bool};
-ghost use Rattle.dob_pieces.specs.Masks.{IsMask, AreMasks};
+ghost use Rattle.dob_pieces.specs.Masks.{IsMask};
 ghost use Rattle.dob_pieces.specs.Setups.{mirrored};
 ghost use Rattle.dob_pieces.specs.Squares.{mirrored_square};
 ghost use Rattle.dob_pieces.specs.declared.setup.Setup.{Setup};
 ghost use Rattle.dob_rank.specs.Bitboards.{AreBitboards};
 
-use crate::ways::ALL;
-use dob_pieces::Masks;
 use dob_rank::Bitboards;
 
 /// The squares of column a, the lowest of the three of each row, and those of column b.
@@ -35,24 +33,5 @@ pub(crate) fn mirrored_bits(bits: &Bitboards) -> Bitboards
         hens: mirrored_mask(bits.hens),
         enemies: mirrored_mask(bits.enemies),
         hands: bits.hands,
-    }
-}
-
-/// The masks of the setup.
-pub(crate) fn masks_of(bits: &Bitboards) -> Masks
-    ensures { (setup : Setup) → AreBitboards setup bits.now → AreMasks setup result }
-{
-    let pieces = bits.chicks | bits.elephants | bits.giraffes;
-    let empty = ALL & !(bits.own_lion | bits.enemy_lion | pieces);
-    Masks {
-        lion: bits.own_lion,
-        giraffes: bits.giraffes & !bits.enemies,
-        elephants: bits.elephants & !bits.enemies,
-        chicks: bits.chicks & !(bits.hens | bits.enemies),
-        hens: bits.hens & !bits.enemies,
-        own: bits.own_lion | pieces & !bits.enemies,
-        ends: empty | bits.enemies,
-        empty,
-        enemy_lion: bits.enemy_lion,
     }
 }

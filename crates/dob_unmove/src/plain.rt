@@ -1,19 +1,20 @@
 // The plain program of predecessors: each way back square by square, as the definitions go, and the setup before each
 // made anew. It is for comparisons with the walk by masks, which a test and a measurement make; nothing else calls it.
 ghost use Rattle.std.specs.Prelude.{◌≡◌, ◌<◌, ℕ, IfOk, MatchOption};
+ghost use Rattle.dob_pieces.specs.declared.profile.Profile.TheVariants.{A};
 ghost use Rattle.dob_pieces.specs.declared.setup.Setup.{Setup};
-ghost use Rattle.dob_rank.specs.Order.{IsPositionOf};
-ghost use Rattle.dob_rank.specs.Marks.{classes_of};
+ghost use Rattle.dob_rank.specs.Families.{IsPositionOf};
+ghost use Rattle.dob_rank.specs.Families.{classes_of};
 ghost use Rattle.dob_unmove.specs.declared.undo.Undo.{Undo};
 ghost use Rattle.dob_unmove.specs.Undoes.{CanUndo, earlier};
 ghost use Rattle.dob_unmove.specs.Unmoves.{CountEdges, ArePredecessors};
 ghost use Rattle.dob_unmove.specs.Edges.{predecessors};
-ghost use Rattle.dob_unmove.specs.Classes.{IsTurned, RepresentsIn};
+ghost use Rattle.dob_unmove.specs.Classes.{IsTurned, RepresentsClass};
 ghost use Rattle.dob_unmove.specs.Gathers.{Finds, Adds};
 ghost use Rattle.dob_unmove.specs.Threats.{IsThreat};
 
 use crate::attackers::Threat;
-use crate::earlier::open_before;
+use crate::earlier::{may_give_back, open_before};
 use crate::undo::Undo;
 use crate::walk::{Taker, take_all};
 use dob_pieces::{Memory, Position, Setup};
@@ -28,9 +29,9 @@ struct Gathered<'a> {
 }
 
 impl Taker for Gathered<'_> {
-    ghost suits = { λ after gathered. IsTurned (IsPositionOf gathered.classes.now.set) after × IsThreat after gathered.threat };
+    ghost suits = { λ after gathered. IsTurned (IsPositionOf gathered.classes.now.family) after × IsThreat after gathered.threat };
 
-    ghost takes = { λ after old undo new. (new.classes ≡ old.classes) × Adds (RepresentsIn old.classes.now.set) after undo old.found.items new.found.items };
+    ghost takes = { λ after old undo new. (new.classes ≡ old.classes) × Adds (RepresentsClass old.classes.now.family) after undo old.found.items new.found.items };
 
     fn take(&mut self, after: &Setup, undo: Undo) -> Result<(), Memory> {
         if let Some(class) = class_before(self.classes, after, &self.threat, undo) {
@@ -43,23 +44,27 @@ impl Taker for Gathered<'_> {
 // The class whose representative stood there before the move, if a representative did and was open.
 fn class_before(classes: &Classes, after: &Setup, threat: &Threat, undo: Undo) -> Option<u64>
     requires can { CanUndo after.now undo }
-    requires of_set { IsTurned (IsPositionOf classes.now.set) after.now }
+    requires of_set { IsTurned (IsPositionOf classes.now.family) after.now }
     requires threat { IsThreat after.now threat.now }
-    ensures { Finds (RepresentsIn classes.now.set) (earlier after.now undo) result }
+    ensures { Finds (RepresentsClass classes.now.family) (earlier after.now undo) result }
 {
     if threat.stood_before(&undo) {
         return None;
     }
-    match open_before(after, undo) {
-        None => None,
-        Some(position) => class_if_representative(classes, &position),
+    if may_give_back(classes.family.profile, &undo) {
+        match open_before(after, undo) {
+            None => None,
+            Some(position) => class_if_representative(classes, &position),
+        }
+    } else {
+        None
     }
 }
 
-// The class whose representative the position of the set is; `None` where it is none.
+// The class whose representative the position of the family is; `None` where it is none.
 pub(crate) fn class_if_representative(classes: &Classes, position: &Position) -> Option<u64>
-    requires { IsPositionOf classes.now.set position.now.setup }
-    ensures { MatchOption result (¬ ((class : ℕ) × RepresentsIn classes.now.set position.now.setup class)) (RepresentsIn classes.now.set position.now.setup) }
+    requires { IsPositionOf classes.now.family position.now.setup }
+    ensures { MatchOption result (¬ ((class : ℕ) × RepresentsClass classes.now.family position.now.setup class)) (RepresentsClass classes.now.family position.now.setup) }
 {
     classes.class_of_representative(position)
 }
@@ -67,8 +72,8 @@ pub(crate) fn class_if_representative(classes: &Classes, position: &Position) ->
 // The classes from which moves lead to the representative of a class or to its mirror image, in the order of the walk, in
 // the room of that list.
 fn gather(room: Vec<u64>, classes: &Classes, representative: &Position) -> Result<Vec<u64>, Memory>
-    requires { (class : ℕ) × RepresentsIn classes.now.set representative.now.setup class }
-    ensures { IfOk result (λ list. CountEdges (RepresentsIn classes.now.set) representative.now.setup list.items) }
+    requires { (class : ℕ) × RepresentsClass classes.now.family representative.now.setup class }
+    ensures { IfOk result (λ list. CountEdges A (RepresentsClass classes.now.family) representative.now.setup list.items) }
 {
     let mut found = room;
     found.clear();
@@ -92,9 +97,9 @@ fn gather(room: Vec<u64>, classes: &Classes, representative: &Position) -> Resul
 /// The classes from which moves lead into the class, ascending, each as often as moves of its representative lead
 /// there, in the room of a list; what it held is gone. Err where no memory was left for it to grow.
 pub fn back_into(room: Vec<u64>, classes: &Classes, class: u64) -> Result<Vec<u64>, Memory>
-    requires { class < classes_of classes.now.set }
-    ensures counts { IfOk result (λ list. (q : Setup) → RepresentsIn classes.now.set q class → ArePredecessors (RepresentsIn classes.now.set) q list.items) }
-    ensures list { IfOk result (λ list. list.items ≡ predecessors classes.now.set class) }
+    requires { class < classes_of classes.now.family }
+    ensures counts { IfOk result (λ list. (q : Setup) → RepresentsClass classes.now.family q class → ArePredecessors classes.now.family.profile (RepresentsClass classes.now.family) q list.items) }
+    ensures list { IfOk result (λ list. list.items ≡ predecessors classes.now.family class) }
 {
     let mut numbers = gather(room, classes, &classes.class_at(class))?;
     numbers.sort_unstable();

@@ -11,10 +11,10 @@ ghost use Rattle.dob_unmove.specs.Ways.{is_home, comes_home, may_come, AreWays, 
 ghost use Rattle.dob_unmove.specs.Walks.{holds_caught};
 
 use crate::attackers::{Attackers, Threat};
-use crate::images::masks_of;
 use crate::walk::holds_caught;
 use dob_pieces::{Kind, Masks, Setup, Square};
 use dob_rank::Bitboards;
+use std::snapshot::Snapshot;
 
 /// All squares. Of the twelve bits of a mask the lowest three are row 1, and of the three of a row the lowest is column a.
 pub(crate) const ALL: u16 = 0b111_111_111_111;
@@ -75,7 +75,7 @@ impl Ways {
         requires bits { AreBitboards after.now bits }
         ensures { AreWays after.now result }
     {
-        let masks = masks_of(&bits);
+        let masks = bits.masks();
         let threat = Threat::by(after, &masks);
         let homes = homes_of(threat.lion);
         let calm = masks.own & calm_ends(threat.attackers);
@@ -133,9 +133,9 @@ impl Ways {
     }
 
     /// Whether the mover holds what a caught piece of that kind became. The setup only says of what the answer is so.
-    pub(crate) fn holds_caught(&self, after: &Setup, caught: Kind) -> bool
-        requires { AreWays after.now self.now }
-        ensures { result ≡ holds_caught after.now.hands.mover caught }
+    pub(crate) fn holds_caught(&self, after: &Snapshot<Setup>, caught: Kind) -> bool
+        requires { AreWays after.now.value self.now }
+        ensures { result ≡ holds_caught after.now.value.hands.mover caught }
     {
         let _ = after;
         holds_caught(&self.bits.hands.mover, caught)

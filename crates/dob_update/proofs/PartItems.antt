@@ -10,7 +10,7 @@ use Rattle.dob_share.specs.declared.news.Settlement.{Settlement}
 use Rattle.dob_share.specs.declared.news.Item.{Item}
 use Rattle.dob_value.specs.declared.value.Value.TheVariants.{Win}
 use Rattle.dob_update.specs.declared.part.Part.{Part}
-use Rattle.dob_pieces.specs.declared.piece_set.PieceSet.{PieceSet}
+use Rattle.dob_pieces.specs.declared.profile.Family.{Family}
 use Rattle.dob_share.specs.Owners.{owner_of}
 use Rattle.dob_unmove.specs.Edges.{predecessors}
 use Rattle.dob_update.specs.Items.{item_for, items_of}
@@ -213,17 +213,17 @@ total-push [] part = omega arith
 total-push (first ∷ parts) part = let later = total-push parts part in omega (arith, later)
 
 -- one settlement more adds its items after the others
-pub items_added : (set : PieceSet) (n to : ℕ) (parts : List Part) (classes : List ℕ) (s : Settlement) (more : List Item) → total parts ≡ length classes
-    → more ≡ items_of (predecessors set) n to s
+pub items_added : (family : Family) (n to : ℕ) (parts : List Part) (classes : List ℕ) (s : Settlement) (more : List Item) → total parts ≡ length classes
+    → more ≡ items_of (predecessors family) n to s
     → items_of_parts (parts ++ (record { settlement = s; items = length more }) ∷ []) (classes ++ map target_of more) ≡ items_of_parts parts classes ++ more
-items_added set n to parts classes s more all is =
+items_added family n to parts classes s more all is =
     items_of_parts-push parts (record { settlement = s; items = length more }) classes (map target_of more) all (sym (length-map more target_of))
-    ∙ ap (λ (xs : List Item). items_of_parts parts classes ++ xs) (items_again s more (filter (λ class. owner_of n class == to) (predecessors set s.class)) is)
+    ∙ ap (λ (xs : List Item). items_of_parts parts classes ++ xs) (items_again s more (filter (λ class. owner_of n class == to) (predecessors family s.class)) is)
 
-pub listed_more : (set : PieceSet) (n to : ℕ) (parts : List Part) (skip : ℕ) (classes : List ℕ) (s : Settlement) (more : List Item)
-    → AreListed set n to parts skip classes → 0 < length more → length more < 2 ^ 64 → more ≡ items_of (predecessors set) n to s
-    → AreListed set n to (parts ++ (record { settlement = s; items = length more }) ∷ []) skip (classes ++ map target_of more)
-listed_more set n to parts skip classes s more r some low is =
+pub listed_more : (family : Family) (n to : ℕ) (parts : List Part) (skip : ℕ) (classes : List ℕ) (s : Settlement) (more : List Item)
+    → AreListed family n to parts skip classes → 0 < length more → length more < 2 ^ 64 → more ≡ items_of (predecessors family) n to s
+    → AreListed family n to (parts ++ (record { settlement = s; items = length more }) ∷ []) skip (classes ++ map target_of more)
+listed_more family n to parts skip classes s more r some low is =
     let part : Part = record { settlement = s; items = length more } in
     let before = r.counted in
     let sum = total-push parts part in
@@ -231,24 +231,24 @@ listed_more set n to parts skip classes s more r some low is =
     let own = length-map more target_of in
     record {
       counted = omega (arith, before, sum, both, own);
-      rest = subst (λ (xs : List Item). IsRest set n to (parts ++ part ∷ []) skip xs) (sym (items_added set n to parts classes s more r.counted is))
-          (rest_added set n to parts skip (items_of_parts parts classes) more s r.rest some low is);
+      rest = subst (λ (xs : List Item). IsRest family n to (parts ++ part ∷ []) skip xs) (sym (items_added family n to parts classes s more r.counted is))
+          (rest_added family n to parts skip (items_of_parts parts classes) more s r.rest some low is);
     }
 
 -- what is left without the first k
-pub listed_behind : (set : PieceSet) (n to : ℕ) (parts : List Part) (skip k : ℕ) (classes : List ℕ) → AreListed set n to parts skip classes → k ≤ length classes
-    → AreListed set n to (behind k parts) (skip_behind skip k parts) (drop k classes)
-listed_behind set n to parts skip k classes r within =
+pub listed_behind : (family : Family) (n to : ℕ) (parts : List Part) (skip k : ℕ) (classes : List ℕ) → AreListed family n to parts skip classes → k ≤ length classes
+    → AreListed family n to (behind k parts) (skip_behind skip k parts) (drop k classes)
+listed_behind family n to parts skip k classes r within =
     let before = r.counted in
     let all = items_of_parts parts classes in
     let long = items_of_parts-length parts classes (omega (arith, before)) in
-    let rest = rest_cut set n to parts skip k all r.rest (omega (arith, before, long, within)) in
-    let many = rest_many set n to (behind k parts) (skip_behind skip k parts) (drop k all) rest in
+    let rest = rest_cut family n to parts skip k all r.rest (omega (arith, before, long, within)) in
+    let many = rest_many family n to (behind k parts) (skip_behind skip k parts) (drop k all) rest in
     let fewer = length-drop k all in
     let left = length-drop k classes in
     record {
       counted = omega (arith, before, long, many, fewer, left);
-      rest = subst (λ (xs : List Item). IsRest set n to (behind k parts) (skip_behind skip k parts) xs)
+      rest = subst (λ (xs : List Item). IsRest family n to (behind k parts) (skip_behind skip k parts) xs)
           (sym (items_of_parts-behind k parts classes (omega (arith, before)) (omega (arith, before, within)))) rest;
     }
 
@@ -263,15 +263,15 @@ added_is view settlements items (item ∷ more) s some ss is =
 
 -- ---- an outbox that lists a settlement more, with the classes of its items
 
-module _ (set : PieceSet) (n to skip : ℕ) (parts grown : List Part) (classes longer : List ℕ) (s : Settlement) (more : List Item)
-    (listed : AreListed set n to parts skip classes) (some : 0 < length more) (low : length more < 2 ^ 64)
-    (of_settlement : more ≡ items_of (predecessors set) n to s) (parts_are : grown ≡ parts ++ (record { settlement = s; items = length more }) ∷ [])
+module _ (family : Family) (n to skip : ℕ) (parts grown : List Part) (classes longer : List ℕ) (s : Settlement) (more : List Item)
+    (listed : AreListed family n to parts skip classes) (some : 0 < length more) (low : length more < 2 ^ 64)
+    (of_settlement : more ≡ items_of (predecessors family) n to s) (parts_are : grown ≡ parts ++ (record { settlement = s; items = length more }) ∷ [])
     (classes_are : longer ≡ classes ++ map target_of more) where
-  pub listed_grown : AreListed set n to grown skip longer
+  pub listed_grown : AreListed family n to grown skip longer
   listed_grown =
-      subst (λ (ps : List Part). AreListed set n to ps skip longer) (sym parts_are)
-      (subst (λ (cs : List ℕ). AreListed set n to (parts ++ (record { settlement = s; items = length more }) ∷ []) skip cs) (sym classes_are)
-      (listed_more set n to parts skip classes s more listed some low of_settlement))
+      subst (λ (ps : List Part). AreListed family n to ps skip longer) (sym parts_are)
+      (subst (λ (cs : List ℕ). AreListed family n to (parts ++ (record { settlement = s; items = length more }) ∷ []) skip cs) (sym classes_are)
+      (listed_more family n to parts skip classes s more listed some low of_settlement))
 
   pub view_grown : (view : OutboxView) → view.settlements ≡ settlements_of parts → view.items ≡ items_of_parts parts classes →
       (record view { settlements = settlements_of grown; items = items_of_parts grown longer }) ≡ added view s more
@@ -281,5 +281,5 @@ module _ (set : PieceSet) (n to skip : ℕ) (parts grown : List Part) (classes l
       ∙ ap (λ (ss : List Settlement). ss ++ s ∷ []) (sym before))
       (ap (λ (ps : List Part). items_of_parts ps longer) parts_are
       ∙ ap (λ (cs : List ℕ). items_of_parts (parts ++ (record { settlement = s; items = length more }) ∷ []) cs) classes_are
-      ∙ items_added set n to parts classes s more listed.counted of_settlement
+      ∙ items_added family n to parts classes s more listed.counted of_settlement
       ∙ ap (λ (xs : List Item). xs ++ more) (sym items))

@@ -4,7 +4,7 @@ use Rattle.std.proofs.Common.{refl, sym, ap, ◌∙◌, subst, inl, inr, arith, 
 use Rattle.std.proofs.lemmas.Bool.{cases_lt, cases_eq, eqb-true, eq-eqb}
 use Rattle.std.proofs.lemmas.List.{append_assoc, append-nil, length-map, map-append, take-append-le}
 use Rattle.std.proofs.lemmas.List.{drop-append-le, take_min, drop_min, take-take, drop-drop, drop_at}
-use Rattle.dob_pieces.specs.declared.piece_set.PieceSet.{PieceSet}
+use Rattle.dob_pieces.specs.declared.profile.Family.{Family}
 use Rattle.dob_share.specs.declared.news.Settlement.{Settlement}
 use Rattle.dob_share.specs.declared.news.Item.{Item}
 use Rattle.dob_unmove.specs.Edges.{predecessors}
@@ -79,26 +79,26 @@ some_parts (part ∷ parts) some = omega arith
 
 -- ---- the items of settlements for one node
 
-module _ (set : PieceSet) (n to : ℕ) where
+module _ (family : Family) (n to : ℕ) where
   abbrev items : List Settlement → List Item
-  items ss = items_for set n to ss
+  items ss = items_for family n to ss
 
   abbrev count : Settlement → ℕ
-  count s = count_for set n to s
+  count s = count_for family n to s
 
   pub items-append : (ss ts : List Settlement) → items (ss ++ ts) ≡ items ss ++ items ts
   items-append [] ts = refl
-  items-append (s ∷ ss) ts = ap (λ xs. items_of (predecessors set) n to s ++ xs) (items-append ss ts) ∙ sym (append_assoc (items_of (predecessors set) n to s) (items ss) (items ts))
+  items-append (s ∷ ss) ts = ap (λ xs. items_of (predecessors family) n to s ++ xs) (items-append ss ts) ∙ sym (append_assoc (items_of (predecessors family) n to s) (items ss) (items ts))
 
   length-items : (s : Settlement) (ss : List Settlement) → length (items (s ∷ ss)) ≡ count s + length (items ss)
-  length-items s ss = length-append (items_of (predecessors set) n to s) (items ss)
+  length-items s ss = length-append (items_of (predecessors family) n to s) (items ss)
 
   first_is : (s t : Settlement) (ss ts : List Settlement) → s ∷ ss ≡ t ∷ ts → (s ≡ t) × (ss ≡ ts)
   first_is s t ss ts e = (cc, cc)
 
   -- each part's settlement has an item in the run
   each_needed : (parts : List Part) (skip : ℕ) → AreParts count skip parts → (before : List Settlement) (s : Settlement) (behind : List Settlement)
-      → settlements_of parts ≡ before ++ s ∷ behind → HasItemIn set n to before s skip (total parts)
+      → settlements_of parts ≡ before ++ s ∷ behind → HasItemIn family n to before s skip (total parts)
   each_needed [] skip h [] s behind e = cc
   each_needed [] skip h (b ∷ bs) s behind e = cc
   each_needed (part ∷ parts) skip h [] s behind e =
@@ -152,7 +152,7 @@ module _ (set : PieceSet) (n to : ℕ) where
   -- ---- runs
 
   pub IsRun-front : (parts : List Part) (skip k : ℕ) (all : List Item) → AreParts count skip parts → 0 < k → k ≤ total parts → k ≤ length all
-      → take k all ≡ take k (drop skip (items (settlements_of parts))) → IsRun set n to (front k parts) skip (take k all)
+      → take k all ≡ take k (drop skip (items (settlements_of parts))) → IsRun family n to (front k parts) skip (take k all)
   IsRun-front parts skip k all h some within enough same =
       let long : length (take k all) ≡ k = length-take-le k all enough in
       let are = AreParts-front count parts k skip h in
@@ -172,24 +172,24 @@ module _ (set : PieceSet) (n to : ℕ) where
       }
 
   -- the front of a run is a run
-  pub run_shortened : (parts : List Part) (skip k : ℕ) (all : List Item) → IsRun set n to parts skip all → 0 < k → k ≤ length all → IsRun set n to (front k parts) skip (take k all)
+  pub run_shortened : (parts : List Part) (skip k : ℕ) (all : List Item) → IsRun family n to parts skip all → 0 < k → k ≤ length all → IsRun family n to (front k parts) skip (take k all)
   run_shortened parts skip k all r some within =
       IsRun-front parts skip k all r.parts_fit some (let counted = r.counted in omega (arith, counted, within)) within
       (ap (take k) r.run ∙ take-take k (length all) (drop skip (items (settlements_of parts))) within)
 
-  pub rest_many : (parts : List Part) (skip : ℕ) (all : List Item) → IsRest set n to parts skip all → total parts ≡ length all
+  pub rest_many : (parts : List Part) (skip : ℕ) (all : List Item) → IsRest family n to parts skip all → total parts ≡ length all
   rest_many parts skip all r =
       let whole = whole_is parts skip r.parts_fit in
       let long = ap length r.rest in
       omega (arith, whole, long, length-drop skip (items (settlements_of parts)))
 
   -- so is that of what is left
-  pub run_cut : (parts : List Part) (skip k : ℕ) (all : List Item) → IsRest set n to parts skip all → 0 < k → k ≤ length all → IsRun set n to (front k parts) skip (take k all)
+  pub run_cut : (parts : List Part) (skip k : ℕ) (all : List Item) → IsRest family n to parts skip all → 0 < k → k ≤ length all → IsRun family n to (front k parts) skip (take k all)
   run_cut parts skip k all r some within =
       IsRun-front parts skip k all (parts_from_whole count parts skip r.parts_fit) some
       (let many = rest_many parts skip all r in omega (arith, many, within)) within (ap (take k) r.rest)
 
-  pub cut_within : (parts : List Part) (skip k : ℕ) (all : List Item) → IsRest set n to parts skip all → k ≤ length all → k ≤ total parts
+  pub cut_within : (parts : List Part) (skip k : ℕ) (all : List Item) → IsRest family n to parts skip all → k ≤ length all → k ≤ total parts
   cut_within parts skip k all r within = let many = rest_many parts skip all r in omega (arith, many, within)
 
   -- what is gone from the parts, and what is left of them
@@ -229,8 +229,8 @@ module _ (set : PieceSet) (n to : ℕ) where
         }
   ]
 
-  pub rest_cut : (parts : List Part) (skip k : ℕ) (all : List Item) → IsRest set n to parts skip all → k ≤ length all
-      → IsRest set n to (behind k parts) (skip_behind skip k parts) (drop k all)
+  pub rest_cut : (parts : List Part) (skip k : ℕ) (all : List Item) → IsRest family n to parts skip all → k ≤ length all
+      → IsRest family n to (behind k parts) (skip_behind skip k parts) (drop k all)
   rest_cut parts skip k all r within =
       let g = gone_behind parts skip k r.parts_fit (cut_within parts skip k all r within) in
       let left = items (settlements_of (behind k parts)) in
@@ -244,12 +244,12 @@ module _ (set : PieceSet) (n to : ℕ) where
       }
 
   -- one more settlement with its items
-  pub rest_added : (parts : List Part) (skip : ℕ) (all more : List Item) (s : Settlement) → IsRest set n to parts skip all → 0 < length more → length more < 2 ^ 64
-      → more ≡ items_of (predecessors set) n to s → IsRest set n to (parts ++ (record { settlement = s; items = length more }) ∷ []) skip (all ++ more)
+  pub rest_added : (parts : List Part) (skip : ℕ) (all more : List Item) (s : Settlement) → IsRest family n to parts skip all → 0 < length more → length more < 2 ^ 64
+      → more ≡ items_of (predecessors family) n to s → IsRest family n to (parts ++ (record { settlement = s; items = length more }) ∷ []) skip (all ++ more)
   rest_added parts skip all more s r some low e =
       let part : Part = record { settlement = s; items = length more } in
       let old = items (settlements_of parts) in
-      let new = items_of (predecessors set) n to s in
+      let new = items_of (predecessors family) n to s in
       let listed : settlements_of (parts ++ part ∷ []) ≡ settlements_of parts ++ s ∷ [] = map-append settlement_of parts (part ∷ []) in
       let all_items : items (settlements_of (parts ++ part ∷ [])) ≡ old ++ new = ap items listed ∙ items-append (settlements_of parts) (s ∷ []) ∙ ap (λ xs. old ++ xs) (append-nil new) in
       let whole = whole_is parts skip r.parts_fit in
@@ -260,20 +260,20 @@ module _ (set : PieceSet) (n to : ℕ) where
 
 -- ---- batches and outboxes
 
-pub IsBatch-from_run : (b : BatchView) (parts : List Part) → b.settlements ≡ settlements_of parts → IsRun b.set b.n b.to parts b.skip b.items → IsBatch b
+pub IsBatch-from_run : (b : BatchView) (parts : List Part) → b.settlements ≡ settlements_of parts → IsRun b.family b.n b.to parts b.skip b.items → IsBatch b
 IsBatch-from_run b parts e r = record {
   some = r.some;
-  run = subst (λ (ss : List Settlement). b.items ≡ take (length b.items) (drop b.skip (items_for b.set b.n b.to ss))) (sym e) r.run;
+  run = subst (λ (ss : List Settlement). b.items ≡ take (length b.items) (drop b.skip (items_for b.family b.n b.to ss))) (sym e) r.run;
   needed = λ before s behind h.
-      subst (λ (m : ℕ). HasItemIn b.set b.n b.to before s b.skip m) r.counted (each_needed b.set b.n b.to parts b.skip r.parts_fit before s behind (sym e ∙ h));
+      subst (λ (m : ℕ). HasItemIn b.family b.n b.to before s b.skip m) r.counted (each_needed b.family b.n b.to parts b.skip r.parts_fit before s behind (sym e ∙ h));
 }
 
-pub IsOutbox-from_rest : (o : OutboxView) (parts : List Part) → o.settlements ≡ settlements_of parts → IsRest o.set o.n o.to parts o.skip o.items → IsOutbox o
+pub IsOutbox-from_rest : (o : OutboxView) (parts : List Part) → o.settlements ≡ settlements_of parts → IsRest o.family o.n o.to parts o.skip o.items → IsOutbox o
 IsOutbox-from_rest o parts e r = record {
-  rest = subst (λ (ss : List Settlement). o.items ≡ drop o.skip (items_for o.set o.n o.to ss)) (sym e) r.rest;
+  rest = subst (λ (ss : List Settlement). o.items ≡ drop o.skip (items_for o.family o.n o.to ss)) (sym e) r.rest;
   needed = λ before s behind h.
-      subst (λ (m : ℕ). HasItemIn o.set o.n o.to before s o.skip m) (rest_many o.set o.n o.to parts o.skip o.items r)
-      (each_needed o.set o.n o.to parts o.skip (parts_from_whole (count_for o.set o.n o.to) parts o.skip r.parts_fit) before s behind (sym e ∙ h));
+      subst (λ (m : ℕ). HasItemIn o.family o.n o.to before s o.skip m) (rest_many o.family o.n o.to parts o.skip o.items r)
+      (each_needed o.family o.n o.to parts o.skip (parts_from_whole (count_for o.family o.n o.to) parts o.skip r.parts_fit) before s behind (sym e ∙ h));
 }
 
 -- the first k items of a batch, with the parts in front
@@ -289,16 +289,16 @@ IsFront-from_parts old parts new k items e f g =
 
 -- what is cut from an outbox by its parts
 pub IsCut-from_parts : (old : OutboxView) (parts taken left : List Part) (skip size k : ℕ) (items rest : List Item)
-    → old.settlements ≡ settlements_of parts → IsRest old.set old.n old.to parts old.skip old.items
+    → old.settlements ≡ settlements_of parts → IsRest old.family old.n old.to parts old.skip old.items
     → k ≡ min size (length old.items) → taken ≡ front k parts → items ≡ take k old.items
     → left ≡ behind k parts → skip ≡ skip_behind old.skip k parts → rest ≡ drop k old.items
     → IsCut old size
-    (record { set = old.set; n = old.n; from = old.from; to = old.to; number = old.next; settlements = settlements_of taken; skip = old.skip; items = items })
+    (record { family = old.family; n = old.n; from = old.from; to = old.to; number = old.next; settlements = settlements_of taken; skip = old.skip; items = items })
     (record old { settlements = settlements_of left; skip = skip; items = rest; next = old.next + 1 })
 IsCut-from_parts old parts taken left skip size k items rest e r least front_is items_are left_is skip_is rest_is =
     let within : k ≤ length old.items = omega (arith, least) in
     let listed = front_settlements parts k in
-    let g = gone_behind old.set old.n old.to parts old.skip k r.parts_fit (cut_within old.set old.n old.to parts old.skip k old.items r within) in
+    let g = gone_behind old.family old.n old.to parts old.skip k r.parts_fit (cut_within old.family old.n old.to parts old.skip k old.items r within) in
     let many = g.many in
     let long : length items ≡ k = ap length items_are ∙ length-take-le k old.items within in
     record {

@@ -51,16 +51,16 @@ as_many before outbox count more =
     ap (λ (o : OutboxView). length o.items) more.outbox_is ∙ length-append before.items more.items ∙ ap (λ (m : ℕ). length before.items + m) more.many
 
 module _ (old before : OutboxView) (left : List Part) (part : Part) (classes : List ℕ) (count : ℕ)
-    (listed : AreListed old.set old.n old.to (left ++ part ∷ []) old.skip classes) (settlements_are : old.settlements ≡ settlements_of (left ++ part ∷ []))
+    (listed : AreListed old.family old.n old.to (left ++ part ∷ []) old.skip classes) (settlements_are : old.settlements ≡ settlements_of (left ++ part ∷ []))
     (items_are : old.items ≡ items_of_parts (left ++ part ∷ []) classes) (some : 0 < count) (more : HasOneMore before count old) where
   last_is : (settlements_of left ≡ before.settlements) × (part.settlement ≡ more.settlement)
   last_is = same_from_push (settlements_of left) before.settlements part.settlement more.settlement
       (sym (map-append settlement_of left (part ∷ [])) ∙ sym settlements_are ∙ ap (λ (o : OutboxView). o.settlements) more.outbox_is
       ∙ ap (λ (ss : List Settlement). before.settlements ++ ss) (with_some more.settlement more.items (let many = more.many in omega (arith, many, some))))
 
-  count_is : count_for old.set old.n old.to part.settlement ≡ count
-  count_is = ap (λ (s : Settlement). count_for old.set old.n old.to s) last_is.1
-      ∙ ap (λ (o : OutboxView). count_for o.set o.n o.to more.settlement) more.outbox_is
+  count_is : count_for old.family old.n old.to part.settlement ≡ count
+  count_is = ap (λ (s : Settlement). count_for old.family old.n old.to s) last_is.1
+      ∙ ap (λ (o : OutboxView). count_for o.family o.n o.to more.settlement) more.outbox_is
       ∙ sym (ap length more.items_are) ∙ more.many
 
   sum_is : total left + part.items ≡ length before.items + count
@@ -73,8 +73,8 @@ module _ (old before : OutboxView) (left : List Part) (part : Part) (classes : L
       let both = as_many before old count more in
       omega (arith, long, all, sum, both)
 
-  part_is : part.items ≡ count_for old.set old.n old.to part.settlement
-  part_is = last_is_whole (count_for old.set old.n old.to) left old.skip part listed.rest.parts_fit (omega (arith, count_is, sum_is))
+  part_is : part.items ≡ count_for old.family old.n old.to part.settlement
+  part_is = last_is_whole (count_for old.family old.n old.to) left old.skip part listed.rest.parts_fit (omega (arith, count_is, sum_is))
 
   left_is : total left ≡ length classes - count
   left_is = let counted = listed.counted in let sum = total-push left part in omega (arith, counted, sum, part_is, count_is)
@@ -103,15 +103,15 @@ module _ (old before : OutboxView) (left : List Part) (part : Part) (classes : L
       let sum = total-push left part in
       ap (λ (o : OutboxView). take k o.items) more.outbox_is ∙ take_at before.items more.items k (omega (arith, sum_is, counted, sum))
 
-  listed_left : AreListed old.set old.n old.to left old.skip (take (length classes - count) classes)
+  listed_left : AreListed old.family old.n old.to left old.skip (take (length classes - count) classes)
   listed_left =
       let k = length classes - count in
-      let whole = AreWhole-left (count_for old.set old.n old.to) left old.skip part listed.rest.parts_fit part_is in
-      let first = items_for old.set old.n old.to (settlements_of left) in
-      let own = items_for old.set old.n old.to (part.settlement ∷ []) in
-      let apart : items_for old.set old.n old.to (settlements_of (left ++ part ∷ [])) ≡ first ++ own
-      = ap (items_for old.set old.n old.to) (map-append settlement_of left (part ∷ [])) ∙ items-append old.set old.n old.to (settlements_of left) (part.settlement ∷ []) in
-      let long = whole_is old.set old.n old.to left old.skip whole in
+      let whole = AreWhole-left (count_for old.family old.n old.to) left old.skip part listed.rest.parts_fit part_is in
+      let first = items_for old.family old.n old.to (settlements_of left) in
+      let own = items_for old.family old.n old.to (part.settlement ∷ []) in
+      let apart : items_for old.family old.n old.to (settlements_of (left ++ part ∷ [])) ≡ first ++ own
+      = ap (items_for old.family old.n old.to) (map-append settlement_of left (part ∷ [])) ∙ items-append old.family old.n old.to (settlements_of left) (part.settlement ∷ []) in
+      let long = whole_is old.family old.n old.to left old.skip whole in
       let fewer = length-drop old.skip first in
       record {
         counted = left_is ∙ sym (length-take-le k classes within);
@@ -129,10 +129,10 @@ module _ (old before : OutboxView) (left : List Part) (part : Part) (classes : L
       ∙ ap (λ (o : OutboxView). record o { settlements = before.settlements; items = before.items }) more.outbox_is
 
 -- the parts but the last, and the classes but those of the last settlement
-pub taken_back : (old before : OutboxView) (parts left : List Part) (classes rest : List ℕ) (count : ℕ) → AreListed old.set old.n old.to parts old.skip classes
+pub taken_back : (old before : OutboxView) (parts left : List Part) (classes rest : List ℕ) (count : ℕ) → AreListed old.family old.n old.to parts old.skip classes
     → old.settlements ≡ settlements_of parts → old.items ≡ items_of_parts parts classes → 0 < count → HasOneMore before count old
     → left ≡ take (length parts - 1) parts → rest ≡ take (length classes - count) classes
-    → AreListed old.set old.n old.to left old.skip rest × ((record old { settlements = settlements_of left; items = items_of_parts left rest }) ≡ before)
+    → AreListed old.family old.n old.to left old.skip rest × ((record old { settlements = settlements_of left; items = items_of_parts left rest }) ≡ before)
 taken_back old before parts left classes rest count listed settlements_are items_are some more parts_left classes_left =
     let k = length parts - 1 in
     let none : Part = record { settlement = more.settlement; items = 0 } in
@@ -145,11 +145,11 @@ taken_back old before parts left classes rest count listed settlements_are items
     let same = ap length settlements_are in
     let apart : parts ≡ take k parts ++ part ∷ []
     = sym (take_all (k + 1) parts (omega (arith, as_parts, as_settlements, same))) ∙ take_more parts k none (omega (arith, as_parts, as_settlements, same)) in
-    let again = subst (λ (ps : List Part). AreListed old.set old.n old.to ps old.skip classes) apart listed in
+    let again = subst (λ (ps : List Part). AreListed old.family old.n old.to ps old.skip classes) apart listed in
     let settlements_again = settlements_are ∙ ap settlements_of apart in
     let items_again = items_are ∙ ap (λ (ps : List Part). items_of_parts ps classes) apart in
-    subst (λ (ps : List Part). AreListed old.set old.n old.to ps old.skip rest × ((record old { settlements = settlements_of ps; items = items_of_parts ps rest }) ≡ before)) (sym parts_left)
-    (subst (λ (cs : List ℕ). AreListed old.set old.n old.to (take k parts) old.skip cs
+    subst (λ (ps : List Part). AreListed old.family old.n old.to ps old.skip rest × ((record old { settlements = settlements_of ps; items = items_of_parts ps rest }) ≡ before)) (sym parts_left)
+    (subst (λ (cs : List ℕ). AreListed old.family old.n old.to (take k parts) old.skip cs
     × ((record old { settlements = settlements_of (take k parts); items = items_of_parts (take k parts) cs }) ≡ before)) (sym classes_left) (
       listed_left old before (take k parts) part classes count again settlements_again items_again some more,
       view_is old before (take k parts) part classes count again settlements_again items_again some more,

@@ -1,15 +1,15 @@
 -- What a batch and an outbox are, and what is cut from an outbox.
 use Rattle.std.specs.Prelude.{◌≡◌, ℕ, ◌+◌, ◌<◌, ◌≤◌, List, [], ◌∷◌, ◌++◌, length, take, drop}
 use Rattle.std.specs.List.{flat_map}
-use Rattle.dob_pieces.specs.declared.piece_set.PieceSet.{PieceSet}
+use Rattle.dob_pieces.specs.declared.profile.Family.{Family}
 use Rattle.dob_unmove.specs.Edges.{predecessors}
 use Rattle.dob_share.specs.declared.news.Settlement.{Settlement}
 use Rattle.dob_share.specs.declared.news.Item.{Item}
 use Rattle.dob_update.specs.Items.{items_of, items_from}
 
--- a batch of a piece set among n nodes, from one node to another, by its number on this link
+-- a batch of a family among n nodes, from one node to another, by its number on this link
 pub record BatchView : Type 0 where
-  pub set : PieceSet
+  pub family : Family
   pub n : ℕ
   pub from : ℕ
   pub to : ℕ
@@ -35,7 +35,7 @@ AreSizes batch capacity = (0 < batch) × (batch ≤ most_items) × (0 < capacity
 
 -- what a node has still to send to another, and the number of the next batch
 pub record OutboxView : Type 0 where
-  pub set : PieceSet
+  pub family : Family
   pub n : ℕ
   pub from : ℕ
   pub to : ℕ
@@ -45,36 +45,36 @@ pub record OutboxView : Type 0 where
   pub next : ℕ
 
 -- the items of settlements for the node `to`
-abbrev pub items_for : PieceSet → ℕ → ℕ → List Settlement → List Item
-items_for set n to settlements = items_from (predecessors set) n to settlements
+abbrev pub items_for : Family → ℕ → ℕ → List Settlement → List Item
+items_for family n to settlements = items_from (predecessors family) n to settlements
 
 -- Of the items of settlements, those that begin after `skip` and are so many have one of the settlement s, which stands
 -- after others: some place in the list is a place of both.
-pub record HasItemIn (set : PieceSet) (n to : ℕ) (before : List Settlement) (s : Settlement) (skip many : ℕ) : Type 0 where
+pub record HasItemIn (family : Family) (n to : ℕ) (before : List Settlement) (s : Settlement) (skip many : ℕ) : Type 0 where
   pub place : ℕ
-  pub of_settlement : (length (items_for set n to before) ≤ place) × (place < length (items_for set n to (before ++ s ∷ [])))
+  pub of_settlement : (length (items_for family n to before) ≤ place) × (place < length (items_for family n to (before ++ s ∷ [])))
   pub of_run : (skip ≤ place) × (place < skip + many)
 
 -- each of the settlements has an item there
-abbrev pub EachHasItemIn : PieceSet → ℕ → ℕ → List Settlement → ℕ → ℕ → Type 0
-EachHasItemIn set n to settlements skip many = (before : List Settlement) (s : Settlement) (behind : List Settlement) →
-    settlements ≡ before ++ s ∷ behind → HasItemIn set n to before s skip many
+abbrev pub EachHasItemIn : Family → ℕ → ℕ → List Settlement → ℕ → ℕ → Type 0
+EachHasItemIn family n to settlements skip many = (before : List Settlement) (s : Settlement) (behind : List Settlement) →
+    settlements ≡ before ++ s ∷ behind → HasItemIn family n to before s skip many
 
 -- The items are a run of those of the settlements, which begins after `skip` of them; there are some, and each
 -- settlement has one among them.
 pub record IsBatch (batch : BatchView) : Type 0 where
   pub some : 0 < length batch.items
-  pub run : batch.items ≡ take (length batch.items) (drop batch.skip (items_for batch.set batch.n batch.to batch.settlements))
-  pub needed : EachHasItemIn batch.set batch.n batch.to batch.settlements batch.skip (length batch.items)
+  pub run : batch.items ≡ take (length batch.items) (drop batch.skip (items_for batch.family batch.n batch.to batch.settlements))
+  pub needed : EachHasItemIn batch.family batch.n batch.to batch.settlements batch.skip (length batch.items)
 
 -- The items are those of the settlements after the first `skip` of them, and each settlement has one among them.
 pub record IsOutbox (outbox : OutboxView) : Type 0 where
-  pub rest : outbox.items ≡ drop outbox.skip (items_for outbox.set outbox.n outbox.to outbox.settlements)
-  pub needed : EachHasItemIn outbox.set outbox.n outbox.to outbox.settlements outbox.skip (length outbox.items)
+  pub rest : outbox.items ≡ drop outbox.skip (items_for outbox.family outbox.n outbox.to outbox.settlements)
+  pub needed : EachHasItemIn outbox.family outbox.n outbox.to outbox.settlements outbox.skip (length outbox.items)
 
 -- an outbox with nothing to send
-abbrev pub empty_outbox : PieceSet → ℕ → ℕ → ℕ → OutboxView
-empty_outbox set n from to = record { set = set; n = n; from = from; to = to; settlements = []; skip = 0; items = []; next = 0 }
+abbrev pub empty_outbox : Family → ℕ → ℕ → ℕ → OutboxView
+empty_outbox family n from to = record { family = family; n = n; from = from; to = to; settlements = []; skip = 0; items = []; next = 0 }
 
 -- the settlement alone, where it has items
 abbrev pub with_items : Settlement → List Item → List Settlement
@@ -89,7 +89,7 @@ added outbox s items = record outbox { settlements = outbox.settlements ++ with_
 pub record HasOneMore (before : OutboxView) (count : ℕ) (outbox : OutboxView) : Type 0 where
   pub settlement : Settlement
   pub items : List Item
-  pub items_are : items ≡ items_of (predecessors before.set) before.n before.to settlement
+  pub items_are : items ≡ items_of (predecessors before.family) before.n before.to settlement
   pub many : length items ≡ count
   pub outbox_is : outbox ≡ added before settlement items
 
@@ -103,9 +103,9 @@ pub record IsCut (old : OutboxView) (size : ℕ) (batch : BatchView) (new : Outb
   pub next : new.next ≡ old.next + 1
   pub listed : (behind : List Settlement) × (old.settlements ≡ batch.settlements ++ behind)
   pub kept : (gone : List Settlement) × (old.settlements ≡ gone ++ new.settlements)
-      × (length (items_for old.set old.n old.to gone) + new.skip ≡ old.skip + length batch.items)
-  pub of_link : (batch.set ≡ old.set) × (batch.n ≡ old.n) × (batch.from ≡ old.from) × (batch.to ≡ old.to)
-  pub same_link : (new.set ≡ old.set) × (new.n ≡ old.n) × (new.from ≡ old.from) × (new.to ≡ old.to)
+      × (length (items_for old.family old.n old.to gone) + new.skip ≡ old.skip + length batch.items)
+  pub of_link : (batch.family ≡ old.family) × (batch.n ≡ old.n) × (batch.from ≡ old.from) × (batch.to ≡ old.to)
+  pub same_link : (new.family ≡ old.family) × (new.n ≡ old.n) × (new.from ≡ old.from) × (new.to ≡ old.to)
 
 -- The first k items of a batch, with the settlements that these need.
 pub record IsFront (old : BatchView) (k : ℕ) (new : BatchView) : Type 0 where

@@ -1,6 +1,6 @@
 -- What batches and outboxes keep beside what is seen of them: the invariants of their types, which no public call names.
 use Rattle.std.specs.Prelude.{◌≡◌, ℕ, ◌<◌, List, length, take, drop}
-use Rattle.dob_pieces.specs.declared.piece_set.PieceSet.{PieceSet}
+use Rattle.dob_pieces.specs.declared.profile.Family.{Family}
 use Rattle.dob_unmove.specs.Edges.{predecessors}
 use Rattle.dob_share.specs.declared.news.Settlement.{Settlement}
 use Rattle.dob_share.specs.declared.news.Item.{Item}
@@ -10,22 +10,22 @@ use Rattle.dob_update.specs.Parts.{AreParts, AreWhole, settlements_of, total, it
 use Rattle.dob_update.specs.Batches.{items_for}
 
 -- how many items a settlement has for the node `to`
-abbrev pub count_for : PieceSet → ℕ → ℕ → Settlement → ℕ
-count_for set n to s = length (items_of (predecessors set) n to s)
+abbrev pub count_for : Family → ℕ → ℕ → Settlement → ℕ
+count_for family n to s = length (items_of (predecessors family) n to s)
 
 -- the items are those of the parts
-pub record IsRun (set : PieceSet) (n to : ℕ) (parts : List Part) (skip : ℕ) (items : List Item) : Type 0 where
+pub record IsRun (family : Family) (n to : ℕ) (parts : List Part) (skip : ℕ) (items : List Item) : Type 0 where
   pub some : 0 < length items
-  pub parts_fit : AreParts (count_for set n to) skip parts
+  pub parts_fit : AreParts (count_for family n to) skip parts
   pub counted : total parts ≡ length items
-  pub run : items ≡ take (length items) (drop skip (items_for set n to (settlements_of parts)))
+  pub run : items ≡ take (length items) (drop skip (items_for family n to (settlements_of parts)))
 
 -- the items are all those that the parts' settlements have after some
-pub record IsRest (set : PieceSet) (n to : ℕ) (parts : List Part) (skip : ℕ) (items : List Item) : Type 0 where
-  pub parts_fit : AreWhole (count_for set n to) skip parts
-  pub rest : items ≡ drop skip (items_for set n to (settlements_of parts))
+pub record IsRest (family : Family) (n to : ℕ) (parts : List Part) (skip : ℕ) (items : List Item) : Type 0 where
+  pub parts_fit : AreWhole (count_for family n to) skip parts
+  pub rest : items ≡ drop skip (items_for family n to (settlements_of parts))
 
 -- as many classes are listed as the parts have items, and these are all those that the parts' settlements have after some
-pub record AreListed (set : PieceSet) (n to : ℕ) (parts : List Part) (skip : ℕ) (classes : List ℕ) : Type 0 where
+pub record AreListed (family : Family) (n to : ℕ) (parts : List Part) (skip : ℕ) (classes : List ℕ) : Type 0 where
   pub counted : total parts ≡ length classes
-  pub rest : IsRest set n to parts skip (items_of_parts parts classes)
+  pub rest : IsRest family n to parts skip (items_of_parts parts classes)

@@ -5,16 +5,16 @@ ghost use Rattle.dob_update.specs.Batches.{IsBatch, IsFront};
 ghost use Rattle.dob_update.specs.Runs.{IsRun};
 
 use crate::part::Part;
-use dob_pieces::PieceSet;
+use dob_pieces::Family;
 use dob_share::Item;
 use std::marker::Model;
 
-/// A batch of items from one of `n` owners of a piece set's classes to another. Its items are those of its settlements
+/// A batch of items from one of `n` owners of a family's classes to another. Its items are those of its settlements
 /// for the receiver, ascending in each settlement, without the first `skip` of them and up to some item; there is at
 /// least one, and each settlement has one among them. A batch keeps 24 bytes an item and 32 a settlement.
 #[derive(Debug, Drop)]
 pub struct Batch {
-    set: PieceSet,
+    family: Family,
     n: usize,
     from: usize,
     to: usize,
@@ -32,15 +32,15 @@ impl Model for Batch {
 
     ghost Value = { BatchView };
 
-    ghost view = { λ b. record { set = b.set; n = b.n; from = b.from; to = b.to; number = b.number; settlements = settlements_of b.parts.items; skip = b.skip; items = b.items.items } };
+    ghost view = { λ b. record { family = b.family; n = b.n; from = b.from; to = b.to; number = b.number; settlements = settlements_of b.parts.items; skip = b.skip; items = b.items.items } };
 
-    ghost invariant = { λ b. IsRun b.set b.n b.to b.parts.items b.skip b.items.items };
+    ghost invariant = { λ b. IsRun b.family b.n b.to b.parts.items b.skip b.items.items };
 }
 
 impl Batch {
     /// The batch of those items, which are those of the parts.
     pub(crate) fn new(
-        set: PieceSet,
+        family: Family,
         n: usize,
         from: usize,
         to: usize,
@@ -49,11 +49,11 @@ impl Batch {
         skip: usize,
         items: Vec<Item>,
     ) -> Batch
-        requires { IsRun set n to parts.items skip items.items }
-        ensures { result ≡ record { set = set; n = n; from = from; to = to; number = number; settlements = settlements_of parts.items; skip = skip; items = items.items } }
+        requires { IsRun family n to parts.items skip items.items }
+        ensures { result ≡ record { family = family; n = n; from = from; to = to; number = number; settlements = settlements_of parts.items; skip = skip; items = items.items } }
     {
         Batch {
-            set,
+            family,
             n,
             from,
             to,
@@ -64,11 +64,11 @@ impl Batch {
         }
     }
 
-    /// The piece set.
-    pub fn set(&self) -> PieceSet
-        ensures { result ≡ self.now.set }
+    /// The family.
+    pub fn family(&self) -> Family
+        ensures { result ≡ self.now.family }
     {
-        self.set
+        self.family
     }
 
     /// How many owners there are.

@@ -13,18 +13,18 @@ ghost use Rattle.dob_update.specs.Batches.{OutboxView, most_items, IsOutbox, Has
 use crate::batch::Batch;
 use crate::items::item_for;
 use crate::part::Part;
-use dob_pieces::{Memory, PieceSet};
+use dob_pieces::{Family, Memory};
 use dob_share::{Item, Settlement, owner};
 use std::alloc::Global;
 use std::collections::VecDeque;
 use std::marker::Model;
 
-/// What one of `n` owners of a piece set's classes has still to send to another: the items of its settlements for the
+/// What one of `n` owners of a family's classes has still to send to another: the items of its settlements for the
 /// receiver, in order. It keeps 8 bytes an item, its class, and 32 a settlement, at most double while it grows.
 #[derive(Drop)]
 pub struct Outbox {
     alloc: Global,
-    set: PieceSet,
+    family: Family,
     n: usize,
     from: usize,
     to: usize,
@@ -43,19 +43,19 @@ impl Model for Outbox {
 
     ghost Value = { OutboxView };
 
-    ghost view = { λ o. record { set = o.set; n = o.n; from = o.from; to = o.to; settlements = settlements_of o.parts.items; skip = o.skip; items = items_of_parts o.parts.items o.classes.items; next = o.next } };
+    ghost view = { λ o. record { family = o.family; n = o.n; from = o.from; to = o.to; settlements = settlements_of o.parts.items; skip = o.skip; items = items_of_parts o.parts.items o.classes.items; next = o.next } };
 
-    ghost invariant = { λ o. AreListed o.set o.n o.to o.parts.items o.skip o.classes.items };
+    ghost invariant = { λ o. AreListed o.family o.n o.to o.parts.items o.skip o.classes.items };
 }
 
 impl Outbox {
     /// An outbox with nothing to send, of one of `n` owners for another.
-    pub fn new(alloc: Global, set: PieceSet, n: usize, from: usize, to: usize) -> Outbox
-        ensures { result ≡ empty_outbox set n from to }
+    pub fn new(alloc: Global, family: Family, n: usize, from: usize, to: usize) -> Outbox
+        ensures { result ≡ empty_outbox family n from to }
     {
         Outbox {
             alloc,
-            set,
+            family,
             n,
             from,
             to,
@@ -91,7 +91,7 @@ impl Outbox {
     /// Adds a settlement with its items for the receiver; one without items isn't listed, and takes no memory. After `Memory`
     /// the outbox is unchanged.
     pub fn add(&mut self, settlement: Settlement, items: &[Item]) -> Result<(), Memory>
-        requires { items.now ≡ items_of (predecessors self.old.set) self.old.n self.old.to settlement }
+        requires { items.now ≡ items_of (predecessors self.old.family) self.old.n self.old.to settlement }
         ensures ok { OnOk result (self.new ≡ added self.old settlement items.now) }
         ensures err { OnErr result ((self.new ≡ self.old) × (items.now ≢ [])) }
     {
@@ -113,7 +113,7 @@ impl Outbox {
     /// `Memory` the outbox is unchanged.
     pub fn add_targets(&mut self, settlement: Settlement, targets: &[u64]) -> Result<(), Memory>
         requires owners { 0 < self.old.n }
-        requires targets { targets.now ≡ predecessors self.old.set settlement.class }
+        requires targets { targets.now ≡ predecessors self.old.family settlement.class }
         ensures ok { OnOk result (self.new ≡ added self.old settlement (items_of (λ _. targets.now) self.old.n self.old.to settlement)) }
         ensures err { OnErr result (self.new ≡ self.old) }
     {
@@ -161,7 +161,14 @@ impl Outbox {
         let parts = front_parts(self.alloc, &self.parts, taken)?;
         let items = front_items(self.alloc, &parts, &self.classes, taken)?;
         let batch = Batch::new(
-            self.set, self.n, self.from, self.to, self.next, parts, self.skip, items,
+            self.family,
+            self.n,
+            self.from,
+            self.to,
+            self.next,
+            parts,
+            self.skip,
+            items,
         );
         self.skip = drop_parts(&mut self.parts, self.skip, taken);
         drop_classes(&mut self.classes, taken);

@@ -7,14 +7,16 @@ use Rattle.std.proofs.lemmas.Option.{slice_get-get_or}
 use Rattle.std.proofs.lemmas.List.{length-map, get_or-map}
 use Rattle.std.proofs.lemmas.List.FromFn.{length-range_with_len, get_or-range_with_len}
 use Rattle.std.proofs.lemmas.List.Elements.{Contains-append_right}
-use Rattle.dob_pieces.specs.declared.piece_set.PieceSet.{PieceSet}
+use Rattle.dob_pieces.specs.declared.profile.Family.{Family}
+use Rattle.dob_pieces.specs.declared.profile.Profile.{Profile}
 use Rattle.dob_pieces.specs.declared.setup.Setup.{Setup}
 use Rattle.dob_pieces.proofs.Lists.{none_in_empty, head_in, cons_cases}
-use Rattle.dob_rank.specs.Order.{IsPositionOf, IsRepresentative}
-use Rattle.dob_rank.specs.Numbers.{rank_of}
-use Rattle.dob_rank.specs.Marks.{classes_of, marks_below, is_first}
-use Rattle.dob_rank.specs.ClassRows.{class_setup}
-use Rattle.dob_rank.proofs.Marks.{HasClass-marks, HasClasses-classes_of}
+use Rattle.dob_rank.specs.Families.{IsPositionOf, IsRepresentative}
+use Rattle.dob_rank.specs.Numbers.{rank_of_set}
+use Rattle.dob_rank.specs.Marks.{marks_below}
+use Rattle.dob_rank.specs.Families.{classes_of, is_marked}
+use Rattle.dob_rank.specs.Families.{class_setup}
+use Rattle.dob_rank.proofs.Present.{HasClass-marked, HasClasses-classes_of}
 use Rattle.dob_value.specs.declared.value.Value.{Value}
 use Rattle.dob_value.specs.declared.value.Value.TheVariants.{Win, Loss, Draw}
 use Rattle.dob_value.specs.Values.{Won, Lost, HasValue}
@@ -25,61 +27,61 @@ use Rattle.dob_value.proofs.Depths.{won_stays, lost_stays, won_not_lost}
 use Rattle.dob_value.proofs.Tables.{LeadsToClasses, NothingNew, nothing_later}
 use Rattle.dob_value.proofs.ClassNumbers.{no_longer, one_count, class_within, has_representative, representative_is, represents_itself}
 use Rattle.dob_value.proofs.Rows.{class_setup_is, class_outlook}
-use Rattle.dob_value.proofs.Successors.{moves_keep_the_set}
+use Rattle.dob_value.proofs.Successors.{moves_keep_the_family}
 
 -- ---- the moves of a class lead into classes
 
-is_position : (set : PieceSet) (number : ℕ) → number < classes_of set → IsPositionOf set (class_setup set number)
-is_position set number low = (class_setup_is set number (classes_of set) (HasClasses-classes_of set) low).0.0
+is_position : (family : Family) (number : ℕ) → number < classes_of family → IsPositionOf family (class_setup family number)
+is_position family number low = (class_setup_is family number (classes_of family) (HasClasses-classes_of family) low).0.0
 
-pub leads : (set : PieceSet) → LeadsToClasses set
-leads set number low goes_on move q goes =
-    let all = HasClasses-classes_of set in
-    let is = moves_keep_the_set set (class_setup set number) move q (is_position set number low) goes_on goes in
-    let found = has_representative set q is in
-    let represents = representative_is set q found.0 is found.1 in
-    let class = marks_below (is_first set) (rank_of set found.0) in
-    let at = HasClass-marks set found.0 represents.0 in
-    let within : class < classes_of set = class_within set found.0 class (classes_of set) represents at all in
-    (class, (within, class_outlook set q found.0 class (classes_of set) all within is found.1 at))
+pub leads : (family : Family) → LeadsToClasses family
+leads family number low goes_on move q goes =
+    let all = HasClasses-classes_of family in
+    let is = moves_keep_the_family family (class_setup family number) move q (is_position family number low) goes_on goes in
+    let found = has_representative family q is in
+    let represents = representative_is family q found.0 is found.1 in
+    let class = marks_below (is_marked family) (rank_of_set family.set found.0) in
+    let at = HasClass-marked family found.0 represents.0 in
+    let within : class < classes_of family = class_within family found.0 class (classes_of family) represents at all in
+    (class, (within, class_outlook family q found.0 class (classes_of family) all within is found.1 at))
 
 -- ---- entries that are right up to a depth
 
 -- a win or a loss is right, and a draw is neither won nor lost within n plies
-abbrev pub IsRightUpTo : ℕ → Setup → Value → Type 0
-IsRightUpTo n p (Win plies) = HasValue p (Win plies)
-IsRightUpTo n p (Loss plies) = HasValue p (Loss plies)
-IsRightUpTo n p Draw = (¬ Won n p) × (¬ Lost n p)
+abbrev pub IsRightUpTo : Profile → ℕ → Setup → Value → Type 0
+IsRightUpTo profile n p (Win plies) = HasValue profile p (Win plies)
+IsRightUpTo profile n p (Loss plies) = HasValue profile p (Loss plies)
+IsRightUpTo profile n p Draw = (¬ Won profile n p) × (¬ Lost profile n p)
 
-abbrev pub AreRightUpTo : ℕ → PieceSet → List Value → Type 0
-AreRightUpTo n = HasEntries (λ number p entry. IsRightUpTo n p entry)
+abbrev pub AreRightUpTo : ℕ → Family → List Value → Type 0
+AreRightUpTo n family = HasEntries (λ number p entry. IsRightUpTo family.profile n p entry) family
 
-cut_right : (n : ℕ) (p : Setup) (v : Value) → IsCutOff n p v → IsRightUpTo n p v
-cut_right n p (Win plies) cut = cut.1
-cut_right n p (Loss plies) cut = cut.1
-cut_right n p Draw cut = cut
+cut_right : (profile : Profile) (n : ℕ) (p : Setup) (v : Value) → IsCutOff profile n p v → IsRightUpTo profile n p v
+cut_right profile n p (Win plies) cut = cut.1
+cut_right profile n p (Loss plies) cut = cut.1
+cut_right profile n p Draw cut = cut
 
-value_right : (n : ℕ) (p : Setup) (v : Value) → HasValue p v → IsRightUpTo n p v
-value_right n p (Win plies) has = has
-value_right n p (Loss plies) has = has
-value_right n p Draw has = has n
+value_right : (profile : Profile) (n : ℕ) (p : Setup) (v : Value) → HasValue profile p v → IsRightUpTo profile n p v
+value_right profile n p (Win plies) has = has
+value_right profile n p (Loss plies) has = has
+value_right profile n p Draw has = has n
 
 -- what isn't the distance of an entry is new to no class
-no_new : (n k : ℕ) (p : Setup) (v : Value) → suc k ≤ n → IsRightUpTo n p v → plies_of v ≢ suc k →
-    (Won (suc k) p → Won k p) × (Lost (suc k) p → Lost k p)
-no_new n k p (Win plies) low right other =
+no_new : (profile : Profile) (n k : ℕ) (p : Setup) (v : Value) → suc k ≤ n → IsRightUpTo profile n p v → plies_of v ≢ suc k →
+    (Won profile (suc k) p → Won profile k p) × (Lost profile (suc k) p → Lost profile k p)
+no_new profile n k p (Win plies) low right other =
     let apart : plies ≢ suc k = other in (
-      λ won. won_stays plies k p (let upto = right.1 (suc k) won in omega (arith, upto, apart)) right.0,
-      λ lost. absurd (won_not_lost plies (suc k) p right.0 lost),
+      λ won. won_stays profile plies k p (let upto = right.1 (suc k) won in omega (arith, upto, apart)) right.0,
+      λ lost. absurd (won_not_lost profile plies (suc k) p right.0 lost),
     )
-no_new n k p (Loss plies) low right other =
+no_new profile n k p (Loss plies) low right other =
     let apart : plies ≢ suc k = other in (
-      λ won. absurd (won_not_lost (suc k) plies p won right.0),
-      λ lost. lost_stays plies k p (let upto = right.1 (suc k) lost in omega (arith, upto, apart)) right.0,
+      λ won. absurd (won_not_lost profile (suc k) plies p won right.0),
+      λ lost. lost_stays profile plies k p (let upto = right.1 (suc k) lost in omega (arith, upto, apart)) right.0,
     )
-no_new n k p Draw low right other = (
-  λ won. absurd (right.0 (won_stays (suc k) n p low won)),
-  λ lost. absurd (right.1 (lost_stays (suc k) n p low lost)),
+no_new profile n k p Draw low right other = (
+  λ won. absurd (right.0 (won_stays profile (suc k) n p low won)),
+  λ lost. absurd (right.1 (lost_stays profile (suc k) n p low lost)),
 )
 
 -- ---- each lesser distance is some entry's
@@ -94,24 +96,24 @@ there_or_not (y ∷ xs) x = elim (cases_eq y x) [
   ]
 ]
 
-module _ (set : PieceSet) (n : ℕ) (entries : List Value) (right : AreRightUpTo n set entries) where
+module _ (family : Family) (n : ℕ) (entries : List Value) (right : AreRightUpTo n family entries) where
   abbrev told : List ℕ
   told = map plies_of entries
 
-  in_told : (number k : ℕ) → number < classes_of set → plies_of (slice_index_or entries number Draw) ≡ k → Contains told k
+  in_told : (number k : ℕ) → number < classes_of family → plies_of (slice_index_or entries number Draw) ≡ k → Contains told k
   in_told number k low is =
-      let whole : length entries ≡ classes_of set = right.same_length in
+      let whole : length entries ≡ classes_of family = right.same_length in
       let within : number < length entries = omega (arith, whole, low) in
       let same = length-map entries plies_of in
       (number, omega (arith, same, within), get_or-map plies_of entries number Draw k within ∙ is)
 
-  lesser_told : (number d k : ℕ) → number < classes_of set → HasDistance (class_setup set number) d → d ≤ n → suc k ≤ d → Contains told (suc k)
+  lesser_told : (number d k : ℕ) → number < classes_of family → HasDistance family.profile (class_setup family number) d → d ≤ n → suc k ≤ d → Contains told (suc k)
   lesser_told number d k low has upto less = elim (there_or_not told (suc k)) [
     | inl there ↦ there
     | inr absent ↦
-        let nothing : NothingNew k set = λ other there. no_new n k (class_setup set other) (slice_index_or entries other Draw) (omega (arith, upto, less))
+        let nothing : NothingNew k family = λ other there. no_new family.profile n k (class_setup family other) (slice_index_or entries other Draw) (omega (arith, upto, less))
         (right.fits other there) (λ same. absent (in_told other (suc k) there same)) in
-        let later = nothing_later k set (leads set) nothing d number low in
+        let later = nothing_later k family (leads family) nothing d number low in
         absurd (elim has [
           | inl won ↦ let least = won.1 k (later.0 won.0) in omega (arith, least, less)
           | inr lost ↦ let least = lost.1 k (later.1 lost.0) in omega (arith, least, less)
@@ -126,7 +128,7 @@ module _ (set : PieceSet) (n : ℕ) (entries : List Value) (right : AreRightUpTo
       omega (arith, at_i, at_j, same, less)
 
   -- so as many classes as plies
-  pub distance_within : (number d : ℕ) → number < classes_of set → HasDistance (class_setup set number) d → d ≤ n → d ≤ classes_of set
+  pub distance_within : (number d : ℕ) → number < classes_of family → HasDistance family.profile (class_setup family number) d → d ≤ n → d ≤ classes_of family
   distance_within number d low has upto =
       let each : (k : ℕ) → Contains (range_with_len 1 d) k → Contains told k = λ k there.
       let whole = length-range_with_len 1 d in
@@ -137,56 +139,56 @@ module _ (set : PieceSet) (n : ℕ) (entries : List Value) (right : AreRightUpTo
       let most = no_longer (range_with_len 1 d) told (range_apart d) each in
       let long = length-range_with_len 1 d in
       let same = length-map entries plies_of in
-      let whole : length entries ≡ classes_of set = right.same_length in
+      let whole : length entries ≡ classes_of family = right.same_length in
       omega (arith, most, long, same, whole)
 
 -- a class that is won or lost in n plies, where entries are cut off at depth n
-pub deep_within : (set : PieceSet) (n : ℕ) (entries : List Value) → AreCutOff n set entries → SomeHasDistance set n → n ≤ classes_of set
-deep_within set n entries cut some = distance_within set n entries (record {
+pub deep_within : (family : Family) (n : ℕ) (entries : List Value) → AreCutOff n family entries → SomeHasDistance family n → n ≤ classes_of family
+deep_within family n entries cut some = distance_within family n entries (record {
   same_length = cut.same_length;
-  fits = λ number low. cut_right n (class_setup set number) (slice_index_or entries number Draw) (cut.fits number low);
+  fits = λ number low. cut_right family.profile n (class_setup family number) (slice_index_or entries number Draw) (cut.fits number low);
 }) some.0 n some.1 some.2 (omega arith)
 
 -- ---- value tables
 
-value_distance : (p : Setup) (v : Value) → HasValue p v → (plies_of v ≡ 0) ⊎ HasDistance p (plies_of v)
-value_distance p (Win plies) has = inr (inl has)
-value_distance p (Loss plies) has = inr (inr has)
-value_distance p Draw has = inl (omega arith)
+value_distance : (profile : Profile) (p : Setup) (v : Value) → HasValue profile p v → (plies_of v ≡ 0) ⊎ HasDistance profile p (plies_of v)
+value_distance profile p (Win plies) has = inr (inl has)
+value_distance profile p (Loss plies) has = inr (inr has)
+value_distance profile p Draw has = inl (omega arith)
 
 pub distances_are_few : DistancesAreFew
-distances_are_few set entries table = λ number default within.
-    let number_low : number < classes_of set = omega (arith, whole, within) in
+distances_are_few family entries table = λ number default within.
+    let number_low : number < classes_of family = omega (arith, whole, within) in
     let v = get_or entries number default in
     let has = values number default within in
-    elim (value_distance (class_setup set number) v has) [
+    elim (value_distance family.profile (class_setup family number) v has) [
       | inl none ↦ omega (arith, none)
       | inr distance ↦
-          let most = distance_within set (plies_of v) entries (right (plies_of v)) number (plies_of v) number_low distance (omega arith) in
+          let most = distance_within family (plies_of v) entries (right (plies_of v)) number (plies_of v) number_low distance (omega arith) in
           omega (arith, most, whole)
     ]
   where
-    whole : length entries ≡ classes_of set
-    whole = one_count (IsRepresentative set) (length entries) (classes_of set) table.table.classes (HasClasses-classes_of set)
+    whole : length entries ≡ classes_of family
+    whole = one_count (IsRepresentative family) (length entries) (classes_of family) table.table.classes (HasClasses-classes_of family)
 
-    values : (number : ℕ) (default : Value) → number < length entries → HasValue (class_setup set number) (get_or entries number default)
+    values : (number : ℕ) (default : Value) → number < length entries → HasValue family.profile (class_setup family number) (get_or entries number default)
     values number default within =
-        let low : number < classes_of set = omega (arith, whole, within) in
-        let represents = class_setup_is set number (classes_of set) (HasClasses-classes_of set) low in
-        table.values_are (class_setup set number) (get_or entries number default) represents.0.0 (record {
+        let low : number < classes_of family = omega (arith, whole, within) in
+        let represents = class_setup_is family number (classes_of family) (HasClasses-classes_of family) low in
+        table.values_are (class_setup family number) (get_or entries number default) represents.0.0 (record {
           class = number;
           number = record {
             position = represents.0.0;
-            representative = class_setup set number;
-            stands = represents_itself set (class_setup set number) represents.0;
+            representative = class_setup family number;
+            stands = represents_itself family (class_setup family number) represents.0;
             before = represents.1;
           };
           entry = slice_get-get_or entries number default within;
         })
 
-    right : (n : ℕ) → AreRightUpTo n set entries
+    right : (n : ℕ) → AreRightUpTo n family entries
     right n = record {
       same_length = whole;
-      fits = λ number low. value_right n (class_setup set number) (slice_index_or entries number Draw)
+      fits = λ number low. value_right family.profile n (class_setup family number) (slice_index_or entries number Draw)
           (values number Draw (omega (arith, whole, low)));
     }

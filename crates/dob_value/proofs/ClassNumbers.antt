@@ -1,42 +1,46 @@
--- Each position of a set has one entry in a table of the set, and the outlook of its representative.
+-- Each position of a family has one entry in a table of the family, and the outlook of its representative.
 use Rattle.std.proofs.Common.{◌≡◌, ℕ, ◌<◌, inl, inr, sym, subst, ◌∙◌, arith, List, [], ◌∷◌, length, get_or, Some, slice_get}
 use Rattle.std.proofs.lemmas.Option.{slice_get-get_or, same_Some}
-use Rattle.dob_pieces.specs.declared.piece_set.PieceSet.{PieceSet}
+use Rattle.dob_pieces.specs.declared.profile.Family.{Family}
+use Rattle.dob_pieces.specs.declared.profile.Profile.{Profile}
 use Rattle.dob_pieces.specs.declared.setup.Setup.{Setup}
-use Rattle.dob_rank.specs.Order.{IsPositionOf, RepresentativeOf, HasClasses}
-use Rattle.dob_rank.specs.Numbers.{rank_of}
-use Rattle.dob_rank.specs.Marks.{marks_below, is_first}
-use Rattle.dob_rank.proofs.Marks.{HasClass-marks}
+use Rattle.dob_rank.specs.Order.{RepresentativeOf}
+use Rattle.dob_rank.specs.Families.{IsPositionOf, HasClasses}
+use Rattle.dob_rank.specs.Numbers.{rank_of_set}
+use Rattle.dob_rank.specs.Marks.{marks_below}
+use Rattle.dob_rank.specs.Families.{is_marked}
+use Rattle.dob_rank.proofs.Present.{HasClass-marked}
 pub use Rattle.dob_rank.proofs.Counted.{no_longer, one_count}
-pub use Rattle.dob_rank.proofs.Representatives.{not_before_itself, class_within, one_of_class, has_representative}
-pub use Rattle.dob_rank.proofs.Representatives.{representative_is, same_representative, represents_itself, one_class}
+pub use Rattle.dob_rank.proofs.Representatives.{not_before_itself}
+pub use Rattle.dob_rank.proofs.FamilyRepresentatives.{class_within, one_of_class, has_representative}
+pub use Rattle.dob_rank.proofs.FamilyRepresentatives.{representative_is, same_representative, represents_itself, one_class}
 use Rattle.dob_value.specs.declared.value.Value.{Value}
 use Rattle.dob_value.specs.Depths.{SameOutlook}
 use Rattle.dob_value.specs.Follows.{HasInTable}
 use Rattle.dob_value.proofs.Images.{one_outlook}
 
-same_outlook : (p : Setup) → SameOutlook p p
-same_outlook p = record { won = λ n. (λ won. won, λ won. won); lost = λ n. (λ lost. lost, λ lost. lost) }
+same_outlook : (profile : Profile) (p : Setup) → SameOutlook profile p p
+same_outlook profile p = record { won = λ n. (λ won. won, λ won. won); lost = λ n. (λ lost. lost, λ lost. lost) }
 
 -- a position has the outlook of its representative
-pub representative_outlook : (set : PieceSet) (p representative : Setup) → IsPositionOf set p → RepresentativeOf p representative →
-    SameOutlook p representative
-representative_outlook set p representative is represents = elim represents.0 [
-  | inl same ↦ subst (SameOutlook p) (sym same) (same_outlook p)
-  | inr image ↦ subst (SameOutlook p) (sym image) (one_outlook p is.legal)
+pub representative_outlook : (family : Family) (p representative : Setup) → IsPositionOf family p → RepresentativeOf p representative →
+    SameOutlook family.profile p representative
+representative_outlook family p representative is represents = elim represents.0 [
+  | inl same ↦ subst (SameOutlook family.profile p) (sym same) (same_outlook family.profile p)
+  | inr image ↦ subst (SameOutlook family.profile p) (sym image) (one_outlook family.profile p is.of_set.legal)
 ]
 
 -- ---- entries
 
--- each position of the set has an entry
-pub has_entry : (set : PieceSet) (values : List Value) (p : Setup) → HasClasses set (length values) → IsPositionOf set p →
-    (v : Value) × HasInTable set values p v
-has_entry set values p classes is =
-    let found = has_representative set p is in
-    let represents = representative_is set p found.0 is found.1 in
-    let class = marks_below (is_first set) (rank_of set found.0) in
-    let number = HasClass-marks set found.0 represents.0 in
-    let within : class < length values = class_within set found.0 class (length values) represents number classes in
+-- each position of the family has an entry
+pub has_entry : (family : Family) (values : List Value) (p : Setup) → HasClasses family (length values) → IsPositionOf family p →
+    (v : Value) × HasInTable family values p v
+has_entry family values p classes is =
+    let found = has_representative family p is in
+    let represents = representative_is family p found.0 is found.1 in
+    let class = marks_below (is_marked family) (rank_of_set family.set found.0) in
+    let number = HasClass-marked family found.0 represents.0 in
+    let within : class < length values = class_within family found.0 class (length values) represents number classes in
     entry_at values class within (λ v entry. record {
       class = class;
       number = record { position = is; representative = found.0; stands = found.1; before = number };
@@ -51,8 +55,8 @@ has_entry set values p classes is =
         (get_or (v ∷ values) class v, give (get_or (v ∷ values) class v) there)
 
 -- and no other
-pub one_entry : (set : PieceSet) (values : List Value) (p : Setup) (v w : Value) → IsPositionOf set p →
-    HasInTable set values p v → HasInTable set values p w → v ≡ w
-one_entry set values p v w is a b =
-    let same_class : b.class ≡ a.class = one_class set p b.class a.class b.number a.number in
+pub one_entry : (family : Family) (values : List Value) (p : Setup) (v w : Value) → IsPositionOf family p →
+    HasInTable family values p v → HasInTable family values p w → v ≡ w
+one_entry family values p v w is a b =
+    let same_class : b.class ≡ a.class = one_class family p b.class a.class b.number a.number in
     same_Some v w (sym a.entry ∙ subst (λ k. slice_get values k ≡ Some w) same_class b.entry)

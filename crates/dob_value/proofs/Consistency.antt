@@ -1,6 +1,7 @@
 -- A consistent table is the value table.
 use Rattle.std.proofs.Common.{◌≡◌, ℕ, zero, suc, ◌+◌, ◌≤◌, inl, inr, refl, sym, subst, ◌∙◌, arith, List}
-use Rattle.dob_pieces.specs.declared.piece_set.PieceSet.{PieceSet}
+use Rattle.dob_pieces.specs.declared.profile.Family.{Family}
+use Rattle.dob_pieces.specs.declared.profile.Profile.{Profile}
 use Rattle.dob_pieces.specs.declared.setup.Setup.{Setup}
 use Rattle.dob_moves.specs.declared.game_move.Move.{Move}
 use Rattle.dob_moves.specs.declared.position_status.Status.{Status}
@@ -8,12 +9,12 @@ use Rattle.dob_moves.specs.declared.position_status.Status.TheVariants.{Caught, 
 use Rattle.dob_moves.specs.Moves.{Goes}
 use Rattle.dob_moves.specs.Statuses.{HasStatus}
 use Rattle.dob_moves.proofs.Cases.{one_status}
-use Rattle.dob_rank.specs.Order.{IsPositionOf}
+use Rattle.dob_rank.specs.Families.{IsPositionOf}
 use Rattle.dob_value.specs.declared.value.Value.{Value}
 use Rattle.dob_value.specs.declared.value.Value.TheVariants.{Win, Loss, Draw}
 use Rattle.dob_value.specs.Values.{HasLost, Won, Lost, HasValue}
 use Rattle.dob_value.specs.Depths.{SameOutlook}
-use Rattle.dob_value.proofs.Successors.{moves_keep_the_set}
+use Rattle.dob_value.proofs.Successors.{moves_keep_the_family}
 use Rattle.dob_value.specs.Follows.{HasInTable, FollowsFromSuccessors, FollowsAt, Follows, IsConsistent, ConsistentIsRight}
 use Rattle.dob_value.proofs.Distances.{same_win, same_loss}
 use Rattle.dob_value.proofs.Depths.{won_stays}
@@ -36,24 +37,24 @@ pub not_draw_loss : (d : ℕ) → ¬ (let v : Value = Draw in v ≡ Loss d)
 not_draw_loss d e = absurd (cc)
 
 -- what follows at each status
-module _ (Has : Setup → Value → Type 0) (p : Setup) where
-  follows_caught : (v : Value) → HasStatus p Caught → Follows Has p v → v ≡ Win 1
+module _ (profile : Profile) (Has : Setup → Value → Type 0) (p : Setup) where
+  follows_caught : (v : Value) → HasStatus profile p Caught → Follows profile Has p v → v ≡ Win 1
   follows_caught v caught follows =
-      subst (λ s. FollowsAt Has p s v) (one_status p follows.0 Caught follows.1 caught) follows.2
+      subst (λ s. FollowsAt profile Has p s v) (one_status profile p follows.0 Caught follows.1 caught) follows.2
 
-  follows_over : (v : Value) → HasLost p → Follows Has p v → v ≡ Loss 0
+  follows_over : (v : Value) → HasLost profile p → Follows profile Has p v → v ≡ Loss 0
   follows_over v over follows = elim over [
-    | inl tried ↦ subst (λ s. FollowsAt Has p s v) (one_status p follows.0 Tried follows.1 tried) follows.2
-    | inr stuck ↦ subst (λ s. FollowsAt Has p s v) (one_status p follows.0 Stuck follows.1 stuck) follows.2
+    | inl tried ↦ subst (λ s. FollowsAt profile Has p s v) (one_status profile p follows.0 Tried follows.1 tried) follows.2
+    | inr stuck ↦ subst (λ s. FollowsAt profile Has p s v) (one_status profile p follows.0 Stuck follows.1 stuck) follows.2
   ]
 
-  follows_open : (v : Value) → HasStatus p Open → Follows Has p v → FollowsFromSuccessors Has p v
+  follows_open : (v : Value) → HasStatus profile p Open → Follows profile Has p v → FollowsFromSuccessors profile Has p v
   follows_open v goes_on follows =
-      subst (λ s. FollowsAt Has p s v) (one_status p follows.0 Open follows.1 goes_on) follows.2
+      subst (λ s. FollowsAt profile Has p s v) (one_status profile p follows.0 Open follows.1 goes_on) follows.2
 
   -- a lost successor makes a win, and successors that are all won make a loss, where a position has one value
-  win_follows : (n : ℕ) (v : Value) → (move : Move) (q : Setup) → Goes p move q → ((a b : Value) → Has q a → Has q b → a ≡ b) →
-      (u : Value) → Has q u → IsLossWithin n u → FollowsFromSuccessors Has p v → IsWinWithin (suc n) v
+  win_follows : (n : ℕ) (v : Value) → (move : Move) (q : Setup) → Goes profile p move q → ((a b : Value) → Has q a → Has q b → a ≡ b) →
+      (u : Value) → Has q u → IsLossWithin n u → FollowsFromSuccessors profile Has p v → IsWinWithin (suc n) v
   win_follows n (Win plies) move q goes one u has loss follows =
       let at_loss : Has q (Loss loss.0) = subst (Has q) loss.1 has in
       let least : follows.0 ≤ loss.0 = follows.3 loss.0 (move, q, goes, at_loss) in
@@ -66,9 +67,9 @@ module _ (Has : Setup → Value → Type 0) (p : Setup) where
   win_follows n Draw move q goes one u has loss follows =
       absurd (follows.0 loss.0 (move, q, goes, subst (Has q) loss.1 has))
 
-  loss_follows : (n : ℕ) (v : Value) → ((move : Move) (q : Setup) → Goes p move q → (a b : Value) → Has q a → Has q b → a ≡ b) →
-      ((move : Move) (q : Setup) → Goes p move q → (u : Value) × Has q u × IsWinWithin n u) →
-      FollowsFromSuccessors Has p v → IsLossWithin (suc n) v
+  loss_follows : (n : ℕ) (v : Value) → ((move : Move) (q : Setup) → Goes profile p move q → (a b : Value) → Has q a → Has q b → a ≡ b) →
+      ((move : Move) (q : Setup) → Goes profile p move q → (u : Value) × Has q u × IsWinWithin n u) →
+      FollowsFromSuccessors profile Has p v → IsLossWithin (suc n) v
   loss_follows n (Win plies) one wins follows =
       let next = follows.2 in
       let win = wins next.0 next.1 next.2 in
@@ -86,74 +87,74 @@ module _ (Has : Setup → Value → Type 0) (p : Setup) where
       let win = wins move q goes in
       (win.2.0, subst (Has q) win.2.1 win.1)))
 
-module _ (set : PieceSet) (values : List Value) (consistent : IsConsistent set values) where
-  known : (p : Setup) → IsPositionOf set p → (v : Value) × HasInTable set values p v
-  known p is = has_entry set values p consistent.table.classes is
+module _ (family : Family) (values : List Value) (consistent : IsConsistent family values) where
+  known : (p : Setup) → IsPositionOf family p → (v : Value) × HasInTable family values p v
+  known p is = has_entry family values p consistent.table.classes is
 
-  one : (p : Setup) (v w : Value) → IsPositionOf set p → HasInTable set values p v → HasInTable set values p w → v ≡ w
-  one p v w is = one_entry set values p v w is
+  one : (p : Setup) (v w : Value) → IsPositionOf family p → HasInTable family values p v → HasInTable family values p w → v ≡ w
+  one p v w is = one_entry family values p v w is
 
   -- what an entry says of the representative
-  entry_follows : (p : Setup) (v : Value) → IsPositionOf set p → (has : HasInTable set values p v) →
-      Follows (HasInTable set values) has.number.representative v
+  entry_follows : (p : Setup) (v : Value) → IsPositionOf family p → (has : HasInTable family values p v) →
+      Follows family.profile (HasInTable family values) has.number.representative v
   entry_follows p v is has =
-      consistent.follows has.number.representative has.class v (representative_is set p has.number.representative is has.number.stands)
+      consistent.follows has.number.representative has.class v (representative_is family p has.number.representative is has.number.stands)
       has.number.before has.entry
 
-  representative_member : (p : Setup) (v : Value) → IsPositionOf set p → (has : HasInTable set values p v) → IsPositionOf set has.number.representative
-  representative_member p v is has = (representative_is set p has.number.representative is has.number.stands).0
+  representative_member : (p : Setup) (v : Value) → IsPositionOf family p → (has : HasInTable family values p v) → IsPositionOf family has.number.representative
+  representative_member p v is has = (representative_is family p has.number.representative is has.number.stands).0
 
-  outlook : (p : Setup) (v : Value) → IsPositionOf set p → (has : HasInTable set values p v) → SameOutlook p has.number.representative
-  outlook p v is has = representative_outlook set p has.number.representative is has.number.stands
+  outlook : (p : Setup) (v : Value) → IsPositionOf family p → (has : HasInTable family values p v) → SameOutlook family.profile p has.number.representative
+  outlook p v is has = representative_outlook family p has.number.representative is has.number.stands
 
   -- what is won or lost within n plies is so in the table
   mutual
-    won_in_table : (n : ℕ) (p : Setup) (v : Value) → IsPositionOf set p → HasInTable set values p v → Won n p → IsWinWithin n v
+    won_in_table : (n : ℕ) (p : Setup) (v : Value) → IsPositionOf family p → HasInTable family values p v → Won family.profile n p → IsWinWithin n v
     won_in_table zero p v is has won = absurd won
     won_in_table (suc n) p v is has won =
         let representative = has.number.representative in
         let follows = entry_follows p v is has in
         elim (((outlook p v is has).won (suc n)).0 won) [
-          | inl caught ↦ (1, follows_caught (HasInTable set values) representative v caught follows, omega arith)
+          | inl caught ↦ (1, follows_caught family.profile (HasInTable family values) representative v caught follows, omega arith)
           | inr open_win ↦
               let goes_on = open_win.0 in
               let move = open_win.1 in
               let q = open_win.2 in
               let goes = open_win.3 in
-              let next = moves_keep_the_set set representative move q (representative_member p v is has) goes_on goes in
+              let next = moves_keep_the_family family representative move q (representative_member p v is has) goes_on goes in
               let entry = known q next in
-              win_follows (HasInTable set values) representative n v move q goes (λ a b. one q a b next) entry.0 entry.1
+              win_follows family.profile (HasInTable family values) representative n v move q goes (λ a b. one q a b next) entry.0 entry.1
               (lost_in_table n q entry.0 next entry.1 open_win.4)
-              (follows_open (HasInTable set values) representative v goes_on follows)
+              (follows_open family.profile (HasInTable family values) representative v goes_on follows)
         ]
 
-    lost_in_table : (n : ℕ) (p : Setup) (v : Value) → IsPositionOf set p → HasInTable set values p v → Lost n p → IsLossWithin n v
+    lost_in_table : (n : ℕ) (p : Setup) (v : Value) → IsPositionOf family p → HasInTable family values p v → Lost family.profile n p → IsLossWithin n v
     lost_in_table zero p v is has lost =
-        (0, follows_over (HasInTable set values) has.number.representative v (((outlook p v is has).lost 0).0 lost) (entry_follows p v is has), omega arith)
+        (0, follows_over family.profile (HasInTable family values) has.number.representative v (((outlook p v is has).lost 0).0 lost) (entry_follows p v is has), omega arith)
     lost_in_table (suc n) p v is has lost =
         let representative = has.number.representative in
         let follows = entry_follows p v is has in
         elim (((outlook p v is has).lost (suc n)).0 lost) [
-          | inl over ↦ (0, follows_over (HasInTable set values) representative v over follows, omega arith)
+          | inl over ↦ (0, follows_over family.profile (HasInTable family values) representative v over follows, omega arith)
           | inr open_loss ↦
               let goes_on = open_loss.0 in
               let member = representative_member p v is has in
-              loss_follows (HasInTable set values) representative n v
-              (λ move q goes a b. one q a b (moves_keep_the_set set representative move q member goes_on goes))
+              loss_follows family.profile (HasInTable family values) representative n v
+              (λ move q goes a b. one q a b (moves_keep_the_family family representative move q member goes_on goes))
               (λ move q goes.
-              let next = moves_keep_the_set set representative move q member goes_on goes in
+              let next = moves_keep_the_family family representative move q member goes_on goes in
               let entry = known q next in
               (entry.0, entry.1, won_in_table n q entry.0 next entry.1 (open_loss.1 move q goes)))
-              (follows_open (HasInTable set values) representative v goes_on follows)
+              (follows_open family.profile (HasInTable family values) representative v goes_on follows)
         ]
 
   -- a win of the table at a representative, where losses in one ply less are right; and likewise a loss
-  win_step : (plies : ℕ) (p : Setup) → IsPositionOf set p → (status : Status) → HasStatus p status →
-      FollowsAt (HasInTable set values) p status (Win plies) →
-      ((least : ℕ) (q : Setup) → suc least ≤ plies → IsPositionOf set q → HasInTable set values q (Loss least) → Lost least q) → Won plies p
+  win_step : (plies : ℕ) (p : Setup) → IsPositionOf family p → (status : Status) → HasStatus family.profile p status →
+      FollowsAt family.profile (HasInTable family values) p status (Win plies) →
+      ((least : ℕ) (q : Setup) → suc least ≤ plies → IsPositionOf family q → HasInTable family values q (Loss least) → Lost family.profile least q) → Won family.profile plies p
   win_step plies p is Caught status follows lower =
       let one_ply : plies ≡ 1 = cc in
-      subst (λ d. Won d p) (sym one_ply) (inl status)
+      subst (λ d. Won family.profile d p) (sym one_ply) (inl status)
   win_step plies p is Tried status follows lower = absurd (not_loss_and_win 0 plies (sym follows))
   win_step plies p is Stuck status follows lower = absurd (not_loss_and_win 0 plies (sym follows))
   win_step plies p is Open status follows lower =
@@ -161,40 +162,40 @@ module _ (set : PieceSet) (values : List Value) (consistent : IsConsistent set v
       let next = follows.2 in
       let more : plies ≡ least + 1 = follows.1 in
       let then : suc least ≡ plies = omega arith in
-      subst (λ d. Won d p) then (inr (
+      subst (λ d. Won family.profile d p) then (inr (
         status,
         next.0,
         next.1,
         next.2,
-        lower least next.1 (omega arith) (moves_keep_the_set set p next.0 next.1 is status next.2) next.3,
+        lower least next.1 (omega arith) (moves_keep_the_family family p next.0 next.1 is status next.2) next.3,
       ))
 
-  loss_step : (plies : ℕ) (p : Setup) → IsPositionOf set p → (status : Status) → HasStatus p status →
-      FollowsAt (HasInTable set values) p status (Loss plies) →
-      ((win : ℕ) (q : Setup) → suc win ≤ plies → IsPositionOf set q → HasInTable set values q (Win win) → Won win q) → Lost plies p
+  loss_step : (plies : ℕ) (p : Setup) → IsPositionOf family p → (status : Status) → HasStatus family.profile p status →
+      FollowsAt family.profile (HasInTable family values) p status (Loss plies) →
+      ((win : ℕ) (q : Setup) → suc win ≤ plies → IsPositionOf family q → HasInTable family values q (Win win) → Won family.profile win q) → Lost family.profile plies p
   loss_step plies p is Caught status follows lower = absurd (not_loss_and_win plies 1 follows)
   loss_step plies p is Tried status follows lower =
       let none : plies ≡ 0 = cc in
-      subst (λ d. Lost d p) (sym none) (inl status)
+      subst (λ d. Lost family.profile d p) (sym none) (inl status)
   loss_step plies p is Stuck status follows lower =
       let none : plies ≡ 0 = cc in
-      subst (λ d. Lost d p) (sym none) (inr status)
+      subst (λ d. Lost family.profile d p) (sym none) (inr status)
   loss_step plies p is Open status follows lower =
       let greatest = follows.0 in
       let more : plies ≡ greatest + 1 = follows.1 in
       let then : suc greatest ≡ plies = omega arith in
-      subst (λ d. Lost d p) then (inr (
+      subst (λ d. Lost family.profile d p) then (inr (
         status,
         λ move q goes.
             let win = follows.4 move q goes in
             let least : win.0 ≤ greatest = follows.3 win.0 (move, q, goes, win.1) in
-            won_stays win.0 greatest q least
-            (lower win.0 q (omega arith) (moves_keep_the_set set p move q is status goes) win.1),
+            won_stays family.profile win.0 greatest q least
+            (lower win.0 q (omega arith) (moves_keep_the_family family p move q is status goes) win.1),
       ))
 
   -- what is a win or a loss in the table is so, by induction on the distance
   mutual
-    win_is_won : (n plies : ℕ) (p : Setup) → plies ≤ n → IsPositionOf set p → HasInTable set values p (Win plies) → Won plies p
+    win_is_won : (n plies : ℕ) (p : Setup) → plies ≤ n → IsPositionOf family p → HasInTable family values p (Win plies) → Won family.profile plies p
     win_is_won zero plies p upto is has =
         let follows = entry_follows p (Win plies) is has in
         ((outlook p (Win plies) is has).won plies).1
@@ -206,7 +207,7 @@ module _ (set : PieceSet) (values : List Value) (consistent : IsConsistent set v
         (win_step plies has.number.representative (representative_member p (Win plies) is has) follows.0 follows.1 follows.2
         (λ least q below next entry. loss_is_lost n least q (omega arith) next entry))
 
-    loss_is_lost : (n plies : ℕ) (p : Setup) → plies ≤ n → IsPositionOf set p → HasInTable set values p (Loss plies) → Lost plies p
+    loss_is_lost : (n plies : ℕ) (p : Setup) → plies ≤ n → IsPositionOf family p → HasInTable family values p (Loss plies) → Lost family.profile plies p
     loss_is_lost zero plies p upto is has =
         let follows = entry_follows p (Loss plies) is has in
         ((outlook p (Loss plies) is has).lost plies).1
@@ -218,7 +219,7 @@ module _ (set : PieceSet) (values : List Value) (consistent : IsConsistent set v
         (loss_step plies has.number.representative (representative_member p (Loss plies) is has) follows.0 follows.1 follows.2
         (λ win q below next entry. win_is_won n win q (omega arith) next entry))
 
-  entry_is_value : (p : Setup) (v : Value) → IsPositionOf set p → HasInTable set values p v → HasValue p v
+  entry_is_value : (p : Setup) (v : Value) → IsPositionOf family p → HasInTable family values p v → HasValue family.profile p v
   entry_is_value p (Win plies) is has = (
     win_is_won plies plies p (omega arith) is has,
     λ n won.
@@ -245,8 +246,8 @@ module _ (set : PieceSet) (values : List Value) (consistent : IsConsistent set v
   )
 
 pub consistent_is_right : ConsistentIsRight
-consistent_is_right set values consistent = record {
+consistent_is_right family values consistent = record {
   table = consistent.table;
-  known = known set values consistent;
-  values_are = entry_is_value set values consistent;
+  known = known family values consistent;
+  values_are = entry_is_value family values consistent;
 }

@@ -1,5 +1,6 @@
 -- Mirror images are won and lost at the same depths.
 use Rattle.std.proofs.Common.{ℕ, zero, suc, inl, inr, subst}
+use Rattle.dob_pieces.specs.declared.profile.Profile.{Profile}
 use Rattle.dob_pieces.specs.declared.setup.Setup.{Setup}
 use Rattle.dob_pieces.specs.Setups.{IsLegal, mirrored}
 use Rattle.dob_pieces.proofs.Boards.{IsLegal-mirrored}
@@ -8,70 +9,70 @@ use Rattle.dob_moves.specs.declared.game_move.Move.{Move}
 use Rattle.dob_moves.specs.declared.position_status.Status.TheVariants.{Caught, Tried, Stuck, Open}
 use Rattle.dob_moves.specs.Moves.{Goes}
 use Rattle.dob_moves.specs.Mirrors.{mirrored_move}
-use Rattle.dob_moves.proofs.Mirrors.{Goes-mirrored, HasStatus-mirrored}
-use Rattle.dob_moves.proofs.Outcomes.{IsLegal-Goes}
+use Rattle.dob_moves.proofs.ProfileMoves.{Goes-mirrored, HasStatus-mirrored}
+use Rattle.dob_moves.proofs.ProfileMoves.{IsLegal-Goes}
 use Rattle.dob_value.specs.Values.{HasLost, Won, Lost}
 use Rattle.dob_value.specs.Depths.{SameOutlook, MirrorsHaveOneOutlook, MirrorsHaveOneValue}
 use Rattle.dob_value.proofs.Tables.{value_same}
 
 -- what has lost has lost in the mirror
-over_mirrored : (p : Setup) → IsLegal p → HasLost p → HasLost (mirrored p)
-over_mirrored p legal over = elim over [
-  | inl tried ↦ inl (HasStatus-mirrored p Tried legal.squares tried)
-  | inr stuck ↦ inr (HasStatus-mirrored p Stuck legal.squares stuck)
+over_mirrored : (profile : Profile) (p : Setup) → IsLegal p → HasLost profile p → HasLost profile (mirrored p)
+over_mirrored profile p legal over = elim over [
+  | inl tried ↦ inl (HasStatus-mirrored profile p Tried legal tried)
+  | inr stuck ↦ inr (HasStatus-mirrored profile p Stuck legal stuck)
 ]
 
 -- a move from the mirror image is the mirror image of a move
-from_mirrored : (p : Setup) (move : Move) (q : Setup) → IsLegal p → Goes (mirrored p) move q →
-    Goes p (mirrored_move move) (mirrored q)
-from_mirrored p move q legal goes =
-    subst (λ s. Goes s (mirrored_move move) (mirrored q)) (mirrored-mirrored p legal.squares)
-    (Goes-mirrored (mirrored p) move q (IsLegal-mirrored p legal).squares goes)
+from_mirrored : (profile : Profile) (p : Setup) (move : Move) (q : Setup) → IsLegal p → Goes profile (mirrored p) move q →
+    Goes profile p (mirrored_move move) (mirrored q)
+from_mirrored profile p move q legal goes =
+    subst (λ s. Goes profile s (mirrored_move move) (mirrored q)) (mirrored-mirrored p legal.squares)
+    (Goes-mirrored profile (mirrored p) move q (IsLegal-mirrored p legal).squares goes)
 
 mutual
-  pub won_mirrored : (n : ℕ) (p : Setup) → IsLegal p → Won n p → Won n (mirrored p)
-  won_mirrored zero p legal won = absurd won
-  won_mirrored (suc n) p legal won = elim won [
-    | inl caught ↦ inl (HasStatus-mirrored p Caught legal.squares caught)
+  pub won_mirrored : (profile : Profile) (n : ℕ) (p : Setup) → IsLegal p → Won profile n p → Won profile n (mirrored p)
+  won_mirrored profile zero p legal won = absurd won
+  won_mirrored profile (suc n) p legal won = elim won [
+    | inl caught ↦ inl (HasStatus-mirrored profile p Caught legal caught)
     | inr open_win ↦
-        let next_legal = IsLegal-Goes p open_win.1 open_win.2 open_win.3 legal open_win.0.1 in
+        let next_legal = IsLegal-Goes profile p open_win.1 open_win.2 open_win.3 legal open_win.0.1 in
         inr (
-          HasStatus-mirrored p Open legal.squares open_win.0,
+          HasStatus-mirrored profile p Open legal open_win.0,
           mirrored_move open_win.1,
           mirrored open_win.2,
-          Goes-mirrored p open_win.1 open_win.2 legal.squares open_win.3,
-          lost_mirrored n open_win.2 next_legal open_win.4,
+          Goes-mirrored profile p open_win.1 open_win.2 legal.squares open_win.3,
+          lost_mirrored profile n open_win.2 next_legal open_win.4,
         )
   ]
 
-  pub lost_mirrored : (n : ℕ) (p : Setup) → IsLegal p → Lost n p → Lost n (mirrored p)
-  lost_mirrored zero p legal over = over_mirrored p legal over
-  lost_mirrored (suc n) p legal lost = elim lost [
-    | inl over ↦ inl (over_mirrored p legal over)
+  pub lost_mirrored : (profile : Profile) (n : ℕ) (p : Setup) → IsLegal p → Lost profile n p → Lost profile n (mirrored p)
+  lost_mirrored profile zero p legal over = over_mirrored profile p legal over
+  lost_mirrored profile (suc n) p legal lost = elim lost [
+    | inl over ↦ inl (over_mirrored profile p legal over)
     | inr open_loss ↦
-        let image_open = HasStatus-mirrored p Open legal.squares open_loss.0 in
+        let image_open = HasStatus-mirrored profile p Open legal open_loss.0 in
         inr (
           image_open,
           λ move q goes.
-              let back = from_mirrored p move q legal goes in
-              let won = won_mirrored n (mirrored q) (IsLegal-Goes p (mirrored_move move) (mirrored q) back legal open_loss.0.1)
+              let back = from_mirrored profile p move q legal goes in
+              let won = won_mirrored profile n (mirrored q) (IsLegal-Goes profile p (mirrored_move move) (mirrored q) back legal open_loss.0.1)
               (open_loss.1 (mirrored_move move) (mirrored q) back) in
-              let q_legal = IsLegal-Goes (mirrored p) move q goes (IsLegal-mirrored p legal) image_open.1 in
-              subst (λ s. Won n s) (mirrored-mirrored q q_legal.squares) won,
+              let q_legal = IsLegal-Goes profile (mirrored p) move q goes (IsLegal-mirrored p legal) image_open.1 in
+              subst (λ s. Won profile n s) (mirrored-mirrored q q_legal.squares) won,
         )
   ]
 
 pub one_outlook : MirrorsHaveOneOutlook
-one_outlook p legal =
+one_outlook profile p legal =
     let image = IsLegal-mirrored p legal in
     let twice = mirrored-mirrored p legal.squares in
     record {
-      won = λ n. (won_mirrored n p legal, λ won. subst (λ s. Won n s) twice (won_mirrored n (mirrored p) image won));
-      lost = λ n. (lost_mirrored n p legal, λ lost. subst (λ s. Lost n s) twice (lost_mirrored n (mirrored p) image lost));
+      won = λ n. (won_mirrored profile n p legal, λ won. subst (λ s. Won profile n s) twice (won_mirrored profile n (mirrored p) image won));
+      lost = λ n. (lost_mirrored profile n p legal, λ lost. subst (λ s. Lost profile n s) twice (lost_mirrored profile n (mirrored p) image lost));
     }
 
 pub one_value : MirrorsHaveOneValue
-one_value p v legal has =
+one_value profile p v legal has =
     let image = IsLegal-mirrored p legal in
-    let same = subst (λ s. SameOutlook (mirrored p) s) (mirrored-mirrored p legal.squares) (one_outlook (mirrored p) image) in
-    value_same p (mirrored p) v same has
+    let same = subst (λ s. SameOutlook profile (mirrored p) s) (mirrored-mirrored p legal.squares) (one_outlook profile (mirrored p) image) in
+    value_same profile p (mirrored p) v same has

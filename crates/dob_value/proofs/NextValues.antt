@@ -5,6 +5,7 @@ use Rattle.std.proofs.lemmas.Bool.{cases_lt}
 use Rattle.std.proofs.lemmas.List.Folds.{Any-from_list_any, list_any_at}
 use Rattle.std.proofs.lemmas.List.Sums.{AllPass-from_list_all, list_all-from_AllPass}
 use Rattle.std.proofs.lemmas.List.Elements.{All-contains, Contains-get_or}
+use Rattle.dob_pieces.specs.declared.profile.Profile.{Profile}
 use Rattle.dob_pieces.specs.declared.setup.Setup.{Setup}
 use Rattle.dob_moves.specs.declared.position_status.Status.{Status}
 use Rattle.dob_moves.specs.declared.position_status.Status.TheVariants.{Caught, Tried, Stuck, Open}
@@ -17,42 +18,42 @@ use Rattle.dob_value.specs.Graphs.{IsNode}
 use Rattle.dob_value.proofs.Depths.{won_stays, lost_stays, lost_not_open}
 
 -- what is won first at depth n + 1 has that distance, and likewise what is lost
-pub first_won : (n : ℕ) (p : Setup) → ¬ Won n p → Won (suc n) p → HasValue p (Win (n + 1))
-first_won n p not_before won =
+pub first_won : (profile : Profile) (n : ℕ) (p : Setup) → ¬ Won profile n p → Won profile (suc n) p → HasValue profile p (Win (n + 1))
+first_won profile n p not_before won =
     let e : suc n ≡ n + 1 = omega arith in
-    let least : (m : ℕ) → Won m p → n + 1 ≤ m = λ m at_m. elim (cases_lt n m) [
+    let least : (m : ℕ) → Won profile m p → n + 1 ≤ m = λ m at_m. elim (cases_lt n m) [
       | inl later ↦ omega arith
-      | inr before ↦ absurd (not_before (won_stays m n p before at_m))
+      | inr before ↦ absurd (not_before (won_stays profile m n p before at_m))
     ] in
-    (subst (λ k. Won k p) e won, least)
+    (subst (λ k. Won profile k p) e won, least)
 
-pub first_lost : (n : ℕ) (p : Setup) → ¬ Lost n p → Lost (suc n) p → HasValue p (Loss (n + 1))
-first_lost n p not_before lost =
+pub first_lost : (profile : Profile) (n : ℕ) (p : Setup) → ¬ Lost profile n p → Lost profile (suc n) p → HasValue profile p (Loss (n + 1))
+first_lost profile n p not_before lost =
     let e : suc n ≡ n + 1 = omega arith in
-    let least : (m : ℕ) → Lost m p → n + 1 ≤ m = λ m at_m. elim (cases_lt n m) [
+    let least : (m : ℕ) → Lost profile m p → n + 1 ≤ m = λ m at_m. elim (cases_lt n m) [
       | inl later ↦ omega arith
-      | inr before ↦ absurd (not_before (lost_stays m n p before at_m))
+      | inr before ↦ absurd (not_before (lost_stays profile m n p before at_m))
     ] in
-    (subst (λ k. Lost k p) e lost, least)
+    (subst (λ k. Lost profile k p) e lost, least)
 
 -- a position that is still open at depth n is neither lost already nor, at a depth above 0, a catch
-pub not_lost_yet : (n : ℕ) (p : Setup) → ¬ Lost n p → ¬ HasLost p
-not_lost_yet n p not_lost over = not_lost (lost_stays 0 n p (omega arith) over)
+pub not_lost_yet : (profile : Profile) (n : ℕ) (p : Setup) → ¬ Lost profile n p → ¬ HasLost profile p
+not_lost_yet profile n p not_lost over = not_lost (lost_stays profile 0 n p (omega arith) over)
 
 -- the entries of the numbers tell of the positions up to depth n
-module _ (n : ℕ) (entries : List Value) (p : Setup) (status : Status) (numbers : List ℕ)
-    (known : IsNode (TellsAt n entries) p status numbers) where
-  pub some_lost : HasStatus p Open →
+module _ (profile : Profile) (n : ℕ) (entries : List Value) (p : Setup) (status : Status) (numbers : List ℕ)
+    (known : IsNode profile (TellsAt profile n entries) p status numbers) where
+  pub some_lost : HasStatus profile p Open →
       list_any (λ number. is_loss_within n (slice_index_or entries number Draw)) numbers ≡ true →
-      Won (suc n) p
+      Won profile (suc n) p
   some_lost goes_on any =
       let found = Any-from_list_any (λ number. is_loss_within n (slice_index_or entries number Draw)) numbers any in
       let step = known.successors.sound found.1 (found.0, found.2, found.3) in
       inr (goes_on, step.0, step.1, step.2, step.3.1.loss found.4)
 
-  pub all_won : HasStatus p Open →
+  pub all_won : HasStatus profile p Open →
       list_all (λ number. is_win_within n (slice_index_or entries number Draw)) numbers ≡ true →
-      Lost (suc n) p
+      Lost profile (suc n) p
   all_won goes_on all =
       let pass = AllPass-from_list_all (λ number. is_win_within n (slice_index_or entries number Draw)) numbers all in
       inr (
@@ -62,9 +63,9 @@ module _ (n : ℕ) (entries : List Value) (p : Setup) (status : Status) (numbers
             next.2.1.win (All-contains (λ number. is_win_within n (slice_index_or entries number Draw) ≡ true) numbers next.0 pass next.1),
       )
 
-  pub none_lost : HasStatus p Open →
+  pub none_lost : HasStatus profile p Open →
       list_any (λ number. is_loss_within n (slice_index_or entries number Draw)) numbers ≡ false →
-      ¬ Won (suc n) p
+      ¬ Won profile (suc n) p
   none_lost goes_on none won = elim won [
     | inl caught ↦ goes_on.0 caught
     | inr open_win ↦
@@ -76,11 +77,11 @@ module _ (n : ℕ) (entries : List Value) (p : Setup) (status : Status) (numbers
         cc
   ]
 
-  pub not_all_won : HasStatus p Open →
+  pub not_all_won : HasStatus profile p Open →
       list_all (λ number. is_win_within n (slice_index_or entries number Draw)) numbers ≡ false →
-      ¬ Lost (suc n) p
+      ¬ Lost profile (suc n) p
   not_all_won goes_on not_all lost = elim lost [
-    | inl over ↦ lost_not_open p over goes_on
+    | inl over ↦ lost_not_open profile p over goes_on
     | inr open_loss ↦
         let pass : All (λ number. is_win_within n (slice_index_or entries number Draw) ≡ true) numbers =
         λ k d below.
@@ -95,48 +96,48 @@ module _ (n : ℕ) (entries : List Value) (p : Setup) (status : Status) (numbers
   have_entries k d below = (known.successors.sound (get_or numbers k d) (Contains-get_or numbers k d below)).3.0
 
   -- the value at depth n + 1, by the status and what was found among its successors
-  pub value_at_catch : ¬ Won n p → status ≡ Caught → HasValue p (Win (n + 1))
+  pub value_at_catch : ¬ Won profile n p → status ≡ Caught → HasValue profile p (Win (n + 1))
   value_at_catch not_won caught =
-      first_won n p not_won (inl (subst (λ s. HasStatus p s) caught known.status))
+      first_won profile n p not_won (inl (subst (λ s. HasStatus profile p s) caught known.status))
 
-  pub not_over : ¬ Lost n p → (is : Status) → is ≡ status → (is ≡ Tried) ⊎ (is ≡ Stuck) → ⊥
-  not_over not_lost is same over = not_lost_yet n p not_lost (elim over [
-    | inl tried ↦ inl (subst (λ s. HasStatus p s) (sym same ∙ tried) known.status)
-    | inr stuck ↦ inr (subst (λ s. HasStatus p s) (sym same ∙ stuck) known.status)
+  pub not_over : ¬ Lost profile n p → (is : Status) → is ≡ status → (is ≡ Tried) ⊎ (is ≡ Stuck) → ⊥
+  not_over not_lost is same over = not_lost_yet profile n p not_lost (elim over [
+    | inl tried ↦ inl (subst (λ s. HasStatus profile p s) (sym same ∙ tried) known.status)
+    | inr stuck ↦ inr (subst (λ s. HasStatus profile p s) (sym same ∙ stuck) known.status)
   ])
 
-  pub value_of_win : ¬ Won n p → status ≡ Open → (successors : List ℕ) → successors ≡ numbers →
+  pub value_of_win : ¬ Won profile n p → status ≡ Open → (successors : List ℕ) → successors ≡ numbers →
       (found : Bool) → found ≡ list_any (λ number. is_loss_within n (slice_index_or entries number Draw)) successors → found ≡ true →
-      HasValue p (Win (n + 1))
+      HasValue profile p (Win (n + 1))
   value_of_win not_won is_open successors same found is was =
-      let goes_on = subst (λ s. HasStatus p s) is_open known.status in
-      first_won n p not_won (some_lost goes_on
+      let goes_on = subst (λ s. HasStatus profile p s) is_open known.status in
+      first_won profile n p not_won (some_lost goes_on
       (subst (λ xs. list_any (λ number. is_loss_within n (slice_index_or entries number Draw)) xs ≡ true) same (sym is ∙ was)))
 
-  pub value_of_loss : ¬ Lost n p → status ≡ Open → (successors : List ℕ) → successors ≡ numbers →
+  pub value_of_loss : ¬ Lost profile n p → status ≡ Open → (successors : List ℕ) → successors ≡ numbers →
       (all : Bool) → all ≡ list_all (λ number. is_win_within n (slice_index_or entries number Draw)) successors → all ≡ true →
-      HasValue p (Loss (n + 1))
+      HasValue profile p (Loss (n + 1))
   value_of_loss not_lost is_open successors same all is was =
-      let goes_on = subst (λ s. HasStatus p s) is_open known.status in
-      first_lost n p not_lost (all_won goes_on
+      let goes_on = subst (λ s. HasStatus profile p s) is_open known.status in
+      first_lost profile n p not_lost (all_won goes_on
       (subst (λ xs. list_all (λ number. is_win_within n (slice_index_or entries number Draw)) xs ≡ true) same (sym is ∙ was)))
 
   pub still_not_won : status ≡ Open → (successors : List ℕ) → successors ≡ numbers →
       (found : Bool) → found ≡ list_any (λ number. is_loss_within n (slice_index_or entries number Draw)) successors → found ≡ false →
-      ¬ Won (n + 1) p
+      ¬ Won profile (n + 1) p
   still_not_won is_open successors same found is no_loss won =
-      let goes_on = subst (λ s. HasStatus p s) is_open known.status in
+      let goes_on = subst (λ s. HasStatus profile p s) is_open known.status in
       let e : n + 1 ≡ suc n = omega arith in
       none_lost goes_on
       (subst (λ xs. list_any (λ number. is_loss_within n (slice_index_or entries number Draw)) xs ≡ false) same (sym is ∙ no_loss))
-      (subst (λ k. Won k p) e won)
+      (subst (λ k. Won profile k p) e won)
 
   pub still_not_lost : status ≡ Open → (successors : List ℕ) → successors ≡ numbers →
       (all : Bool) → all ≡ list_all (λ number. is_win_within n (slice_index_or entries number Draw)) successors → all ≡ false →
-      ¬ Lost (n + 1) p
+      ¬ Lost profile (n + 1) p
   still_not_lost is_open successors same all is not_all lost =
-      let goes_on = subst (λ s. HasStatus p s) is_open known.status in
+      let goes_on = subst (λ s. HasStatus profile p s) is_open known.status in
       let e : n + 1 ≡ suc n = omega arith in
       not_all_won goes_on
       (subst (λ xs. list_all (λ number. is_win_within n (slice_index_or entries number Draw)) xs ≡ false) same (sym is ∙ not_all))
-      (subst (λ k. Lost k p) e lost)
+      (subst (λ k. Lost profile k p) e lost)

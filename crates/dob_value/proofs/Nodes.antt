@@ -4,12 +4,12 @@ use Rattle.std.proofs.Common.{drop, slice_index_or, length-append}
 use Rattle.std.proofs.Math.Seq.{drop-append_seam, take-length}
 use Rattle.std.proofs.lemmas.List.{take-append-le, drop-append-le, length-drop, get_or_append_left, get_or_push}
 use Rattle.std.proofs.lemmas.Bool.{cases_lt}
-use Rattle.dob_pieces.specs.declared.piece_set.PieceSet.{PieceSet}
+use Rattle.dob_pieces.specs.declared.profile.Family.{Family}
 use Rattle.dob_moves.specs.declared.position_status.Status.{Status}
 use Rattle.dob_moves.specs.declared.position_status.Status.TheVariants.{Open}
-use Rattle.dob_rank.specs.Order.{IsPositionOf}
-use Rattle.dob_rank.specs.Marks.{classes_of}
-use Rattle.dob_rank.proofs.Marks.{HasClasses-classes_of}
+use Rattle.dob_rank.specs.Families.{IsPositionOf}
+use Rattle.dob_rank.specs.Families.{classes_of}
+use Rattle.dob_rank.proofs.Present.{HasClasses-classes_of}
 use Rattle.dob_value.specs.declared.sweep.TheConstants.{MAX_DISTANCE}
 use Rattle.dob_value.specs.ClassRows.{class_setup}
 use Rattle.dob_value.specs.Graphs.{IsNode, ClassStandsFor, run_at, AreNodes, SomeHasDistance}
@@ -32,8 +32,8 @@ last_run from to xs ys starts ends =
     ∙ take-length ys
 
 -- the graph of no class, and of one class more
-pub nodes_none : (set : PieceSet) → AreNodes set 0 [] (0 ∷ []) []
-nodes_none set = record {
+pub nodes_none : (family : Family) → AreNodes family 0 [] (0 ∷ []) []
+nodes_none family = record {
   statuses_whole = refl;
   starts_whole = refl;
   end = refl;
@@ -42,8 +42,8 @@ nodes_none set = record {
   known = λ number below. absurd (omega arith);
 }
 
-module _ (set : PieceSet) (upto : ℕ) (statuses : List Status) (starts successors : List ℕ) (before : AreNodes set upto statuses starts successors)
-    (status : Status) (numbers : List ℕ) (known : IsNode (ClassStandsFor set) (class_setup set upto) status numbers) where
+module _ (family : Family) (upto : ℕ) (statuses : List Status) (starts successors : List ℕ) (before : AreNodes family upto statuses starts successors)
+    (status : Status) (numbers : List ℕ) (known : IsNode family.profile (ClassStandsFor family) (class_setup family upto) status numbers) where
   abbrev all : List ℕ
   all = successors ++ numbers
 
@@ -61,7 +61,7 @@ module _ (set : PieceSet) (upto : ℕ) (statuses : List Status) (starts successo
   last_start = start_before upto (omega arith) ∙ before.end
 
   known_before : (number : ℕ) → number < upto →
-      IsNode (ClassStandsFor set) (class_setup set number) (slice_index_or (statuses ++ status ∷ []) number Open) (run_at starts_now all number)
+      IsNode family.profile (ClassStandsFor family) (class_setup family number) (slice_index_or (statuses ++ status ∷ []) number Open) (run_at starts_now all number)
   known_before number below =
       let whole : length statuses ≡ upto = before.statuses_whole in
       let same_status = get_or_append_left statuses (status ∷ []) Open number (omega arith) in
@@ -72,18 +72,18 @@ module _ (set : PieceSet) (upto : ℕ) (statuses : List Status) (starts successo
       ∙ ap (λ n. take (n - slice_index_or starts number 0) (drop (slice_index_or starts number 0) all)) to
       ∙ earlier_run (slice_index_or starts number 0) (slice_index_or starts (number + 1) 0) successors numbers (before.ordered number below)
       (before.within number below) in
-      subst (λ s. IsNode (ClassStandsFor set) (class_setup set number) s (run_at starts_now all number)) (sym same_status)
-      (subst (λ run. IsNode (ClassStandsFor set) (class_setup set number) (slice_index_or statuses number Open) run) (sym same_run)
+      subst (λ s. IsNode family.profile (ClassStandsFor family) (class_setup family number) s (run_at starts_now all number)) (sym same_status)
+      (subst (λ run. IsNode family.profile (ClassStandsFor family) (class_setup family number) (slice_index_or statuses number Open) run) (sym same_run)
       (before.known number below))
 
-  known_now : IsNode (ClassStandsFor set) (class_setup set upto) (slice_index_or (statuses ++ status ∷ []) upto Open) (run_at starts_now all upto)
+  known_now : IsNode family.profile (ClassStandsFor family) (class_setup family upto) (slice_index_or (statuses ++ status ∷ []) upto Open) (run_at starts_now all upto)
   known_now =
-      subst (λ s. IsNode (ClassStandsFor set) (class_setup set upto) s (run_at starts_now all upto))
+      subst (λ s. IsNode family.profile (ClassStandsFor family) (class_setup family upto) s (run_at starts_now all upto))
       (sym (get_or_push statuses status Open upto before.statuses_whole))
-      (subst (λ run. IsNode (ClassStandsFor set) (class_setup set upto) status run)
+      (subst (λ run. IsNode family.profile (ClassStandsFor family) (class_setup family upto) status run)
       (sym (last_run (slice_index_or starts_now upto 0) (slice_index_or starts_now (upto + 1) 0) successors numbers last_start end_now)) known)
 
-  pub nodes_more : AreNodes set (upto + 1) (statuses ++ status ∷ []) (starts ++ length (successors ++ numbers) ∷ []) (successors ++ numbers)
+  pub nodes_more : AreNodes family (upto + 1) (statuses ++ status ∷ []) (starts ++ length (successors ++ numbers) ∷ []) (successors ++ numbers)
   nodes_more = record {
     statuses_whole = length-append statuses (status ∷ []) ∙ ap (λ n. n + 1) before.statuses_whole;
     starts_whole = length-append starts (length all ∷ []) ∙ ap (λ n. n + 1) before.starts_whole;
@@ -112,26 +112,26 @@ module _ (set : PieceSet) (upto : ℕ) (statuses : List Status) (starts successo
       | inl earlier ↦ known_before number earlier
       | inr later ↦
           let same : upto ≡ number = omega arith in
-          subst (λ n. IsNode (ClassStandsFor set) (class_setup set n) (slice_index_or (statuses ++ status ∷ []) n Open) (run_at starts_now all n))
+          subst (λ n. IsNode family.profile (ClassStandsFor family) (class_setup family n) (slice_index_or (statuses ++ status ∷ []) n Open) (run_at starts_now all n))
           same known_now
     ];
   }
 
 -- the same, for lists that are known to be these
-pub nodes_grown : (set : PieceSet) (upto : ℕ) (statuses : List Status) (starts successors : List ℕ) (status : Status) (numbers : List ℕ)
-    (statuses_now : List Status) (starts_now successors_now : List ℕ) (last : ℕ) → AreNodes set upto statuses starts successors →
-    IsNode (ClassStandsFor set) (class_setup set upto) status numbers → statuses_now ≡ statuses ++ status ∷ [] →
+pub nodes_grown : (family : Family) (upto : ℕ) (statuses : List Status) (starts successors : List ℕ) (status : Status) (numbers : List ℕ)
+    (statuses_now : List Status) (starts_now successors_now : List ℕ) (last : ℕ) → AreNodes family upto statuses starts successors →
+    IsNode family.profile (ClassStandsFor family) (class_setup family upto) status numbers → statuses_now ≡ statuses ++ status ∷ [] →
     starts_now ≡ starts ++ last ∷ [] → last ≡ length successors_now → successors_now ≡ successors ++ numbers →
-    AreNodes set (upto + 1) statuses_now starts_now successors_now
-nodes_grown set upto statuses starts successors status numbers statuses_now starts_now successors_now last before known is_statuses is_starts is_last
+    AreNodes family (upto + 1) statuses_now starts_now successors_now
+nodes_grown family upto statuses starts successors status numbers statuses_now starts_now successors_now last before known is_statuses is_starts is_last
     is_successors =
-    subst (λ xs. AreNodes set (upto + 1) xs starts_now successors_now) (sym is_statuses)
-    (subst (λ xs. AreNodes set (upto + 1) (statuses ++ status ∷ []) xs successors_now)
+    subst (λ xs. AreNodes family (upto + 1) xs starts_now successors_now) (sym is_statuses)
+    (subst (λ xs. AreNodes family (upto + 1) (statuses ++ status ∷ []) xs successors_now)
     (sym (is_starts ∙ ap (λ n. starts ++ n ∷ []) (is_last ∙ ap length is_successors)))
-    (subst (λ xs. AreNodes set (upto + 1) (statuses ++ status ∷ []) (starts ++ length (successors ++ numbers) ∷ []) xs) (sym is_successors)
-    (nodes_more set upto statuses starts successors before status numbers known)))
+    (subst (λ xs. AreNodes family (upto + 1) (statuses ++ status ∷ []) (starts ++ length (successors ++ numbers) ∷ []) xs) (sym is_successors)
+    (nodes_more family upto statuses starts successors before status numbers known)))
 
--- a class too deep is a position of its set too deep
-pub deep_position : (set : PieceSet) (n : ℕ) → MAX_DISTANCE < n → SomeHasDistance set n → SomeTooDeep (IsPositionOf set)
-deep_position set n deep some =
-    (class_setup set some.0, (class_setup_is set some.0 (classes_of set) (HasClasses-classes_of set) some.1).0.0, n, deep, some.2)
+-- a class too deep is a position of its family too deep
+pub deep_position : (family : Family) (n : ℕ) → MAX_DISTANCE < n → SomeHasDistance family n → SomeTooDeep family.profile (IsPositionOf family)
+deep_position family n deep some =
+    (class_setup family some.0, (class_setup_is family some.0 (classes_of family) (HasClasses-classes_of family) some.1).0.0, n, deep, some.2)

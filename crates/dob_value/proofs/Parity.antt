@@ -6,9 +6,10 @@ use Rattle.std.specs.List.{All}
 use Rattle.std.proofs.lemmas.Bool.{cases_eq}
 use Rattle.std.proofs.lemmas.List.{get_or_default, get_or-map, length-map}
 use Rattle.std.proofs.lemmas.Option.{slice_get-map}
-use Rattle.dob_pieces.specs.declared.piece_set.PieceSet.{PieceSet}
+use Rattle.dob_pieces.specs.declared.profile.Family.{Family}
+use Rattle.dob_pieces.specs.declared.profile.Profile.{Profile}
 use Rattle.dob_pieces.specs.declared.setup.Setup.{Setup}
-use Rattle.dob_rank.specs.Marks.{classes_of}
+use Rattle.dob_rank.specs.Families.{classes_of}
 use Rattle.dob_value.specs.declared.value.Value.{Value}
 use Rattle.dob_value.specs.declared.value.Value.TheVariants.{Win, Loss, Draw}
 use Rattle.dob_value.specs.declared.sweep.TheConstants.{MAX_DISTANCE}
@@ -21,52 +22,52 @@ use Rattle.dob_value.specs.Follows.{IsEntry}
 
 -- an even depth wins nothing that the depth before doesn't, and an odd one loses nothing
 mutual
-  pub won_one_less : (n : ℕ) (p : Setup) → suc n % 2 ≡ 0 → Won (suc n) p → Won n p
-  won_one_less zero p even won = absurd (omega (arith, even))
-  won_one_less (suc n) p even won = elim won [
+  pub won_one_less : (profile : Profile) (n : ℕ) (p : Setup) → suc n % 2 ≡ 0 → Won profile (suc n) p → Won profile n p
+  won_one_less profile zero p even won = absurd (omega (arith, even))
+  won_one_less profile (suc n) p even won = elim won [
     | inl caught ↦ inl caught
     | inr open_win ↦
         let odd : suc n % 2 ≡ 1 = omega (arith, even) in
-        inr (open_win.0, open_win.1, open_win.2, open_win.3, lost_one_less n open_win.2 odd open_win.4)
+        inr (open_win.0, open_win.1, open_win.2, open_win.3, lost_one_less profile n open_win.2 odd open_win.4)
   ]
 
-  pub lost_one_less : (n : ℕ) (p : Setup) → suc n % 2 ≡ 1 → Lost (suc n) p → Lost n p
-  lost_one_less zero p odd lost = elim lost [
+  pub lost_one_less : (profile : Profile) (n : ℕ) (p : Setup) → suc n % 2 ≡ 1 → Lost profile (suc n) p → Lost profile n p
+  lost_one_less profile zero p odd lost = elim lost [
     | inl over ↦ over
     | inr open_loss ↦
         let some = open_loss.0.2 in
         absurd (open_loss.1 some.0 some.1.0 some.1.1)
   ]
-  lost_one_less (suc n) p odd lost = elim lost [
+  lost_one_less profile (suc n) p odd lost = elim lost [
     | inl over ↦ inl over
     | inr open_loss ↦
         let even : suc n % 2 ≡ 0 = omega (arith, odd) in
-        inr (open_loss.0, λ move q goes. won_one_less n q even (open_loss.1 move q goes))
+        inr (open_loss.0, λ move q goes. won_one_less profile n q even (open_loss.1 move q goes))
   ]
 
-odd_win : (plies : ℕ) (p : Setup) → HasValue p (Win plies) → plies % 2 ≡ 1
-odd_win zero p has = absurd has.0
-odd_win (suc n) p has = elim (cases_eq (suc n % 2) 1) [
+odd_win : (profile : Profile) (plies : ℕ) (p : Setup) → HasValue profile p (Win plies) → plies % 2 ≡ 1
+odd_win profile zero p has = absurd has.0
+odd_win profile (suc n) p has = elim (cases_eq (suc n % 2) 1) [
   | inl odd ↦ odd
   | inr other ↦
       let even : suc n % 2 ≡ 0 = omega (arith, other) in
-      let less : suc n ≤ n = has.1 n (won_one_less n p even has.0) in
+      let less : suc n ≤ n = has.1 n (won_one_less profile n p even has.0) in
       absurd (omega arith)
 ]
 
-even_loss : (plies : ℕ) (p : Setup) → HasValue p (Loss plies) → plies % 2 ≡ 0
-even_loss zero p has = refl
-even_loss (suc n) p has = elim (cases_eq (suc n % 2) 1) [
+even_loss : (profile : Profile) (plies : ℕ) (p : Setup) → HasValue profile p (Loss plies) → plies % 2 ≡ 0
+even_loss profile zero p has = refl
+even_loss profile (suc n) p has = elim (cases_eq (suc n % 2) 1) [
   | inl odd ↦
-      let less : suc n ≤ n = has.1 n (lost_one_less n p odd has.0) in
+      let less : suc n ≤ n = has.1 n (lost_one_less profile n p odd has.0) in
       absurd (omega arith)
   | inr other ↦ omega (arith, other)
 ]
 
 pub values_have_parity : ValuesHaveParity
-values_have_parity p (Win plies) has = odd_win plies p has
-values_have_parity p (Loss plies) has = even_loss plies p has
-values_have_parity p Draw has = tt
+values_have_parity profile p (Win plies) has = odd_win profile plies p has
+values_have_parity profile p (Loss plies) has = even_loss profile plies p has
+values_have_parity profile p Draw has = tt
 
 -- a code of 16 bits is an entry
 entry_of_code : (code : ℕ) → code < 65536 → IsEntry (value_of_code code)
@@ -94,31 +95,31 @@ entries_of_codes codes small k d below =
     subst IsEntry (sym read) (entry_of_code code (small k 0 within))
 
 -- an entry that is short, of a position whose value it is
-pub entry_of_value : (p : Setup) (v : Value) → HasValue p v → IsShort v → IsEntry v
-entry_of_value p (Win plies) has short = (odd_win plies p has, short)
-entry_of_value p (Loss plies) has short = (even_loss plies p has, short)
-entry_of_value p Draw has short = tt
+pub entry_of_value : (profile : Profile) (p : Setup) (v : Value) → HasValue profile p v → IsShort v → IsEntry v
+entry_of_value profile p (Win plies) has short = (odd_win profile plies p has, short)
+entry_of_value profile p (Loss plies) has short = (even_loss profile plies p has, short)
+entry_of_value profile p Draw has short = tt
 
 -- entries cut off at a depth that isn't too great are short
-pub short_of_cut : (n : ℕ) (p : Setup) (v : Value) → n ≤ MAX_DISTANCE → IsCutOff n p v → IsShort v
-short_of_cut n p (Win plies) upto cut = (let within : plies ≤ n = cut.0 in omega arith)
-short_of_cut n p (Loss plies) upto cut = (let within : plies ≤ n = cut.0 in omega arith)
-short_of_cut n p Draw upto cut = tt
+pub short_of_cut : (profile : Profile) (n : ℕ) (p : Setup) (v : Value) → n ≤ MAX_DISTANCE → IsCutOff profile n p v → IsShort v
+short_of_cut profile n p (Win plies) upto cut = (let within : plies ≤ n = cut.0 in omega arith)
+short_of_cut profile n p (Loss plies) upto cut = (let within : plies ≤ n = cut.0 in omega arith)
+short_of_cut profile n p Draw upto cut = tt
 
-pub all_short : (n : ℕ) (set : PieceSet) (entries : List Value) → n ≤ MAX_DISTANCE → AreCutOff n set entries → All IsShort entries
-all_short n set entries upto cut k d below =
-    let same_length : length entries ≡ classes_of set = cut.same_length in
-    let within : k < classes_of set = omega (arith, below) in
+pub all_short : (n : ℕ) (family : Family) (entries : List Value) → n ≤ MAX_DISTANCE → AreCutOff n family entries → All IsShort entries
+all_short n family entries upto cut k d below =
+    let same_length : length entries ≡ classes_of family = cut.same_length in
+    let within : k < classes_of family = omega (arith, below) in
     subst IsShort (get_or_default entries k Draw d below)
-    (short_of_cut n (class_setup set k) (get_or entries k Draw) upto (cut.fits k within))
+    (short_of_cut family.profile n (class_setup family k) (get_or entries k Draw) upto (cut.fits k within))
 
-pub all_entries : (set : PieceSet) (entries : List Value) → AreValues set entries → All IsShort entries → All IsEntry entries
-all_entries set entries values short k d below =
-    let same_length : length entries ≡ classes_of set = values.same_length in
-    let within : k < classes_of set = omega (arith, below) in
-    let here : HasValue (class_setup set k) (get_or entries k d) =
-    subst (HasValue (class_setup set k)) (get_or_default entries k Draw d below) (values.fits k within) in
-    entry_of_value (class_setup set k) (get_or entries k d) here (short k d below)
+pub all_entries : (family : Family) (entries : List Value) → AreValues family entries → All IsShort entries → All IsEntry entries
+all_entries family entries values short k d below =
+    let same_length : length entries ≡ classes_of family = values.same_length in
+    let within : k < classes_of family = omega (arith, below) in
+    let here : HasValue family.profile (class_setup family k) (get_or entries k d) =
+    subst (HasValue family.profile (class_setup family k)) (get_or_default entries k Draw d below) (values.fits k within) in
+    entry_of_value family.profile (class_setup family k) (get_or entries k d) here (short k d below)
 
 -- what a code says is the entry that stands at its place
 pub entry_read : (codes : List ℕ) (class code : ℕ) (v : Value) → slice_get codes class ≡ Some code → v ≡ value_of_code code →

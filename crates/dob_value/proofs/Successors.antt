@@ -4,47 +4,52 @@ use Rattle.std.proofs.Common.{Some, Contains, slice_get}
 use Rattle.std.proofs.lemmas.Bool.{cases_lt}
 use Rattle.std.proofs.lemmas.Option.{slice_get-get_or, same_Some}
 use Rattle.std.proofs.lemmas.List.Elements.{Contains-push, Contains-push_cases, Contains-get_or, Contains-append_left}
+use Rattle.dob_pieces.specs.declared.profile.Profile.{Profile}
 use Rattle.dob_pieces.specs.declared.setup.Setup.{Setup}
 use Rattle.dob_moves.specs.declared.game_move.Move.{Move}
 use Rattle.dob_moves.specs.Moves.{Goes, CanGo}
 use Rattle.dob_moves.specs.declared.position_status.Status.TheVariants.{Open}
 use Rattle.dob_moves.specs.Statuses.{HasStatus, AreMoves}
-use Rattle.dob_moves.proofs.Outcomes.{IsLegal-Goes, total-Goes}
-use Rattle.dob_pieces.specs.declared.piece_set.PieceSet.{PieceSet}
-use Rattle.dob_rank.specs.Order.{IsPositionOf}
+use Rattle.dob_moves.proofs.Kept.{IsAllowed-Goes}
+use Rattle.dob_moves.proofs.ProfileMoves.{IsLegal-Goes, total-Goes}
+use Rattle.dob_pieces.specs.declared.profile.Family.{Family}
+use Rattle.dob_rank.specs.Families.{IsPositionOf}
 use Rattle.dob_value.specs.Graphs.{AreSuccessors}
 
--- moves lead from positions of a piece set to such positions
-pub moves_keep_the_set : (set : PieceSet) (p : Setup) (move : Move) (q : Setup) → IsPositionOf set p → HasStatus p Open → Goes p move q →
-    IsPositionOf set q
-moves_keep_the_set set p move q is goes_on goes = record {
-  legal = IsLegal-Goes p move q goes is.legal goes_on.1;
-  pieces = λ kind. total-Goes p move q goes is.legal.squares kind ∙ is.pieces kind;
+-- moves lead from positions of a family to such positions
+pub moves_keep_the_family : (family : Family) (p : Setup) (move : Move) (q : Setup) → IsPositionOf family p → HasStatus family.profile p Open →
+    Goes family.profile p move q → IsPositionOf family q
+moves_keep_the_family family p move q is goes_on goes = record {
+  of_set = record {
+    legal = IsLegal-Goes family.profile p move q goes is.of_set.legal goes_on.1;
+    pieces = λ kind. total-Goes family.profile p move q goes is.of_set.legal.squares kind ∙ is.of_set.pieces kind;
+  };
+  allowed = IsAllowed-Goes family.profile p move q is.of_set.legal.squares is.allowed goes;
 }
 
 -- the numbers stand for the outcomes of the moves below an index
-pub record AreSuccessorsBelow {X : Type 0} (StandsFor : X → Setup → Type 0) (p : Setup) (choices : List Move) (upto : ℕ) (numbers : List X) : Type 0 where
-  pub sound : (number : X) → Contains numbers number → (move : Move) × (q : Setup) × Goes p move q × StandsFor number q
-  pub whole : (index : ℕ) (move : Move) (q : Setup) → index < upto → slice_get choices index ≡ Some move → Goes p move q →
+pub record AreSuccessorsBelow (profile : Profile) {X : Type 0} (StandsFor : X → Setup → Type 0) (p : Setup) (choices : List Move) (upto : ℕ) (numbers : List X) : Type 0 where
+  pub sound : (number : X) → Contains numbers number → (move : Move) × (q : Setup) × Goes profile p move q × StandsFor number q
+  pub whole : (index : ℕ) (move : Move) (q : Setup) → index < upto → slice_get choices index ≡ Some move → Goes profile p move q →
       (number : X) × Contains numbers number × StandsFor number q
 
 -- what the list of moves says of an entry that was read
-pub choice_goes : (p : Setup) (choices : List Move) (index : ℕ) (choice : Move) → AreMoves p choices → index < length choices →
-    choice ≡ get_or choices index choice → HasStatus p Open × CanGo p choice
-choice_goes p choices index choice are_moves within read =
+pub choice_goes : (profile : Profile) (p : Setup) (choices : List Move) (index : ℕ) (choice : Move) → AreMoves profile p choices → index < length choices →
+    choice ≡ get_or choices index choice → HasStatus profile p Open × CanGo profile p choice
+choice_goes profile p choices index choice are_moves within read =
     are_moves.sound choice (subst (λ m. Contains choices m) (sym read) (Contains-get_or choices index choice within))
 
-module _ {X : Type 0} (StandsFor : X → Setup → Type 0) (p : Setup) (choices : List Move) where
-  pub successors_none : AreSuccessorsBelow StandsFor p choices 0 []
+module _ (profile : Profile) {X : Type 0} (StandsFor : X → Setup → Type 0) (p : Setup) (choices : List Move) where
+  pub successors_none : AreSuccessorsBelow profile StandsFor p choices 0 []
   successors_none = record {
     sound = λ number there. absurd (omega (arith, there.1));
     whole = λ index move q below there goes. absurd (omega arith);
   }
 
   pub successors_more : (upto : ℕ) (numbers : List X) (choice : Move) (number : X) → slice_get choices upto ≡ Some choice →
-      CanGo p choice → ((q : Setup) → Goes p choice q → StandsFor number q) →
-      AreSuccessorsBelow StandsFor p choices upto numbers →
-      AreSuccessorsBelow StandsFor p choices (upto + 1) (numbers ++ number ∷ [])
+      CanGo profile p choice → ((q : Setup) → Goes profile p choice q → StandsFor number q) →
+      AreSuccessorsBelow profile StandsFor p choices upto numbers →
+      AreSuccessorsBelow profile StandsFor p choices (upto + 1) (numbers ++ number ∷ [])
   successors_more upto numbers choice number here can_go stands before = record {
     sound = λ other there. elim (Contains-push_cases numbers number other there) [
       | inl earlier ↦ before.sound other earlier
@@ -58,12 +63,12 @@ module _ {X : Type 0} (StandsFor : X → Setup → Type 0) (p : Setup) (choices 
           let same : upto ≡ index = omega arith in
           let here_too : slice_get choices index ≡ Some choice = subst (λ k. slice_get choices k ≡ Some choice) same here in
           let is_choice : move ≡ choice = same_Some move choice (sym there ∙ here_too) in
-          (number, Contains-push numbers number, stands q (subst (λ m. Goes p m q) is_choice goes))
+          (number, Contains-push numbers number, stands q (subst (λ m. Goes profile p m q) is_choice goes))
     ];
   }
 
-  pub successors_all : (upto : ℕ) (numbers : List X) → length choices ≤ upto → AreMoves p choices →
-      AreSuccessorsBelow StandsFor p choices upto numbers → AreSuccessors StandsFor p numbers
+  pub successors_all : (upto : ℕ) (numbers : List X) → length choices ≤ upto → AreMoves profile p choices →
+      AreSuccessorsBelow profile StandsFor p choices upto numbers → AreSuccessors profile StandsFor p numbers
   successors_all upto numbers all are_moves below = record {
     sound = below.sound;
     whole = λ goes_on move q goes.

@@ -4,9 +4,10 @@ use Rattle.std.proofs.Common.{false, slice_set, map, get_or-set_other, get_or-se
 use Rattle.std.proofs.lemmas.Grind.{common_steps}
 use Rattle.std.proofs.lemmas.List.{length-map, get_or-map}
 use Rattle.std.proofs.lemmas.Bool.{cases_lt, cases_eq, cases_order, leb-true, le-leb}
-use Rattle.dob_pieces.specs.declared.piece_set.PieceSet.{PieceSet}
+use Rattle.dob_pieces.specs.declared.profile.Family.{Family}
+use Rattle.dob_pieces.specs.declared.profile.Profile.{Profile}
 use Rattle.dob_pieces.specs.declared.setup.Setup.{Setup}
-use Rattle.dob_rank.specs.Marks.{classes_of}
+use Rattle.dob_rank.specs.Families.{classes_of}
 use Rattle.dob_moves.specs.declared.game_move.Move.{Move}
 use Rattle.dob_moves.specs.declared.position_status.Status.{Status}
 use Rattle.dob_moves.specs.declared.position_status.Status.TheVariants.{Caught, Tried, Stuck, Open}
@@ -23,45 +24,45 @@ use Rattle.dob_value.specs.ClassRows.{class_setup}
 use Rattle.dob_value.proofs.Depths.{won_stays, lost_stays, lost_not_caught, lost_not_open, won_not_lost}
 
 -- an entry that is cut off at a depth tells of each depth up to it
-pub tells : (n m : ℕ) (p : Setup) (entry : Value) → n ≤ m → IsCutOff m p entry → Tells n p entry
-tells n m p (Win d) upto cut = record {
-  win = λ yes. won_stays d n p (leb-true d n yes) cut.1.0;
+pub tells : (profile : Profile) (n m : ℕ) (p : Setup) (entry : Value) → n ≤ m → IsCutOff profile m p entry → Tells profile n p entry
+tells profile n m p (Win d) upto cut = record {
+  win = λ yes. won_stays profile d n p (leb-true d n yes) cut.1.0;
   won = λ won. le-leb d n (cut.1.1 n won);
   loss = λ false_is_true. absurd (cc);
-  lost = λ lost. absurd (won_not_lost d n p cut.1.0 lost);
+  lost = λ lost. absurd (won_not_lost profile d n p cut.1.0 lost);
 }
-tells n m p (Loss d) upto cut = record {
+tells profile n m p (Loss d) upto cut = record {
   win = λ false_is_true. absurd (cc);
-  won = λ won. absurd (won_not_lost n d p won cut.1.0);
-  loss = λ yes. lost_stays d n p (leb-true d n yes) cut.1.0;
+  won = λ won. absurd (won_not_lost profile n d p won cut.1.0);
+  loss = λ yes. lost_stays profile d n p (leb-true d n yes) cut.1.0;
   lost = λ lost. le-leb d n (cut.1.1 n lost);
 }
-tells n m p Draw upto cut = record {
+tells profile n m p Draw upto cut = record {
   win = λ false_is_true. absurd (cc);
-  won = λ won. absurd (cut.0 (won_stays n m p upto won));
+  won = λ won. absurd (cut.0 (won_stays profile n m p upto won));
   loss = λ false_is_true. absurd (cc);
-  lost = λ lost. absurd (cut.1 (lost_stays n m p upto lost));
+  lost = λ lost. absurd (cut.1 (lost_stays profile n m p upto lost));
 }
 
 -- positions with the same outlook: an entry tells the same of both, and they have the same values
-pub tells_same : (n : ℕ) (p q : Setup) (entry : Value) → SameOutlook q p → Tells n p entry → Tells n q entry
-tells_same n p q entry same told = record {
+pub tells_same : (profile : Profile) (n : ℕ) (p q : Setup) (entry : Value) → SameOutlook profile q p → Tells profile n p entry → Tells profile n q entry
+tells_same profile n p q entry same told = record {
   win = λ yes. (same.won n).1 (told.win yes);
   won = λ won. told.won ((same.won n).0 won);
   loss = λ yes. (same.lost n).1 (told.loss yes);
   lost = λ lost. told.lost ((same.lost n).0 lost);
 }
 
-pub value_same : (p q : Setup) (v : Value) → SameOutlook q p → HasValue p v → HasValue q v
-value_same p q (Win d) same has = ((same.won d).1 has.0, λ n won. has.1 n ((same.won n).0 won))
-value_same p q (Loss d) same has = ((same.lost d).1 has.0, λ n lost. has.1 n ((same.lost n).0 lost))
-value_same p q Draw same has = λ n. (λ won. (has n).0 ((same.won n).0 won), λ lost. (has n).1 ((same.lost n).0 lost))
+pub value_same : (profile : Profile) (p q : Setup) (v : Value) → SameOutlook profile q p → HasValue profile p v → HasValue profile q v
+value_same profile p q (Win d) same has = ((same.won d).1 has.0, λ n won. has.1 n ((same.won n).0 won))
+value_same profile p q (Loss d) same has = ((same.lost d).1 has.0, λ n lost. has.1 n ((same.lost n).0 lost))
+value_same profile p q Draw same has = λ n. (λ won. (has n).0 ((same.won n).0 won), λ lost. (has n).1 ((same.lost n).0 lost))
 
 -- an entry that is known stays
-pub known_stays : (n : ℕ) (p : Setup) (entry : Value) → is_draw entry ≡ false → IsCutOff n p entry → IsCutOff (n + 1) p entry
-known_stays n p (Win d) known cut = let e : d ≤ n + 1 = omega (arith, cut.0) in (e, cut.1)
-known_stays n p (Loss d) known cut = let e : d ≤ n + 1 = omega (arith, cut.0) in (e, cut.1)
-known_stays n p Draw known cut = absurd (cc)
+pub known_stays : (profile : Profile) (n : ℕ) (p : Setup) (entry : Value) → is_draw entry ≡ false → IsCutOff profile n p entry → IsCutOff profile (n + 1) p entry
+known_stays profile n p (Win d) known cut = let e : d ≤ n + 1 = omega (arith, cut.0) in (e, cut.1)
+known_stays profile n p (Loss d) known cut = let e : d ≤ n + 1 = omega (arith, cut.0) in (e, cut.1)
+known_stays profile n p Draw known cut = absurd (cc)
 
 pub draw_is : (v : Value) → is_draw v ≡ true → v ≡ Draw
 draw_is (Win d) h = absurd (cc)
@@ -69,9 +70,9 @@ draw_is (Loss d) h = absurd (cc)
 draw_is Draw h = refl
 
 -- a node's successors stay so where their numbers stand for positions in another way too
-pub node_standing : (StandsFor Other : ℕ → Setup → Type 0) (p : Setup) (status : Status) (numbers : List ℕ) →
-    ((number : ℕ) (q : Setup) → StandsFor number q → Other number q) → IsNode StandsFor p status numbers → IsNode Other p status numbers
-node_standing StandsFor Other p status numbers stands known = record {
+pub node_standing : (profile : Profile) (StandsFor Other : ℕ → Setup → Type 0) (p : Setup) (status : Status) (numbers : List ℕ) →
+    ((number : ℕ) (q : Setup) → StandsFor number q → Other number q) → IsNode profile StandsFor p status numbers → IsNode profile Other p status numbers
+node_standing profile StandsFor Other p status numbers stands known = record {
   status = known.status;
   successors = record {
     sound = λ number there. let step = known.successors.sound number there in (step.0, step.1, step.2, stands number step.1 step.3);
@@ -80,64 +81,64 @@ node_standing StandsFor Other p status numbers stands known = record {
 }
 
 -- the entries during a sweep tell, at each node, of what its successors are
-pub successors_told : (n upto : ℕ) (set : PieceSet) (entries : List Value) (p : Setup) (status : Status) (numbers : List ℕ) →
-    AreSwept n upto set entries → IsNode (ClassStandsFor set) p status numbers → IsNode (TellsAt n entries) p status numbers
-successors_told n upto set entries p status numbers swept known =
-    let told : (number : ℕ) (q : Setup) → ClassStandsFor set number q → TellsAt n entries number q = λ number q stands.
+pub successors_told : (n upto : ℕ) (family : Family) (entries : List Value) (p : Setup) (status : Status) (numbers : List ℕ) →
+    AreSwept n upto family entries → IsNode family.profile (ClassStandsFor family) p status numbers → IsNode family.profile (TellsAt family.profile n entries) p status numbers
+successors_told n upto family entries p status numbers swept known =
+    let told : (number : ℕ) (q : Setup) → ClassStandsFor family number q → TellsAt family.profile n entries number q = λ number q stands.
     let fits = swept.fits number stands.0 in
-    let same_length : length entries ≡ classes_of set = swept.same_length in
+    let same_length : length entries ≡ classes_of family = swept.same_length in
     let below : number < length entries = omega (arith, stands.0) in
-    let told_there : Tells n (class_setup set number) (slice_index_or entries number Draw) = elim (cases_lt number upto) [
-      | inl earlier ↦ tells n (n + 1) (class_setup set number) _ (omega arith) (fits.0 earlier)
-      | inr later ↦ tells n n (class_setup set number) _ (omega arith) (fits.1 later)
+    let told_there : Tells family.profile n (class_setup family number) (slice_index_or entries number Draw) = elim (cases_lt number upto) [
+      | inl earlier ↦ tells family.profile n (n + 1) (class_setup family number) _ (omega arith) (fits.0 earlier)
+      | inr later ↦ tells family.profile n n (class_setup family number) _ (omega arith) (fits.1 later)
     ] in
-    (below, tells_same n (class_setup set number) q _ stands.1 told_there) in
-    node_standing (ClassStandsFor set) (TellsAt n entries) p status numbers told known
+    (below, tells_same family.profile n (class_setup family number) q _ stands.1 told_there) in
+    node_standing family.profile (ClassStandsFor family) (TellsAt family.profile n entries) p status numbers told known
 
 -- before a sweep and after it
-pub swept_none : (n : ℕ) (set : PieceSet) (entries : List Value) → AreCutOff n set entries → AreSwept n 0 set entries
-swept_none n set entries cut = record {
+pub swept_none : (n : ℕ) (family : Family) (entries : List Value) → AreCutOff n family entries → AreSwept n 0 family entries
+swept_none n family entries cut = record {
   same_length = cut.same_length;
   fits = λ number there. (λ below. absurd (omega arith), λ upto. cut.fits number there);
 }
 
-pub swept_all : (n upto : ℕ) (set : PieceSet) (entries : List Value) → length entries ≤ upto → AreSwept n upto set entries →
-    AreCutOff (n + 1) set entries
-swept_all n upto set entries all swept = record {
+pub swept_all : (n upto : ℕ) (family : Family) (entries : List Value) → length entries ≤ upto → AreSwept n upto family entries →
+    AreCutOff (n + 1) family entries
+swept_all n upto family entries all swept = record {
   same_length = swept.same_length;
   fits = λ number there.
-      let same_length : length entries ≡ classes_of set = swept.same_length in
+      let same_length : length entries ≡ classes_of family = swept.same_length in
       (swept.fits number there).0 (omega arith);
 }
 
 -- one entry more is swept, whether it stays or is written
-pub swept_kept : (n upto : ℕ) (set : PieceSet) (entries : List Value) → AreSwept n upto set entries →
-    IsCutOff (n + 1) (class_setup set upto) (slice_index_or entries upto Draw) → AreSwept n (upto + 1) set entries
-swept_kept n upto set entries swept cut = record {
+pub swept_kept : (n upto : ℕ) (family : Family) (entries : List Value) → AreSwept n upto family entries →
+    IsCutOff family.profile (n + 1) (class_setup family upto) (slice_index_or entries upto Draw) → AreSwept n (upto + 1) family entries
+swept_kept n upto family entries swept cut = record {
   same_length = swept.same_length;
   fits = λ number there. (
     λ below. elim (cases_lt number upto) [
       | inl earlier ↦ (swept.fits number there).0 earlier
       | inr later ↦
           let same : upto ≡ number = omega arith in
-          subst (λ k. IsCutOff (n + 1) (class_setup set k) (slice_index_or entries k Draw)) same cut
+          subst (λ k. IsCutOff family.profile (n + 1) (class_setup family k) (slice_index_or entries k Draw)) same cut
     ],
     λ above. (swept.fits number there).1 (omega arith),
   );
 }
 
-pub swept_written : (n upto : ℕ) (set : PieceSet) (entries : List Value) (v : Value) → upto < classes_of set →
-    AreSwept n upto set entries → IsCutOff (n + 1) (class_setup set upto) v → AreSwept n (upto + 1) set (slice_set entries upto v)
-swept_written n upto set entries v within swept cut =
-    let same_length : length entries ≡ classes_of set = swept.same_length in
+pub swept_written : (n upto : ℕ) (family : Family) (entries : List Value) (v : Value) → upto < classes_of family →
+    AreSwept n upto family entries → IsCutOff family.profile (n + 1) (class_setup family upto) v → AreSwept n (upto + 1) family (slice_set entries upto v)
+swept_written n upto family entries v within swept cut =
+    let same_length : length entries ≡ classes_of family = swept.same_length in
     let below_length : upto < length entries = omega arith in
     let written : slice_index_or (slice_set entries upto v) upto Draw ≡ v = rw get_or-set_same in
     record {
       same_length = length-set entries upto v ∙ same_length;
       fits = λ number there. elim (cases_eq number upto) [
         | inl same ↦ (
-          λ below. subst (λ k. IsCutOff (n + 1) (class_setup set k) (slice_index_or (slice_set entries upto v) k Draw)) (sym same)
-              (subst (λ x. IsCutOff (n + 1) (class_setup set upto) x) (sym written) cut),
+          λ below. subst (λ k. IsCutOff family.profile (n + 1) (class_setup family k) (slice_index_or (slice_set entries upto v) k Draw)) (sym same)
+              (subst (λ x. IsCutOff family.profile (n + 1) (class_setup family upto) x) (sym written) cut),
           λ above. absurd (omega arith),
         )
         | inr apart ↦
@@ -147,45 +148,45 @@ swept_written n upto set entries v within swept cut =
                     | inl same ↦ absurd (apart same)
                     | inr order ↦ elim order [ inl first ↦ first | inr last ↦ absurd (omega arith) ]
                   ] in
-                  subst (λ x. IsCutOff (n + 1) (class_setup set number) x) (sym kept) ((swept.fits number there).0 earlier),
-              λ above. subst (λ x. IsCutOff n (class_setup set number) x) (sym kept) ((swept.fits number there).1 (omega arith)),
+                  subst (λ x. IsCutOff family.profile (n + 1) (class_setup family number) x) (sym kept) ((swept.fits number there).0 earlier),
+              λ above. subst (λ x. IsCutOff family.profile n (class_setup family number) x) (sym kept) ((swept.fits number there).1 (omega arith)),
             )
       ];
     }
 
 -- an entry that one depth more doesn't change: nothing is won or lost first at that depth
-pub nothing_new : (n : ℕ) (p : Setup) (entry : Value) → IsCutOff n p entry → IsCutOff (n + 1) p entry →
-    (Won (suc n) p → Won n p) × (Lost (suc n) p → Lost n p)
-nothing_new n p (Win d) cut next =
-    (λ won. won_stays d n p cut.0 cut.1.0, λ lost. absurd (won_not_lost d (suc n) p cut.1.0 lost))
-nothing_new n p (Loss d) cut next =
-    (λ won. absurd (won_not_lost (suc n) d p won cut.1.0), λ lost. lost_stays d n p cut.0 cut.1.0)
-nothing_new n p Draw cut next =
+pub nothing_new : (profile : Profile) (n : ℕ) (p : Setup) (entry : Value) → IsCutOff profile n p entry → IsCutOff profile (n + 1) p entry →
+    (Won profile (suc n) p → Won profile n p) × (Lost profile (suc n) p → Lost profile n p)
+nothing_new profile n p (Win d) cut next =
+    (λ won. won_stays profile d n p cut.0 cut.1.0, λ lost. absurd (won_not_lost profile d (suc n) p cut.1.0 lost))
+nothing_new profile n p (Loss d) cut next =
+    (λ won. absurd (won_not_lost profile (suc n) d p won cut.1.0), λ lost. lost_stays profile d n p cut.0 cut.1.0)
+nothing_new profile n p Draw cut next =
     let e : suc n ≡ n + 1 = omega arith in
-    (λ won. absurd (next.0 (subst (λ k. Won k p) e won)), λ lost. absurd (next.1 (subst (λ k. Lost k p) e lost)))
+    (λ won. absurd (next.0 (subst (λ k. Won profile k p) e won)), λ lost. absurd (next.1 (subst (λ k. Lost profile k p) e lost)))
 
 -- nothing is won or lost first at depth n + 1
-abbrev pub NothingNew : ℕ → PieceSet → Type 0
-NothingNew n set = (number : ℕ) → number < classes_of set →
-    (Won (suc n) (class_setup set number) → Won n (class_setup set number))
-    × (Lost (suc n) (class_setup set number) → Lost n (class_setup set number))
+abbrev pub NothingNew : ℕ → Family → Type 0
+NothingNew n family = (number : ℕ) → number < classes_of family →
+    (Won family.profile (suc n) (class_setup family number) → Won family.profile n (class_setup family number))
+    × (Lost family.profile (suc n) (class_setup family number) → Lost family.profile n (class_setup family number))
 
 -- the moves of the classes lead into classes
-abbrev pub LeadsToClasses : PieceSet → Type 0
-LeadsToClasses set = (number : ℕ) → number < classes_of set → HasStatus (class_setup set number) Open → (move : Move) (q : Setup) →
-    Goes (class_setup set number) move q → (next : ℕ) × ClassStandsFor set next q
+abbrev pub LeadsToClasses : Family → Type 0
+LeadsToClasses family = (number : ℕ) → number < classes_of family → HasStatus family.profile (class_setup family number) Open → (move : Move) (q : Setup) →
+    Goes family.profile (class_setup family number) move q → (next : ℕ) × ClassStandsFor family next q
 
 -- then nothing is at any greater depth
-pub nothing_later : (n : ℕ) (set : PieceSet) → LeadsToClasses set → NothingNew n set → (m number : ℕ) → number < classes_of set →
-    (Won m (class_setup set number) → Won n (class_setup set number)) × (Lost m (class_setup set number) → Lost n (class_setup set number))
-nothing_later n set leads nothing zero number there =
-    (λ won. absurd won, λ over. lost_stays 0 n (class_setup set number) (omega arith) over)
-nothing_later n set leads nothing (suc m) number there = (
+pub nothing_later : (n : ℕ) (family : Family) → LeadsToClasses family → NothingNew n family → (m number : ℕ) → number < classes_of family →
+    (Won family.profile m (class_setup family number) → Won family.profile n (class_setup family number)) × (Lost family.profile m (class_setup family number) → Lost family.profile n (class_setup family number))
+nothing_later n family leads nothing zero number there =
+    (λ won. absurd won, λ over. lost_stays family.profile 0 n (class_setup family number) (omega arith) over)
+nothing_later n family leads nothing (suc m) number there = (
   λ won. (nothing number there).0 (elim won [
     | inl caught ↦ inl caught
     | inr open_win ↦
         let next = leads number there open_win.0 open_win.1 open_win.2 open_win.3 in
-        let later = nothing_later n set leads nothing m next.0 next.1.0 in
+        let later = nothing_later n family leads nothing m next.0 next.1.0 in
         let lost = (next.1.1.lost n).1 (later.1 ((next.1.1.lost m).0 open_win.4)) in
         inr (open_win.0, open_win.1, open_win.2, open_win.3, lost)
   ]),
@@ -195,60 +196,60 @@ nothing_later n set leads nothing (suc m) number there = (
       open_loss.0,
       λ move q goes.
           let next = leads number there open_loss.0 move q goes in
-          let later = nothing_later n set leads nothing m next.0 next.1.0 in
+          let later = nothing_later n family leads nothing m next.0 next.1.0 in
           (next.1.1.won n).1 (later.0 ((next.1.1.won m).0 (open_loss.1 move q goes))),
     )
   ]),
 )
 
 -- an entry cut off at a depth after which nothing comes is the value
-pub value_of_cut : (n : ℕ) (p : Setup) (entry : Value) → ((m : ℕ) → (Won m p → Won n p) × (Lost m p → Lost n p)) →
-    IsCutOff n p entry → HasValue p entry
-value_of_cut n p (Win d) later cut = cut.1
-value_of_cut n p (Loss d) later cut = cut.1
-value_of_cut n p Draw later cut = λ m. (λ won. cut.0 ((later m).0 won), λ lost. cut.1 ((later m).1 lost))
+pub value_of_cut : (profile : Profile) (n : ℕ) (p : Setup) (entry : Value) → ((m : ℕ) → (Won profile m p → Won profile n p) × (Lost profile m p → Lost profile n p)) →
+    IsCutOff profile n p entry → HasValue profile p entry
+value_of_cut profile n p (Win d) later cut = cut.1
+value_of_cut profile n p (Loss d) later cut = cut.1
+value_of_cut profile n p Draw later cut = λ m. (λ won. cut.0 ((later m).0 won), λ lost. cut.1 ((later m).1 lost))
 
 -- a sweep that changes nothing is the last
 pub unchanged_is_final : (n : ℕ) (graph : Graph) (entries : List Value) → IsGraph graph →
-    AreCutOff n graph.set entries → AreCutOff (n + 1) graph.set entries → AreValues graph.set entries
+    AreCutOff n graph.family entries → AreCutOff (n + 1) graph.family entries → AreValues graph.family entries
 unchanged_is_final n graph entries is cut next =
-    let nothing : NothingNew n graph.set = λ number there.
-    nothing_new n (class_setup graph.set number) _ (cut.fits number there) (next.fits number there) in
-    let leads : LeadsToClasses graph.set = λ number there goes_on move q goes.
+    let nothing : NothingNew n graph.family = λ number there.
+    nothing_new graph.family.profile n (class_setup graph.family number) _ (cut.fits number there) (next.fits number there) in
+    let leads : LeadsToClasses graph.family = λ number there goes_on move q goes.
     let step = (is.known number there).successors.whole goes_on move q goes in (step.0, step.2) in
     record {
       same_length = cut.same_length;
       fits = λ number there.
-          value_of_cut n (class_setup graph.set number) _ (λ m. nothing_later n graph.set leads nothing m number there) (cut.fits number there);
+          value_of_cut graph.family.profile n (class_setup graph.family number) _ (λ m. nothing_later n graph.family leads nothing m number there) (cut.fits number there);
     }
 
 -- where a sweep finds a draw that it hasn't swept yet, the class is neither won nor lost up to its depth
-pub open_here : (n upto : ℕ) (set : PieceSet) (entries : List Value) (entry : Value) →
-    AreSwept n upto set entries → upto < classes_of set → entry ≡ slice_index_or entries upto Draw →
-    is_draw entry ≡ true → (¬ Won n (class_setup set upto)) × (¬ Lost n (class_setup set upto))
-open_here n upto set entries entry swept within read is_open =
-    let cut : IsCutOff n (class_setup set upto) (slice_index_or entries upto Draw) = (swept.fits upto within).1 (omega arith) in
+pub open_here : (n upto : ℕ) (family : Family) (entries : List Value) (entry : Value) →
+    AreSwept n upto family entries → upto < classes_of family → entry ≡ slice_index_or entries upto Draw →
+    is_draw entry ≡ true → (¬ Won family.profile n (class_setup family upto)) × (¬ Lost family.profile n (class_setup family upto))
+open_here n upto family entries entry swept within read is_open =
+    let cut : IsCutOff family.profile n (class_setup family upto) (slice_index_or entries upto Draw) = (swept.fits upto within).1 (omega arith) in
     let draw : slice_index_or entries upto Draw ≡ Draw = sym read ∙ draw_is entry is_open in
-    let at_draw : IsCutOff n (class_setup set upto) Draw = subst (λ x. IsCutOff n (class_setup set upto) x) draw cut in
+    let at_draw : IsCutOff family.profile n (class_setup family upto) Draw = subst (λ x. IsCutOff family.profile n (class_setup family upto) x) draw cut in
     at_draw
 
 -- the table before the first sweep
-pub start_at : (p : Setup) (status : Status) → HasStatus p status → IsCutOff 0 p (value_at_start status)
-start_at p Caught h = (λ won. won, λ over. lost_not_caught p over h)
-start_at p Tried h = (omega arith, (inl h, λ n lost. omega arith))
-start_at p Stuck h = (omega arith, (inr h, λ n lost. omega arith))
-start_at p Open h = (λ won. won, λ over. lost_not_open p over h)
+pub start_at : (profile : Profile) (p : Setup) (status : Status) → HasStatus profile p status → IsCutOff profile 0 p (value_at_start status)
+start_at profile p Caught h = (λ won. won, λ over. lost_not_caught profile p over h)
+start_at profile p Tried h = (omega arith, (inl h, λ n lost. omega arith))
+start_at profile p Stuck h = (omega arith, (inr h, λ n lost. omega arith))
+start_at profile p Open h = (λ won. won, λ over. lost_not_open profile p over h)
 
-pub starts_cut : (graph : Graph) → IsGraph graph → AreCutOff 0 graph.set (map value_at_start graph.statuses.items)
+pub starts_cut : (graph : Graph) → IsGraph graph → AreCutOff 0 graph.family (map value_at_start graph.statuses.items)
 starts_cut graph is = record {
   same_length = length-map graph.statuses.items value_at_start ∙ is.statuses_whole;
   fits = λ number there.
-      let whole : length graph.statuses.items ≡ classes_of graph.set = is.statuses_whole in
+      let whole : length graph.statuses.items ≡ classes_of graph.family = is.statuses_whole in
       let within : number < length graph.statuses.items = omega arith in
       let read : slice_index_or (map value_at_start graph.statuses.items) number Draw ≡ value_at_start (status_at graph number) =
       get_or-map value_at_start graph.statuses.items number Open Draw within in
-      subst (λ x. IsCutOff 0 (class_setup graph.set number) x) (sym read)
-      (start_at (class_setup graph.set number) (status_at graph number) (is.known number there).status);
+      subst (λ x. IsCutOff graph.family.profile 0 (class_setup graph.family number) x) (sym read)
+      (start_at graph.family.profile (class_setup graph.family number) (status_at graph number) (is.known number there).status);
 }
 
 -- a slice that is written back whole is all that there is

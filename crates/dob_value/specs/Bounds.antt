@@ -1,9 +1,10 @@
 -- How many plies values tell, and that in a value table these are no more than the classes.
-use Rattle.std.specs.Prelude.{ℕ, ◌<◌, ◌≤◌, List, length, All}
-use Rattle.dob_pieces.specs.declared.piece_set.PieceSet.{PieceSet}
+use Rattle.std.specs.Prelude.{◌≡◌, ℕ, ◌<◌, ◌≤◌, List, length, All}
+use Rattle.dob_pieces.specs.declared.profile.Family.{Family}
+use Rattle.dob_pieces.specs.declared.profile.Profile.{Profile}
 use Rattle.dob_pieces.specs.declared.setup.Setup.{Setup}
-use Rattle.dob_rank.specs.Order.{IsPositionOf}
-use Rattle.dob_rank.specs.Marks.{classes_of}
+use Rattle.dob_rank.specs.Families.{IsPositionOf}
+use Rattle.dob_rank.specs.Families.{classes_of}
 use Rattle.dob_value.specs.declared.value.Value.{Value}
 use Rattle.dob_value.specs.declared.value.Value.TheVariants.{Win, Loss, Draw}
 use Rattle.dob_value.specs.declared.sweep.TheConstants.{MAX_DISTANCE}
@@ -15,10 +16,10 @@ plies_of (Win plies) = plies
 plies_of (Loss plies) = plies
 plies_of Draw = 0
 
--- the piece set of the position has more classes than the greatest distance
-abbrev pub HasManyClasses : Setup → Type 0
-HasManyClasses p = (set : PieceSet) × IsPositionOf set p × (MAX_DISTANCE < classes_of set)
+-- the family of the position by the profile has more classes than the greatest distance
+abbrev pub HasManyClasses : Profile → Setup → Type 0
+HasManyClasses profile p = (family : Family) × (family.profile ≡ profile) × IsPositionOf family p × (MAX_DISTANCE < classes_of family)
 
--- in the value table of a set no distance is above the number of classes
+-- in the value table of a family no distance is above the number of classes
 abbrev pub DistancesAreFew : Type 0
-DistancesAreFew = (set : PieceSet) (values : List Value) → IsValueTable set values → All (λ v. plies_of v ≤ length values) values
+DistancesAreFew = (family : Family) (values : List Value) → IsValueTable family values → All (λ v. plies_of v ≤ length values) values

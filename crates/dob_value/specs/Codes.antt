@@ -1,6 +1,7 @@
 -- Entries of a table as numbers: 0 is a draw, and a number above 0 is one more than the distance; odd distances are
 -- wins and even ones losses.
 use Rattle.std.specs.Prelude.{◌≡◌, ℕ, zero, suc, ◌+◌, ◌%◌, ◌≤◌, ◌==◌, if◌then◌else◌, List, map}
+use Rattle.dob_pieces.specs.declared.profile.Profile.{Profile}
 use Rattle.dob_pieces.specs.declared.setup.Setup.{Setup}
 use Rattle.dob_value.specs.declared.value.Value.{Value}
 use Rattle.dob_value.specs.declared.value.Value.TheVariants.{Win, Loss, Draw}
@@ -34,7 +35,7 @@ HasParity Draw = Unit {0}
 
 -- wins come at odd and losses at even distances
 abbrev pub ValuesHaveParity : Type 0
-ValuesHaveParity = (p : Setup) (v : Value) → HasValue p v → HasParity v
+ValuesHaveParity = (profile : Profile) (p : Setup) (v : Value) → HasValue profile p v → HasParity v
 
 -- a distance of at most MAX_DISTANCE
 abbrev pub IsShort : Value → Type 0

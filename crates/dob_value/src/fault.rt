@@ -1,7 +1,6 @@
 // The faults of this crate.
 ghost use Rattle.std.specs.Prelude.{◌≡◌, Some};
 ghost use Rattle.dob_value.specs.declared.fault.Fault.TheVariants as fault;
-ghost use Rattle.dob_value.specs.Faults.{fault_of_rank};
 
 use dob_pieces::Memory;
 use std::alloc::{AllocError, AllocFailed};
@@ -11,9 +10,7 @@ use std::fmt;
 /// Why no value is given.
 #[derive(Clone, Copy, Debug, PartialEq, Eq)]
 pub enum Fault {
-    /// E8: the piece set is larger than those that are swept.
-    SetTooLarge,
-    /// E12: some position of the piece set is won or lost in more plies than an entry can hold.
+    /// E12: some position of the family is won or lost in more plies than an entry can hold.
     TooDeep,
     /// E23: a growth was refused, since no memory was left for it.
     Memory,
@@ -26,7 +23,6 @@ impl fmt::Display for Fault {
 
     fn fmt<W: fmt::Write>(&self, f: &mut fmt::Formatter<W>) -> fmt::Result {
         match self {
-            Fault::SetTooLarge => write!(f, "{}", dob_rank::Fault::SetTooLarge),
             Fault::TooDeep => write!(f, "E12 TooDeep"),
             Fault::Memory => write!(f, "{Memory}"),
         }
@@ -56,16 +52,5 @@ impl<T: Drop> From<AllocFailed<T>> for Fault {
 
     fn from(_lower: AllocFailed<T>) -> Fault {
         Fault::Memory
-    }
-}
-
-impl From<dob_rank::Fault> for Fault {
-    ghost from_gives = { λ lower given. given ≡ fault_of_rank lower };
-
-    fn from(lower: dob_rank::Fault) -> Fault {
-        match lower {
-            dob_rank::Fault::SetTooLarge => Fault::SetTooLarge,
-            dob_rank::Fault::Memory => Fault::Memory,
-        }
     }
 }

@@ -1,23 +1,23 @@
-// The classes of a piece set with what the sweeps need of them: their statuses and the numbers of their successors.
+// The classes of a family with what the sweeps need of them: their statuses and the numbers of their successors.
 ghost use Rattle.std.specs.Prelude.{◌≡◌, ◌<◌, ◌++◌, ℕ, List, IfOk};
 ghost use Rattle.dob_pieces.specs.declared.setup.Setup.{Setup};
 ghost use Rattle.dob_moves.specs.declared.position_status.Status.{Status};
 ghost use Rattle.dob_moves.specs.Moves.{Goes, CanGo};
 ghost use Rattle.dob_moves.specs.Statuses.{HasStatus};
-ghost use Rattle.dob_rank.specs.Order.{IsPositionOf};
-ghost use Rattle.dob_rank.specs.Marks.{classes_of};
+ghost use Rattle.dob_rank.specs.Families.{IsPositionOf};
+ghost use Rattle.dob_rank.specs.Families.{classes_of};
 ghost use Rattle.dob_value.specs.Graphs.{ClassStandsFor, IsNode, IsGraph, status_at, successors_at};
 
 use dob_moves::{Move, Status, apply, moves_into};
-use dob_pieces::{Memory, PieceSet, Position};
+use dob_pieces::{Family, Memory, Position};
 use dob_rank::Classes;
 use std::alloc::Global;
 
-/// The statuses of the classes of a set, and the numbers of their successors in one list: those of a class stand from
+/// The statuses of the classes of a family, and the numbers of their successors in one list: those of a class stand from
 /// its start to the next one's.
 #[derive(Drop)]
 pub(crate) struct Graph {
-    pub set: PieceSet,
+    pub family: Family,
     pub statuses: Vec<Status>,
     pub starts: Vec<usize>,
     pub successors: Vec<usize>,
@@ -27,7 +27,7 @@ impl Graph {
     /// The status of the class with that number.
     pub(crate) fn status_of(&self, number: usize) -> Status
         requires graph { IsGraph self.now }
-        requires within { number < classes_of self.now.set }
+        requires within { number < classes_of self.now.family }
         ensures { result ≡ status_at self.now number }
     {
         self.statuses[number]
@@ -36,7 +36,7 @@ impl Graph {
     /// The numbers of the classes to which its moves lead.
     pub(crate) fn successors_of(&self, number: usize) -> &[usize]
         requires graph { IsGraph self.now }
-        requires within { number < classes_of self.now.set }
+        requires within { number < classes_of self.now.family }
         ensures { result.now ≡ successors_at self.now number }
     {
         &self.successors[self.starts[number]..self.starts[number + 1]]
@@ -45,18 +45,18 @@ impl Graph {
 
 // The number of the position's class.
 fn number_of(classes: &Classes, position: &Position) -> usize
-    requires { IsPositionOf classes.now.set position.now.setup }
-    ensures { ClassStandsFor classes.now.set result position.now.setup }
+    requires { IsPositionOf classes.now.family position.now.setup }
+    ensures { ClassStandsFor classes.now.family result position.now.setup }
 {
     classes.class_of(position) as usize
 }
 
 // The number of the class to which the move leads.
 fn number_after(classes: &Classes, position: &Position, choice: Move) -> usize
-    requires member { IsPositionOf classes.now.set position.now.setup }
-    requires open { HasStatus position.now.setup Status.Open }
-    requires can_go { CanGo position.now.setup choice }
-    ensures { (q : Setup) → Goes position.now.setup choice q → ClassStandsFor classes.now.set result q }
+    requires member { IsPositionOf classes.now.family position.now.setup }
+    requires open { HasStatus classes.now.family.profile position.now.setup Status.Open }
+    requires can_go { CanGo classes.now.family.profile position.now.setup choice }
+    ensures { (q : Setup) → Goes classes.now.family.profile position.now.setup choice q → ClassStandsFor classes.now.family result q }
 {
     number_of(classes, &apply(position, choice))
 }
@@ -69,11 +69,11 @@ fn push_successors(
     choices: &mut Vec<Move>,
     successors: &mut Vec<usize>,
 ) -> Result<Status, Memory>
-    requires { IsPositionOf classes.now.set position.now.setup }
+    requires { IsPositionOf classes.now.family position.now.setup }
     ensures { IfOk result (λ status. (numbers : List ℕ) × (successors.new.items ≡ successors.old.items ++ numbers)
-        × IsNode (ClassStandsFor classes.now.set) position.now.setup status numbers) }
+        × IsNode classes.now.family.profile (ClassStandsFor classes.now.family) position.now.setup status numbers) }
 {
-    let status = moves_into(choices, position)?;
+    let status = moves_into(classes.family.profile, choices, position)?;
     for choice in choices.iter() {
         let number = number_after(classes, position, *choice);
         successors.push(number)?;
@@ -85,7 +85,7 @@ fn push_successors(
 ///
 /// Error: `Memory`.
 pub(crate) fn graph_of(alloc: Global, classes: &Classes) -> Result<Graph, Memory>
-    ensures set { IfOk result (λ graph. graph.set ≡ classes.now.set) }
+    ensures family { IfOk result (λ graph. graph.family ≡ classes.now.family) }
     ensures graph { IfOk result (λ graph. IsGraph graph) }
 {
     let mut statuses = Vec::new(alloc);
@@ -100,7 +100,7 @@ pub(crate) fn graph_of(alloc: Global, classes: &Classes) -> Result<Graph, Memory
         starts.push(successors.len())?;
     }
     Ok(Graph {
-        set: classes.set,
+        family: classes.family,
         statuses,
         starts,
         successors,

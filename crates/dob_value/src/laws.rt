@@ -37,7 +37,7 @@ pub fn mirrors_have_one_value()
     ensures { MirrorsHaveOneValue }
 {}
 
-/// A table of a piece set in which each class's value follows from its status and its successors' values is the value
+/// A table of a family in which each class's value follows from its status and its successors' values is the value
 /// table: each class's entry is the value of each of its positions.
 pub fn law_consistent()
     ensures { ConsistentIsRight }
@@ -48,7 +48,7 @@ pub fn values_have_parity()
     ensures { ValuesHaveParity }
 {}
 
-/// In the value table of a set no distance is above the number of classes.
+/// In the value table of a family no distance is above the number of classes.
 pub fn distances_are_few()
     ensures { DistancesAreFew }
 {}

@@ -1,8 +1,8 @@
-// The values of a whole piece set, and the value of one position.
-ghost use Rattle.std.specs.Prelude.{◌≡◌, ◌<◌, ◌↔◌, All, Some, IfOk, IsErrOf, length, slice_get};
-ghost use Rattle.dob_rank.specs.Marks.{classes_of};
-ghost use Rattle.dob_rank.specs.Limits.{IsTooLarge, HasManyPieces};
-ghost use Rattle.dob_rank.specs.Order.{IsPositionOf};
+// The values of a whole family, and the value of one position.
+ghost use Rattle.std.specs.Prelude.{◌≡◌, ◌<◌, All, Some, IfOk, IsErrOf, length, slice_get};
+ghost use Rattle.dob_pieces.specs.Profiles.{IsAllowed};
+ghost use Rattle.dob_rank.specs.Families.{classes_of};
+ghost use Rattle.dob_rank.specs.Families.{IsPositionOf};
 ghost use Rattle.dob_value.specs.Values.{HasValue};
 ghost use Rattle.dob_value.specs.Rosters.{SomeTooDeep, HasSamePieces};
 ghost use Rattle.dob_value.specs.Follows.{IsEntry, IsValueTable};
@@ -13,32 +13,31 @@ use crate::fault::Fault;
 use crate::sweep::{MAX_DISTANCE, sweep};
 use crate::table::Table;
 use crate::value::Value;
-use dob_pieces::{Memory, PieceSet, Position};
+use dob_pieces::{Family, Memory, Position, Profile};
 use dob_rank::Classes;
 use std::alloc::Global;
 
-/// The values of all positions of the set, by sweeps over its classes.
+/// The values of all positions of the family, by sweeps over its classes.
 ///
-/// Errors: `SetTooLarge` just where the set has more than `MOST_PIECES` pieces besides the lions; `TooDeep`, only where some
-/// position of the set is won or lost in more than `MAX_DISTANCE` plies, and the set has more classes than that; `Memory`.
-pub fn sweep_table(alloc: Global, set: PieceSet) -> Result<Table, Fault>
-    ensures set { IfOk result (λ table. table.set ≡ set) }
-    ensures values { IfOk result (λ table. IsValueTable set table.values) }
-    ensures large { IsErrOf result Fault.SetTooLarge ↔ IsTooLarge set }
-    ensures deep { IsErrOf result Fault.TooDeep → SomeTooDeep (IsPositionOf set) }
-    ensures many { IsErrOf result Fault.TooDeep → MAX_DISTANCE < classes_of set }
+/// Errors: `TooDeep`, only where some position of the family is won or lost in more than `MAX_DISTANCE` plies, and the family
+/// has more classes than that; `Memory`.
+pub fn sweep_table(alloc: Global, family: Family) -> Result<Table, Fault>
+    ensures family { IfOk result (λ table. table.family ≡ family) }
+    ensures values { IfOk result (λ table. IsValueTable family table.values) }
+    ensures deep { IsErrOf result Fault.TooDeep → SomeTooDeep family.profile (IsPositionOf family) }
+    ensures many { IsErrOf result Fault.TooDeep → MAX_DISTANCE < classes_of family }
 {
-    let classes = Classes::open(alloc, set)?;
+    let classes = Classes::open(alloc, family)?;
     let values = sweep(alloc, &classes)?;
     Ok(table_of(alloc, classes, &values)?)
 }
 
 // The table of the values of the classes.
 fn table_of(alloc: Global, classes: Classes, values: &[Value]) -> Result<Table, Memory>
-    requires values { AreValues classes.set values.now }
+    requires values { AreValues classes.family values.now }
     requires entries { All IsEntry values.now }
-    ensures set { IfOk result (λ table. table.set ≡ classes.set) }
-    ensures values { IfOk result (λ table. IsValueTable classes.set table.values) }
+    ensures family { IfOk result (λ table. table.family ≡ classes.family) }
+    ensures values { IfOk result (λ table. IsValueTable classes.family table.values) }
 {
     let value_at = |class: u64| -> Value
         requires { class < length values.now }
@@ -47,18 +46,21 @@ fn table_of(alloc: Global, classes: Classes, values: &[Value]) -> Result<Table, 
     Table::from_fn(alloc, classes, value_at)
 }
 
-/// The value of the position, by sweeps over all positions with the same pieces. `sweep_table` gives the values of them
-/// all at once.
+/// The value of the position by the rules of the profile, by sweeps over all its positions with the same pieces. `sweep_table`
+/// gives the values of them all at once.
 ///
-/// Errors: `SetTooLarge` just where there are more than `MOST_PIECES` pieces besides the lions; `TooDeep`, only where some
-/// position with the same pieces is won or lost in more than `MAX_DISTANCE` plies, and these have more classes than that;
-/// `Memory`.
-pub fn sweep_value(alloc: Global, position: &Position) -> Result<Value, Fault>
-    ensures value { IfOk result (λ value. HasValue position.now.setup value) }
-    ensures large { IsErrOf result Fault.SetTooLarge ↔ HasManyPieces position.now.setup }
-    ensures deep { IsErrOf result Fault.TooDeep → SomeTooDeep (HasSamePieces position.now.setup) }
-    ensures many { IsErrOf result Fault.TooDeep → HasManyClasses position.now.setup }
+/// Errors: `TooDeep`, only where some position with the same pieces is won or lost in more than `MAX_DISTANCE` plies, and these
+/// have more classes than that; `Memory`.
+pub fn sweep_value(alloc: Global, profile: Profile, position: &Position) -> Result<Value, Fault>
+    requires { IsAllowed profile position.now.setup }
+    ensures value { IfOk result (λ value. HasValue profile position.now.setup value) }
+    ensures deep { IsErrOf result Fault.TooDeep → SomeTooDeep profile (HasSamePieces profile position.now.setup) }
+    ensures many { IsErrOf result Fault.TooDeep → HasManyClasses profile position.now.setup }
 {
-    let table = sweep_table(alloc, position.piece_set())?;
+    let family = Family {
+        set: position.piece_set(),
+        profile,
+    };
+    let table = sweep_table(alloc, family)?;
     Ok(table.value_of(position))
 }

@@ -1,9 +1,9 @@
 // Sweeps over the classes of a graph: after n of them each entry is its class's value cut off at depth n, and a sweep
 // that changes nothing is the last.
-ghost use Rattle.std.specs.Prelude.{◌≡◌, ◌≢◌, ℕ, ◌+◌, ◌<◌, ◌≤◌, length, All, IfOk, map, slice_index_or, true, false};
+ghost use Rattle.std.specs.Prelude.{◌≡◌, ℕ, ◌+◌, ◌<◌, ◌≤◌, length, All, IfOk, map, slice_index_or, true, false};
 ghost use Rattle.std.specs.List.{list_any, list_all};
-ghost use Rattle.dob_rank.specs.Order.{IsPositionOf};
-ghost use Rattle.dob_rank.specs.Marks.{classes_of};
+ghost use Rattle.dob_rank.specs.Families.{IsPositionOf};
+ghost use Rattle.dob_rank.specs.Families.{classes_of};
 ghost use Rattle.dob_value.specs.declared.value.Value.TheVariants.{Draw};
 ghost use Rattle.dob_value.specs.Values.{Won, Lost};
 ghost use Rattle.dob_value.specs.Entries.{is_win_within, is_loss_within, is_draw, IsCutOff, TellsAt, HasDistance};
@@ -56,12 +56,12 @@ fn are_won(successors: &[usize], depth: u16, values: &[Value]) -> bool
 fn next_value(graph: &Graph, number: usize, depth: u16, values: &[Value]) -> Value
     requires below { depth ≤ MAX_DISTANCE }
     requires graph { IsGraph graph.now }
-    requires within { number < classes_of graph.now.set }
-    requires told { IsNode (TellsAt depth values.now) (class_setup graph.now.set number) (status_at graph.now number) (successors_at graph.now number) }
-    requires not_won { ¬ Won depth (class_setup graph.now.set number) }
-    requires not_lost { ¬ Lost depth (class_setup graph.now.set number) }
-    ensures cut_off { IsCutOff (depth + 1) (class_setup graph.now.set number) result }
-    ensures distance { is_draw result ≡ false → HasDistance (class_setup graph.now.set number) (depth + 1) }
+    requires within { number < classes_of graph.now.family }
+    requires told { IsNode graph.now.family.profile (TellsAt graph.now.family.profile depth values.now) (class_setup graph.now.family number) (status_at graph.now number) (successors_at graph.now number) }
+    requires not_won { ¬ Won graph.now.family.profile depth (class_setup graph.now.family number) }
+    requires not_lost { ¬ Lost graph.now.family.profile depth (class_setup graph.now.family number) }
+    ensures cut_off { IsCutOff graph.now.family.profile (depth + 1) (class_setup graph.now.family number) result }
+    ensures distance { is_draw result ≡ false → HasDistance graph.now.family.profile (class_setup graph.now.family number) (depth + 1) }
 {
     let status = graph.status_of(number);
     match status {
@@ -84,10 +84,10 @@ fn next_value(graph: &Graph, number: usize, depth: u16, values: &[Value]) -> Val
 fn update(graph: &Graph, number: usize, depth: u16, values: &mut [Value]) -> bool
     requires below { depth ≤ MAX_DISTANCE }
     requires graph { IsGraph graph.now }
-    requires within { number < classes_of graph.now.set }
-    requires swept { AreSwept depth number graph.now.set values.old }
-    ensures swept { AreSwept depth (number + 1) graph.now.set values.new }
-    ensures found { result ≡ true → SomeHasDistance graph.now.set (depth + 1) }
+    requires within { number < classes_of graph.now.family }
+    requires swept { AreSwept depth number graph.now.family values.old }
+    ensures swept { AreSwept depth (number + 1) graph.now.family values.new }
+    ensures found { result ≡ true → SomeHasDistance graph.now.family (depth + 1) }
     ensures same { result ≡ false → values.new ≡ values.old }
 {
     if !entry_at(values, number).is_draw() {
@@ -105,9 +105,9 @@ fn update(graph: &Graph, number: usize, depth: u16, values: &mut [Value]) -> boo
 fn sweep_once(graph: &Graph, depth: u16, values: &mut [Value]) -> bool
     requires below { depth ≤ MAX_DISTANCE }
     requires graph { IsGraph graph.now }
-    requires cut_off { AreCutOff depth graph.now.set values.old }
-    ensures cut_off { AreCutOff (depth + 1) graph.now.set values.new }
-    ensures found { result ≡ true → SomeHasDistance graph.now.set (depth + 1) }
+    requires cut_off { AreCutOff depth graph.now.family values.old }
+    ensures cut_off { AreCutOff (depth + 1) graph.now.family values.new }
+    ensures found { result ≡ true → SomeHasDistance graph.now.family (depth + 1) }
     ensures same { result ≡ false → values.new ≡ values.old }
 {
     let mut found = false;
@@ -144,11 +144,10 @@ fn first_values(alloc: Global, statuses: &[Status]) -> Result<Vec<Value>, AllocE
 // Errors: `TooDeep` where some distance is above `MAX_DISTANCE`, as then is the number of classes, and `Memory`.
 fn settle(alloc: Global, graph: &Graph) -> Result<Vec<Value>, Fault>
     requires { IsGraph graph.now }
-    ensures values { IfOk result (λ values. AreValues graph.now.set values.items) }
+    ensures values { IfOk result (λ values. AreValues graph.now.family values.items) }
     ensures short { IfOk result (λ values. All IsShort values.items) }
-    ensures deep { result ≡ Err Fault.TooDeep → (n : ℕ) × (MAX_DISTANCE < n) × SomeHasDistance graph.now.set n }
-    ensures many { result ≡ Err Fault.TooDeep → MAX_DISTANCE < classes_of graph.now.set }
-    ensures set { result ≢ Err Fault.SetTooLarge }
+    ensures deep { result ≡ Err Fault.TooDeep → (n : ℕ) × (MAX_DISTANCE < n) × SomeHasDistance graph.now.family n }
+    ensures many { result ≡ Err Fault.TooDeep → MAX_DISTANCE < classes_of graph.now.family }
 {
     let mut values = first_values(alloc, &graph.statuses)?;
     let mut depth = 0;
@@ -165,11 +164,10 @@ fn settle(alloc: Global, graph: &Graph) -> Result<Vec<Value>, Fault>
 ///
 /// Errors: `TooDeep` where some distance is above `MAX_DISTANCE`, as then is the number of classes, and `Memory`.
 pub(crate) fn sweep(alloc: Global, classes: &Classes) -> Result<Vec<Value>, Fault>
-    ensures values { IfOk result (λ values. AreValues classes.now.set values.items) }
+    ensures values { IfOk result (λ values. AreValues classes.now.family values.items) }
     ensures entries { IfOk result (λ values. All IsEntry values.items) }
-    ensures deep { result ≡ Err Fault.TooDeep → SomeTooDeep (IsPositionOf classes.now.set) }
-    ensures many { result ≡ Err Fault.TooDeep → MAX_DISTANCE < classes_of classes.now.set }
-    ensures set { result ≢ Err Fault.SetTooLarge }
+    ensures deep { result ≡ Err Fault.TooDeep → SomeTooDeep classes.now.family.profile (IsPositionOf classes.now.family) }
+    ensures many { result ≡ Err Fault.TooDeep → MAX_DISTANCE < classes_of classes.now.family }
 {
     let graph = graph_of(alloc, classes)?;
     settle(alloc, &graph)

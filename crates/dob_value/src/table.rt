@@ -1,20 +1,20 @@
-// Tables of a piece set: a value for each of its classes.
+// Tables of a family: a value for each of its classes.
 ghost use Rattle.std.specs.Prelude.{◌≡◌, ◌<◌, ℕ, All, Some, IfOk, length, slice_get};
 ghost use Rattle.dob_value.specs.declared.value.Value.{Value};
-ghost use Rattle.dob_rank.specs.Order.{IsPositionOf, HasClasses};
-ghost use Rattle.dob_rank.specs.Marks.{classes_of};
+ghost use Rattle.dob_rank.specs.Families.{IsPositionOf, HasClasses};
+ghost use Rattle.dob_rank.specs.Families.{classes_of};
 ghost use Rattle.dob_value.specs.Codes.{values_of_codes};
 ghost use Rattle.dob_value.specs.Follows.{ClassTable, HasInTable, IsTable, IsEntry, AreGiven, class_table};
 
 use crate::codes::{code_of_value, value_of_code};
 use crate::value::Value;
-use dob_pieces::{Memory, PieceSet, Position};
+use dob_pieces::{Family, Memory, Position};
 use dob_rank::{Classes, SegmentLength, Segments};
 use std::alloc::Global;
 use std::marker::Model;
 
-/// A piece set with one value for each of its classes: wins have odd and losses even distances, at most
-/// `MAX_DISTANCE`. It keeps 2 bytes a class beside the set's `Classes`, in segments.
+/// A family with one value for each of its classes: wins have odd and losses even distances, at most
+/// `MAX_DISTANCE`. It keeps 2 bytes a class beside the family's `Classes`, in segments.
 #[derive(Drop)]
 pub struct Table {
     classes: Classes,
@@ -24,17 +24,17 @@ pub struct Table {
 impl Model for Table {
     ghost Value = { ClassTable };
 
-    ghost view = { λ table. class_table table.classes.set (values_of_codes table.codes) };
+    ghost view = { λ table. class_table table.classes.family (values_of_codes table.codes) };
 
-    ghost invariant = { λ table. IsTable table.classes.set (values_of_codes table.codes) };
+    ghost invariant = { λ table. IsTable table.classes.family (values_of_codes table.codes) };
 }
 
 impl Table {
     /// The table of those classes with those codes, one for each class in the order of their numbers.
     pub fn new(classes: Classes, codes: Segments<u16>) -> Table
-        requires whole { length codes ≡ classes_of classes.set }
+        requires whole { length codes ≡ classes_of classes.family }
         requires codes { All (λ code. code < 65536) codes }
-        ensures { result ≡ class_table classes.set (values_of_codes codes) }
+        ensures { result ≡ class_table classes.family (values_of_codes codes) }
     {
         Table { classes, codes }
     }
@@ -48,10 +48,10 @@ impl Table {
         classes: Classes,
         value_at: F,
     ) -> Result<Table, Memory>
-        requires asked { (class : ℕ) → class < classes_of classes.set → F.pre value_at class }
-        requires entries { (class : ℕ) (value : Value) → class < classes_of classes.set → F.post value_at class value → IsEntry value }
-        ensures set { IfOk result (λ table. table.set ≡ classes.set) }
-        ensures given { IfOk result (λ table. AreGiven (F.post value_at) (classes_of classes.set) table.values) }
+        requires asked { (class : ℕ) → class < classes_of classes.family → F.pre value_at class }
+        requires entries { (class : ℕ) (value : Value) → class < classes_of classes.family → F.post value_at class value → IsEntry value }
+        ensures family { IfOk result (λ table. table.family ≡ classes.family) }
+        ensures given { IfOk result (λ table. AreGiven (F.post value_at) (classes_of classes.family) table.values) }
     {
         let mut codes = Segments::new(alloc, SegmentLength::longest());
         for class in 0..classes.class_count() {
@@ -60,26 +60,26 @@ impl Table {
         Ok(Table { classes, codes })
     }
 
-    /// The piece set.
-    pub fn set(&self) -> PieceSet
-        ensures set { result ≡ self.now.set }
-        ensures table { IsTable self.now.set self.now.values }
+    /// The family.
+    pub fn family(&self) -> Family
+        ensures family { result ≡ self.now.family }
+        ensures table { IsTable self.now.family self.now.values }
     {
-        self.classes.set
+        self.classes.family
     }
 
-    /// The classes of the piece set, with their numbers.
+    /// The classes of the family, with their numbers.
     pub fn classes(&self) -> &Classes
-        ensures set { result.now.set ≡ self.now.set }
-        ensures count { classes_of self.now.set ≡ length self.now.values }
-        ensures table { IsTable self.now.set self.now.values }
+        ensures family { result.now.family ≡ self.now.family }
+        ensures count { classes_of self.now.family ≡ length self.now.values }
+        ensures table { IsTable self.now.family self.now.values }
     {
         &self.classes
     }
 
     /// How many classes there are.
     pub fn class_count(&self) -> u64
-        ensures count { HasClasses self.now.set result }
+        ensures count { HasClasses self.now.family result }
         ensures length { result ≡ length self.now.values }
     {
         self.classes.class_count()
@@ -95,8 +95,8 @@ impl Table {
 
     /// The value of the position's class.
     pub fn value_of(&self, position: &Position) -> Value
-        requires { IsPositionOf self.now.set position.now.setup }
-        ensures { HasInTable self.now.set self.now.values position.now.setup result }
+        requires { IsPositionOf self.now.family position.now.setup }
+        ensures { HasInTable self.now.family self.now.values position.now.setup result }
     {
         let number = self.classes.class_of(position);
         value_of_code(self.codes.get(number))

@@ -10,12 +10,12 @@ gather-requires c = (c.args.class, (c.class_at.ensures.representative, c.class_a
 
 pub returns-clause-counts : goal.returns-clause-counts
 returns-clause-counts c =
-    sorted_predecessors c.args.classes.now.set c.args.class c.class_at.result.setup c.in_ok-numbers.numbers.items c.sort_unstable.new.self.items
+    sorted_predecessors c.args.classes.now.family c.args.class c.class_at.result.setup c.in_ok-numbers.numbers.items c.sort_unstable.new.self.items
     (c.class_at.ensures.representative, c.class_at.ensures.class) c.in_ok-numbers.ensures c.sort_unstable.ensures.permutation
     (IsNonDecreasingBy-from_sort (λ (x : ℕ). x) c.sort_unstable.new.self.items c.sort_unstable.ensures.sorted)
 
 pub returns-clause-list : goal.returns-clause-list
 returns-clause-list c =
-    sorted_list c.args.classes.now.set c.args.class c.class_at.result.setup c.in_ok-numbers.numbers.items c.sort_unstable.new.self.items
+    sorted_list c.args.classes.now.family c.args.class c.class_at.result.setup c.in_ok-numbers.numbers.items c.sort_unstable.new.self.items
     (c.class_at.ensures.representative, c.class_at.ensures.class) c.in_ok-numbers.ensures c.sort_unstable.ensures.permutation
     (IsNonDecreasingBy-from_sort (λ (x : ℕ). x) c.sort_unstable.new.self.items c.sort_unstable.ensures.sorted) c.requires

@@ -2,7 +2,7 @@
 use Rattle.std.proofs.Common.{ℕ, refl, sym, ◌∙◌}
 use Rattle.dob_pieces.specs.declared.setup.Setup.{Setup}
 use Rattle.dob_rank.specs.declared.classes.Classes.{Classes}
-use Rattle.dob_unmove.specs.Classes.{RepresentsIn}
+use Rattle.dob_unmove.specs.Classes.{RepresentsClass}
 use Rattle.dob_unmove.proofs.Classes.{IsNumbering-classes}
 use Rattle.dob_unmove.proofs.Gathering.{own_image, other_image, walked_alone, walked_both}
 use Rattle.dob_unmove.proofs.Kept.{position_mirrored, turned_image}
@@ -13,20 +13,20 @@ take_all-requires c = ((c.args.representative.now.setup, c.requires.1.0.0, c.tur
 
 pub class_if_representative-requires : goal.class_if_representative-requires
 class_if_representative-requires c =
-    position_mirrored c.args.classes.now.set c.args.representative.now.setup c.mirrored-image.result.setup c.requires.1.0.0 c.mirrored-image.ensures
+    position_mirrored c.args.classes.now.family c.args.representative.now.setup c.mirrored-image.result.setup c.requires.1.0.0 c.mirrored-image.ensures
 
 pub take_all-requires-2 : goal.take_all-requires-2
 take_all-requires-2 c =
     let q = c.args.representative.now.setup in (
-      turned_image c.take_all.new.taker.classes.now.set q c.mirrored-image.result.setup c.turned-after.result c.turned-after-2.result c.args.representative.now.legal
+      turned_image c.take_all.new.taker.classes.now.family q c.mirrored-image.result.setup c.turned-after.result c.turned-after-2.result c.args.representative.now.legal
           c.mirrored-image.ensures c.turned-after.ensures c.turned-after-2.ensures c.in_ok-take_all.ensures.suited.0,
       c.of-gathered.ensures,
     )
 
 pub returns-then-is_some : goal.returns-then-is_some
 returns-then-is_some c =
-    let Represents : Classes → Setup → ℕ → Type 0 = λ classes. RepresentsIn classes.set in
-    let n = IsNumbering-classes c.args.classes.now.set in
+    let Represents : Classes → Setup → ℕ → Type 0 = λ classes. RepresentsClass classes.family in
+    let n = IsNumbering-classes c.args.classes.now.family in
     let q = c.args.representative.now.setup in
     let own = own_image (Represents c.args.classes.now) q c.mirrored-image.result.setup c.class_if_representative.result n c.requires c.mirrored-image.ensures
     c.class_if_representative.ensures (sym c.is_some.ensures ∙ c.if-is_some.true) in
@@ -35,8 +35,8 @@ returns-then-is_some c =
 
 pub returns : goal.returns
 returns c =
-    let Represents : Classes → Setup → ℕ → Type 0 = λ classes. RepresentsIn classes.set in
-    let n = IsNumbering-classes c.args.classes.now.set in
+    let Represents : Classes → Setup → ℕ → Type 0 = λ classes. RepresentsClass classes.family in
+    let n = IsNumbering-classes c.args.classes.now.family in
     let q = c.args.representative.now.setup in
     let image = c.mirrored-image.result.setup in
     let other = other_image (Represents c.args.classes.now) q image c.class_if_representative.result c.requires c.mirrored-image.ensures

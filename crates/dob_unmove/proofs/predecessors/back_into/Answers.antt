@@ -5,17 +5,17 @@ use Rattle.std.proofs.lemmas.List.Sorted.{IsNonDecreasingBy-from_sort}
 use Rattle.dob_unmove.proofs.Edges.{sorted_predecessors, sorted_list}
 use Rattle.dob_unmove.proofs.predecessors.back_into.Goals as goal
 
-pub gather-requires : goal.gather-requires
-gather-requires c = (c.args.class, (c.class_at.ensures.representative, c.class_at.ensures.class))
+pub gather-requires-clause-representative : goal.gather-requires-clause-representative
+gather-requires-clause-representative c = (c.shown_at.ensures.representative, c.shown_at.ensures.class)
 
 pub returns-clause-counts : goal.returns-clause-counts
 returns-clause-counts c =
-    sorted_predecessors c.args.classes.now.set c.args.class c.class_at.result.setup c.in_ok-numbers.numbers.items c.sort_unstable.new.self.items
-    (c.class_at.ensures.representative, c.class_at.ensures.class) c.in_ok-numbers.ensures c.sort_unstable.ensures.permutation
+    sorted_predecessors c.args.classes.now.family c.args.class c.shown_at.result.position.setup c.in_ok-numbers.numbers.items c.sort_unstable.new.self.items
+    (c.shown_at.ensures.representative, c.shown_at.ensures.class) c.in_ok-numbers.ensures c.sort_unstable.ensures.permutation
     (IsNonDecreasingBy-from_sort (λ (x : ℕ). x) c.sort_unstable.new.self.items c.sort_unstable.ensures.sorted)
 
 pub returns-clause-list : goal.returns-clause-list
 returns-clause-list c =
-    sorted_list c.args.classes.now.set c.args.class c.class_at.result.setup c.in_ok-numbers.numbers.items c.sort_unstable.new.self.items
-    (c.class_at.ensures.representative, c.class_at.ensures.class) c.in_ok-numbers.ensures c.sort_unstable.ensures.permutation
+    sorted_list c.args.classes.now.family c.args.class c.shown_at.result.position.setup c.in_ok-numbers.numbers.items c.sort_unstable.new.self.items
+    (c.shown_at.ensures.representative, c.shown_at.ensures.class) c.in_ok-numbers.ensures c.sort_unstable.ensures.permutation
     (IsNonDecreasingBy-from_sort (λ (x : ℕ). x) c.sort_unstable.new.self.items c.sort_unstable.ensures.sorted) c.requires

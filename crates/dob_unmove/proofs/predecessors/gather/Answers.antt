@@ -3,25 +3,29 @@ use Rattle.std.proofs.Common.{true≢false, sym, ap, ◌∙◌, subst}
 use Rattle.dob_pieces.specs.declared.setup.Setup.{Setup}
 use Rattle.dob_rank.specs.Bitboards.{AreBitboards}
 use Rattle.dob_pieces.specs.Setups.{mirrored}
-use Rattle.dob_unmove.specs.Classes.{RepresentsIn}
+use Rattle.dob_unmove.specs.Classes.{RepresentsClass}
+use Rattle.dob_unmove.specs.Ways.{AreWays}
 use Rattle.dob_unmove.proofs.Classes.{IsNumbering-classes}
 use Rattle.dob_unmove.proofs.Gathering.{alone_found, both_found}
 use Rattle.dob_unmove.proofs.Kept.{turned_legal, turned_position}
 use Rattle.dob_unmove.proofs.predecessors.gather.Goals as goal
 
 pub by-ways-requires-clause-legal : goal.by-ways-requires-clause-legal
-by-ways-requires-clause-legal c = (c.args.representative.now.setup, c.args.representative.now.legal, c.turned-after.ensures)
+by-ways-requires-clause-legal c = (c.args.shown.now.position.setup, c.args.shown.now.position.legal, c.turned-after.ensures)
 
 pub by-ways-requires-clause-bits : goal.by-ways-requires-clause-bits
 by-ways-requires-clause-bits c =
-    subst (λ (s : Setup). AreBitboards s c.turned.result) (sym c.turned-after.ensures) c.turned.ensures
+    subst (λ (s : Setup). AreBitboards s c.args.shown.now.bits) (sym c.turned-after.ensures) c.requires.bits
 
 pub gather_all-requires : goal.gather_all-requires
-gather_all-requires c = record { of_set = (c.args.representative.now.setup, c.requires.1.0.0, c.turned-after.ensures); ways_are = c.by-ways.ensures }
+gather_all-requires c = record {
+  of_set = (c.args.shown.now.position.setup, c.requires.representative.0.0, c.of.ensures ∙ c.turned-after.ensures);
+  ways_are = subst (λ (s : Setup). AreWays s c.by-ways.result) (sym c.of.ensures) c.by-ways.ensures;
+}
 
 pub by-image_ways-requires-clause-legal : goal.by-image_ways-requires-clause-legal
 by-image_ways-requires-clause-legal c =
-    turned_legal c.args.representative.now.setup c.mirrored-image.result c.args.representative.now.legal (c.mirrored-image.ensures ∙ ap mirrored c.turned-after.ensures)
+    turned_legal c.args.shown.now.position.setup c.mirrored-image.result c.args.shown.now.position.legal (c.mirrored-image.ensures ∙ ap mirrored c.turned-after.ensures)
 
 pub by-image_ways-requires-clause-bits : goal.by-image_ways-requires-clause-bits
 by-image_ways-requires-clause-bits c =
@@ -31,26 +35,27 @@ by-image_ways-requires-clause-bits c =
 pub gather_all-requires-2 : goal.gather_all-requires-2
 gather_all-requires-2 c = record {
   of_set =
-      turned_position c.args.classes.now.set c.args.representative.now.setup c.mirrored-image.result c.requires.1.0.0
-      (c.mirrored-image.ensures ∙ ap mirrored c.turned-after.ensures);
-  ways_are = c.by-image_ways.ensures;
+      turned_position c.args.classes.now.family c.args.shown.now.position.setup c.of-2.result.value c.requires.representative.0.0
+      (c.of-2.ensures ∙ c.mirrored-image.ensures ∙ ap mirrored c.turned-after.ensures);
+  ways_are = subst (λ (s : Setup). AreWays s c.by-image_ways.result) (sym c.of-2.ensures) c.by-image_ways.ensures;
 }
 
 pub returns-then-is_own_image : goal.returns-then-is_own_image
 returns-then-is_own_image c =
-    let Represents = RepresentsIn c.args.classes.now.set in
-    let n = IsNumbering-classes c.args.classes.now.set in
-    let q = c.args.representative.now.setup in
-    alone_found Represents n q c.turned-after.result _ c.gather_all.new.found.items c.args.representative.now.legal
-    (c.is_own_image.ensures.0 c.if-is_own_image.true) c.turned-after.ensures
+    let Represents = RepresentsClass c.args.classes.now.family in
+    let n = IsNumbering-classes c.args.classes.now.family in
+    let q = c.args.shown.now.position.setup in
+    alone_found Represents n q c.of.result.value _ c.gather_all.new.found.items c.args.shown.now.position.legal
+    (c.is_own_image.ensures.0 c.if-is_own_image.true) (c.of.ensures ∙ c.turned-after.ensures)
     c.clear.ensures.items c.in_ok-gather_all.ensures
 
 pub returns : goal.returns
 returns c =
-    let Represents = RepresentsIn c.args.classes.now.set in
-    let n = IsNumbering-classes c.args.classes.now.set in
-    let q = c.args.representative.now.setup in
-    both_found Represents n q c.turned-after.result c.mirrored-image.result _ c.gather_all.new.found.items c.gather_all-2.new.found.items c.args.representative.now.legal
+    let Represents = RepresentsClass c.args.classes.now.family in
+    let n = IsNumbering-classes c.args.classes.now.family in
+    let q = c.args.shown.now.position.setup in
+    both_found Represents n q c.of.result.value c.of-2.result.value _ c.gather_all.new.found.items c.gather_all-2.new.found.items
+    c.args.shown.now.position.legal
     (λ own. true≢false (sym (c.is_own_image.ensures.1 own) ∙ c.if-is_own_image.false))
-    c.turned-after.ensures (c.mirrored-image.ensures ∙ ap mirrored c.turned-after.ensures) c.clear.ensures.items c.in_ok-gather_all.ensures
-    c.in_ok-gather_all-2.ensures
+    (c.of.ensures ∙ c.turned-after.ensures) (c.of-2.ensures ∙ c.mirrored-image.ensures ∙ ap mirrored c.turned-after.ensures)
+    c.clear.ensures.items c.in_ok-gather_all.ensures c.in_ok-gather_all-2.ensures

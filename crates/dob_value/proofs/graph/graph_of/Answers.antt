@@ -1,7 +1,7 @@
 -- Each class's status and successors go to the ends of the lists.
 use Rattle.std.proofs.Common.{◌≡◌, ◌<◌, subst, arith, ◌∙◌}
-use Rattle.dob_rank.specs.Marks.{classes_of}
-use Rattle.dob_rank.proofs.Marks.{HasClasses-classes_of}
+use Rattle.dob_rank.specs.Families.{classes_of}
+use Rattle.dob_rank.proofs.Present.{HasClasses-classes_of}
 use Rattle.dob_value.specs.ClassRows.{class_setup}
 use Rattle.dob_value.specs.Graphs.{AreNodes, ClassStandsFor, IsNode}
 use Rattle.dob_value.proofs.Nodes.{nodes_grown}
@@ -10,17 +10,17 @@ use Rattle.dob_value.proofs.graph.graph_of.Goals as goal
 
 pub loop-number-preserved : goal.loop-number-preserved
 loop-number-preserved c =
-    let set = c.args.classes.now.set in
+    let family = c.args.classes.now.family in
     let number = c.loop-number.number in
     let found = c.in_ok-status.ensures in
-    let within : number < classes_of set = omega (arith, c.class_count-number-end.ensures.number) in
-    let is : c.class_at-position.result.setup ≡ class_setup set number =
-    class_setup_only set c.class_at-position.result.setup number (classes_of set) (HasClasses-classes_of set) within
+    let within : number < classes_of family = omega (arith, c.class_count-number-end.ensures.number) in
+    let is : c.class_at-position.result.setup ≡ class_setup family number =
+    class_setup_only family c.class_at-position.result.setup number (classes_of family) (HasClasses-classes_of family) within
     c.class_at-position.ensures.representative c.class_at-position.ensures.class in
     let status = c.in_ok-status.status in
-    let known : IsNode (ClassStandsFor set) (class_setup set number) status found.0 =
-    subst (λ p. IsNode (ClassStandsFor set) p status found.0) is found.2 in
-    nodes_grown set number c.loop-number.statuses.items c.loop-number.starts.items c.loop-number.successors.items status found.0
+    let known : IsNode family.profile (ClassStandsFor family) (class_setup family number) status found.0 =
+    subst (λ p. IsNode c.args.classes.now.family.profile (ClassStandsFor family) p status found.0) is found.2 in
+    nodes_grown family number c.loop-number.statuses.items c.loop-number.starts.items c.loop-number.successors.items status found.0
     _ _ _ _ c.loop-number.invariant known c.in_ok-push-2.ensures.items c.in_ok-push-3.ensures.items
     (c.len.ensures ∙ c.push_successors.new.successors.ok.0) found.1
 
@@ -29,6 +29,6 @@ push_successors-requires c = c.class_at-position.ensures.representative.0
 
 pub returns-clause-graph : goal.returns-clause-graph
 returns-clause-graph c =
-    let all : c.loop-number.number ≡ classes_of c.args.classes.now.set =
+    let all : c.loop-number.number ≡ classes_of c.args.classes.now.family =
     omega (arith, c.class_count-number-end.ensures.number, c.loop-number-test.false, c.loop-number.auto.number-end) in
-    subst (λ n. AreNodes c.args.classes.now.set n c.loop-number.statuses.items c.loop-number.starts.items c.loop-number.successors.items) all c.loop-number.invariant
+    subst (λ n. AreNodes c.args.classes.now.family n c.loop-number.statuses.items c.loop-number.starts.items c.loop-number.successors.items) all c.loop-number.invariant

@@ -7,4 +7,4 @@ use Rattle.dob_value.proofs.graph.push_successors.Given as goal
 abbrev pub invariant-loop-choice : goal.invariant-loop-choice
 invariant-loop-choice l =
     (numbers : List ℕ) × (l.successors.items ≡ l.initial.successors.items ++ numbers)
-    × AreSuccessorsBelow (ClassStandsFor l.classes.set) l.position.setup l.choice-items l.choice-index numbers
+    × AreSuccessorsBelow l.classes.family.profile (ClassStandsFor l.classes.family) l.position.setup l.choice-items l.choice-index numbers

@@ -16,6 +16,6 @@ from_fn-requires-clause-entries c = λ class value low at.
 
 pub returns-clause-values : goal.returns-clause-values
 returns-clause-values c =
-    IfOk-weaker c.from_fn.result _ (λ (table : ClassTable). IsValueTable c.args.classes.set table.values)
-    (λ (table : ClassTable) given. given_is_table c.args.classes.set c.args.values.now table.values c.requires.values c.requires.entries given)
+    IfOk-weaker c.from_fn.result _ (λ (table : ClassTable). IsValueTable c.args.classes.family table.values)
+    (λ (table : ClassTable) given. given_is_table c.args.classes.family c.args.values.now table.values c.requires.values c.requires.entries given)
     c.from_fn.ensures.given

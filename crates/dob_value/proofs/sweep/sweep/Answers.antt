@@ -1,7 +1,7 @@
 -- The graph's values are those of the classes.
 use Rattle.std.proofs.Common.{subst, All}
-use Rattle.dob_pieces.specs.declared.piece_set.PieceSet.{PieceSet}
-use Rattle.dob_rank.specs.Order.{IsPositionOf}
+use Rattle.dob_pieces.specs.declared.profile.Family.{Family}
+use Rattle.dob_rank.specs.Families.{IsPositionOf}
 use Rattle.dob_value.specs.Graphs.{AreValues}
 use Rattle.dob_value.specs.Rosters.{SomeTooDeep}
 use Rattle.dob_value.specs.Codes.{IsShort}
@@ -12,16 +12,16 @@ use Rattle.dob_value.proofs.sweep.sweep.Goals as goal
 
 pub returns-clause-entries : goal.returns-clause-entries
 returns-clause-entries c =
-    let set = c.in_ok-graph.graph.set in
+    let family = c.in_ok-graph.graph.family in
     IfOk-both c.settle.result
-    (λ values. AreValues set values.items)
+    (λ values. AreValues family values.items)
     (λ values. All IsShort values.items)
     (λ values. All IsEntry values.items)
-    (λ values are short. all_entries set values.items are short)
+    (λ values are short. all_entries family values.items are short)
     c.settle.ensures.values c.settle.ensures.short
 
 pub returns-clause-deep : goal.returns-clause-deep
 returns-clause-deep c is =
     let deep = c.settle.ensures.deep is in
-    subst (λ (set : PieceSet). SomeTooDeep (IsPositionOf set)) c.in_ok-graph.ensures.set
-    (deep_position c.in_ok-graph.graph.set deep.0 deep.1 deep.2)
+    subst (λ (family : Family). SomeTooDeep family.profile (IsPositionOf family)) c.in_ok-graph.ensures.family
+    (deep_position c.in_ok-graph.graph.family deep.0 deep.1 deep.2)

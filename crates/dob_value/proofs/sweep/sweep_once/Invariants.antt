@@ -5,7 +5,7 @@ use Rattle.dob_value.proofs.sweep.sweep_once.Given as goal
 
 abbrev pub invariant-loop-number : goal.invariant-loop-number
 invariant-loop-number l = record {
-  swept : AreSwept l.depth l.number l.graph.set l.values;
-  found : l.found ≡ true → SomeHasDistance l.graph.set (l.depth + 1);
+  swept : AreSwept l.depth l.number l.graph.family l.values;
+  found : l.found ≡ true → SomeHasDistance l.graph.family (l.depth + 1);
   same : l.found ≡ false → l.values ≡ l.initial.values;
 }

@@ -14,13 +14,13 @@ use Rattle.dob_unmove.proofs.ways.Ways.by.Goals as goal
 use Rattle.dob_unmove.proofs.ways.Ways.by.Goals.{then-masks-homes-eq0, else-masks-homes-eq0}
 
 pub by-threat-requires-clause-masks : goal.by-threat-requires-clause-masks
-by-threat-requires-clause-masks c = c.masks_of-masks.ensures c.args.after.now c.requires.bits
+by-threat-requires-clause-masks c = c.masks-masks.ensures c.args.after.now c.requires.bits
 
 pub returns : goal.returns
 returns c =
     let after = c.args.after.now in
-    let masks = c.masks_of-masks.result in
-    let are = c.masks_of-masks.ensures after c.requires.bits in
+    let masks = c.masks-masks.result in
+    let are = c.masks-masks.ensures after c.requires.bits in
     let threat = c.by-threat.result in
     let lions = turned_lions after c.requires.legal in
     let place : ℕ = trailing_zeros w16 masks.lion in

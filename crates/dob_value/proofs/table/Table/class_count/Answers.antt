@@ -1,6 +1,6 @@
 -- A table has a value for each class.
 use Rattle.std.proofs.Common.{ap, length, ◌∙◌}
-use Rattle.dob_rank.specs.Order.{IsRepresentative}
+use Rattle.dob_rank.specs.Families.{IsRepresentative}
 use Rattle.dob_value.specs.Codes.{values_of_codes}
 use Rattle.dob_value.specs.Follows.{ClassTable}
 use Rattle.dob_value.proofs.ClassNumbers.{one_count}
@@ -8,6 +8,6 @@ use Rattle.dob_value.proofs.table.Table.class_count.Goals as goal
 
 pub returns-clause-length : goal.returns-clause-length
 returns-clause-length c =
-    one_count (IsRepresentative c.self.inside.classes.set) c.class_count.result (length (values_of_codes c.self.inside.codes))
+    one_count (IsRepresentative c.self.inside.classes.family) c.class_count.result (length (values_of_codes c.self.inside.codes))
     c.class_count.ensures.count c.self.invariant.classes
     ∙ ap (λ (t : ClassTable). length t.values) c.self.view_is

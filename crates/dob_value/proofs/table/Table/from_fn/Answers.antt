@@ -2,9 +2,9 @@
 use Rattle.std.proofs.Common.{◌≡◌, ℕ, ◌<◌, ◌∙◌, sym, subst, arith}
 use Rattle.std.proofs.lemmas.List.Elements.{All-push}
 use Rattle.std.specs.List.{All}
-use Rattle.dob_rank.specs.Order.{HasClasses}
-use Rattle.dob_rank.specs.Marks.{classes_of}
-use Rattle.dob_rank.proofs.Marks.{HasClasses-classes_of}
+use Rattle.dob_rank.specs.Families.{HasClasses}
+use Rattle.dob_rank.specs.Families.{classes_of}
+use Rattle.dob_rank.proofs.Present.{HasClasses-classes_of}
 use Rattle.dob_value.proofs.Parity.{entries_of_codes}
 use Rattle.dob_value.proofs.Listed.{given_more}
 use Rattle.dob_value.proofs.table.Table.from_fn.Goals as goal
@@ -19,9 +19,9 @@ loop-class-preserved g c = record {
 
 pub invariant_of-result : goal.invariant_of-result
 invariant_of-result g c =
-    let whole : c.loop-class.class ≡ classes_of c.args.classes.set =
+    let whole : c.loop-class.class ≡ classes_of c.args.classes.family =
     omega (arith, c.loop-class-test.false, c.loop-class.auto.class-end, c.class_count-class-end.ensures.number) in
     record {
-      classes = subst (HasClasses c.args.classes.set) (sym (c.loop-class.invariant.given.whole ∙ whole)) (HasClasses-classes_of c.args.classes.set);
+      classes = subst (HasClasses c.args.classes.family) (sym (c.loop-class.invariant.given.whole ∙ whole)) (HasClasses-classes_of c.args.classes.family);
       entries = entries_of_codes c.loop-class.codes c.loop-class.invariant.codes;
     }

@@ -1,15 +1,15 @@
 -- A table has a value for each class.
 use Rattle.std.proofs.Common.{subst, sym, ◌∙◌}
 use Rattle.std.proofs.lemmas.List.{length-map}
-use Rattle.dob_rank.specs.Order.{HasClasses}
-use Rattle.dob_rank.proofs.Marks.{HasClasses-classes_of}
+use Rattle.dob_rank.specs.Families.{HasClasses}
+use Rattle.dob_rank.proofs.Present.{HasClasses-classes_of}
 use Rattle.dob_value.specs.Codes.{value_of_code}
 use Rattle.dob_value.proofs.Parity.{entries_of_codes}
 use Rattle.dob_value.proofs.table.Table.new.Goals as goal
 
 pub invariant_of-result : goal.invariant_of-result
 invariant_of-result c = record {
-  classes = subst (HasClasses c.args.classes.set) (sym (length-map c.args.codes value_of_code ∙ c.requires.whole))
-      (HasClasses-classes_of c.args.classes.set);
+  classes = subst (HasClasses c.args.classes.family) (sym (length-map c.args.codes value_of_code ∙ c.requires.whole))
+      (HasClasses-classes_of c.args.classes.family);
   entries = entries_of_codes c.args.codes c.requires.codes;
 }

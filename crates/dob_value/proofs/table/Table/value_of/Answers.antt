@@ -8,15 +8,15 @@ use Rattle.dob_value.proofs.table.Table.value_of.Goals as goal
 pub get-requires : goal.get-requires
 get-requires c =
     let inside = c.self.inside in
-    class_has_code inside.classes.set inside.codes c.class_of-number.result c.self.invariant.classes c.class_of-number.ensures.bound
+    class_has_code inside.classes.family inside.codes c.class_of-number.result c.self.invariant.classes c.class_of-number.ensures.bound
 
 pub returns : goal.returns
 returns c =
     let inside = c.self.inside in
     let class = c.class_of-number.result in
     let v = c.value_of_code.result in
-    let within = class_has_code inside.classes.set inside.codes class c.self.invariant.classes c.class_of-number.ensures.bound in
-    subst (λ (t : ClassTable). HasInTable t.set t.values c.args.position.now.setup v) c.self.view_is
+    let within = class_has_code inside.classes.family inside.codes class c.self.invariant.classes c.class_of-number.ensures.bound in
+    subst (λ (t : ClassTable). HasInTable t.family t.values c.args.position.now.setup v) c.self.view_is
     (record {
       class = class;
       number = c.class_of-number.ensures.class;

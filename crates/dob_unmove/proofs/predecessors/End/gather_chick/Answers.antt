@@ -5,19 +5,20 @@ use Rattle.std.proofs.lemmas.Result.{on_ok_weaker}
 use Rattle.dob_pieces.specs.declared.kind.HandKind.TheVariants as hand
 use Rattle.dob_pieces.specs.declared.kind.Kind.TheVariants.{Chick}
 use Rattle.dob_pieces.specs.Squares.{row}
-use Rattle.dob_unmove.specs.Classes.{RepresentsIn}
+use Rattle.dob_unmove.specs.Classes.{RepresentsClass}
 use Rattle.dob_unmove.specs.Gathers.{Gathers}
 use Rattle.dob_unmove.specs.Walks.{unsteps, unputs}
 use Rattle.dob_unmove.proofs.Gathered.{gathers_none}
 use Rattle.dob_unmove.proofs.Standing.{ways_of_chick, no_chick_steps, gathers_same, gathers_both}
-use Rattle.dob_unmove.proofs.predecessors.gather_chick.Goals as goal
-use Rattle.dob_unmove.proofs.predecessors.gather_chick.Goals.{then-row-ne3+in_ok-gather_steps, else-row-ne3}
+use Rattle.dob_unmove.proofs.predecessors.End.gather_chick.Goals as goal
+use Rattle.dob_unmove.proofs.predecessors.End.gather_chick.Goals.{then-row-ne3+in_ok-gather_steps, else-row-ne3}
 
 pub returns : goal.returns
 returns c =
-    let Represents = RepresentsIn c.args.classes.now.set in
-    let after = c.args.after.now in
-    let to = c.args.to in
+    let end = c.args.self.now in
+    let Represents = RepresentsClass end.walk.now.classes.now.family in
+    let after = end.walk.now.after.value in
+    let to = end.to in
     let old = c.args.found.now.items in
     let steps : Gathers Represents after (unsteps after Chick to) old c.if-row-ne3.found.items = elim c.if-row-ne3.branch [
       | then-row-ne3+in_ok-gather_steps w ↦ rw w.found-is w.in_ok-gather_steps.ensures

@@ -1,0 +1,27 @@
+-- nothing where no piece of the mover stands
+use Rattle.std.proofs.Common.{Option, ◌∙◌, subst}
+use Rattle.dob_pieces.specs.declared.kind.Kind.{Kind}
+use Rattle.dob_pieces.specs.Setups.{at}
+use Rattle.dob_unmove.specs.Classes.{RepresentsClass}
+use Rattle.dob_unmove.specs.Ways.{IsOwnKind}
+use Rattle.dob_unmove.proofs.Gathered.{gathers_none}
+use Rattle.dob_unmove.proofs.OwnKinds.{stands_there}
+use Rattle.dob_unmove.proofs.Standing.{ways_of_none, gathers_same}
+use Rattle.dob_unmove.proofs.predecessors.End.gather_all.Goals as goal
+
+pub gather_kind-requires-clause-stands : goal.gather_kind-requires-clause-stands
+gather_kind-requires-clause-stands c =
+    let end = c.args.self.now in
+    subst (λ (found : Option Kind). IsOwnKind (at end.walk.now.after.value end.to) found) c.in-Some.is
+    (c.own_kind.ensures end.walk.now.after.value c.requires.walk.ways_are)
+
+pub returns-in-None : goal.returns-in-None
+returns-in-None c =
+    let end = c.args.self.now in
+    let Represents = RepresentsClass end.walk.now.classes.now.family in
+    let after = end.walk.now.after.value in
+    let cell = at after end.to in
+    let old = c.args.found.now.items in
+    let none = subst (λ (found : Option Kind). IsOwnKind cell found) c.in-None.is (c.own_kind.ensures after c.requires.walk.ways_are) in
+    gathers_same Represents after _ _ old old (ways_of_none after end.to (λ kind. stands_there kind cell ∙ none kind))
+    (gathers_none Represents after old)

@@ -1,0 +1,53 @@
+-- The step without a catch, which may have been made, and then each catch.
+use Rattle.std.proofs.Common.{None, rules}
+use Rattle.std.proofs.lemmas.Result.{on_ok_weaker}
+use Rattle.dob_unmove.specs.Classes.{RepresentsClass}
+use Rattle.dob_unmove.proofs.Dead.{comes_between, comes_step, steps_from}
+use Rattle.dob_unmove.proofs.Kept.{legal_turned}
+use Rattle.dob_unmove.proofs.LionsBefore.{step_home}
+use Rattle.dob_unmove.proofs.predecessors.End.gather_steps_from.Goals as goal
+
+pub gather_one-requires-clause-home : goal.gather_one-requires-clause-home
+gather_one-requires-clause-home c =
+    let end = c.args.self.now in
+    let after = end.walk.now.after.value in
+    let w = c.requires.end.walk in
+    step_home after end.walk.now.ways.now.threat (legal_turned end.walk.now.classes.now.family after w.of_set) w.ways_are.threat_is
+    c.args.kind c.args.from end.to None (search rules) c.requires.end.home c.requires.comes
+
+pub returns : goal.returns
+returns c =
+    let end = c.args.self.now in
+    let after = end.walk.now.after.value in
+    on_ok_weaker c.gather_catch-4.result
+    (λ last.
+    steps_from (RepresentsClass end.walk.now.classes.now.family) after c.args.kind c.args.from end.to c.args.found.now.items c.gather_one.new.found.items
+    c.gather_catch.new.found.items c.gather_catch-2.new.found.items c.gather_catch-3.new.found.items c.gather_catch-4.new.found.items
+    (comes_between after end.walk.now.ways.now.threat c.args.kind c.args.from end.to c.requires.stands c.requires.comes)
+    c.in_ok-gather_one.ensures c.in_ok-gather_catch.ensures c.in_ok-gather_catch-2.ensures c.in_ok-gather_catch-3.ensures last)
+    c.gather_catch-4.ensures
+
+pub gather_one-requires-clause-can : goal.gather_one-requires-clause-can
+gather_one-requires-clause-can c =
+    let end = c.args.self.now in
+    comes_step end.walk.now.after.value end.walk.now.ways.now.threat c.args.kind c.args.from end.to c.requires.stands c.requires.comes (search rules)
+
+pub gather_catch-requires-clause-step : goal.gather_catch-requires-clause-step
+gather_catch-requires-clause-step c =
+    let end = c.args.self.now in
+    comes_step end.walk.now.after.value end.walk.now.ways.now.threat c.args.kind c.args.from end.to c.requires.stands c.requires.comes (search rules)
+
+pub gather_catch-requires-2-clause-step : goal.gather_catch-requires-2-clause-step
+gather_catch-requires-2-clause-step c =
+    let end = c.args.self.now in
+    comes_step end.walk.now.after.value end.walk.now.ways.now.threat c.args.kind c.args.from end.to c.requires.stands c.requires.comes (search rules)
+
+pub gather_catch-requires-3-clause-step : goal.gather_catch-requires-3-clause-step
+gather_catch-requires-3-clause-step c =
+    let end = c.args.self.now in
+    comes_step end.walk.now.after.value end.walk.now.ways.now.threat c.args.kind c.args.from end.to c.requires.stands c.requires.comes (search rules)
+
+pub gather_catch-requires-4-clause-step : goal.gather_catch-requires-4-clause-step
+gather_catch-requires-4-clause-step c =
+    let end = c.args.self.now in
+    comes_step end.walk.now.after.value end.walk.now.ways.now.threat c.args.kind c.args.from end.to c.requires.stands c.requires.comes (search rules)

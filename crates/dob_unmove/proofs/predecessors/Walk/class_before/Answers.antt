@@ -1,0 +1,45 @@
+-- The sets show the position before the move, which was open, where the piece that was caught may stand again.
+use Rattle.std.proofs.Common.{refl, sym, ◌∙◌}
+use Rattle.dob_unmove.specs.Undoes.{earlier}
+use Rattle.dob_unmove.specs.Classes.{RepresentsClass}
+use Rattle.dob_unmove.proofs.Gathering.{finds_from}
+use Rattle.dob_unmove.proofs.Kept.{barred, few_turned, legal_turned, squares_turned, shown_before}
+use Rattle.dob_unmove.proofs.Threats.{was_open}
+use Rattle.dob_unmove.proofs.predecessors.Walk.class_before.Goals as goal
+
+pub bits_before-requires : goal.bits_before-requires
+bits_before-requires c =
+    let walk = c.args.self.now in
+    let after = walk.after.value in
+    let w = c.requires.walk in
+    let legal = legal_turned walk.classes.now.family after w.of_set in
+    (after, c.requires.can, squares_turned after legal, few_turned after legal, w.ways_are.bits_are)
+
+pub class_if_shown-requires : goal.class_if_shown-requires
+class_if_shown-requires c =
+    let walk = c.args.self.now in
+    let after = walk.after.value in
+    let w = c.requires.walk in (
+      earlier after c.args.undo,
+      shown_before walk.classes.now.family after c.args.undo _ _ c.requires.can (sym c.may_give_back.ensures ∙ c.if-may_give_back.true)
+          w.of_set c.requires.home w.ways_are.bits_are c.bits_before.ensures,
+    )
+
+pub returns-then-may_give_back : goal.returns-then-may_give_back
+returns-then-may_give_back c =
+    let walk = c.args.self.now in
+    let after = walk.after.value in
+    let family = walk.classes.now.family in
+    let w = c.requires.walk in
+    let before = earlier after c.args.undo in
+    let open_there =
+    was_open after walk.ways.now.threat (legal_turned family after w.of_set) w.ways_are.threat_is c.args.undo c.requires.can c.requires.calm in
+    finds_from (RepresentsClass family) before before c.class_if_shown.result refl open_there
+    (c.class_if_shown.ensures before (shown_before family after c.args.undo _ _ c.requires.can (sym c.may_give_back.ensures ∙ c.if-may_give_back.true)
+    w.of_set c.requires.home w.ways_are.bits_are c.bits_before.ensures))
+
+pub returns-else-may_give_back : goal.returns-else-may_give_back
+returns-else-may_give_back c = λ w.
+    let walk = c.args.self.now in
+    barred walk.classes.now.family walk.after.value c.args.undo c.requires.can c.requires.walk.of_set
+    (sym c.may_give_back.ensures ∙ c.if-may_give_back.false) w.1.0.0.0

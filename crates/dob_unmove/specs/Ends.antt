@@ -1,0 +1,25 @@
+-- What is known of a walk over the ways to take a move back and of a square on which that move may have ended, and what is gathered.
+use Rattle.std.specs.Prelude.{◌≡◌, ℕ, List, false}
+use Rattle.dob_rank.specs.Families.{IsPositionOf, RepresentsClass}
+use Rattle.dob_unmove.specs.declared.predecessors.End.{End}
+use Rattle.dob_unmove.specs.declared.predecessors.Walk.{Walk}
+use Rattle.dob_unmove.specs.declared.undo.Undo.{Undo}
+use Rattle.dob_unmove.specs.Classes.{IsTurned}
+use Rattle.dob_unmove.specs.Gathers.{Gathers}
+use Rattle.dob_unmove.specs.Threats.{elsewhere}
+use Rattle.dob_unmove.specs.Ways.{HasLionHome, AreWays}
+
+-- the setup stands after a move of positions of the family, and the ways are those that lead to it
+pub record CanWalk (walk : Walk) : Type 0 where
+  pub of_set : IsTurned (IsPositionOf walk.classes.now.family) walk.after.value
+  pub ways_are : AreWays walk.after.value walk.ways.now
+
+-- no piece on another square attacks the enemy lion, and the mover's lion came there or stands at home
+pub record CanEnd (end : End) : Type 0 where
+  pub walk : CanWalk end.walk.now
+  pub calm : elsewhere end.walk.now.ways.now.threat.attackers end.to ≡ false
+  pub home : HasLionHome end.walk.now.after.value end.walk.now.ways.now.threat.lion end.to
+
+-- what the ways, one after the other, add to the classes that the walk has found
+abbrev pub Collects : Walk → List Undo → List ℕ → List ℕ → Type 0
+Collects walk undoes old new = Gathers (RepresentsClass walk.classes.now.family) walk.after.value undoes old new
