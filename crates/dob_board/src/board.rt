@@ -4,6 +4,7 @@ ghost use Rattle.std.specs.Arc.{arc_value};
 ghost use Rattle.dob_board.specs.Words.{word_count, halt_word};
 ghost use Rattle.dob_board.specs.Boards.{behind, AreAsWitnessed};
 ghost use Rattle.dob_board.specs.Props.{AreAsWitnessed-prop};
+ghost use Rattle.dob_safra.specs.Tokens.{most_nodes};
 
 use crate::Halt;
 use crate::seat::Words;
@@ -23,7 +24,7 @@ pub struct Board {
     /// How many nodes the board has.
     pub nodes: usize,
     pub ghost some: { 0 < nodes },
-    pub ghost few: { nodes ≤ 16 },
+    pub ghost few: { nodes ≤ most_nodes },
     pub ghost of_board: { rest.table_id ≡ (arc_value shared).shared.table_id },
     pub ghost words_are: { (arc_value shared).shared.table_id.words ≡ word_count nodes },
     pub ghost key: { (arc_value shared).shared.key ≡ nodes },

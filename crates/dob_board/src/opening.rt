@@ -1,7 +1,7 @@
 // How a board is opened.
 ghost use Rattle.std.specs.Prelude.{◌≡◌, ◌≢◌, ℕ, suc, ◌+◌, ◌≤◌, ◌<◌, ◌↔◌, [], Err, Some, IfOk, map, slice_get, length, replicate, vec_len};
 ghost use Rattle.std.specs.Arc.{arc_value};
-ghost use Rattle.dob_safra.specs.Tokens.{IsPacked, first_token};
+ghost use Rattle.dob_safra.specs.Tokens.{IsPacked, first_token, most_nodes};
 ghost use Rattle.dob_safra.specs.Laws.{IsSize};
 ghost use Rattle.dob_board.specs.declared.fault.Fault.TheVariants as fault;
 ghost use Rattle.dob_board.specs.Words.{word_count};
@@ -49,7 +49,7 @@ impl Board {
 
 // The words at the start.
 fn start_words(alloc: Global, nodes: usize) -> Result<Vec<u64>, AllocError>
-    requires { nodes ≤ 16 }
+    requires { nodes ≤ most_nodes }
     ensures { IfOk result (λ words. (word : ℕ) × IsPacked first_token word × (words.items ≡ first_words nodes word)) }
 {
     let mut words = vec![in alloc; 0; word_count(nodes)]?;
@@ -65,7 +65,7 @@ fn all_seats(
     rest: &mut Seat<(), View>,
     nodes: usize,
 ) -> Result<Vec<NodeSeat>, AllocError>
-    requires few { nodes ≤ 16 }
+    requires few { nodes ≤ most_nodes }
     requires board { (arc_value shared.now).shared.table_id.words ≡ word_count nodes }
     requires key { (arc_value shared.now).shared.key ≡ nodes }
     requires of_board { rest.old.table_id ≡ (arc_value shared.now).shared.table_id }
@@ -91,7 +91,7 @@ fn next_seat(
     node: usize,
     nodes: usize,
 ) -> Result<NodeSeat, AllocError>
-    requires few { nodes ≤ 16 }
+    requires few { nodes ≤ most_nodes }
     requires within { node < nodes }
     requires board { (arc_value shared.now).shared.table_id.words ≡ word_count nodes }
     requires key { (arc_value shared.now).shared.key ≡ nodes }

@@ -5,6 +5,7 @@ ghost use Rattle.dob_safra.specs.declared.token.Token.{Token};
 ghost use Rattle.dob_board.specs.declared.halt.Halt.TheVariants.{Ended};
 ghost use Rattle.dob_board.specs.Words.{word_count, halt_word};
 ghost use Rattle.dob_board.specs.Views.{one, stand_from, IsInBounds};
+ghost use Rattle.dob_safra.specs.Tokens.{most_nodes};
 
 use crate::Halt;
 use crate::rule::Order;
@@ -39,7 +40,7 @@ pub struct NodeSeat {
     pub token: Option<Token>,
     /// The halt that it saw.
     pub halt: Halt,
-    pub ghost size: { nodes ≤ 16 },
+    pub ghost size: { nodes ≤ most_nodes },
     pub ghost within: { node < nodes },
     pub ghost of_board: { seat.table_id ≡ (arc_value board).shared.table_id },
     pub ghost words: { (arc_value board).shared.table_id.words ≡ word_count nodes },

@@ -5,6 +5,7 @@ ghost use Rattle.dob_safra.specs.declared.event.RingEvent.TheVariants.{Pass};
 ghost use Rattle.dob_board.specs.Views.{counter_of, token_at, meets, passes};
 ghost use Rattle.dob_board.specs.Histories.{MakesEvent, Observes, HasToken};
 ghost use Rattle.dob_board.specs.Seats.{stand_of, witnessed_by, IsSameSeat, MayEnd};
+ghost use Rattle.dob_safra.specs.Tokens.{most_nodes};
 
 use crate::NodeSeat;
 use crate::rule::{Meets, Passes};
@@ -13,7 +14,7 @@ use dob_safra::{Token, may_announce, pack, passed, unpack};
 
 // The counts of a node, added up.
 fn total(counts: &[u64]) -> u64
-    requires nodes { length counts.now ≤ 16 }
+    requires nodes { length counts.now ≤ most_nodes }
     requires few { (k : ℕ) → k < length counts.now → slice_index counts.now k ≤ 2 ^ 40 }
     ensures total { result ≡ sum counts.now }
     ensures few { result ≤ 2 ^ 44 }

@@ -1,6 +1,7 @@
 // Which word of a board is which, and what the halt's says.
 ghost use Rattle.std.specs.Prelude.{◌≡◌, ◌≤◌, ◌<◌};
 ghost use Rattle.dob_board.specs.Words.{posted_word, taken_word, word_count, halt_word, halt_after};
+ghost use Rattle.dob_safra.specs.Tokens.{most_nodes};
 
 use crate::Halt;
 
@@ -27,7 +28,7 @@ pub(crate) const FAILED: u64 = 2;
 
 /// How many words a board of so many nodes has.
 pub(crate) fn word_count(nodes: usize) -> usize
-    requires { nodes ≤ 16 }
+    requires { nodes ≤ most_nodes }
     ensures { result ≡ word_count nodes }
 {
     COUNTS + 2 * nodes * nodes
@@ -35,7 +36,7 @@ pub(crate) fn word_count(nodes: usize) -> usize
 
 /// The word of what node `from` posted to node `to`, of so many nodes.
 pub(crate) fn posted_index(nodes: usize, from: usize, to: usize) -> usize
-    requires few { nodes ≤ 16 }
+    requires few { nodes ≤ most_nodes }
     requires from { from < nodes }
     requires to { to < nodes }
     ensures { result ≡ posted_word nodes from to }
@@ -45,7 +46,7 @@ pub(crate) fn posted_index(nodes: usize, from: usize, to: usize) -> usize
 
 /// The word of what node `to` took of node `from`.
 pub(crate) fn taken_index(nodes: usize, from: usize, to: usize) -> usize
-    requires few { nodes ≤ 16 }
+    requires few { nodes ≤ most_nodes }
     requires from { from < nodes }
     requires to { to < nodes }
     ensures { result ≡ taken_word nodes from to }

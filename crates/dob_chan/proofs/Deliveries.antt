@@ -14,7 +14,7 @@ use Rattle.dob_update.specs.Batches.{BatchView}
 use Rattle.dob_pieces.specs.Lists.{IsBeginning}
 use Rattle.dob_chan.specs.declared.rule.Note.{Note}
 use Rattle.dob_chan.specs.declared.rule.Told.{Told}
-use Rattle.dob_chan.specs.Inboxes.{most_batches, batches_of, sending, taking, resting, untold, sent_by_ended, IsLawfulInbox, AreOf, AreLast, AreNext, AreLeft, GoesOn, HasSent, HasTaken, FitsSender, FitsTaker, IsDelivered}
+use Rattle.dob_chan.specs.Inboxes.{most_batches, batches_of, sending, taking, resting, untold, sent_by_ended, IsLawfulInbox, AreOf, AreLast, AreNext, AreLeft, GoesOn, HasSent, HasReceived, FitsSender, FitsTaker, IsDelivered}
 
 at_end : {V : Type 0} → (l : List V) (a b : V) (j : ℕ) → get_elem? l j ≢ some b → get_elem? (l ++ a ∷ []) j ≡ some b → j ≡ length l
 at_end [] a b zero n e = refl
@@ -232,7 +232,7 @@ of_sender port v x items views may h at =
 
 pub takes : (port : ℕ) (v : Note) → v.takes ≡ true → Pops IsDelivered port v
     (λ x w. (w ≡ taking v.senders v.opened (v.taken ++ x ∷ []) v.ended w.told) × (x.from < v.senders)
-    × (length (batches_of x.from w.taken) ≤ most_batches) × HasTaken w.taken v.told w.told)
+    × (length (batches_of x.from w.taken) ≤ most_batches) × HasReceived w.taken v.told w.told)
 takes port v may x items views h at =
     let mine = (h.each port v at).1 may in
     let part = part_few x.from h.sent h.taken items x h.lawful in

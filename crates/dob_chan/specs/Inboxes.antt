@@ -64,8 +64,8 @@ abbrev pub HasSent : ℕ → BatchView → List BatchView → Told → Told → 
 HasSent from batch own old new = (before : List BatchView) × (new.sent ≡ before ++ batch ∷ []) × GoesOn old before new.taken × (batches_of from new.sent ≡ own)
 
 -- The taker was told that just these are taken, and what was sent, with these and what the inbox holds.
-abbrev pub HasTaken : List BatchView → Told → Told → Type 0
-HasTaken taken old new = (new.taken ≡ taken) × IsBeginning taken new.sent × GoesOn old new.sent new.taken
+abbrev pub HasReceived : List BatchView → Told → Told → Type 0
+HasReceived taken old new = (new.taken ≡ taken) × IsBeginning taken new.sent × GoesOn old new.sent new.taken
 
 -- what the senders that have ended sent is what was taken of them and then what the inbox holds of them
 abbrev pub AreLeft : List BatchView → List (List BatchView) → List BatchView → Type 0

@@ -2,7 +2,7 @@
 ghost use Rattle.std.specs.Prelude.{◌≡◌, ℕ, suc, ◌<◌, ◌≤◌, ◌+◌, [], ◌∷◌, ◌++◌, length, vec_len, vec_capacity, slice_get, slice_index, Some, IfOk, OnOk, IfErr, MatchOption};
 ghost use Rattle.std.specs.Arc.{arc_value};
 ghost use Rattle.crossbeam_queue.specs.Passes.{view, IsPassOf, IsSamePass, ruled_capacity};
-ghost use Rattle.dob_chan.specs.Inboxes.{most_batches, batches_of, sending, taking, untold, HasSent, HasTaken};
+ghost use Rattle.dob_chan.specs.Inboxes.{most_batches, batches_of, sending, taking, untold, HasSent, HasReceived};
 ghost use Rattle.dob_chan.specs.Ends.{sent_by, place_of, senders_beside, taken_by, taken_of, senders_of, capacity_of, IsOpened, AreOpened, AreEndsOf, SendsToSame, TakesFromSame, WasFull, WasEmpty, send_told, take_told};
 
 use crate::ends::{Full, Inbox, SendEnd, TakeEnd};
@@ -145,7 +145,7 @@ impl TakeEnd {
         ensures next { MatchOption result
             ((taken_by self.new ≡ taken_by self.old) × (take_told self.new ≡ take_told self.old) × WasEmpty (taken_by self.old) (take_told self.old))
             (λ batch. (batch.from < senders_of self.old) × (taken_by self.new ≡ taken_by self.old ++ batch ∷ [])
-            × HasTaken (taken_by self.new) (take_told self.old) (take_told self.new)) }
+            × HasReceived (taken_by self.new) (take_told self.old) (take_told self.new)) }
     {
         let batch = self.inbox.pop_as::<Takes, R>(rt, &mut self.pass)?;
         self.taken[batch.from()] += 1;

@@ -2,14 +2,14 @@
 use Rattle.std.proofs.Common.{◌≡◌, ℕ, ◌<◌, refl, sym, subst, ap, ◌∙◌, arith, List, [], ◌∷◌, length, Some, slice_get, get_or, eqb}
 use Rattle.std.proofs.lemmas.Option.{slice_get-get_or, same_Some}
 use Rattle.std.proofs.lemmas.List.{take_all}
-use Rattle.dob_pieces.specs.declared.piece_set.PieceSet.{PieceSet}
+use Rattle.dob_pieces.specs.declared.profile.Family.{Family}
 use Rattle.dob_moves.specs.declared.position_status.Status.{Status}
 use Rattle.dob_moves.specs.declared.position_status.Status.TheVariants.{Caught, Tried, Stuck, Open}
 use Rattle.dob_moves.specs.Statuses.{HasStatus}
-use Rattle.dob_rank.specs.Marks.{classes_of}
-use Rattle.dob_rank.specs.ClassRows.{class_setup}
-use Rattle.dob_rank.proofs.Marks.{HasClasses-classes_of}
-use Rattle.dob_rank.proofs.Representatives.{class_setup_only}
+use Rattle.dob_rank.specs.Families.{classes_of}
+use Rattle.dob_rank.specs.Families.{class_setup}
+use Rattle.dob_rank.proofs.Present.{HasClasses-classes_of}
+use Rattle.dob_rank.proofs.FamilyRepresentatives.{class_setup_only}
 use Rattle.dob_value.specs.declared.value.Value.{Value}
 use Rattle.dob_value.specs.declared.value.Value.TheVariants.{Draw}
 use Rattle.dob_value.specs.Follows.{IsEntry}
@@ -31,52 +31,52 @@ use Rattle.dob_node.proofs.Kept.{last_now-entry}
 use Rattle.dob_node.proofs.ValuesFollow.{value_follows}
 use Rattle.dob_node.proofs.Totals.{some_known}
 
-some_opening : (set : PieceSet) (openings : List Opening) (class : ℕ) → AreOpenings set openings → class < classes_of set →
-    (given : Opening) × IsOpening (class_setup set class) given
-some_opening set openings class are below = at openings (subst (λ n. class < n) (sym are.whole) below) are.each
+some_opening : (family : Family) (openings : List Opening) (class : ℕ) → AreOpenings family openings → class < classes_of family →
+    (given : Opening) × IsOpening family.profile (class_setup family class) given
+some_opening family openings class are below = at openings (subst (λ n. class < n) (sym are.whole) below) are.each
   where
     at : (openings : List Opening) → class < length openings →
-        ((class : ℕ) (given : Opening) → slice_get openings class ≡ Some given → IsOpening (class_setup set class) given) →
-        (given : Opening) × IsOpening (class_setup set class) given
+        ((class : ℕ) (given : Opening) → slice_get openings class ≡ Some given → IsOpening family.profile (class_setup family class) given) →
+        (given : Opening) × IsOpening family.profile (class_setup family class) given
     at [] within each = absurd (omega arith)
     at (o ∷ openings) within each =
         (get_or (o ∷ openings) class o, each class (get_or (o ∷ openings) class o) (slice_get-get_or (o ∷ openings) class o within))
 
-module _ (set : PieceSet) (n : ℕ) (histories : ℕ → List Settlement) (applied : ℕ → ℕ → List Item) (cell : ℕ → Cell) (value : ℕ → Value)
-    (openings : List Opening) (some : 0 < n) (are : AreOpenings set openings) (lawful : AreLawfulNodes set n histories applied cell value)
-    (all : (i j : ℕ) → i < n → j < n → applied i j ≡ items_from (predecessors set) n j (histories i)) where
-  open_follows : (class : ℕ) → class < classes_of set → (status : Status) → HasStatus (class_setup set class) status →
-      FollowsAtStatus status (known_of set n histories applied class) (value_of (histories (owner_of n class)) class)
+module _ (family : Family) (n : ℕ) (histories : ℕ → List Settlement) (applied : ℕ → ℕ → List Item) (cell : ℕ → Cell) (value : ℕ → Value)
+    (openings : List Opening) (some : 0 < n) (are : AreOpenings family openings) (lawful : AreLawfulNodes family n histories applied cell value)
+    (all : (i j : ℕ) → i < n → j < n → applied i j ≡ items_from (predecessors family) n j (histories i)) where
+  open_follows : (class : ℕ) → class < classes_of family → (status : Status) → HasStatus family.profile (class_setup family class) status →
+      FollowsAtStatus status (known_of family n histories applied class) (value_of (histories (owner_of n class)) class)
   open_follows class below Caught is = sym (lawful.values class below) ∙ lawful.over class Caught below is (λ same. cc)
   open_follows class below Tried is = sym (lawful.values class below) ∙ lawful.over class Tried below is (λ same. cc)
   open_follows class below Stuck is = sym (lawful.values class below) ∙ lawful.over class Stuck below is (λ same. cc)
   open_follows class below Open is =
-      subst (λ v. FollowsAtStatus Open (known_of set n histories applied class) v) (lawful.values class below)
-      (value_follows (known_of set n histories applied class) (cell class) (value class) (lawful.sums class below is)
-      (some_known set class below n histories (λ i. applied i (owner_of n class)) is) (lawful.cell_values class below is))
+      subst (λ v. FollowsAtStatus Open (known_of family n histories applied class) v) (lawful.values class below)
+      (value_follows (known_of family n histories applied class) (cell class) (value class) (lawful.sums class below is)
+      (some_known family class below n histories (λ i. applied i (owner_of n class)) is) (lawful.cell_values class below is))
 
-  quiet : IsQuiet set (predecessors set) n histories (λ i. length (histories i)) (λ i j. items_from (predecessors set) n j (histories i)) applied
+  quiet : IsQuiet family (predecessors family) n histories (λ i. length (histories i)) (λ i j. items_from (predecessors family) n j (histories i)) applied
   quiet = record {
     nothing_to_expand = λ i low. refl;
     nothing_to_send = λ i j low_i low_j.
-        ap (λ h. items_from (predecessors set) n j h) (sym (take_all (length (histories i)) (histories i) (omega arith)));
+        ap (λ h. items_from (predecessors family) n j h) (sym (take_all (length (histories i)) (histories i) (omega arith)));
     nothing_waits = all;
     values = λ p class represents.
-        let below = representative_below set p class represents in
-        let given = some_opening set openings class are below in
-        let same = class_setup_only set p class (classes_of set) (HasClasses-classes_of set) below represents.0 represents.1 in (
+        let below = representative_below family p class represents in
+        let given = some_opening family openings class are below in
+        let same = class_setup_only family p class (classes_of family) (HasClasses-classes_of family) below represents.0 represents.1 in (
           given.0.status,
-          subst (λ s. HasStatus s given.0.status) (sym same) given.1.status,
+          subst (λ s. HasStatus family.profile s given.0.status) (sym same) given.1.status,
           open_follows class below given.0.status given.1.status,
         );
   }
 
-  gathered : (values : List Value) → length values ≡ classes_of set →
-      ((class : ℕ) → class < classes_of set → slice_get values class ≡ Some (value class)) → AreGathered set n histories values
+  gathered : (values : List Value) → length values ≡ classes_of family →
+      ((class : ℕ) → class < classes_of family → slice_get values class ≡ Some (value class)) → AreGathered family n histories values
   gathered values whole each = record {
     whole = whole;
     entries = λ k d below.
-        let low : k < classes_of set = subst (λ m. k < m) whole below in
+        let low : k < classes_of family = subst (λ m. k < m) whole below in
         let there = slice_get-get_or values k d below in
         let is : get_or values k d ≡ value_of (histories (owner_of n k)) k =
         same_Some (get_or values k d) (value k) (sym there ∙ each k low) ∙ lawful.values k low in
@@ -86,7 +86,7 @@ module _ (set : PieceSet) (n : ℕ) (histories : ℕ → List Settlement) (appli
   }
 
 pub lawful_is_right : LawfulIsRight
-lawful_is_right set n histories applied cell value openings values some are lawful all whole each =
-    quiet_is_right set n histories (λ i. length (histories i)) (λ i j. items_from (predecessors set) n j (histories i)) applied values some
-    (quiet set n histories applied cell value openings some are lawful all)
-    (gathered set n histories applied cell value openings some are lawful all values whole each)
+lawful_is_right family n histories applied cell value openings values some are lawful all whole each =
+    quiet_is_right family n histories (λ i. length (histories i)) (λ i j. items_from (predecessors family) n j (histories i)) applied values some
+    (quiet family n histories applied cell value openings some are lawful all)
+    (gathered family n histories applied cell value openings some are lawful all values whole each)

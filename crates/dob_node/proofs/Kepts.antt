@@ -6,10 +6,10 @@ use Rattle.std.proofs.Math.Nat.{div-le_self}
 use Rattle.std.proofs.lemmas.Bool.{cases_order}
 use Rattle.std.proofs.lemmas.List.{length-append, append-nil}
 use Rattle.std.proofs.lemmas.List.Elements.{All-append, All-nil, All-cons}
-use Rattle.dob_pieces.specs.declared.piece_set.PieceSet.{PieceSet}
+use Rattle.dob_pieces.specs.declared.profile.Family.{Family}
 use Rattle.dob_moves.specs.declared.position_status.Status.{Status}
 use Rattle.dob_moves.specs.declared.position_status.Status.TheVariants.{Caught, Tried, Stuck, Open}
-use Rattle.dob_rank.specs.Marks.{classes_of}
+use Rattle.dob_rank.specs.Families.{classes_of}
 use Rattle.dob_value.specs.declared.value.Value.{Value}
 use Rattle.dob_value.specs.declared.value.Value.TheVariants.{Win, Loss, Draw}
 use Rattle.dob_value.specs.Follows.{IsEntry}
@@ -98,14 +98,14 @@ same_owned old new same class own =
 
 -- ---- what is asked of a settlement
 
-module _ (set : PieceSet) (n id : ℕ) (share after : Share) (history : HistoryView) (item : Item) (kept : AreKept set n id share history)
+module _ (family : Family) (n id : ℕ) (share after : Share) (history : HistoryView) (item : Item) (kept : AreKept family n id share history)
     (entries : HasEntries item) (same : SameClasses share after) (fits : Fits share item)
     (cell : SameCell (cell_at after item.to) (changed item.was item.now (cell_at share item.to)))
     (others : (class : ℕ) → IsOwn share class → class ≢ item.to → SameCell (cell_at after class) (cell_at share class)) where
   own : IsOwn share item.to
   own = fits_own share item fits
 
-  mine : (owner_of n item.to ≡ id) × (item.to < classes_of set)
+  mine : (owner_of n item.to ≡ id) × (item.to < classes_of family)
   mine = (kept.owned item.to).0 own
 
   parities_there : HasParities (cell_at after item.to)
@@ -133,8 +133,8 @@ module _ (set : PieceSet) (n id : ℕ) (share after : Share) (history : HistoryV
 
     pub place_is : s.class / history.n < 2 ^ 32
     place_is =
-        let low : item.to < classes_of set = mine.1 in
-        let few : classes_of set ≤ 2 ^ 32 = kept.few in
+        let low : item.to < classes_of family = mine.1 in
+        let few : classes_of family ≤ 2 ^ 32 = kept.few in
         let less : s.class / history.n ≤ s.class = div-le_self s.class history.n in
         let is : s.class ≡ item.to = settled.2 in
         let both : s.class < 2 ^ 32 = omega arith in
@@ -158,14 +158,14 @@ module _ (set : PieceSet) (n id : ℕ) (share after : Share) (history : HistoryV
       omega arith
 
   settled_classes : (given : Option Settlement) → HasSettled share after item.to given →
-      All (λ (s : Settlement). s.class < classes_of set) (listed given)
-  settled_classes None settled = All-nil (λ (s : Settlement). s.class < classes_of set)
-  settled_classes (Some s) settled = All-cons (λ (s : Settlement). s.class < classes_of set) s []
-      (subst (λ (k : ℕ). k < classes_of set) (sym settled.2) mine.1) (All-nil (λ (s : Settlement). s.class < classes_of set))
+      All (λ (s : Settlement). s.class < classes_of family) (listed given)
+  settled_classes None settled = All-nil (λ (s : Settlement). s.class < classes_of family)
+  settled_classes (Some s) settled = All-cons (λ (s : Settlement). s.class < classes_of family) s []
+      (subst (λ (k : ℕ). k < classes_of family) (sym settled.2) mine.1) (All-nil (λ (s : Settlement). s.class < classes_of family))
 
   pub kept_still : (given : Option Settlement) → HasSettled share after item.to given → (grown : HistoryView) →
-      grown ≡ record history { settlements = history.settlements ++ listed given; room = grown.room } → AreKept set n id after grown
-  kept_still given settled grown is = subst (λ (view : HistoryView). AreKept set n id after view) (sym is) (record {
+      grown ≡ record history { settlements = history.settlements ++ listed given; room = grown.room } → AreKept family n id after grown
+  kept_still given settled grown is = subst (λ (view : HistoryView). AreKept family n id after view) (sym is) (record {
     share_is = (same.n ∙ kept.share_is.0, same.id ∙ kept.share_is.1);
     history_is = kept.history_is;
     one_of_n = kept.one_of_n;
@@ -175,6 +175,6 @@ module _ (set : PieceSet) (n id : ℕ) (share after : Share) (history : HistoryV
       λ it. same.owned class ((kept.owned class).1 it),
     );
     counted = settled_count given settled;
-    classes = All-append (λ (s : Settlement). s.class < classes_of set) history.settlements (listed given) kept.classes (settled_classes given settled);
+    classes = All-append (λ (s : Settlement). s.class < classes_of family) history.settlements (listed given) kept.classes (settled_classes given settled);
     parities = parities_all;
   })

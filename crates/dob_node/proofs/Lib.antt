@@ -23,7 +23,7 @@ pub mod Opens  -- a node as it is opened
 pub mod Stored  -- what is stored of a history is read again
 pub mod Kepts  -- what an item taken makes of a node's cells and history
 pub mod Sounds  -- a node stays sound
-pub mod Nodes  -- what a node has, told by its piece set, its number and how many nodes there are
+pub mod Nodes  -- what a node has, told by its family, its number and how many nodes there are
 pub mod TakenLists  -- items taken one after the other
 pub mod Sends  -- empty outboxes, and what one settlement more adds to them
 pub mod TakenBack  -- outboxes from which a settlement is taken back

@@ -5,11 +5,11 @@ use Rattle.std.specs.List.{All}
 use Rattle.std.proofs.lemmas.List.{length-append}
 use Rattle.std.proofs.lemmas.List.Elements.{All-append, All-nil, All-cons}
 use Rattle.std.proofs.lemmas.Nat.{mod-mul-add, div-mul-add}
-use Rattle.dob_pieces.specs.declared.piece_set.PieceSet.{PieceSet}
+use Rattle.dob_pieces.specs.declared.profile.Family.{Family}
 use Rattle.dob_moves.specs.declared.position_status.Status.{Status}
 use Rattle.dob_moves.specs.declared.position_status.Status.TheVariants.{Caught, Tried, Stuck, Open}
-use Rattle.dob_rank.specs.Marks.{classes_of}
-use Rattle.dob_rank.proofs.ClassBounds.{classes_of-few}
+use Rattle.dob_rank.specs.Families.{classes_of}
+use Rattle.dob_rank.proofs.ClassBounds.{classes_of-below}
 use Rattle.dob_value.specs.declared.value.Value.{Value}
 use Rattle.dob_share.specs.declared.news.Settlement.{Settlement}
 use Rattle.dob_share.specs.declared.opening.Opening.{Opening}
@@ -99,23 +99,23 @@ places_are share openings n id who less owned place = (
   λ low. own_place share n id place who.1 less ((owned (place * n + id)).1 (mod-mul-add place n id less, low)),
 )
 
--- no set has more classes than a place of four bytes can tell apart
-pub few_listed : (set : PieceSet) (openings : List Opening) → AreOpenings set openings → length openings ≤ 2 ^ 32
-few_listed set openings are = omega (arith, are.whole, classes_of-few set)
+-- no family has more classes than a place of four bytes can tell apart
+pub few_listed : (family : Family) (openings : List Opening) → AreOpenings family openings → length openings ≤ 2 ^ 32
+few_listed family openings are = omega (arith, are.whole, classes_of-below family)
 
 -- ---- what is kept
 
 fresh_parities : (moves : ℕ) → HasParities (fresh moves)
 fresh_parities moves = record { wins = λ plies some. absurd (omega arith); least = λ plies is. absurd cc }
 
-pub opened_kept : (set : PieceSet) (openings : List Opening) (n id : ℕ) (share : Share) (history : HistoryView) → AreOpenings set openings →
+pub opened_kept : (family : Family) (openings : List Opening) (n id : ℕ) (share : Share) (history : HistoryView) → AreOpenings family openings →
     id < n → length openings ≤ 2 ^ 32 → (share.id ≡ id) × (share.n ≡ n) →
     ((class : ℕ) → IsOwn share class ↔ ((class % n ≡ id) × (class < length openings))) →
     ((class : ℕ) → IsOwn share class → SameCell (cell_at share class) (fresh (opening_of openings class).moves)) →
     share.settled ≡ settled_among (λ place. (opening_of openings (class_of_place n id place)).status) (places_of share) →
     history ≡ record { id = id; n = n; settlements = opening_settlements (status_in openings) n id (places_of share); room = 0 } →
-    AreKept set n id share history
-opened_kept set openings n id share history are less few who owned cells settled is = subst (λ v. AreKept set n id share v) (sym is) (record {
+    AreKept family n id share history
+opened_kept family openings n id share history are less few who owned cells settled is = subst (λ v. AreKept family n id share v) (sym is) (record {
   share_is = (who.1, who.0);
   history_is = (refl, refl);
   one_of_n = less;
@@ -125,7 +125,7 @@ opened_kept set openings n id share history are less few who owned cells settled
     λ mine. (owned class).1 (mine.0, subst (λ (count : ℕ). class < count) (sym are.whole) mine.1),
   );
   counted = settled ∙ settled_length (status_in openings) n id (places_of share);
-  classes = settled_low (status_in openings) n id (classes_of set) (places_of share)
+  classes = settled_low (status_in openings) n id (classes_of family) (places_of share)
       (λ place low. subst (λ (count : ℕ). place * n + id < count) are.whole ((places_are share openings n id who less owned place).0 low));
   parities = λ class own. parities_same (cell_at share class) (fresh (opening_of openings class).moves) (cells class own)
       (fresh_parities (opening_of openings class).moves);

@@ -3,9 +3,9 @@ use Rattle.std.proofs.Common.{◌≡◌, ℕ, ◌+◌, ◌*◌, ◌^◌, ◌<◌
 use Rattle.std.proofs.lemmas.List.{length-append}
 use Rattle.std.proofs.lemmas.Nat.{mod-mul-add, div-mul-add}
 use Rattle.std.proofs.lemmas.Option.{slice_get_within}
-use Rattle.dob_pieces.specs.declared.piece_set.PieceSet.{PieceSet}
+use Rattle.dob_pieces.specs.declared.profile.Family.{Family}
 use Rattle.dob_pieces.proofs.Elements.{at_end}
-use Rattle.dob_rank.specs.Marks.{classes_of}
+use Rattle.dob_rank.specs.Families.{classes_of}
 use Rattle.dob_value.specs.declared.value.Value.{Value}
 use Rattle.dob_share.specs.declared.share.Share.{Share}
 use Rattle.dob_share.specs.Owners.{class_of_place}
@@ -13,7 +13,7 @@ use Rattle.dob_share.specs.Shares.{places_of, IsOwn, HasValueNow}
 use Rattle.dob_node.specs.Stores.{HistoryView}
 use Rattle.dob_node.specs.TakenItems.{AreKept}
 
-module _ (set : PieceSet) (n id : ℕ) (share : Share) (history : HistoryView) (kept : AreKept set n id share history) (place : ℕ)
+module _ (family : Family) (n id : ℕ) (share : Share) (history : HistoryView) (kept : AreKept family n id share history) (place : ℕ)
     (low : place < places_of share) where
   own_by_share : place < length share.slots → IsOwn share (place * share.n + share.id)
   unfolding IsOwn
@@ -36,8 +36,8 @@ module _ (set : PieceSet) (n id : ℕ) (share : Share) (history : HistoryView) (
 
   pub class_at_low : place * n + id < 2 ^ 32
   class_at_low =
-      let below : place * n + id < classes_of set = ((kept.owned (place * n + id)).0 own_at).1 in
-      let few : classes_of set ≤ 2 ^ 32 = kept.few in
+      let below : place * n + id < classes_of family = ((kept.owned (place * n + id)).0 own_at).1 in
+      let few : classes_of family ≤ 2 ^ 32 = kept.few in
       omega arith
 
 -- the values of the classes at the places so far
@@ -51,10 +51,10 @@ values_none share = record {
   each = λ place value there. let none : place < 0 = slice_get_within [] place value there in absurd (omega arith);
 }
 
-pub values_more : (set : PieceSet) (n id : ℕ) (share : Share) (history : HistoryView) (upto : ℕ) (values new : List Value) (value : Value) →
-    AreKept set n id share history → AreValuesBelow share upto values → new ≡ values ++ value ∷ [] → HasValueNow share (upto * n + id) value →
+pub values_more : (family : Family) (n id : ℕ) (share : Share) (history : HistoryView) (upto : ℕ) (values new : List Value) (value : Value) →
+    AreKept family n id share history → AreValuesBelow share upto values → new ≡ values ++ value ∷ [] → HasValueNow share (upto * n + id) value →
     AreValuesBelow share (upto + 1) new
-values_more set n id share history upto values new value kept before is has = subst (λ xs. AreValuesBelow share (upto + 1) xs) (sym is) (record {
+values_more family n id share history upto values new value kept before is has = subst (λ xs. AreValuesBelow share (upto + 1) xs) (sym is) (record {
   whole = length-append values (value ∷ []) ∙ ap (λ (k : ℕ). k + 1) before.whole;
   each = λ place other there. elim (at_end values value other place there) [
     | inl earlier ↦ before.each place other earlier

@@ -2,7 +2,7 @@
 use Rattle.std.proofs.Common.{◌≡◌, ℕ, ◌<◌, inl, inr, ◌⊎◌, refl, sym, subst, ap, ◌∙◌, arith, List, [], ◌∷◌, length, Some, Contains, take, slice_get}
 use Rattle.std.proofs.lemmas.Option.{slice_get_within, same_Some}
 use Rattle.std.proofs.lemmas.List.{take_all}
-use Rattle.dob_pieces.specs.declared.piece_set.PieceSet.{PieceSet}
+use Rattle.dob_pieces.specs.declared.profile.Family.{Family}
 use Rattle.dob_pieces.specs.declared.setup.Setup.{Setup}
 use Rattle.dob_pieces.specs.Lists.{each_below}
 use Rattle.dob_pieces.specs.Setups.{mirrored}
@@ -12,18 +12,18 @@ use Rattle.dob_moves.specs.declared.position_status.Status.{Status}
 use Rattle.dob_moves.specs.declared.position_status.Status.TheVariants.{Caught, Tried, Stuck, Open}
 use Rattle.dob_moves.specs.Moves.{Goes}
 use Rattle.dob_moves.specs.Statuses.{HasStatus}
-use Rattle.dob_rank.specs.Order.{IsPositionOf, HasClasses}
-use Rattle.dob_rank.specs.Marks.{classes_of}
-use Rattle.dob_rank.proofs.Marks.{HasClasses-classes_of}
+use Rattle.dob_rank.specs.Families.{IsPositionOf, HasClasses}
+use Rattle.dob_rank.specs.Families.{classes_of}
+use Rattle.dob_rank.proofs.Present.{HasClasses-classes_of}
 use Rattle.dob_value.specs.declared.value.Value.{Value}
 use Rattle.dob_value.specs.declared.value.Value.TheVariants.{Win, Loss, Draw}
 use Rattle.dob_value.specs.Follows.{HasInTable, HasSuccessor, FollowsFromSuccessors, FollowsAt, IsConsistent}
 use Rattle.dob_value.specs.ClassRows.{class_setup}
-use Rattle.dob_value.proofs.Successors.{moves_keep_the_set}
+use Rattle.dob_value.proofs.Successors.{moves_keep_the_family}
 use Rattle.dob_value.proofs.ClassNumbers.{has_entry, one_entry, representative_is}
 use Rattle.dob_value.proofs.Rows.{class_setup_is}
 use Rattle.dob_value.proofs.Consistency.{consistent_is_right}
-use Rattle.dob_unmove.specs.Classes.{RepresentsIn}
+use Rattle.dob_unmove.specs.Classes.{RepresentsClass}
 use Rattle.dob_unmove.specs.Edges.{predecessors}
 use Rattle.dob_unmove.proofs.Edges.{ArePredecessors-predecessors}
 use Rattle.dob_unmove.specs.Unmoves.{ArePredecessors, IsEither, LeadsInto}
@@ -48,20 +48,20 @@ pub below_owner : (n class : ℕ) → 0 < n → owner_of n class < n
 below_owner n class some = omega arith
 
 -- each class has its predecessors as targets
-abbrev pub AreTargets : PieceSet → (ℕ → List ℕ) → Type 0
-AreTargets set targets = (q : Setup) (class : ℕ) → RepresentsIn set q class → ArePredecessors (RepresentsIn set) q (targets class)
+abbrev pub AreTargets : Family → (ℕ → List ℕ) → Type 0
+AreTargets family targets = (q : Setup) (class : ℕ) → RepresentsClass family q class → ArePredecessors family.profile (RepresentsClass family) q (targets class)
 
-module _ (set : PieceSet) (targets : ℕ → List ℕ) (n : ℕ) (histories : ℕ → List Settlement) (expanded : ℕ → ℕ)
-    (sent applied : ℕ → ℕ → List Item) (values : List Value) (some : 0 < n) (are_targets : AreTargets set targets)
-    (quiet : IsQuiet set targets n histories expanded sent applied) (gathered : AreGathered set n histories values) where
+module _ (family : Family) (targets : ℕ → List ℕ) (n : ℕ) (histories : ℕ → List Settlement) (expanded : ℕ → ℕ)
+    (sent applied : ℕ → ℕ → List Item) (values : List Value) (some : 0 < n) (are_targets : AreTargets family targets)
+    (quiet : IsQuiet family targets n histories expanded sent applied) (gathered : AreGathered family n histories values) where
   abbrev Has : Setup → Value → Type 0
-  Has p v = HasInTable set values p v
+  Has p v = HasInTable family values p v
 
   abbrev value : ℕ → Value
   value q = value_of (histories (owner_of n q)) q
 
   abbrev knows : ℕ → List Value
-  knows p = all_known targets (classes_of set) n histories (λ i. applied i (owner_of n p)) p
+  knows p = all_known targets (classes_of family) n histories (λ i. applied i (owner_of n p)) p
 
   -- what one copy knows
   abbrev copy_of : ℕ → ℕ → ℕ → Value
@@ -81,21 +81,21 @@ module _ (set : PieceSet) (targets : ℕ → List ℕ) (n : ℕ) (histories : �
       ap (λ items. known (histories i) items p q copy) all
       ∙ all_applied targets n j (histories i) p q copy refl below
 
-  classes : HasClasses set (length values)
-  classes = subst (HasClasses set) (sym gathered.whole) (HasClasses-classes_of set)
+  classes : HasClasses family (length values)
+  classes = subst (HasClasses family) (sym gathered.whole) (HasClasses-classes_of family)
 
-  value_there : (q : ℕ) (u : Value) → slice_get values q ≡ Some u → (q < classes_of set) × (u ≡ value q)
+  value_there : (q : ℕ) (u : Value) → slice_get values q ≡ Some u → (q < classes_of family) × (u ≡ value q)
   value_there q u entry =
       let within : q < length values = slice_get_within values q u entry in
-      let below : q < classes_of set = subst (λ m. q < m) gathered.whole within in
+      let below : q < classes_of family = subst (λ m. q < m) gathered.whole within in
       (below, same_Some u (value q) (sym entry ∙ gathered.each q below))
 
   -- a class with an edge is that of a successor
-  successor : (p : Setup) (a : ℕ) → RepresentsIn set p a → (q : ℕ) (u : Value) → q < classes_of set → 0 < copies targets a q → u ≡ value q →
-      HasSuccessor Has p u
+  successor : (p : Setup) (a : ℕ) → RepresentsClass family p a → (q : ℕ) (u : Value) → q < classes_of family → 0 < copies targets a q → u ≡ value q →
+      HasSuccessor family.profile Has p u
   successor p a represents q u below above same =
-      let rep = class_setup set q in
-      let is : RepresentsIn set rep q = class_setup_is set q (classes_of set) (HasClasses-classes_of set) below in
+      let rep = class_setup family q in
+      let is : RepresentsClass family rep q = class_setup_is family q (classes_of family) (HasClasses-classes_of family) below in
       let edge = (are_targets rep q is).counts.edges p a represents in
       let move = some_of edge.moves (copies targets a q) edge.counted above in
       let leads = edge.sound move.0 move.1 in
@@ -105,22 +105,22 @@ module _ (set : PieceSet) (targets : ℕ → List ℕ) (n : ℕ) (histories : �
         leads.1.1,
         record {
           class = q;
-          number = record { position = moves_keep_the_set set p move.0 o represents.0.0 leads.0 leads.1.1; representative = rep; stands = (turn rep o is.0.0 leads.1.2, is.0.1); before = is.1 };
+          number = record { position = moves_keep_the_family family p move.0 o represents.0.0 leads.0 leads.1.1; representative = rep; stands = (turn rep o is.0.0 leads.1.2, is.0.1); before = is.1 };
           entry = gathered.each q below ∙ ap Some (sym same);
         },
       )
     where
-      turn : (rep o : Setup) → IsPositionOf set rep → IsEither rep o → (rep ≡ o) ⊎ (rep ≡ mirrored o)
+      turn : (rep o : Setup) → IsPositionOf family rep → IsEither rep o → (rep ≡ o) ⊎ (rep ≡ mirrored o)
       turn rep o is either = elim either [
         | inl same ↦ inl (sym same)
-        | inr image ↦ inr (sym (mirrored-mirrored rep is.legal.squares) ∙ ap mirrored (sym image))
+        | inr image ↦ inr (sym (mirrored-mirrored rep is.of_set.legal.squares) ∙ ap mirrored (sym image))
       ]
 
   -- what a copy knows is the value of a successor
-  heard : (p : Setup) (a : ℕ) → RepresentsIn set p a → (u : Value) → Contains (knows a) u → HasSuccessor Has p u
+  heard : (p : Setup) (a : ℕ) → RepresentsClass family p a → (u : Value) → Contains (knows a) u → HasSuccessor family.profile Has p u
   unfolding all_known
   heard p a represents u there =
-      let at = from_each_below (λ (q : ℕ). each_below (λ (copy : ℕ). copy_of a q copy ∷ []) (copies targets a q)) (classes_of set) u there in
+      let at = from_each_below (λ (q : ℕ). each_below (λ (copy : ℕ). copy_of a q copy ∷ []) (copies targets a q)) (classes_of family) u there in
       let q = at.0 in
       let row = from_each_below (λ (copy : ℕ). copy_of a q copy ∷ []) (copies targets a q) u at.2 in
       let is : copy_of a q row.0 ≡ u = only_one (copy_of a q row.0) u row.2 in
@@ -128,30 +128,30 @@ module _ (set : PieceSet) (targets : ℕ → List ℕ) (n : ℕ) (histories : �
       successor p a represents q u at.1 (omega arith) (sym is ∙ copy_knows a q row.0 below)
 
   -- and the value of each successor is known to a copy
-  emitted : (p : Setup) (a : ℕ) → RepresentsIn set p a → HasStatus p Open → (move : Move) (o : Setup) → Goes p move o → (u : Value) → Has o u →
+  emitted : (p : Setup) (a : ℕ) → RepresentsClass family p a → HasStatus family.profile p Open → (move : Move) (o : Setup) → Goes family.profile p move o → (u : Value) → Has o u →
       Contains (knows a) u
   unfolding all_known
   emitted p a represents goes_on move o goes u has =
       let q = has.class in
       let there = value_there q u has.entry in
       let rep = has.number.representative in
-      let position = moves_keep_the_set set p move o represents.0.0 goes_on goes in
-      let is_rep = representative_is set o rep position has.number.stands in
+      let position = moves_keep_the_family family p move o represents.0.0 goes_on goes in
+      let is_rep = representative_is family o rep position has.number.stands in
       let edge = (are_targets rep q (is_rep, has.number.before)).counts.edges p a represents in
-      let leads : LeadsInto p rep move = (goes_on, (o, goes, turn rep o is_rep.0 position has.number.stands.0)) in
+      let leads : LeadsInto family.profile p rep move = (goes_on, (o, goes, turn rep o is_rep.0 position has.number.stands.0)) in
       let above : 0 < copies targets a q = none_of edge.moves (copies targets a q) move edge.counted (edge.whole move leads) in
-      in_each_below (λ (q : ℕ). each_below (λ (copy : ℕ). copy_of a q copy ∷ []) (copies targets a q)) (classes_of set) q u there.0
+      in_each_below (λ (q : ℕ). each_below (λ (copy : ℕ). copy_of a q copy ∷ []) (copies targets a q)) (classes_of family) q u there.0
       (in_each_below (λ (copy : ℕ). copy_of a q copy ∷ []) (copies targets a q) 0 u above
       (the_one (copy_of a q 0) u (copy_knows a q 0 above ∙ sym there.1)))
     where
-      turn : (rep o : Setup) → IsPositionOf set rep → IsPositionOf set o → (rep ≡ o) ⊎ (rep ≡ mirrored o) → IsEither rep o
+      turn : (rep o : Setup) → IsPositionOf family rep → IsPositionOf family o → (rep ≡ o) ⊎ (rep ≡ mirrored o) → IsEither rep o
       turn rep o is position either = elim either [
         | inl same ↦ inl (sym same)
-        | inr image ↦ inr (sym (mirrored-mirrored o position.legal.squares) ∙ ap mirrored (sym image))
+        | inr image ↦ inr (sym (mirrored-mirrored o position.of_set.legal.squares) ∙ ap mirrored (sym image))
       ]
 
-  follows_known : (p : Setup) (a : ℕ) → RepresentsIn set p a → HasStatus p Open → (v : Value) → FollowsFromKnown (knows a) v →
-      FollowsFromSuccessors Has p v
+  follows_known : (p : Setup) (a : ℕ) → RepresentsClass family p a → HasStatus family.profile p Open → (v : Value) → FollowsFromKnown (knows a) v →
+      FollowsFromSuccessors family.profile Has p v
   follows_known p a represents goes_on (Win plies) follows = (
     follows.0,
     follows.1,
@@ -164,7 +164,7 @@ module _ (set : PieceSet) (targets : ℕ → List ℕ) (n : ℕ) (histories : �
     heard p a represents (Win follows.0) follows.2,
     λ other next. follows.3 other (emitted p a represents goes_on next.0 next.1 next.2 (Win other) next.3),
     λ move o goes.
-        let entry = has_entry set values o classes (moves_keep_the_set set p move o represents.0.0 goes_on goes) in
+        let entry = has_entry family values o classes (moves_keep_the_family family p move o represents.0.0 goes_on goes) in
         let win = follows.4 entry.0 (emitted p a represents goes_on move o goes entry.0 entry.1) in
         (win.0, subst (Has o) win.1 entry.1),
   )
@@ -173,31 +173,31 @@ module _ (set : PieceSet) (targets : ℕ → List ℕ) (n : ℕ) (histories : �
     λ wins. follows.1 (λ u there.
         let next = heard p a represents u there in
         let win = wins next.0 next.1 next.2 in
-        (win.0, one_entry set values next.1 u (Win win.0) (moves_keep_the_set set p next.0 next.1 represents.0.0 goes_on next.2) next.3 win.1)),
+        (win.0, one_entry family values next.1 u (Win win.0) (moves_keep_the_family family p next.0 next.1 represents.0.0 goes_on next.2) next.3 win.1)),
   )
 
-  at_status : (p : Setup) (a : ℕ) → RepresentsIn set p a → (status : Status) → HasStatus p status → (v : Value) →
-      FollowsAtStatus status (knows a) v → FollowsAt Has p status v
+  at_status : (p : Setup) (a : ℕ) → RepresentsClass family p a → (status : Status) → HasStatus family.profile p status → (v : Value) →
+      FollowsAtStatus status (knows a) v → FollowsAt family.profile Has p status v
   at_status p a represents Caught is v follows = follows
   at_status p a represents Tried is v follows = follows
   at_status p a represents Stuck is v follows = follows
   at_status p a represents Open is v follows = follows_known p a represents is v follows
 
-  consistent : IsConsistent set values
+  consistent : IsConsistent family values
   consistent = record {
     table = record { classes = classes; entries = gathered.entries };
     follows = λ p a v is number entry.
         let now = quiet.values p a (is, number) in (
           now.0,
           now.1,
-          subst (FollowsAt Has p now.0) (sym (value_there a v entry).1) (at_status p a (is, number) now.0 now.1 (value a) now.2),
+          subst (FollowsAt family.profile Has p now.0) (sym (value_there a v entry).1) (at_status p a (is, number) now.0 now.1 (value a) now.2),
         );
   }
 
-are_predecessors : (set : PieceSet) → AreTargets set (predecessors set)
-are_predecessors set q class is = ArePredecessors-predecessors set q class is
+are_predecessors : (family : Family) → AreTargets family (predecessors family)
+are_predecessors family q class is = ArePredecessors-predecessors family q class is
 
 pub quiet_is_right : QuietIsRight
-quiet_is_right set n histories expanded sent applied values some quiet gathered =
-    consistent_is_right set values
-    (consistent set (predecessors set) n histories expanded sent applied values some (are_predecessors set) quiet gathered)
+quiet_is_right family n histories expanded sent applied values some quiet gathered =
+    consistent_is_right family values
+    (consistent family (predecessors family) n histories expanded sent applied values some (are_predecessors family) quiet gathered)

@@ -3,12 +3,12 @@ use Rattle.std.proofs.Common.{◌≡◌, ◌≢◌, ℕ, zero, suc, ◌<◌, ◌
 use Rattle.std.proofs.Common.{List, [], ◌∷◌, ◌++◌, length, get_or, Contains, All, Some}
 use Rattle.std.proofs.lemmas.Bool.{cases_eq, cases_Bool, eq-eqb, ne_eqb, and_right, and_left}
 use Rattle.std.proofs.lemmas.List.Elements.{All-nil, All-cons, All-append, All-contains, Contains-append_left, Contains-append_right, Contains-append_cases}
-use Rattle.dob_pieces.specs.declared.piece_set.PieceSet.{PieceSet}
+use Rattle.dob_pieces.specs.declared.profile.Family.{Family}
 use Rattle.dob_pieces.specs.Lists.{each_below}
 use Rattle.dob_pieces.proofs.Lists.{head_in}
 use Rattle.dob_moves.specs.declared.position_status.Status.{Status}
 use Rattle.dob_moves.specs.declared.position_status.Status.TheVariants.{Caught, Tried, Stuck, Open}
-use Rattle.dob_rank.specs.Marks.{classes_of}
+use Rattle.dob_rank.specs.Families.{classes_of}
 use Rattle.dob_value.specs.declared.value.Value.{Value}
 use Rattle.dob_value.specs.declared.value.Value.TheVariants.{Win, Loss, Draw}
 use Rattle.dob_value.specs.Bounds.{plies_of}
@@ -96,8 +96,8 @@ fresh_within bound moves cell same = within_same bound cell (fresh moves) same (
   least = λ plies is. absurd (cc);
 })
 
-back : (a b : Cell) → SameCell a b → SameCell b a
-back a b same = record { left = sym same.left; wins = λ plies. sym (same.wins plies); least = sym same.least }
+pub same_back : (a b : Cell) → SameCell a b → SameCell b a
+same_back a b same = record { left = sym same.left; wins = λ plies. sym (same.wins plies); least = sym same.least }
 
 -- ---- the start
 
@@ -116,12 +116,12 @@ opened_first status n id (suc places) =
     (one_first (length before) (class_of_place n id places) (status (class_of_place n id places)))
 
 -- Histories whose settlements all rest on nothing have falls, where no cell knows anything.
-pub falls_start : (set : PieceSet) (n : ℕ) (histories : ℕ → List Settlement) (cell : ℕ → Cell) →
-    ((i : ℕ) → i < n → IsChained (classes_of set) n i (histories i)) → ((i : ℕ) → i < n → All (λ (s : Settlement). IsFirst s.now) (histories i)) →
-    ((class : ℕ) → class < classes_of set → IsCellWithin (classes_of set) (cell class)) → HaveFalls set n histories cell
-falls_start set n histories cell chained first cells = record {
+pub falls_start : (family : Family) (n : ℕ) (histories : ℕ → List Settlement) (cell : ℕ → Cell) →
+    ((i : ℕ) → i < n → IsChained (classes_of family) n i (histories i)) → ((i : ℕ) → i < n → All (λ (s : Settlement). IsFirst s.now) (histories i)) →
+    ((class : ℕ) → class < classes_of family → IsCellWithin (classes_of family) (cell class)) → HaveFalls family n histories cell
+falls_start family n histories cell chained first cells = record {
   each = λ s at. ([], alone s at);
-  settled = λ s at. fall_within (classes_of set) n histories chained s [] (low_class (classes_of set) n histories chained s at) (alone s at);
+  settled = λ s at. fall_within (classes_of family) n histories chained s [] (low_class (classes_of family) n histories chained s at) (alone s at);
   cells = cells;
 }
   where
@@ -134,11 +134,11 @@ falls_start set n histories cell chained first cells = record {
 
 -- ---- one item more
 
-module _ (set : PieceSet) (n : ℕ) (histories : ℕ → List Settlement) (applied : ℕ → ℕ → List Item) (cell : ℕ → Cell) (value : ℕ → Value)
-    (some : 0 < n) (lawful : AreLawfulNodes set n histories applied cell value) (have : HaveFalls set n histories cell) (i j : ℕ) (low_i : i < n)
-    (low_j : j < n) (item : Item) (is_next : IsNextItem set n histories applied i j item) where
+module _ (family : Family) (n : ℕ) (histories : ℕ → List Settlement) (applied : ℕ → ℕ → List Item) (cell : ℕ → Cell) (value : ℕ → Value)
+    (some : 0 < n) (lawful : AreLawfulNodes family n histories applied cell value) (have : HaveFalls family n histories cell) (i j : ℕ) (low_i : i < n)
+    (low_j : j < n) (item : Item) (is_next : IsNextItem family n histories applied i j item) where
   abbrev classes : ℕ
-  classes = classes_of set
+  classes = classes_of family
 
   abbrev to : ℕ
   to = item.to
@@ -154,25 +154,25 @@ module _ (set : PieceSet) (n : ℕ) (histories : ℕ → List Settlement) (appli
     same_receiver = λ k m other. ap (λ b. cond b (applied i j ++ item ∷ []) (applied k m)) (and_right (eqb k i) (eqb m j) (ne_eqb m j other));
   }
 
-  can : CanApply set n j cell item
-  can = can_apply set n histories applied cell value some lawful i j low_i low_j item is_next
+  can : CanApply family n j cell item
+  can = can_apply family n histories applied cell value some lawful i j low_i low_j item is_next
 
   -- what the class's copies know then, and the cell that sums it up
   abbrev taught : List Value
-  taught = known_of set n histories after to
+  taught = known_of family n histories after to
 
   abbrev cell_then : Cell
   cell_then = changed item.was item.now (cell to)
 
   sums : SumsUp taught cell_then
-  sums = sums_up_after (known_of set n histories applied to) taught item.was item.now (cell to)
-      (better set n histories applied cell value some lawful i j low_i low_j item is_next)
-      (learns_here set n histories applied cell value some lawful i j low_i low_j item is_next after is_applied)
+  sums = sums_up_after (known_of family n histories applied to) taught item.was item.now (cell to)
+      (better family n histories applied cell value some lawful i j low_i low_j item is_next)
+      (learns_here family n histories applied cell value some lawful i j low_i low_j item is_next after is_applied)
       (lawful.sums to can.below can.is_open)
 
   from_settlement : (v : Value) → v ≢ Draw → Contains taught v → (t : Settlement) × IsSettlement n histories t × (t.now ≡ v)
   from_settlement v settled there =
-      known_from (predecessors set) classes n histories (λ k. after k (owner_of n to)) to some v settled there
+      known_from (predecessors family) classes n histories (λ k. after k (owner_of n to)) to some v settled there
 
   no_worse_then : (v : Value) → CellValue cell_then v → NoWorse (value_of (histories (owner_of n to)) to) v
   no_worse_then v gives = subst (λ u. NoWorse u v) (lawful.values to can.below)
@@ -183,7 +183,7 @@ module _ (set : PieceSet) (n : ℕ) (histories : ℕ → List Settlement) (appli
       (others : List Settlement) × ((s : Settlement) → s.class ≡ to → s.now ≡ v → IsFall n histories s others)
   rises v gives settled =
       let follows = value_follows taught cell_then v sums
-      (some_known set to can.below n histories (λ k. after k (owner_of n to)) can.is_open) gives in
+      (some_known family to can.below n histories (λ k. after k (owner_of n to)) can.is_open) gives in
       let on = rests_on_known taught v follows settled in
       let from = from_settlement on.0 (λ same. on_draw v (subst (λ u. RestsOn v u) same on.2)) on.1 in
       let fall = have.each from.0 from.1 in (
@@ -231,7 +231,7 @@ module _ (set : PieceSet) (n : ℕ) (histories : ℕ → List Settlement) (appli
   module _ (cells : ℕ → Cell) (worth : ℕ → Value) (are_after : AreAfter item cell cells value worth) (grown : ℕ → List Settlement)
       (settles : AreSettled j to (value to) (worth to) histories grown) where
     gives_now : CellValue cell_then (worth to)
-    gives_now = CellValue-same cell_then (cells to) (worth to) (back (cells to) cell_then are_after.cell_is) are_after.gives
+    gives_now = CellValue-same cell_then (cells to) (worth to) (same_back (cells to) cell_then are_after.cell_is) are_after.gives
 
     abbrev news : Settlement
     news = news_of (worth to)
@@ -272,7 +272,7 @@ module _ (set : PieceSet) (n : ℕ) (histories : ℕ → List Settlement) (appli
     }
 
     -- after the item and the settlement that it makes, the histories have falls again
-    pub falls_stay : HaveFalls set n grown cells
+    pub falls_stay : HaveFalls family n grown cells
     falls_stay = record {
       each = λ s at. elim (old_or_new s at) [
         | inl old ↦ let fall = have.each s old in (fall.0, fall_stays s fall.0 fall.1)

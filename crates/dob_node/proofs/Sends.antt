@@ -8,7 +8,7 @@ use Rattle.std.proofs.Math.Seq.{drop-nil}
 use Rattle.std.proofs.lemmas.Bool.{cases_order, cases_lt}
 use Rattle.std.proofs.lemmas.List.{length-append, length-set, get_or-set_same, get_or-set_other, get_or_append_left, get_or_push, get_or_default}
 use Rattle.std.proofs.lemmas.List.Elements.{All-append, All-nil, All-drop, All-take}
-use Rattle.dob_pieces.specs.declared.piece_set.PieceSet.{PieceSet}
+use Rattle.dob_pieces.specs.declared.profile.Family.{Family}
 use Rattle.dob_value.specs.Follows.{IsEntry}
 use Rattle.dob_unmove.specs.Edges.{predecessors}
 use Rattle.dob_share.specs.declared.news.Settlement.{Settlement}
@@ -22,16 +22,16 @@ use Rattle.dob_node.proofs.Sounds.{entries_of}
 
 -- ---- empty ones
 
-pub empties_more : (set : PieceSet) (n from k : ℕ) (xs new : List OutboxView) → length xs ≡ k →
-    ((to : ℕ) → outbox_in set n from xs to ≡ empty_outbox set n from to) → new ≡ xs ++ empty_outbox set n from k ∷ [] →
-    (to : ℕ) → outbox_in set n from new to ≡ empty_outbox set n from to
-empties_more set n from k xs new count empty is to = ap (λ ys. get_or ys to (empty_outbox set n from to)) is ∙ elim (cases_order to k) [
-  | inl same ↦ get_or_push xs (empty_outbox set n from k) (empty_outbox set n from to) to (count ∙ sym same)
-      ∙ ap (λ j. empty_outbox set n from j) (sym same)
+pub empties_more : (family : Family) (n from k : ℕ) (xs new : List OutboxView) → length xs ≡ k →
+    ((to : ℕ) → outbox_in family n from xs to ≡ empty_outbox family n from to) → new ≡ xs ++ empty_outbox family n from k ∷ [] →
+    (to : ℕ) → outbox_in family n from new to ≡ empty_outbox family n from to
+empties_more family n from k xs new count empty is to = ap (λ ys. get_or ys to (empty_outbox family n from to)) is ∙ elim (cases_order to k) [
+  | inl same ↦ get_or_push xs (empty_outbox family n from k) (empty_outbox family n from to) to (count ∙ sym same)
+      ∙ ap (λ j. empty_outbox family n from j) (sym same)
   | inr order ↦ elim order [
-    | inl less ↦ get_or_append_left xs (empty_outbox set n from k ∷ []) (empty_outbox set n from to) to (omega arith) ∙ empty to
-    | inr more ↦ get_or-eq_default (xs ++ empty_outbox set n from k ∷ []) (empty_outbox set n from to)
-        (let sum : length (xs ++ empty_outbox set n from k ∷ []) ≡ length xs + 1 = length-append xs (empty_outbox set n from k ∷ []) in omega arith)
+    | inl less ↦ get_or_append_left xs (empty_outbox family n from k ∷ []) (empty_outbox family n from to) to (omega arith) ∙ empty to
+    | inr more ↦ get_or-eq_default (xs ++ empty_outbox family n from k ∷ []) (empty_outbox family n from to)
+        (let sum : length (xs ++ empty_outbox family n from k ∷ []) ≡ length xs + 1 = length-append xs (empty_outbox family n from k ∷ []) in omega arith)
   ]
 ]
 
@@ -82,69 +82,69 @@ added_none targets settlement n from old = record {
 }
 
 -- what is asked of the items for an outbox to a node
-pub asked_of : (targets : List ℕ) (settlement : Settlement) (n from k : ℕ) (set : PieceSet) (o : OutboxView) (items : List Item) → IsOutboxTo set n from k o →
-    targets ≡ predecessors set settlement.class → items ≡ items_of (λ _. targets) n k settlement → items ≡ items_of (predecessors o.set) o.n o.to settlement
-asked_of targets settlement n from k set o items is same are =
-    subst (λ (st : PieceSet). items ≡ items_of (predecessors st) o.n o.to settlement) (sym is.of.0)
-    (subst (λ (m : ℕ). items ≡ items_of (predecessors set) m o.to settlement) (sym is.of.1)
-    (subst (λ (j : ℕ). items ≡ items_of (predecessors set) n j settlement) (sym is.of.3)
+pub asked_of : (targets : List ℕ) (settlement : Settlement) (n from k : ℕ) (family : Family) (o : OutboxView) (items : List Item) → IsOutboxTo family n from k o →
+    targets ≡ predecessors family settlement.class → items ≡ items_of (λ _. targets) n k settlement → items ≡ items_of (predecessors o.family) o.n o.to settlement
+asked_of targets settlement n from k family o items is same are =
+    subst (λ (st : Family). items ≡ items_of (predecessors st) o.n o.to settlement) (sym is.of.0)
+    (subst (λ (m : ℕ). items ≡ items_of (predecessors family) m o.to settlement) (sym is.of.1)
+    (subst (λ (j : ℕ). items ≡ items_of (predecessors family) n j settlement) (sym is.of.3)
     (subst (λ (ts : List ℕ). items ≡ items_of (λ _. ts) n k settlement) same are)))
 
 -- an outbox that has nothing of the settlement yet is of n nodes, and for the node of its number
 pub addressed_still : (targets : List ℕ) (settlement : Settlement) (n from k : ℕ) (old mid : List OutboxView) →
     AreAdded targets settlement n from k old mid →
-    (set : PieceSet) × (targets ≡ predecessors set settlement.class) × ((to : ℕ) → IsOutboxTo set n from to (outbox_in set n from old to)) →
+    (family : Family) × (targets ≡ predecessors family settlement.class) × ((to : ℕ) → IsOutboxTo family n from to (outbox_in family n from old to)) →
     k < length old → (default : OutboxView) →
-    ((get_or mid k default).n ≡ n) × ((get_or mid k default).to ≡ k) × (targets ≡ predecessors (get_or mid k default).set settlement.class)
+    ((get_or mid k default).n ≡ n) × ((get_or mid k default).to ≡ k) × (targets ≡ predecessors (get_or mid k default).family settlement.class)
 addressed_still targets settlement n from k old mid so_far of low default =
-    subst (λ (o : OutboxView). (o.n ≡ n) × (o.to ≡ k) × (targets ≡ predecessors o.set settlement.class)) (sym at_last)
-    ((of.2 k).of.1, (of.2 k).of.3, subst (λ (st : PieceSet). targets ≡ predecessors st settlement.class) (sym (of.2 k).of.0) of.1)
+    subst (λ (o : OutboxView). (o.n ≡ n) × (o.to ≡ k) × (targets ≡ predecessors o.family settlement.class)) (sym at_last)
+    ((of.2 k).of.1, (of.2 k).of.3, subst (λ (st : Family). targets ≡ predecessors st settlement.class) (sym (of.2 k).of.0) of.1)
   where
     at_last : get_or mid k default ≡ outbox_in of.0 n from old k
     at_last = so_far.later k default (omega arith) ∙ get_or_default old k default (empty_outbox of.0 n from k) low
 
 -- ---- what the outboxes are for
 
-pub addressed_empty : (set : PieceSet) (n from : ℕ) (xs : List OutboxView) → ((to : ℕ) → outbox_in set n from xs to ≡ empty_outbox set n from to) →
-    (to : ℕ) → IsOutboxTo set n from to (outbox_in set n from xs to)
-addressed_empty set n from xs empty to = subst (λ (o : OutboxView). IsOutboxTo set n from to o) (sym (empty to))
+pub addressed_empty : (family : Family) (n from : ℕ) (xs : List OutboxView) → ((to : ℕ) → outbox_in family n from xs to ≡ empty_outbox family n from to) →
+    (to : ℕ) → IsOutboxTo family n from to (outbox_in family n from xs to)
+addressed_empty family n from xs empty to = subst (λ (o : OutboxView). IsOutboxTo family n from to o) (sym (empty to))
     (record { of = (refl, refl, refl, refl); entries = All-nil HasEntries })
 
-added_to : (set : PieceSet) (n from to : ℕ) (o : OutboxView) (s : Settlement) (targets : List ℕ) → IsEntry s.was → IsEntry s.now →
-    IsOutboxTo set n from to o → IsOutboxTo set n from to (added o s (items_of (λ _. targets) n to s))
-added_to set n from to o s targets was now is = record {
+added_to : (family : Family) (n from to : ℕ) (o : OutboxView) (s : Settlement) (targets : List ℕ) → IsEntry s.was → IsEntry s.now →
+    IsOutboxTo family n from to o → IsOutboxTo family n from to (added o s (items_of (λ _. targets) n to s))
+added_to family n from to o s targets was now is = record {
   of = is.of;
   entries = All-append HasEntries o.items _ is.entries (entries_of s was now (filter (λ p. owner_of n p == to) targets));
 }
 
-pub addressed_added : (set : PieceSet) (targets : List ℕ) (s : Settlement) (n from : ℕ) (old new : List OutboxView) → IsEntry s.was → IsEntry s.now →
-    AreAdded targets s n from n old new → ((to : ℕ) → IsOutboxTo set n from to (outbox_in set n from old to)) →
-    (to : ℕ) → IsOutboxTo set n from to (outbox_in set n from new to)
-addressed_added set targets s n from old new was now are all to = elim (cases_order to from) [
-  | inl own ↦ subst (λ (j : ℕ). IsOutboxTo set n from j (outbox_in set n from new j)) (sym own)
-      (subst (λ (o : OutboxView). IsOutboxTo set n from from o) (sym (are.unsent (empty_outbox set n from from))) (all from))
+pub addressed_added : (family : Family) (targets : List ℕ) (s : Settlement) (n from : ℕ) (old new : List OutboxView) → IsEntry s.was → IsEntry s.now →
+    AreAdded targets s n from n old new → ((to : ℕ) → IsOutboxTo family n from to (outbox_in family n from old to)) →
+    (to : ℕ) → IsOutboxTo family n from to (outbox_in family n from new to)
+addressed_added family targets s n from old new was now are all to = elim (cases_order to from) [
+  | inl own ↦ subst (λ (j : ℕ). IsOutboxTo family n from j (outbox_in family n from new j)) (sym own)
+      (subst (λ (o : OutboxView). IsOutboxTo family n from from o) (sym (are.unsent (empty_outbox family n from from))) (all from))
   | inr order ↦ other (λ same. elim order [ inl less ↦ omega arith | inr more ↦ omega arith ])
 ]
   where
-    other : to ≢ from → IsOutboxTo set n from to (outbox_in set n from new to)
+    other : to ≢ from → IsOutboxTo family n from to (outbox_in family n from new to)
     other apart = elim (cases_lt to n) [
-      | inl low ↦ subst (λ (o : OutboxView). IsOutboxTo set n from to o) (sym (are.sent to (empty_outbox set n from to) low apart))
-          (added_to set n from to (outbox_in set n from old to) s targets was now (all to))
-      | inr high ↦ subst (λ (o : OutboxView). IsOutboxTo set n from to o) (sym (are.later to (empty_outbox set n from to) high)) (all to)
+      | inl low ↦ subst (λ (o : OutboxView). IsOutboxTo family n from to o) (sym (are.sent to (empty_outbox family n from to) low apart))
+          (added_to family n from to (outbox_in family n from old to) s targets was now (all to))
+      | inr high ↦ subst (λ (o : OutboxView). IsOutboxTo family n from to o) (sym (are.later to (empty_outbox family n from to) high)) (all to)
     ]
 
 -- ---- what is empty
 
-pub all_empty : (xs : List OutboxView) → All (λ (o : OutboxView). o.items ≡ []) xs → (set : PieceSet) (n from to : ℕ) → (outbox_in set n from xs to).items ≡ []
-all_empty xs all set n from to = elim (cases_lt to (length xs)) [
-  | inl low ↦ all to (empty_outbox set n from to) low
-  | inr high ↦ ap (λ (o : OutboxView). o.items) (get_or-eq_default xs (empty_outbox set n from to) high)
+pub all_empty : (xs : List OutboxView) → All (λ (o : OutboxView). o.items ≡ []) xs → (family : Family) (n from to : ℕ) → (outbox_in family n from xs to).items ≡ []
+all_empty xs all family n from to = elim (cases_lt to (length xs)) [
+  | inl low ↦ all to (empty_outbox family n from to) low
+  | inr high ↦ ap (λ (o : OutboxView). o.items) (get_or-eq_default xs (empty_outbox family n from to) high)
 ]
 
-pub empty_all : (xs : List OutboxView) (set : PieceSet) (n from : ℕ) → ((to : ℕ) → (outbox_in set n from xs to).items ≡ []) →
+pub empty_all : (xs : List OutboxView) (family : Family) (n from : ℕ) → ((to : ℕ) → (outbox_in family n from xs to).items ≡ []) →
     All (λ (o : OutboxView). o.items ≡ []) xs
-empty_all xs set n from empty = λ to default low.
-    ap (λ (o : OutboxView). o.items) (get_or_default xs to default (empty_outbox set n from to) low) ∙ empty to
+empty_all xs family n from empty = λ to default low.
+    ap (λ (o : OutboxView). o.items) (get_or_default xs to default (empty_outbox family n from to) low) ∙ empty to
 
 -- ---- a batch cut
 
@@ -158,75 +158,75 @@ cut_there to size batch old new cut low is new_is = record {
 }
 
 -- what is left has the same values, and so has what is cut
-cut_to : (set : PieceSet) (n from to size : ℕ) (batch : BatchView) (old new : OutboxView) → IsCut old size batch new → IsOutboxTo set n from to old →
-    IsOutboxTo set n from to new
-cut_to set n from to size batch old new cut is = record {
+cut_to : (family : Family) (n from to size : ℕ) (batch : BatchView) (old new : OutboxView) → IsCut old size batch new → IsOutboxTo family n from to old →
+    IsOutboxTo family n from to new
+cut_to family n from to size batch old new cut is = record {
   of = (cut.same_link.0 ∙ is.of.0, cut.same_link.1 ∙ is.of.1, cut.same_link.2 ∙ is.of.2, cut.same_link.3 ∙ is.of.3);
   entries = subst (λ xs. All HasEntries xs) (sym cut.left) (All-drop HasEntries size old.items is.entries);
 }
 
-pub cut_entries : (set : PieceSet) (n from to size : ℕ) (batch : BatchView) (old new : OutboxView) → IsCut old size batch new → IsOutboxTo set n from to old →
+pub cut_entries : (family : Family) (n from to size : ℕ) (batch : BatchView) (old new : OutboxView) → IsCut old size batch new → IsOutboxTo family n from to old →
     All HasEntries batch.items
-cut_entries set n from to size batch old new cut is = subst (λ xs. All HasEntries xs) (sym cut.items) (All-take HasEntries size old.items is.entries)
+cut_entries family n from to size batch old new cut is = subst (λ xs. All HasEntries xs) (sym cut.items) (All-take HasEntries size old.items is.entries)
 
 -- the batch is of the same link
-pub cut_of : (set : PieceSet) (n from to size : ℕ) (batch : BatchView) (old new : OutboxView) → IsCut old size batch new → IsOutboxTo set n from to old →
-    (batch.set ≡ set) × (batch.n ≡ n) × (batch.from ≡ from) × (batch.to ≡ to)
-cut_of set n from to size batch old new cut is = (
+pub cut_of : (family : Family) (n from to size : ℕ) (batch : BatchView) (old new : OutboxView) → IsCut old size batch new → IsOutboxTo family n from to old →
+    (batch.family ≡ family) × (batch.n ≡ n) × (batch.from ≡ from) × (batch.to ≡ to)
+cut_of family n from to size batch old new cut is = (
   cut.of_link.0 ∙ is.of.0,
   cut.of_link.1 ∙ is.of.1,
   cut.of_link.2 ∙ is.of.2,
   cut.of_link.3 ∙ is.of.3,
 )
 
-pub addressed_cut : (set : PieceSet) (n from to size : ℕ) (batch : BatchView) (old new : List OutboxView) → IsCutFrom to size batch old new →
-    ((k : ℕ) → IsOutboxTo set n from k (outbox_in set n from old k)) → (k : ℕ) → IsOutboxTo set n from k (outbox_in set n from new k)
-addressed_cut set n from to size batch old new cut all k = elim (cases_order k to) [
-  | inl same ↦ subst (λ (j : ℕ). IsOutboxTo set n from j (outbox_in set n from new j)) (sym same)
-      (cut_to set n from to size batch (outbox_in set n from old to) (outbox_in set n from new to) (cut.cut (empty_outbox set n from to)) (all to))
+pub addressed_cut : (family : Family) (n from to size : ℕ) (batch : BatchView) (old new : List OutboxView) → IsCutFrom to size batch old new →
+    ((k : ℕ) → IsOutboxTo family n from k (outbox_in family n from old k)) → (k : ℕ) → IsOutboxTo family n from k (outbox_in family n from new k)
+addressed_cut family n from to size batch old new cut all k = elim (cases_order k to) [
+  | inl same ↦ subst (λ (j : ℕ). IsOutboxTo family n from j (outbox_in family n from new j)) (sym same)
+      (cut_to family n from to size batch (outbox_in family n from old to) (outbox_in family n from new to) (cut.cut (empty_outbox family n from to)) (all to))
   | inr order ↦ other (λ same. elim order [ inl less ↦ omega arith | inr more ↦ omega arith ])
 ]
   where
-    other : k ≢ to → IsOutboxTo set n from k (outbox_in set n from new k)
-    other apart = subst (λ (o : OutboxView). IsOutboxTo set n from k o) (sym (cut.others k (empty_outbox set n from k) apart)) (all k)
+    other : k ≢ to → IsOutboxTo family n from k (outbox_in family n from new k)
+    other apart = subst (λ (o : OutboxView). IsOutboxTo family n from k o) (sym (cut.others k (empty_outbox family n from k) apart)) (all k)
 
 drop_none : (size : ℕ) (xs : List Item) → xs ≡ [] → drop size xs ≡ []
 drop_none size xs none = ap (λ (ys : List Item). drop size ys) none ∙ drop-nil size
 
-pub nothing_cut : (set : PieceSet) (n from own to size : ℕ) (batch : BatchView) (old new : List OutboxView) → IsCutFrom to size batch old new →
-    (outbox_in set n from old own).items ≡ [] → (outbox_in set n from new own).items ≡ []
-nothing_cut set n from own to size batch old new cut none = elim (cases_order own to) [
-  | inl same ↦ subst (λ (j : ℕ). (outbox_in set n from new j).items ≡ []) (sym same)
-      ((cut.cut (empty_outbox set n from to)).left ∙ drop_none size (outbox_in set n from old to).items
-      (subst (λ (j : ℕ). (outbox_in set n from old j).items ≡ []) same none))
-  | inr order ↦ ap (λ (o : OutboxView). o.items) (cut.others own (empty_outbox set n from own) (λ same. elim order [ inl less ↦ omega arith | inr more ↦ omega arith ])) ∙ none
+pub nothing_cut : (family : Family) (n from own to size : ℕ) (batch : BatchView) (old new : List OutboxView) → IsCutFrom to size batch old new →
+    (outbox_in family n from old own).items ≡ [] → (outbox_in family n from new own).items ≡ []
+nothing_cut family n from own to size batch old new cut none = elim (cases_order own to) [
+  | inl same ↦ subst (λ (j : ℕ). (outbox_in family n from new j).items ≡ []) (sym same)
+      ((cut.cut (empty_outbox family n from to)).left ∙ drop_none size (outbox_in family n from old to).items
+      (subst (λ (j : ℕ). (outbox_in family n from old j).items ≡ []) same none))
+  | inr order ↦ ap (λ (o : OutboxView). o.items) (cut.others own (empty_outbox family n from own) (λ same. elim order [ inl less ↦ omega arith | inr more ↦ omega arith ])) ∙ none
 ]
 
 -- ---- all of them
 
 -- an outbox for each of n nodes, and nothing in that for the node itself
-pub record AreReady (set : PieceSet) (n from : ℕ) (outboxes : List OutboxView) : Type 0 where
+pub record AreReady (family : Family) (n from : ℕ) (outboxes : List OutboxView) : Type 0 where
   pub receivers : length outboxes ≡ n
-  pub addressed : (to : ℕ) → IsOutboxTo set n from to (outbox_in set n from outboxes to)
-  pub nothing_to_self : (outbox_in set n from outboxes from).items ≡ []
+  pub addressed : (to : ℕ) → IsOutboxTo family n from to (outbox_in family n from outboxes to)
+  pub nothing_to_self : (outbox_in family n from outboxes from).items ≡ []
 
-pub ready_added : (set : PieceSet) (targets : List ℕ) (s : Settlement) (n from : ℕ) (old new : List OutboxView) → IsEntry s.was → IsEntry s.now →
-    AreAdded targets s (length old) from (length old) old new → AreReady set n from old → AreReady set n from new
-ready_added set targets s n from old new was now are ready = record {
+pub ready_added : (family : Family) (targets : List ℕ) (s : Settlement) (n from : ℕ) (old new : List OutboxView) → IsEntry s.was → IsEntry s.now →
+    AreAdded targets s (length old) from (length old) old new → AreReady family n from old → AreReady family n from new
+ready_added family targets s n from old new was now are ready = record {
   receivers = are.whole ∙ ready.receivers;
-  addressed = addressed_added set targets s n from old new was now (subst (λ (m : ℕ). AreAdded targets s m from m old new) ready.receivers are) ready.addressed;
-  nothing_to_self = ap (λ (o : OutboxView). o.items) (are.unsent (empty_outbox set n from from)) ∙ ready.nothing_to_self;
+  addressed = addressed_added family targets s n from old new was now (subst (λ (m : ℕ). AreAdded targets s m from m old new) ready.receivers are) ready.addressed;
+  nothing_to_self = ap (λ (o : OutboxView). o.items) (are.unsent (empty_outbox family n from from)) ∙ ready.nothing_to_self;
 }
 
 -- outboxes as they were
-pub ready_same : (set : PieceSet) (n from : ℕ) (old new : List OutboxView) → new ≡ old → AreReady set n from old → AreReady set n from new
-ready_same set n from old new same ready = subst (λ xs. AreReady set n from xs) (sym same) ready
+pub ready_same : (family : Family) (n from : ℕ) (old new : List OutboxView) → new ≡ old → AreReady family n from old → AreReady family n from new
+ready_same family n from old new same ready = subst (λ xs. AreReady family n from xs) (sym same) ready
 
-pub ready_cut : (set : PieceSet) (n from to size : ℕ) (given : Option BatchView) (old new : List OutboxView) →
-    IfSome given (λ batch. IsCutFrom to size batch old new) → (IsNone given → new ≡ old) → AreReady set n from old → AreReady set n from new
-ready_cut set n from to size None old new cut nothing ready = subst (λ xs. AreReady set n from xs) (sym (nothing refl)) ready
-ready_cut set n from to size (Some batch) old new cut nothing ready = record {
+pub ready_cut : (family : Family) (n from to size : ℕ) (given : Option BatchView) (old new : List OutboxView) →
+    IfSome given (λ batch. IsCutFrom to size batch old new) → (IsNone given → new ≡ old) → AreReady family n from old → AreReady family n from new
+ready_cut family n from to size None old new cut nothing ready = subst (λ xs. AreReady family n from xs) (sym (nothing refl)) ready
+ready_cut family n from to size (Some batch) old new cut nothing ready = record {
   receivers = cut.whole ∙ ready.receivers;
-  addressed = addressed_cut set n from to size batch old new cut ready.addressed;
-  nothing_to_self = nothing_cut set n from from to size batch old new cut ready.nothing_to_self;
+  addressed = addressed_cut family n from to size batch old new cut ready.addressed;
+  nothing_to_self = nothing_cut family n from from to size batch old new cut ready.nothing_to_self;
 }

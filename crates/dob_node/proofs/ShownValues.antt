@@ -1,12 +1,12 @@
 -- The value that a class of a lawful world shows, and lists of the values that all classes show.
 use Rattle.std.proofs.Common.{◌≡◌, ℕ, ◌<◌, sym, ap, ◌∙◌, subst, List, Some, get_or}
 use Rattle.std.proofs.lemmas.Option.{slice_get-get_or}
-use Rattle.dob_pieces.specs.declared.piece_set.PieceSet.{PieceSet}
+use Rattle.dob_pieces.specs.declared.profile.Family.{Family}
 use Rattle.dob_moves.specs.declared.position_status.Status.{Status}
 use Rattle.dob_moves.specs.declared.position_status.Status.TheVariants.{Caught, Tried, Stuck, Open}
 use Rattle.dob_moves.specs.Statuses.{HasStatus}
-use Rattle.dob_rank.specs.Marks.{classes_of}
-use Rattle.dob_rank.specs.ClassRows.{class_setup}
+use Rattle.dob_rank.specs.Families.{classes_of}
+use Rattle.dob_rank.specs.Families.{class_setup}
 use Rattle.dob_value.specs.declared.value.Value.{Value}
 use Rattle.dob_value.specs.declared.value.Value.TheVariants.{Draw}
 use Rattle.dob_value.specs.Follows.{AreGiven}
@@ -19,13 +19,13 @@ use Rattle.dob_node.specs.Lawful.{AreLawfulNodes}
 use Rattle.dob_node.proofs.ItemChanges.{one_value}
 
 -- where the cell is that of its class, the value of its status and cell is that of the class
-pub value_shown : (set : PieceSet) (n : ℕ) (histories : ℕ → List Settlement) (applied : ℕ → ℕ → List Item) (cell : ℕ → Cell) (value : ℕ → Value) →
-    AreLawfulNodes set n histories applied cell value → (class : ℕ) → class < classes_of set → (shown : Cell) → cell class ≡ shown →
-    (s : Status) (v : Value) → HasStatus (class_setup set class) s → IsValue s shown v → v ≡ value class
-value_shown set n histories applied cell value lawful class low shown same Caught v has is = is ∙ sym (lawful.over class Caught low has (λ open_is. cc))
-value_shown set n histories applied cell value lawful class low shown same Tried v has is = is ∙ sym (lawful.over class Tried low has (λ open_is. cc))
-value_shown set n histories applied cell value lawful class low shown same Stuck v has is = is ∙ sym (lawful.over class Stuck low has (λ open_is. cc))
-value_shown set n histories applied cell value lawful class low shown same Open v has is = one_value shown v (value class) is
+pub value_shown : (family : Family) (n : ℕ) (histories : ℕ → List Settlement) (applied : ℕ → ℕ → List Item) (cell : ℕ → Cell) (value : ℕ → Value) →
+    AreLawfulNodes family n histories applied cell value → (class : ℕ) → class < classes_of family → (shown : Cell) → cell class ≡ shown →
+    (s : Status) (v : Value) → HasStatus family.profile (class_setup family class) s → IsValue s shown v → v ≡ value class
+value_shown family n histories applied cell value lawful class low shown same Caught v has is = is ∙ sym (lawful.over class Caught low has (λ open_is. cc))
+value_shown family n histories applied cell value lawful class low shown same Tried v has is = is ∙ sym (lawful.over class Tried low has (λ open_is. cc))
+value_shown family n histories applied cell value lawful class low shown same Stuck v has is = is ∙ sym (lawful.over class Stuck low has (λ open_is. cc))
+value_shown family n histories applied cell value lawful class low shown same Open v has is = one_value shown v (value class) is
     (subst (λ c. CellValue c (value class)) same (lawful.cell_values class low has))
 
 -- values that are given for each class are those that each class has where no other is given

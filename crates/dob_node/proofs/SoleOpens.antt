@@ -4,14 +4,14 @@ use Rattle.std.proofs.Common.{arith, List, [], ◌++◌, length, take, get_or, R
 use Rattle.std.specs.List.{All}
 use Rattle.std.proofs.lemmas.Bool.{cases_order}
 use Rattle.std.proofs.lemmas.Option.{slice_get-get_or}
-use Rattle.dob_pieces.specs.declared.piece_set.PieceSet.{PieceSet}
+use Rattle.dob_pieces.specs.declared.profile.Family.{Family}
 use Rattle.dob_moves.specs.declared.position_status.Status.{Status}
 use Rattle.dob_moves.specs.declared.position_status.Status.TheVariants.{Stuck, Open}
 use Rattle.dob_moves.specs.MoveLists.{moves_of}
 use Rattle.dob_moves.specs.Statuses.{HasStatus}
 use Rattle.dob_moves.proofs.Cases.{one_status}
-use Rattle.dob_rank.specs.Marks.{classes_of}
-use Rattle.dob_rank.specs.ClassRows.{class_setup}
+use Rattle.dob_rank.specs.Families.{classes_of}
+use Rattle.dob_rank.specs.Families.{class_setup}
 use Rattle.dob_value.specs.declared.value.Value.TheVariants.{Draw}
 use Rattle.dob_value.specs.Follows.{IsEntry}
 use Rattle.dob_unmove.specs.Edges.{predecessors}
@@ -41,9 +41,9 @@ use Rattle.dob_node.proofs.Rises.{opened_first, fresh_within, falls_start}
 
 -- ---- what is listed
 
-pub listed_opening : (set : PieceSet) (openings : List Opening) (class : ℕ) → AreOpenings set openings → class < classes_of set →
-    IsOpening (class_setup set class) (opening_of openings class)
-listed_opening set openings class are low =
+pub listed_opening : (family : Family) (openings : List Opening) (class : ℕ) → AreOpenings family openings → class < classes_of family →
+    IsOpening family.profile (class_setup family class) (opening_of openings class)
+listed_opening family openings class are low =
     let none : Opening = record { status = Stuck; moves = 0 } in
     are.each class (get_or openings class none) (slice_get-get_or openings class none (subst (λ (n : ℕ). class < n) (sym are.whole) low))
 
@@ -62,10 +62,10 @@ value_opened status k p low =
 fresh_draw : (moves : ℕ) → CellValue (fresh moves) Draw
 fresh_draw moves = (refl, inr (λ plies. refl))
 
-module _ (set : PieceSet) (openings : List Opening) (node : Node) (are : AreOpenings set openings) (opened : IsOpened openings set 0 1 node)
+module _ (family : Family) (openings : List Opening) (node : Node) (are : AreOpenings family openings) (opened : IsOpened openings family 0 1 node)
     (sound : IsSound node) where
   abbrev pub classes : ℕ
-  classes = classes_of set
+  classes = classes_of family
 
   abbrev pub status : ℕ → Status
   status = status_in openings
@@ -76,11 +76,11 @@ module _ (set : PieceSet) (openings : List Opening) (node : Node) (are : AreOpen
   own : (class : ℕ) → class < classes → IsOwn node.share class
   own class low = (sound.kept.owned class).1 (
     subst (λ (m : ℕ). class % m ≡ node.id) (sym opened.of.2) (one_owner class ∙ sym opened.of.1),
-    subst (λ (st : PieceSet). class < classes_of st) (sym opened.of.0) low,
+    subst (λ (st : Family). class < classes_of st) (sym opened.of.0) low,
   )
 
-  is_opening : (class : ℕ) → class < classes → IsOpening (class_setup set class) (opening_of openings class)
-  is_opening class low = listed_opening set openings class are low
+  is_opening : (class : ℕ) → class < classes → IsOpening family.profile (class_setup family class) (opening_of openings class)
+  is_opening class low = listed_opening family openings class are low
 
   -- as many places as classes
   all_places : places_of node.share ≡ classes
@@ -102,13 +102,13 @@ module _ (set : PieceSet) (openings : List Opening) (node : Node) (are : AreOpen
   history_is : node.history.settlements ≡ h
   history_is = opened.history ∙ ap (λ k. opening_settlements status 1 0 k) all_places
 
-  cell_is : (p : ℕ) → p < classes → SameCell (cells_below classes node.share p) (fresh (length (moves_of (class_setup set p))))
-  cell_is p low = subst (λ c. SameCell c (fresh (length (moves_of (class_setup set p))))) (sym (cell_below classes node.share p low))
+  cell_is : (p : ℕ) → p < classes → SameCell (cells_below classes node.share p) (fresh (length (moves_of family.profile (class_setup family p))))
+  cell_is p low = subst (λ c. SameCell c (fresh (length (moves_of family.profile (class_setup family p))))) (sym (cell_below classes node.share p low))
       (subst (λ m. SameCell (cell_at node.share p) (fresh m)) (is_opening p low).moves (opened.cells p (own p low)))
 
-  value_is : (p : ℕ) (s : Status) → p < classes → HasStatus (class_setup set p) s → value_of h p ≡ or_else (opening_value s) Draw
+  value_is : (p : ℕ) (s : Status) → p < classes → HasStatus family.profile (class_setup family p) s → value_of h p ≡ or_else (opening_value s) Draw
   value_is p s low is = value_opened status classes p low
-      ∙ ap (λ st. or_else (opening_value st) Draw) (one_status (class_setup set p) (status p) s (is_opening p low).status is)
+      ∙ ap (λ st. or_else (opening_value st) Draw) (one_status family.profile (class_setup family p) (status p) s (is_opening p low).status is)
 
   none_applied : (i : ℕ) → sole_applied [] i 0 ≡ []
   none_applied zero = refl
@@ -122,27 +122,27 @@ module _ (set : PieceSet) (openings : List Opening) (node : Node) (are : AreOpen
   chained = at_zero (λ i xs. IsChained classes 1 i xs)
       (opened_chained 1 0 (omega arith) status classes classes (λ q less. let same : q * 1 + 0 ≡ q = sole_place q in omega arith))
 
-  falls : HaveFalls set 1 (sole_history h) (cells_below classes node.share)
-  falls = falls_start set 1 (sole_history h) (cells_below classes node.share) chained
+  falls : HaveFalls family 1 (sole_history h) (cells_below classes node.share)
+  falls = falls_start family 1 (sole_history h) (cells_below classes node.share) chained
       (at_zero (λ i xs. All (λ (s : Settlement). IsFirst s.now) xs) (opened_first status 1 0 classes))
-      (λ class low. fresh_within classes (length (moves_of (class_setup set class))) (cells_below classes node.share class) (cell_is class low))
+      (λ class low. fresh_within classes (length (moves_of family.profile (class_setup family class))) (cells_below classes node.share class) (cell_is class low))
 
-  lawful : AreLawfulNodes set 1 (sole_history h) (sole_applied []) (cells_below classes node.share) (value_of h)
+  lawful : AreLawfulNodes family 1 (sole_history h) (sole_applied []) (cells_below classes node.share) (value_of h)
   lawful = record {
     chained = chained;
     entries = at_zero (λ i xs. All (λ (s : Settlement). IsEntry s.now) xs) (opened_entries 1 0 (omega arith) status classes);
     begun = begun;
-    sums = λ p low is. SumsUp-same (known_of set 1 (sole_history h) (sole_applied []) p) (cells_below classes node.share p)
-        (fresh (length (moves_of (class_setup set p)))) (cell_is p low)
-        (start_sums set p low 1 (sole_history h) (λ i. sole_applied [] i (owner_of 1 p)) (λ i. subst (λ k. sole_applied [] i k ≡ []) (sym (one_owner p)) (none_applied i)));
+    sums = λ p low is. SumsUp-same (known_of family 1 (sole_history h) (sole_applied []) p) (cells_below classes node.share p)
+        (fresh (length (moves_of family.profile (class_setup family p)))) (cell_is p low)
+        (start_sums family p low 1 (sole_history h) (λ i. sole_applied [] i (owner_of 1 p)) (λ i. subst (λ k. sole_applied [] i k ≡ []) (sym (one_owner p)) (none_applied i)));
     cell_values = λ p low is. subst (λ v. CellValue (cells_below classes node.share p) v) (sym (value_is p Open low is))
-        (CellValue-same (cells_below classes node.share p) (fresh (length (moves_of (class_setup set p)))) Draw (cell_is p low) (fresh_draw (length (moves_of (class_setup set p)))));
+        (CellValue-same (cells_below classes node.share p) (fresh (length (moves_of family.profile (class_setup family p)))) Draw (cell_is p low) (fresh_draw (length (moves_of family.profile (class_setup family p)))));
     over = λ p s low is closed. subst (λ v. FollowsAtStatus s [] v) (sym (value_is p s low is)) (closed_follows s closed);
     values = λ p low. ap (λ k. value_of (sole_history h k) p) (sym (one_owner p));
   }
     where
-      begun : (i j : ℕ) → i < 1 → j < 1 → (rest : List Item) × (items_from (predecessors set) 1 j (sole_history h i) ≡ sole_applied [] i j ++ rest)
-      begun zero zero low_i low_j = (items_from (predecessors set) 1 0 h, refl)
+      begun : (i j : ℕ) → i < 1 → j < 1 → (rest : List Item) × (items_from (predecessors family) 1 j (sole_history h i) ≡ sole_applied [] i j ++ rest)
+      begun zero zero low_i low_j = (items_from (predecessors family) 1 0 h, refl)
       begun zero (suc j) low_i low_j = absurd (omega arith)
       begun (suc i) j low_i low_j = absurd (omega arith)
 
@@ -150,18 +150,18 @@ module _ (set : PieceSet) (openings : List Opening) (node : Node) (are : AreOpen
   sole_opened = record {
     sound = sound;
     alone = (opened.of.2, opened.of.1);
-    statuses = λ class low. subst (λ st. HasStatus (class_setup st class) (status_at node.share class)) (sym opened.of.0)
-        (at class (subst (λ (st : PieceSet). class < classes_of st) opened.of.0 low));
-    emitted = ap (λ k. sole_items node.set (take k node.history.settlements)) opened.nothing.0 ∙ sym opened.nothing.1;
+    statuses = λ class low. subst (λ st. HasStatus st.profile (class_setup st class) (status_at node.share class)) (sym opened.of.0)
+        (at class (subst (λ (st : Family). class < classes_of st) opened.of.0 low));
+    emitted = ap (λ k. sole_items node.family (take k node.history.settlements)) opened.nothing.0 ∙ sym opened.nothing.1;
     lawful = subst (λ st. AreLawfulNodes st 1 (sole_history node.history.settlements) (sole_applied []) (cells_below (classes_of st) node.share)
         (value_of node.history.settlements)) (sym opened.of.0)
-        (subst (λ xs. AreLawfulNodes set 1 (sole_history xs) (sole_applied []) (cells_below classes node.share) (value_of xs)) (sym history_is) lawful);
+        (subst (λ xs. AreLawfulNodes family 1 (sole_history xs) (sole_applied []) (cells_below classes node.share) (value_of xs)) (sym history_is) lawful);
     falls = subst (λ st. HaveFalls st 1 (sole_history node.history.settlements) (cells_below (classes_of st) node.share)) (sym opened.of.0)
-        (subst (λ xs. HaveFalls set 1 (sole_history xs) (cells_below classes node.share)) (sym history_is) falls);
+        (subst (λ xs. HaveFalls family 1 (sole_history xs) (cells_below classes node.share)) (sym history_is) falls);
   }
     where
-      at : (class : ℕ) → class < classes → HasStatus (class_setup set class) (status_at node.share class)
-      at class low = subst (λ s. HasStatus (class_setup set class) s) (sym (opened.statuses class (own class low))) (is_opening class low).status
+      at : (class : ℕ) → class < classes → HasStatus family.profile (class_setup family class) (status_at node.share class)
+      at class low = subst (λ s. HasStatus family.profile (class_setup family class) s) (sym (opened.statuses class (own class low))) (is_opening class low).status
 
   pub made_none : HasMade 0 node
   made_none = (
@@ -172,7 +172,7 @@ module _ (set : PieceSet) (openings : List Opening) (node : Node) (are : AreOpen
   )
 
 -- it is so of the node that an opening gives, where it gives one
-pub made_none_ok : {E : Type 0} (set : PieceSet) (openings : List Opening) (given : Result Node E) → AreOpenings set openings →
-    IfOk given (λ node. IsOpened openings set 0 1 node) → IfOk given (λ node. IsSound node) → IfOk given (λ node. HasMade 0 node)
-made_none_ok set openings (Ok node) are opened sound = made_none set openings node are opened sound
-made_none_ok set openings (Err why) are opened sound = tt
+pub made_none_ok : {E : Type 0} (family : Family) (openings : List Opening) (given : Result Node E) → AreOpenings family openings →
+    IfOk given (λ node. IsOpened openings family 0 1 node) → IfOk given (λ node. IsSound node) → IfOk given (λ node. HasMade 0 node)
+made_none_ok family openings (Ok node) are opened sound = made_none family openings node are opened sound
+made_none_ok family openings (Err why) are opened sound = tt

@@ -4,9 +4,9 @@ use Rattle.std.proofs.Math.ListN.{get_or-eq_default}
 use Rattle.std.proofs.lemmas.Bool.{cases_eq}
 use Rattle.dob_moves.specs.declared.position_status.Status.TheVariants.{Open}
 use Rattle.dob_moves.proofs.Cases.{one_status}
-use Rattle.dob_rank.specs.Marks.{classes_of}
-use Rattle.dob_rank.specs.ClassRows.{class_setup}
-use Rattle.dob_pieces.specs.declared.piece_set.PieceSet.{PieceSet}
+use Rattle.dob_rank.specs.Families.{classes_of}
+use Rattle.dob_rank.specs.Families.{class_setup}
+use Rattle.dob_pieces.specs.declared.profile.Family.{Family}
 use Rattle.dob_share.specs.declared.news.Settlement.{Settlement}
 use Rattle.dob_share.specs.declared.news.Item.{Item}
 use Rattle.dob_share.specs.Cells.{CanTake, changed}
@@ -35,15 +35,15 @@ module _ (node : Node) (steps : ℕ) (made : HasMade steps node) (item : Item) (
   abbrev pub h : List Settlement
   h = node.history.settlements
 
-  next : IsNextItem node.set 1 (sole_history h) (sole_applied made.0) 0 0 item
+  next : IsNextItem node.family 1 (sole_history h) (sole_applied made.0) 0 0 item
   next = (
-    behind ++ sole_items node.set (drop node.expanded h),
-    all_items node.set h node.expanded made.0 node.own.items made.1.emitted
-        ∙ ap (λ xs. made.0 ++ (xs ++ sole_items node.set (drop node.expanded h))) first,
+    behind ++ sole_items node.family (drop node.expanded h),
+    all_items node.family h node.expanded made.0 node.own.items made.1.emitted
+        ∙ ap (λ xs. made.0 ++ (xs ++ sole_items node.family (drop node.expanded h))) first,
   )
 
-  can : CanApply node.set 1 0 (cells_below (classes_of node.set) node.share) item
-  can = can_apply node.set 1 (sole_history h) (sole_applied made.0) (cells_below (classes_of node.set) node.share) (value_of h) (lit< tt) made.1.lawful 0 0 (lit< tt)
+  can : CanApply node.family 1 0 (cells_below (classes_of node.family) node.share) item
+  can = can_apply node.family 1 (sole_history h) (sole_applied made.0) (cells_below (classes_of node.family) node.share) (value_of h) (lit< tt) made.1.lawful 0 0 (lit< tt)
       (lit< tt) item next
 
   -- it fits
@@ -54,22 +54,22 @@ module _ (node : Node) (steps : ℕ) (made : HasMade steps node) (item : Item) (
       subst (λ (m : ℕ). item.to % m ≡ node.id) (sym made.1.alone.0) (one_owner item.to ∙ sym made.1.alone.1),
       can.below,
     ),
-    one_status (class_setup node.set item.to) (status_at node.share item.to) Open (made.1.statuses item.to can.below) can.is_open,
-    subst (λ c. CanTake item.was item.now c) (cell_below (classes_of node.set) node.share item.to can.below) can.takes,
+    one_status node.family.profile (class_setup node.family item.to) (status_at node.share item.to) Open (made.1.statuses item.to can.below) can.is_open,
+    subst (λ c. CanTake item.was item.now c) (cell_below (classes_of node.family) node.share item.to can.below) can.takes,
   )
 
   -- and for few classes it doesn't go too deep
-  pub next_not_deep : classes_of node.set < 65535 → GoesTooDeep node.share item → ⊥
+  pub next_not_deep : classes_of node.family < 65535 → GoesTooDeep node.share item → ⊥
   unfolding GoesTooDeep
-  next_not_deep few deep = not_too_deep node.set 1 (sole_history h) (sole_applied made.0) (cells_below (classes_of node.set) node.share) (value_of h) (lit< tt)
+  next_not_deep few deep = not_too_deep node.family 1 (sole_history h) (sole_applied made.0) (cells_below (classes_of node.family) node.share) (value_of h) (lit< tt)
       made.1.lawful made.1.falls 0 0 (lit< tt) (lit< tt) item next few
-      (subst (λ c. IsTooDeep (changed item.was item.now c)) (sym (cell_below (classes_of node.set) node.share item.to can.below)) deep)
+      (subst (λ c. IsTooDeep (changed item.was item.now c)) (sym (cell_below (classes_of node.family) node.share item.to can.below)) deep)
 
-pub never_too_deep : (set : PieceSet) (limit : ℕ) → classes_of set < 65535 → IsTooDeepWithin set limit → ⊥
-never_too_deep set limit few is = next_not_deep is.node is.steps is.made is.fault.item is.fault.behind is.fault.first
-    (subst (λ (st : PieceSet). classes_of st < 65535) (sym is.of) few) is.fault.reason.1
+pub never_too_deep : (family : Family) (limit : ℕ) → classes_of family < 65535 → IsTooDeepWithin family limit → ⊥
+never_too_deep family limit few is = next_not_deep is.node is.steps is.made is.fault.item is.fault.behind is.fault.first
+    (subst (λ (st : Family). classes_of st < 65535) (sym is.of) few) is.fault.reason.1
 
-pub stopped_sole : (node : Node) (steps limit : ℕ) (why : Cause) → HasMade steps node → steps < limit → HasItemFault node why → HasStoppedAlone node.set limit why
+pub stopped_sole : (node : Node) (steps limit : ℕ) (why : Cause) → HasMade steps node → steps < limit → HasItemFault node why → HasStoppedAlone node.family limit why
 stopped_sole node steps limit cause.TooDeep made low fault =
     record { node = node; of = refl; steps = steps; few = low; made = made; fault = fault }
 stopped_sole node steps limit (cause.Contradiction class) made low fault =
@@ -80,29 +80,21 @@ stopped_sole node steps limit cause.Counts made low fault = fault.reason
 
 -- ---- why there is no table
 
-pub fault_deep : (why : Cause) (given : Fault) (set : PieceSet) (limit : ℕ) → IsFaultOf why given → HasStoppedAlone set limit why → given ≡ fault.TooDeep →
-    IsTooDeepWithin set limit
-fault_deep cause.TooDeep given set limit is stopped same = stopped
-fault_deep (cause.Contradiction class) given set limit is stopped same = absurd stopped
-fault_deep cause.Memory given set limit is stopped same = absurd cc
-fault_deep cause.Held given set limit is stopped same = absurd stopped
-fault_deep cause.Counts given set limit is stopped same = absurd stopped
+pub fault_deep : (why : Cause) (given : Fault) (family : Family) (limit : ℕ) → IsFaultOf why given → HasStoppedAlone family limit why → given ≡ fault.TooDeep →
+    IsTooDeepWithin family limit
+fault_deep cause.TooDeep given family limit is stopped same = stopped
+fault_deep (cause.Contradiction class) given family limit is stopped same = absurd stopped
+fault_deep cause.Memory given family limit is stopped same = absurd cc
+fault_deep cause.Held given family limit is stopped same = absurd stopped
+fault_deep cause.Counts given family limit is stopped same = absurd stopped
 
-pub fault_fits : (why : Cause) (given : Fault) (set : PieceSet) (limit class : ℕ) → IsFaultOf why given → HasStoppedAlone set limit why →
+pub fault_fits : (why : Cause) (given : Fault) (family : Family) (limit class : ℕ) → IsFaultOf why given → HasStoppedAlone family limit why →
     given ≡ fault.Contradiction class → ⊥
-fault_fits cause.TooDeep given set limit class is stopped same = cc
-fault_fits (cause.Contradiction other) given set limit class is stopped same = stopped
-fault_fits cause.Memory given set limit class is stopped same = cc
-fault_fits cause.Held given set limit class is stopped same = stopped
-fault_fits cause.Counts given set limit class is stopped same = stopped
-
-pub fault_small : (why : Cause) (given : Fault) (set : PieceSet) (limit : ℕ) → IsFaultOf why given → HasStoppedAlone set limit why →
-    given ≡ fault.SetTooLarge → ⊥
-fault_small cause.TooDeep given set limit is stopped same = cc
-fault_small (cause.Contradiction other) given set limit is stopped same = stopped
-fault_small cause.Memory given set limit is stopped same = cc
-fault_small cause.Held given set limit is stopped same = stopped
-fault_small cause.Counts given set limit is stopped same = stopped
+fault_fits cause.TooDeep given family limit class is stopped same = cc
+fault_fits (cause.Contradiction other) given family limit class is stopped same = stopped
+fault_fits cause.Memory given family limit class is stopped same = cc
+fault_fits cause.Held given family limit class is stopped same = stopped
+fault_fits cause.Counts given family limit class is stopped same = stopped
 
 -- ---- nothing left to do
 
@@ -115,7 +107,7 @@ done_idle node steps made done = record {
     | inl self ↦ subst (λ (k : ℕ). (outbox_to node k).items ≡ []) (made.1.alone.1 ∙ sym self) made.1.sound.nothing_to_self
     | inr other ↦
         let one : length node.outboxes.items ≡ 1 = made.1.sound.receivers ∙ made.1.alone.0 in
-        ap (λ (o : OutboxView). o.items) (get_or-eq_default node.outboxes.items (empty_outbox node.set node.n node.id to) (omega arith))
+        ap (λ (o : OutboxView). o.items) (get_or-eq_default node.outboxes.items (empty_outbox node.family node.n node.id to) (omega arith))
   ];
 }
 

@@ -1,8 +1,8 @@
 -- The steps of one node that owns all classes.
 use Rattle.std.proofs.Common.{◌≡◌, ◌≢◌, ℕ, zero, suc, ◌%◌, ◌<◌, nat_lt, cond, refl, sym, ap, subst, arith, List, [], ◌∷◌, ◌++◌, lit<}
 use Rattle.std.proofs.lemmas.Bool.{lt-ltb, ltb-true}
-use Rattle.dob_pieces.specs.declared.piece_set.PieceSet.{PieceSet}
-use Rattle.dob_rank.specs.Marks.{classes_of}
+use Rattle.dob_pieces.specs.declared.profile.Family.{Family}
+use Rattle.dob_rank.specs.Families.{classes_of}
 use Rattle.dob_share.specs.declared.news.Settlement.{Settlement}
 use Rattle.dob_share.specs.declared.news.Item.{Item}
 use Rattle.dob_share.specs.declared.share.Share.{Share}
@@ -32,10 +32,10 @@ pub one_owner : (class : ℕ) → class % 1 ≡ 0
 one_owner class = let less : class % 1 < 1 = omega arith in omega arith
 
 -- An item applied by the one node, whose cells and history are these.
-module _ (set : PieceSet) (share after : Share) (history grown : HistoryView) (applied : List Item) (item : Item) (rest : List Item)
-    (kept : AreKept set 1 0 share history) (kept_after : AreKept set 1 0 after grown) (taken : IsTaken item share after history grown)
-    (lawful : AreLawfulNodes set 1 (sole_history history.settlements) (sole_applied applied) (cells_below (classes_of set) share) (value_of history.settlements))
-    (next : sole_items set history.settlements ≡ applied ++ item ∷ rest) where
+module _ (family : Family) (share after : Share) (history grown : HistoryView) (applied : List Item) (item : Item) (rest : List Item)
+    (kept : AreKept family 1 0 share history) (kept_after : AreKept family 1 0 after grown) (taken : IsTaken item share after history grown)
+    (lawful : AreLawfulNodes family 1 (sole_history history.settlements) (sole_applied applied) (cells_below (classes_of family) share) (value_of history.settlements))
+    (next : sole_items family history.settlements ≡ applied ++ item ∷ rest) where
   abbrev pub h : List Settlement
   h = history.settlements
 
@@ -45,17 +45,17 @@ module _ (set : PieceSet) (share after : Share) (history grown : HistoryView) (a
   there : IsOwn share item.to
   there = fits_own share item taken.fits
 
-  low : item.to < classes_of set
+  low : item.to < classes_of family
   low = ((kept.owned item.to).0 there).1
 
   there_after : IsOwn after item.to
   there_after = (kept_after.owned item.to).1 (one_owner item.to, low)
 
-  is_next : IsNextItem set 1 (sole_history h) (sole_applied applied) 0 0 item
+  is_next : IsNextItem family 1 (sole_history h) (sole_applied applied) 0 0 item
   is_next = (rest, next)
 
-  can : CanApply set 1 0 (cells_below (classes_of set) share) item
-  can = can_apply set 1 (sole_history h) (sole_applied applied) (cells_below (classes_of set) share) (value_of h) (lit< tt) lawful 0 0 (lit< tt) (lit< tt)
+  can : CanApply family 1 0 (cells_below (classes_of family) share) item
+  can = can_apply family 1 (sole_history h) (sole_applied applied) (cells_below (classes_of family) share) (value_of h) (lit< tt) lawful 0 0 (lit< tt) (lit< tt)
       item is_next
 
   is_applied : IsApplied 0 0 item (sole_applied applied) (sole_applied (applied ++ item ∷ []))
@@ -72,21 +72,21 @@ module _ (set : PieceSet) (share after : Share) (history grown : HistoryView) (a
 
   changes : Change item after h g
   changes = item_changes item share after history grown taken kept.counted
-      (subst (λ c. CellValue c (value_of h item.to)) (cell_below (classes_of set) share item.to low) (lawful.cell_values item.to low can.is_open))
+      (subst (λ c. CellValue c (value_of h item.to)) (cell_below (classes_of family) share item.to low) (lawful.cell_values item.to low can.is_open))
 
   same_history : (xs : List Settlement) → (k : ℕ) → k ≢ 0 → sole_history xs k ≡ sole_history h k
   same_history xs zero other = absurd (other refl)
   same_history xs (suc k) other = refl
 
-  cells_after : (p : ℕ) → p ≢ item.to → SameCell (cells_below (classes_of set) after p) (cells_below (classes_of set) share p)
-  cells_after p other = same_by (nat_lt p (classes_of set)) (cell_at after p) (cell_at share p) (fresh 0)
-      (λ is. taken.others p ((kept.owned p).1 (one_owner p, ltb-true p (classes_of set) is)) other)
+  cells_after : (p : ℕ) → p ≢ item.to → SameCell (cells_below (classes_of family) after p) (cells_below (classes_of family) share p)
+  cells_after p other = same_by (nat_lt p (classes_of family)) (cell_at after p) (cell_at share p) (fresh 0)
+      (λ is. taken.others p ((kept.owned p).1 (one_owner p, ltb-true p (classes_of family) is)) other)
 
-  are_after : AreAfter item (cells_below (classes_of set) share) (cells_below (classes_of set) after) (value_of h) (value_of g)
+  are_after : AreAfter item (cells_below (classes_of family) share) (cells_below (classes_of family) after) (value_of h) (value_of g)
   are_after = record {
-    cell_is = subst (λ c. SameCell c (changed item.was item.now (cells_below (classes_of set) share item.to))) (sym (cell_below (classes_of set) after item.to low))
-        (subst (λ c. SameCell (cell_at after item.to) (changed item.was item.now c)) (sym (cell_below (classes_of set) share item.to low)) taken.cell);
-    gives = subst (λ c. CellValue c (value_of g item.to)) (sym (cell_below (classes_of set) after item.to low)) changes.gives;
+    cell_is = subst (λ c. SameCell c (changed item.was item.now (cells_below (classes_of family) share item.to))) (sym (cell_below (classes_of family) after item.to low))
+        (subst (λ c. SameCell (cell_at after item.to) (changed item.was item.now c)) (sym (cell_below (classes_of family) share item.to low)) taken.cell);
+    gives = subst (λ c. CellValue c (value_of g item.to)) (sym (cell_below (classes_of family) after item.to low)) changes.gives;
     short = short_value (cell_at after item.to) (value_of g item.to) (short_own after item.to there_after) changes.gives;
     better = changes.better;
     others = λ p other. (cells_after p other, changes.others p other);
@@ -95,11 +95,11 @@ module _ (set : PieceSet) (share after : Share) (history grown : HistoryView) (a
   settled : AreSettled 0 item.to (value_of h item.to) (value_of g item.to) (sole_history h) (sole_history g)
   settled = record { same = changes.same; more = changes.more; others = same_history g }
 
-  pub still_lawful : AreLawfulNodes set 1 (sole_history g) (sole_applied (applied ++ item ∷ [])) (cells_below (classes_of set) after) (value_of g)
-  still_lawful = lawful_after set 1 (sole_history h) (sole_applied applied) (cells_below (classes_of set) share) (value_of h) (lit< tt) lawful 0 0
-      (lit< tt) (lit< tt) item is_next (sole_applied (applied ++ item ∷ [])) is_applied (cells_below (classes_of set) after) (value_of g) are_after
+  pub still_lawful : AreLawfulNodes family 1 (sole_history g) (sole_applied (applied ++ item ∷ [])) (cells_below (classes_of family) after) (value_of g)
+  still_lawful = lawful_after family 1 (sole_history h) (sole_applied applied) (cells_below (classes_of family) share) (value_of h) (lit< tt) lawful 0 0
+      (lit< tt) (lit< tt) item is_next (sole_applied (applied ++ item ∷ [])) is_applied (cells_below (classes_of family) after) (value_of g) are_after
       (sole_history g) settled
 
-  pub still_falls : HaveFalls set 1 (sole_history h) (cells_below (classes_of set) share) → HaveFalls set 1 (sole_history g) (cells_below (classes_of set) after)
-  still_falls have = falls_stay set 1 (sole_history h) (sole_applied applied) (cells_below (classes_of set) share) (value_of h) (lit< tt) lawful have 0 0
-      (lit< tt) (lit< tt) item is_next (cells_below (classes_of set) after) (value_of g) are_after (sole_history g) settled
+  pub still_falls : HaveFalls family 1 (sole_history h) (cells_below (classes_of family) share) → HaveFalls family 1 (sole_history g) (cells_below (classes_of family) after)
+  still_falls have = falls_stay family 1 (sole_history h) (sole_applied applied) (cells_below (classes_of family) share) (value_of h) (lit< tt) lawful have 0 0
+      (lit< tt) (lit< tt) item is_next (cells_below (classes_of family) after) (value_of g) are_after (sole_history g) settled

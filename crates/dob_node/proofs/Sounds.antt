@@ -6,27 +6,27 @@ use Rattle.std.proofs.lemmas.List.{length-append}
 use Rattle.std.proofs.lemmas.List.Elements.{All-append, All-nil, All-cons}
 use Rattle.std.proofs.lemmas.Nat.{mod-mul-add}
 use Rattle.std.proofs.lemmas.Option.{slice_get_within, get_or_from_slice_get}
-use Rattle.dob_pieces.specs.declared.piece_set.PieceSet.{PieceSet}
+use Rattle.dob_pieces.specs.declared.profile.Family.{Family}
 use Rattle.dob_share.specs.declared.news.Settlement.{Settlement}
 use Rattle.dob_share.specs.declared.news.Item.{Item}
 use Rattle.dob_share.specs.declared.share.Share.{Share}
 use Rattle.dob_share.specs.Owners.{owner_of}
 use Rattle.dob_value.specs.Follows.{IsEntry}
-use Rattle.dob_rank.specs.Marks.{classes_of}
+use Rattle.dob_rank.specs.Families.{classes_of}
 use Rattle.dob_update.specs.Items.{item_for}
 use Rattle.dob_node.specs.Stores.{HistoryView}
 use Rattle.dob_node.specs.TakenItems.{HasEntries, AreKept, IsTaken, listed}
 
 -- by the share's own numbers
-pub kept_own : (set : PieceSet) (n id : ℕ) (share : Share) (history : HistoryView) → AreKept set n id share history →
-    AreKept set share.n share.id share history
-kept_own set n id share history kept = subst (λ (m : ℕ). AreKept set m share.id share history) (sym kept.share_is.0)
-    (subst (λ (k : ℕ). AreKept set n k share history) (sym kept.share_is.1) kept)
+pub kept_own : (family : Family) (n id : ℕ) (share : Share) (history : HistoryView) → AreKept family n id share history →
+    AreKept family share.n share.id share history
+kept_own family n id share history kept = subst (λ (m : ℕ). AreKept family m share.id share history) (sym kept.share_is.0)
+    (subst (λ (k : ℕ). AreKept family n k share history) (sym kept.share_is.1) kept)
 
-pub kept_back : (set : PieceSet) (n id : ℕ) (share after : Share) (history grown : HistoryView) → AreKept set n id share history →
-    ((any : PieceSet) → AreKept any share.n share.id share history → AreKept any share.n share.id after grown) → AreKept set n id after grown
-kept_back set n id share after history grown kept still = subst (λ (m : ℕ). AreKept set m id after grown) kept.share_is.0
-    (subst (λ (k : ℕ). AreKept set share.n k after grown) kept.share_is.1 (still set (kept_own set n id share history kept)))
+pub kept_back : (family : Family) (n id : ℕ) (share after : Share) (history grown : HistoryView) → AreKept family n id share history →
+    ((any : Family) → AreKept any share.n share.id share history → AreKept any share.n share.id after grown) → AreKept family n id after grown
+kept_back family n id share after history grown kept still = subst (λ (m : ℕ). AreKept family m id after grown) kept.share_is.0
+    (subst (λ (k : ℕ). AreKept family share.n k after grown) kept.share_is.1 (still family (kept_own family n id share history kept)))
 
 -- what is expanded is less than a longer history
 pub emitted_still : (item : Item) (share after : Share) (history grown : HistoryView) (expanded : ℕ) → IsTaken item share after history grown →
@@ -49,11 +49,11 @@ next_emitted expanded all count emitted is other = elim (cases_order expanded co
   ]
 ]
 
--- a settlement of the history is of a class of the set
-pub class_low : (set : PieceSet) (n id : ℕ) (share : Share) (history : HistoryView) (number : ℕ) (s : Settlement) →
-    AreKept set n id share history → slice_get history.settlements number ≡ Some s → s.class < classes_of set
-class_low set n id share history number s kept there =
-    subst (λ (r : Settlement). r.class < classes_of set) (get_or_from_slice_get history.settlements number s s there)
+-- a settlement of the history is of a class of the family
+pub class_low : (family : Family) (n id : ℕ) (share : Share) (history : HistoryView) (number : ℕ) (s : Settlement) →
+    AreKept family n id share history → slice_get history.settlements number ≡ Some s → s.class < classes_of family
+class_low family n id share history number s kept there =
+    subst (λ (r : Settlement). r.class < classes_of family) (get_or_from_slice_get history.settlements number s s there)
     (kept.classes number s (slice_get_within history.settlements number s there))
 
 -- the items of a settlement have its values

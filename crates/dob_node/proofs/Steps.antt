@@ -3,15 +3,15 @@ use Rattle.std.proofs.Common.{◌≡◌, ◌≢◌, ℕ, ◌<◌, ◌⊎◌, inl
 use Rattle.std.specs.List.{All}
 use Rattle.std.proofs.lemmas.Bool.{eqb-true, eq-eqb, ne_eqb, cases_eq}
 use Rattle.std.proofs.lemmas.List.Elements.{All-contains, All-nil, All-cons, All-append}
-use Rattle.dob_pieces.specs.declared.piece_set.PieceSet.{PieceSet}
+use Rattle.dob_pieces.specs.declared.profile.Family.{Family}
 use Rattle.dob_pieces.specs.declared.setup.Setup.{Setup}
 use Rattle.dob_moves.specs.declared.position_status.Status.TheVariants.{Open}
 use Rattle.dob_moves.specs.Statuses.{HasStatus}
-use Rattle.dob_rank.specs.Order.{RepresentsIn}
-use Rattle.dob_rank.specs.Marks.{classes_of}
-use Rattle.dob_rank.specs.ClassRows.{class_setup}
-use Rattle.dob_rank.proofs.Marks.{HasClasses-classes_of}
-use Rattle.dob_rank.proofs.Representatives.{class_setup_is}
+use Rattle.dob_rank.specs.Families.{RepresentsClass}
+use Rattle.dob_rank.specs.Families.{classes_of}
+use Rattle.dob_rank.specs.Families.{class_setup}
+use Rattle.dob_rank.proofs.Present.{HasClasses-classes_of}
+use Rattle.dob_rank.proofs.FamilyRepresentatives.{class_setup_is}
 use Rattle.dob_value.specs.declared.value.Value.{Value}
 use Rattle.dob_value.specs.Follows.{IsEntry}
 use Rattle.dob_unmove.specs.Edges.{predecessors}
@@ -39,28 +39,28 @@ use Rattle.dob_node.proofs.ValuesFollow.{value_follows, SumsUp-same}
 
 -- ---- a class that has a copy is open
 
-open_class : (set : PieceSet) (p q : ℕ) → q < classes_of set → 0 < copies (predecessors set) p q →
-    (p < classes_of set) × HasStatus (class_setup set p) Open
-open_class set p q below above =
-    let rep : RepresentsIn set (class_setup set q) q = class_setup_is set q (classes_of set) (HasClasses-classes_of set) below in
-    let are = ArePredecessors-predecessors set (class_setup set q) q rep in
-    let there = counted (λ to. eqb to p) (predecessors set q) above in
+open_class : (family : Family) (p q : ℕ) → q < classes_of family → 0 < copies (predecessors family) p q →
+    (p < classes_of family) × HasStatus family.profile (class_setup family p) Open
+open_class family p q below above =
+    let rep : RepresentsClass family (class_setup family q) q = class_setup_is family q (classes_of family) (HasClasses-classes_of family) below in
+    let are = ArePredecessors-predecessors family (class_setup family q) q rep in
+    let there = counted (λ to. eqb to p) (predecessors family q) above in
     let same : there.0 ≡ p = eqb-true there.0 p there.2 in
-    let known = All-contains (λ (class : ℕ). (s : Setup) × RepresentsIn set s class) (predecessors set q) there.0 are.counts.known there.1 in
-    let low : p < classes_of set = subst (λ k. k < classes_of set) same (representative_below set known.0 there.0 known.1) in
-    let represents : RepresentsIn set (class_setup set p) p = class_setup_is set p (classes_of set) (HasClasses-classes_of set) low in
-    let edge = are.counts.edges (class_setup set p) p represents in
-    let move = some_of edge.moves (copies (predecessors set) p q) edge.counted above in
+    let known = All-contains (λ (class : ℕ). (s : Setup) × RepresentsClass family s class) (predecessors family q) there.0 are.counts.known there.1 in
+    let low : p < classes_of family = subst (λ k. k < classes_of family) same (representative_below family known.0 there.0 known.1) in
+    let represents : RepresentsClass family (class_setup family p) p = class_setup_is family p (classes_of family) (HasClasses-classes_of family) low in
+    let edge = are.counts.edges (class_setup family p) p represents in
+    let move = some_of edge.moves (copies (predecessors family) p q) edge.counted above in
     (low, (edge.sound move.0 move.1).0)
 
-module _ (set : PieceSet) (n : ℕ) (histories : ℕ → List Settlement) (applied : ℕ → ℕ → List Item) (cell : ℕ → Cell) (value : ℕ → Value)
-    (some : 0 < n) (lawful : AreLawfulNodes set n histories applied cell value) (i j : ℕ) (low_i : i < n) (low_j : j < n) (item : Item)
-    (is_next : IsNextItem set n histories applied i j item) where
+module _ (family : Family) (n : ℕ) (histories : ℕ → List Settlement) (applied : ℕ → ℕ → List Item) (cell : ℕ → Cell) (value : ℕ → Value)
+    (some : 0 < n) (lawful : AreLawfulNodes family n histories applied cell value) (i j : ℕ) (low_i : i < n) (low_j : j < n) (item : Item)
+    (is_next : IsNextItem family n histories applied i j item) where
   abbrev targets : ℕ → List ℕ
-  targets = predecessors set
+  targets = predecessors family
 
   abbrev classes : ℕ
-  classes = classes_of set
+  classes = classes_of family
 
   -- what node j has applied from each node
   abbrev items : ℕ → List Item
@@ -93,16 +93,16 @@ module _ (set : PieceSet) (n : ℕ) (histories : ℕ → List Settlement) (appli
   else_one : (k : ℕ) → k ≢ i → one_more k ≡ items k
   else_one k other = ap (λ b. cond b (items k ++ item ∷ []) (items k)) (ne_eqb k i other)
 
-  there_is : (item.to < classes) × HasStatus (class_setup set item.to) Open
+  there_is : (item.to < classes) × HasStatus family.profile (class_setup family item.to) Open
   there_is =
       let copy = has_copy targets classes n histories items one_more i j item (lawful.chained i low_i) made grown_one else_one in
-      open_class set item.to made.s.class next_is.below (omega arith)
+      open_class family item.to made.s.class next_is.below (omega arith)
 
-  known_here : (after : ℕ → ℕ → List Item) → known_of set n histories after item.to ≡ all_known targets classes n histories (λ k. after k j) item.to
+  known_here : (after : ℕ → ℕ → List Item) → known_of family n histories after item.to ≡ all_known targets classes n histories (λ k. after k j) item.to
   known_here after = ap (λ m. all_known targets classes n histories (λ k. after k m) item.to) from.own
 
   -- the next item fits
-  pub can_apply : CanApply set n j cell item
+  pub can_apply : CanApply family n j cell item
   can_apply = record {
     below = there_is.0;
     own = from.own;
@@ -114,14 +114,14 @@ module _ (set : PieceSet) (n : ℕ) (histories : ℕ → List Settlement) (appli
 
   module _ (after : ℕ → ℕ → List Item) (is_applied : IsApplied i j item applied after) where
     -- the class of the item learns what it says
-    pub learns_here : Changes (known_of set n histories applied item.to) (known_of set n histories after item.to) item.was item.now
+    pub learns_here : Changes (known_of family n histories applied item.to) (known_of family n histories after item.to) item.was item.now
     learns_here =
-        subst (λ known. Changes (known_of set n histories applied item.to) known item.was item.now) (sym (known_here after))
+        subst (λ known. Changes (known_of family n histories applied item.to) known item.was item.now) (sym (known_here after))
         (subst (λ known. Changes known (all_known targets classes n histories (λ k. after k j) item.to) item.was item.now) (sym (known_here applied))
         (class_learns (λ k. after k j) is_applied.one_more is_applied.same_sender))
 
     -- no other class learns anything
-    pub still : (p : ℕ) → p ≢ item.to → known_of set n histories after p ≡ known_of set n histories applied p
+    pub still : (p : ℕ) → p ≢ item.to → known_of family n histories after p ≡ known_of family n histories applied p
     still p other = elim (cases_eq (owner_of n p) j) [
       | inl own ↦
           ap (λ m. all_known targets classes n histories (λ k. after k m) p) own
@@ -137,16 +137,16 @@ module _ (set : PieceSet) (n : ℕ) (histories : ℕ → List Settlement) (appli
       (settled : AreSettled j item.to (value item.to) (worth item.to) histories grown) where
     -- ---- with the item, before its settlement
 
-    known_now : (p : ℕ) → p < classes → HasStatus (class_setup set p) Open → SumsUp (known_of set n histories after p) (cells p)
+    known_now : (p : ℕ) → p < classes → HasStatus family.profile (class_setup family p) Open → SumsUp (known_of family n histories after p) (cells p)
     known_now p low is_open = elim (cases_eq p item.to) [
-      | inl same ↦ subst (λ k. SumsUp (known_of set n histories after k) (cells k)) (sym same) here
-      | inr other ↦ SumsUp-same (known_of set n histories after p) (cells p) (cell p) (are_after.others p other).0
+      | inl same ↦ subst (λ k. SumsUp (known_of family n histories after k) (cells k)) (sym same) here
+      | inr other ↦ SumsUp-same (known_of family n histories after p) (cells p) (cell p) (are_after.others p other).0
           (subst (λ known. SumsUp known (cell p)) (sym (still after is_applied p other)) (lawful.sums p low is_open))
     ]
       where
-        here : SumsUp (known_of set n histories after item.to) (cells item.to)
-        here = SumsUp-same (known_of set n histories after item.to) (cells item.to) (changed item.was item.now (cell item.to)) are_after.cell_is
-            (sums_up_after (known_of set n histories applied item.to) (known_of set n histories after item.to) item.was item.now (cell item.to)
+        here : SumsUp (known_of family n histories after item.to) (cells item.to)
+        here = SumsUp-same (known_of family n histories after item.to) (cells item.to) (changed item.was item.now (cell item.to)) are_after.cell_is
+            (sums_up_after (known_of family n histories applied item.to) (known_of family n histories after item.to) item.was item.now (cell item.to)
             better (learns_here after is_applied) (lawful.sums item.to there_is.0 there_is.1))
 
     begun_now : (k m : ℕ) → k < n → m < n → (rest : List Item) × (items_from targets n m (histories k) ≡ after k m ++ rest)
@@ -186,11 +186,11 @@ module _ (set : PieceSet) (n : ℕ) (histories : ℕ → List Settlement) (appli
 
     news_entry : IsEntry (worth to)
     news_entry =
-        let known = known_of set n histories after to in
+        let known = known_of family n histories after to in
         follows_entry known (worth to)
         (known_entries targets classes n histories (λ k. after k (owner_of n to)) to some lawful.entries)
         (value_follows known (cells to) (worth to) (known_now to there_is.0 there_is.1)
-        (some_known set to there_is.0 n histories (λ k. after k (owner_of n to)) there_is.1) are_after.gives)
+        (some_known family to there_is.0 n histories (λ k. after k (owner_of n to)) there_is.1) are_after.gives)
         are_after.short
 
     -- the histories are the same, or one has the settlement
@@ -223,7 +223,7 @@ module _ (set : PieceSet) (n : ℕ) (histories : ℕ → List Settlement) (appli
       ]
     ]
 
-    known_same : (p : ℕ) → known_of set n grown after p ≡ known_of set n histories after p
+    known_same : (p : ℕ) → known_of family n grown after p ≡ known_of family n histories after p
     known_same p = elim which [
       | inl kept ↦ all_known-same targets classes n histories grown (λ k. after k (owner_of n p)) (λ k. after k (owner_of n p)) p kept.0 (λ k. refl)
       | inr settles ↦ known_still targets classes n histories grown (λ k. after k (owner_of n p)) j (owner_of n p) news
@@ -254,7 +254,7 @@ module _ (set : PieceSet) (n : ℕ) (histories : ℕ → List Settlement) (appli
             (owner_of n p) (below_owner n p some)
 
     -- the nodes are lawful again
-    pub lawful_after : AreLawfulNodes set n grown after cells worth
+    pub lawful_after : AreLawfulNodes family n grown after cells worth
     lawful_after = record {
       chained = for_each (λ k h. IsChained classes n k h) lawful.chained
           (λ settles. chained_more classes n j (histories j) news (lawful.chained j low_j) (news_next settles.1));
@@ -278,8 +278,8 @@ module _ (set : PieceSet) (n : ℕ) (histories : ℕ → List Settlement) (appli
             (CellValue-same (cells p) (cell p) (value p) (are_after.others p other).0 (lawful.cell_values p low is_open))
       ];
       over = λ p status low is closed. subst (λ v. FollowsAtStatus status [] v)
-          (sym (are_after.others p (λ same. closed (one_status (class_setup set p) status Open is
-          (subst (λ k. HasStatus (class_setup set k) Open) (sym same) there_is.1)))).1)
+          (sym (are_after.others p (λ same. closed (one_status family.profile (class_setup family p) status Open is
+          (subst (λ k. HasStatus family.profile (class_setup family k) Open) (sym same) there_is.1)))).1)
           (lawful.over p status low is closed);
       values = value_now;
     }

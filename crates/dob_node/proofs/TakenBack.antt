@@ -2,7 +2,7 @@
 use Rattle.std.proofs.Common.{◌≡◌, ◌≢◌, ℕ, ◌+◌, ◌<◌, ◌≤◌, inl, inr, refl, sym, ap, ◌∙◌, subst, arith, List, length, get_or, set}
 use Rattle.std.proofs.lemmas.Bool.{cases_order, cases_lt}
 use Rattle.std.proofs.lemmas.List.{length-set, get_or-set_same, get_or-set_other, get_or_default, same_lists}
-use Rattle.dob_pieces.specs.declared.piece_set.PieceSet.{PieceSet}
+use Rattle.dob_pieces.specs.declared.profile.Family.{Family}
 use Rattle.dob_unmove.specs.Edges.{predecessors}
 use Rattle.dob_share.specs.declared.news.Settlement.{Settlement}
 use Rattle.dob_update.specs.Items.{items_of}
@@ -14,10 +14,10 @@ use Rattle.dob_node.proofs.Sends.{asked_of}
 pub one_more_each : (targets : List ℕ) (settlement : Settlement) (n from k : ℕ) (old mid new : List OutboxView) → n ≡ length old →
     AreAdded targets settlement n from k old mid → new ≡ mid →
     (let many = length old in
-    (set : PieceSet) × (targets ≡ predecessors set settlement.class) × ((to : ℕ) → IsOutboxTo set many from to (outbox_in set many from old to))) →
+    (family : Family) × (targets ≡ predecessors family settlement.class) × ((to : ℕ) → IsOutboxTo family many from to (outbox_in family many from old to))) →
     HaveOneMore targets from k old new
 one_more_each targets settlement n from k old mid new count so_far same of = record {
-  set = of.0;
+  family = of.0;
   settlement = settlement;
   targets_are = of.1;
   addressed = of.2;
@@ -48,8 +48,8 @@ module _ (targets : List ℕ) (from upto : ℕ) (before outboxes : List OutboxVi
       record {
         settlement = more.settlement;
         items = made;
-        items_are = asked_of targets more.settlement n from k more.set (get_or before k default) made
-            (subst (λ (o : OutboxView). IsOutboxTo more.set n from k o) (get_or_default before k (empty_outbox more.set n from k) default within) (more.addressed k))
+        items_are = asked_of targets more.settlement n from k more.family (get_or before k default) made
+            (subst (λ (o : OutboxView). IsOutboxTo more.family n from k o) (get_or_default before k (empty_outbox more.family n from k) default within) (more.addressed k))
             more.targets_are refl;
         many = sym count_is;
         outbox_is = so_far.later k default (omega arith) ∙ more.are_added.sent k default low other;
@@ -72,7 +72,7 @@ module _ (targets : List ℕ) (from upto : ℕ) (before outboxes : List OutboxVi
   }
     where
       any : OutboxView
-      any = empty_outbox more.set 0 0 0
+      any = empty_outbox more.family 0 0 0
 
       elsewhere : (to : ℕ) (default : OutboxView) → to ≢ k → get_or new to default ≡ get_or now to default
       elsewhere to default apart = ap (λ xs. get_or xs to default) (is default) ∙ get_or-set_other now k to (get_or before k default) default apart

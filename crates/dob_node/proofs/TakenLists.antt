@@ -6,7 +6,7 @@ use Rattle.std.proofs.Math.Seq.{take-suc, drop-cons}
 use Rattle.std.proofs.lemmas.List.{take-append-drop, length-take-le}
 use Rattle.dob_share.specs.declared.news.Item.{Item}
 use Rattle.dob_share.specs.declared.share.Share.{Share}
-use Rattle.dob_pieces.specs.declared.piece_set.PieceSet.{PieceSet}
+use Rattle.dob_pieces.specs.declared.profile.Family.{Family}
 use Rattle.dob_node.specs.declared.cause.Cause.{Cause}
 use Rattle.dob_node.specs.declared.cause.Cause.TheVariants as cause
 use Rattle.dob_node.specs.declared.node.Node.{Node}
@@ -124,9 +124,9 @@ emitted_all (item ∷ items) share after history grown expanded taken emitted =
 -- ---- a batch
 
 -- what is kept stays so with other room
-pub kept_with_room : (set : PieceSet) (n id : ℕ) (share : Share) (history mid : HistoryView) → IsHistory history mid → AreKept set n id share history →
-    AreKept set n id share mid
-kept_with_room set n id share history mid same kept = subst (λ (h : HistoryView). AreKept set n id share h) (sym same) (record {
+pub kept_with_room : (family : Family) (n id : ℕ) (share : Share) (history mid : HistoryView) → IsHistory history mid → AreKept family n id share history →
+    AreKept family n id share mid
+kept_with_room family n id share history mid same kept = subst (λ (h : HistoryView). AreKept family n id share h) (sym same) (record {
   share_is = kept.share_is;
   history_is = kept.history_is;
   one_of_n = kept.one_of_n;
@@ -186,8 +186,3 @@ before_since items old mid new why same before = record {
   taken = taken_since before.front old mid new same before.taken;
   reason = before.reason;
 }
-
-pub stops_since : (items : List Item) (old mid : Node) (why : Cause) → IsUnchanged old mid → StopsAt items mid.share mid.history why →
-    StopsAt items old.share old.history why
-stops_since items old mid why same stops = stops_with_room items old.share old.history mid.history why same.kept.1
-    (subst (λ (s : Share). StopsAt items s mid.history why) same.kept.0 stops)

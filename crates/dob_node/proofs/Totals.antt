@@ -6,7 +6,7 @@ use Rattle.std.proofs.lemmas.Bool.{eq-eqb, ne_eqb, cases_eq, le-ltb, and_right, 
 use Rattle.std.proofs.lemmas.List.{length-append}
 use Rattle.std.proofs.lemmas.List.Elements.{All-head, All-tail, All-contains_itself, Contains-append_right}
 use Rattle.std.proofs.lemmas.List.Sums.{sum_by-cons}
-use Rattle.dob_pieces.specs.declared.piece_set.PieceSet.{PieceSet}
+use Rattle.dob_pieces.specs.declared.profile.Family.{Family}
 use Rattle.dob_pieces.specs.declared.setup.Setup.{Setup}
 use Rattle.dob_pieces.specs.Lists.{each_below}
 use Rattle.dob_pieces.specs.Setups.{turned}
@@ -18,19 +18,19 @@ use Rattle.dob_moves.specs.MoveLists.{moves_of}
 use Rattle.dob_moves.specs.Outcomes.{moved}
 use Rattle.dob_moves.specs.Statuses.{HasStatus}
 use Rattle.dob_moves.proofs.MoveLists.{AreMoves-moves_of}
-use Rattle.dob_moves.proofs.Outcomes.{Goes-moved}
-use Rattle.dob_rank.specs.Order.{RepresentsIn}
+use Rattle.dob_moves.proofs.ProfileMoves.{Goes-moved}
+use Rattle.dob_rank.specs.Families.{RepresentsClass}
 use Rattle.dob_rank.specs.Numbers.{sum_below}
-use Rattle.dob_rank.specs.Marks.{classes_of, class_number}
-use Rattle.dob_rank.specs.ClassRows.{class_setup}
+use Rattle.dob_rank.specs.Families.{classes_of, class_number}
+use Rattle.dob_rank.specs.Families.{class_setup}
 use Rattle.dob_rank.proofs.Sums.{sum_same}
-use Rattle.dob_rank.proofs.Marks.{HasClasses-classes_of}
-use Rattle.dob_rank.proofs.ClassNumbers.{class_number-below}
-use Rattle.dob_rank.proofs.Representatives.{class_setup_is}
+use Rattle.dob_rank.proofs.Present.{HasClasses-classes_of}
+use Rattle.dob_rank.proofs.FamilyNumbers.{class_number-below}
+use Rattle.dob_rank.proofs.FamilyRepresentatives.{class_setup_is}
 use Rattle.dob_value.specs.declared.value.Value.{Value}
 use Rattle.dob_value.specs.declared.value.Value.TheVariants.{Loss, Draw}
 use Rattle.dob_value.specs.Entries.{is_draw}
-use Rattle.dob_value.proofs.Successors.{moves_keep_the_set}
+use Rattle.dob_value.proofs.Successors.{moves_keep_the_family}
 use Rattle.dob_value.proofs.Consistency.{not_draw_loss}
 use Rattle.dob_unmove.specs.Edges.{edges, predecessors}
 use Rattle.dob_unmove.proofs.Edges.{times-predecessors}
@@ -95,47 +95,47 @@ length-row f (suc n) =
     length-append (each_below (λ (k : ℕ). f k ∷ []) n) (f n ∷ []) in
     omega arith
 
-module _ (set : PieceSet) (p : ℕ) (low : p < classes_of set) where
+module _ (family : Family) (p : ℕ) (low : p < classes_of family) where
   abbrev setup : Setup
-  setup = class_setup set p
+  setup = class_setup family p
 
-  represents : RepresentsIn set setup p
-  represents = class_setup_is set p (classes_of set) (HasClasses-classes_of set) low
+  represents : RepresentsClass family setup p
+  represents = class_setup_is family p (classes_of family) (HasClasses-classes_of family) low
 
-  lead_within : All (λ (m : Move). class_number set (turned (moved setup m)) < classes_of set) (moves_of setup)
+  lead_within : All (λ (m : Move). class_number family (turned (moved setup m)) < classes_of family) (moves_of family.profile setup)
   lead_within = λ k d below.
-      let are = AreMoves-moves_of setup represents.0.0.legal.squares in
-      let is = are.sound _ (All-contains_itself (moves_of setup) k d below) in
-      class_number-below set _ (moves_keep_the_set set setup _ _ represents.0.0 is.0 (Goes-moved setup _ is.1))
+      let are = AreMoves-moves_of family.profile setup represents.0.0.of_set.legal.squares in
+      let is = are.sound _ (All-contains_itself (moves_of family.profile setup) k d below) in
+      class_number-below family _ (moves_keep_the_family family setup _ _ represents.0.0 is.0 (Goes-moved family.profile setup _ is.1))
 
-  edges-all : sum_below (λ q. edges set p q) (classes_of set) ≡ length (moves_of setup)
+  edges-all : sum_below (λ q. edges family p q) (classes_of family) ≡ length (moves_of family.profile setup)
   unfolding edges
-  edges-all = in_all_places (λ (m : Move). class_number set (turned (moved setup m))) (classes_of set) (moves_of setup) lead_within
+  edges-all = in_all_places (λ (m : Move). class_number family (turned (moved setup m))) (classes_of family) (moves_of family.profile setup) lead_within
 
-  copies-edges : (q : ℕ) → q < classes_of set → copies (predecessors set) p q ≡ edges set p q
+  copies-edges : (q : ℕ) → q < classes_of family → copies (predecessors family) p q ≡ edges family p q
   copies-edges q below =
-      times-predecessors set (class_setup set q) q (class_setup_is set q (classes_of set) (HasClasses-classes_of set) below) p low
+      times-predecessors family (class_setup family q) q (class_setup_is family q (classes_of family) (HasClasses-classes_of family) below) p low
 
   -- there is a copy for each move
   pub length-all_known : (n : ℕ) (histories : ℕ → List Settlement) (applied : ℕ → List Item) →
-      length (all_known (predecessors set) (classes_of set) n histories applied p) ≡ length (moves_of setup)
+      length (all_known (predecessors family) (classes_of family) n histories applied p) ≡ length (moves_of family.profile setup)
   unfolding all_known
   length-all_known n histories applied =
       let row : ℕ → List Value =
-      λ q. each_below (λ (copy : ℕ). known (histories (owner_of n q)) (applied (owner_of n q)) p q copy ∷ []) (copies (predecessors set) p q) in
-      length-each row (classes_of set)
-      ∙ sum_same (λ q. length (row q)) (λ q. edges set p q) (classes_of set)
-      (λ q below. length-row (λ copy. known (histories (owner_of n q)) (applied (owner_of n q)) p q copy) (copies (predecessors set) p q)
+      λ q. each_below (λ (copy : ℕ). known (histories (owner_of n q)) (applied (owner_of n q)) p q copy ∷ []) (copies (predecessors family) p q) in
+      length-each row (classes_of family)
+      ∙ sum_same (λ q. length (row q)) (λ q. edges family p q) (classes_of family)
+      (λ q below. length-row (λ copy. known (histories (owner_of n q)) (applied (owner_of n q)) p q copy) (copies (predecessors family) p q)
       ∙ copies-edges q below)
       ∙ edges-all
 
   -- an open class has a copy at least
-  pub some_known : (n : ℕ) (histories : ℕ → List Settlement) (applied : ℕ → List Item) → HasStatus setup Open →
-      0 < length (all_known (predecessors set) (classes_of set) n histories applied p)
+  pub some_known : (n : ℕ) (histories : ℕ → List Settlement) (applied : ℕ → List Item) → HasStatus family.profile setup Open →
+      0 < length (all_known (predecessors family) (classes_of family) n histories applied p)
   some_known n histories applied is_open =
-      let are = AreMoves-moves_of setup represents.0.0.legal.squares in
+      let are = AreMoves-moves_of family.profile setup represents.0.0.of_set.legal.squares in
       let there = are.whole is_open.2.0 is_open is_open.2.1 in
-      let below : there.0 < length (moves_of setup) = there.1 in
+      let below : there.0 < length (moves_of family.profile setup) = there.1 in
       let whole = length-all_known n histories applied in
       omega arith
 
@@ -177,15 +177,15 @@ no_wins xs plies (suc count) draws is =
     absurd (false≢true (drawn ∙ found.2))
 
 -- a cell with all moves left sums up what is known before anything is applied
-pub start_sums : (set : PieceSet) (p : ℕ) → p < classes_of set → (n : ℕ) (histories : ℕ → List Settlement) (applied : ℕ → List Item) →
+pub start_sums : (family : Family) (p : ℕ) → p < classes_of family → (n : ℕ) (histories : ℕ → List Settlement) (applied : ℕ → List Item) →
     ((i : ℕ) → applied i ≡ []) →
-    SumsUp (all_known (predecessors set) (classes_of set) n histories applied p)
-    (record { left = length (moves_of (class_setup set p)); wins = λ _. 0; least = None })
-start_sums set p low n histories applied none =
-    let known_list = all_known (predecessors set) (classes_of set) n histories applied p in
-    let draws = all_draws (predecessors set) (classes_of set) n histories applied p none in
+    SumsUp (all_known (predecessors family) (classes_of family) n histories applied p)
+    (record { left = length (moves_of family.profile (class_setup family p)); wins = λ _. 0; least = None })
+start_sums family p low n histories applied none =
+    let known_list = all_known (predecessors family) (classes_of family) n histories applied p in
+    let draws = all_draws (predecessors family) (classes_of family) n histories applied p none in
     record {
-      left = sym (count_draws known_list draws ∙ length-all_known set p low n histories applied);
+      left = sym (count_draws known_list draws ∙ length-all_known family p low n histories applied);
       wins = λ plies. no_wins known_list plies (count_by (λ v. is_win_in plies v) known_list) draws refl;
       least = λ plies there. not_draw_loss plies (sym (draws (Loss plies) there));
     }

@@ -2,16 +2,13 @@
 use Rattle.std.specs.Prelude.{◌≡◌, List, ◌++◌, ℕ, codes}
 use Rattle.std.specs.Fmt.{decimal}
 use Rattle.dob_pieces.specs.Faults.{memory_text}
-use Rattle.dob_rank.specs.Faults as rank_texts
 use Rattle.dob_share.specs.Faults as share_texts
-use Rattle.dob_rank.specs.declared.fault.Fault.{Fault as RankFault}
-use Rattle.dob_rank.specs.declared.fault.Fault.TheVariants as rank
 use Rattle.dob_share.specs.declared.fault.Fault.{Fault as ShareFault}
 use Rattle.dob_share.specs.declared.fault.Fault.TheVariants as share
 use Rattle.dob_node.specs.declared.cause.Cause.{Cause}
 use Rattle.dob_node.specs.declared.cause.Cause.TheVariants as cause
 use Rattle.dob_node.specs.declared.cause.Fault.{Fault}
-use Rattle.dob_node.specs.declared.cause.Fault.TheVariants.{SetTooLarge, TooDeep, Contradiction, Memory}
+use Rattle.dob_node.specs.declared.cause.Fault.TheVariants.{TooDeep, Contradiction, Memory}
 
 -- the cause's number, where it has one, and its name
 abbrev pub cause_text : Cause → List ℕ
@@ -27,7 +24,6 @@ stopped_text node why = codes "E14 Stopped node " ++ decimal node ++ codes ": " 
 
 -- the fault's number and name
 abbrev pub fault_text : Fault → List ℕ
-fault_text SetTooLarge = rank_texts.fault_text rank.SetTooLarge
 fault_text TooDeep = share_texts.fault_text share.TooDeep
 fault_text (Contradiction class) = share_texts.fault_text (share.Contradiction class)
 fault_text Memory = memory_text
@@ -44,8 +40,3 @@ IsFaultOf (cause.Contradiction class) fault = fault ≡ Contradiction class
 IsFaultOf cause.Memory fault = fault ≡ Memory
 IsFaultOf cause.Held fault = ⊥
 IsFaultOf cause.Counts fault = ⊥
-
--- a fault of the classes, as why there is no table
-abbrev pub fault_of_rank : RankFault → Fault
-fault_of_rank rank.SetTooLarge = SetTooLarge
-fault_of_rank rank.Memory = Memory

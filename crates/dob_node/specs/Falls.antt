@@ -2,8 +2,8 @@
 -- of classes.
 use Rattle.std.specs.Prelude.{◌≡◌, ◌≢◌, ℕ, ◌+◌, ◌<◌, ◌≤◌, List, [], ◌∷◌, Contains, Some}
 use Rattle.std.specs.List.{All, AllPairs}
-use Rattle.dob_pieces.specs.declared.piece_set.PieceSet.{PieceSet}
-use Rattle.dob_rank.specs.Marks.{classes_of}
+use Rattle.dob_pieces.specs.declared.profile.Family.{Family}
+use Rattle.dob_rank.specs.Families.{classes_of}
 use Rattle.dob_value.specs.declared.value.Value.{Value}
 use Rattle.dob_value.specs.declared.value.Value.TheVariants.{Win, Loss, Draw}
 use Rattle.dob_value.specs.Bounds.{plies_of}
@@ -44,7 +44,7 @@ pub record IsCellWithin (bound : ℕ) (cell : Cell) : Type 0 where
   pub least : (plies : ℕ) → cell.least ≡ Some plies → plies ≤ bound
 
 -- Each settlement stands first in a fall, and no distance in a history or in a class's cell is above the number of classes.
-pub record HaveFalls (set : PieceSet) (n : ℕ) (histories : ℕ → List Settlement) (cell : ℕ → Cell) : Type 0 where
+pub record HaveFalls (family : Family) (n : ℕ) (histories : ℕ → List Settlement) (cell : ℕ → Cell) : Type 0 where
   pub each : (s : Settlement) → IsSettlement n histories s → (others : List Settlement) × IsFall n histories s others
-  pub settled : (s : Settlement) → IsSettlement n histories s → plies_of s.now ≤ classes_of set
-  pub cells : (class : ℕ) → class < classes_of set → IsCellWithin (classes_of set) (cell class)
+  pub settled : (s : Settlement) → IsSettlement n histories s → plies_of s.now ≤ classes_of family
+  pub cells : (class : ℕ) → class < classes_of family → IsCellWithin (classes_of family) (cell class)

@@ -1,7 +1,7 @@
 -- A node as it is opened, and what its steps make of it.
 use Rattle.std.specs.Prelude.{◌≡◌, ◌≢◌, ℕ, ◌+◌, ◌*◌, ◌<◌, ◌≤◌, ◌↔◌, List, [], ◌∷◌, ◌++◌, length, slice_get, None, Some}
 use Rattle.std.specs.List.{All}
-use Rattle.dob_pieces.specs.declared.piece_set.PieceSet.{PieceSet}
+use Rattle.dob_pieces.specs.declared.profile.Family.{Family}
 use Rattle.dob_value.specs.declared.value.Value.{Value}
 use Rattle.dob_unmove.specs.Edges.{predecessors}
 use Rattle.dob_share.specs.declared.news.Settlement.{Settlement}
@@ -22,29 +22,29 @@ use Rattle.dob_node.specs.Outboxes.{outbox_in, IsOutboxTo}
 
 -- what the node has still to send to another
 abbrev pub outbox_to : Node → ℕ → OutboxView
-outbox_to node to = outbox_in node.set node.n node.id node.outboxes.items to
+outbox_to node to = outbox_in node.family node.n node.id node.outboxes.items to
 
 -- The node keeps its cells and its history; it has expanded only what the history has; it has an outbox for each node,
 -- and nothing in the one for itself; and the items that it has to apply and to send have such values as a table can
 -- have.
 pub record IsSound (node : Node) : Type 0 where
-  pub kept : AreKept node.set node.n node.id node.share node.history
+  pub kept : AreKept node.family node.n node.id node.share node.history
   pub emitted : node.expanded ≤ length node.history.settlements
   pub entries : All HasEntries node.own.items
   pub receivers : length node.outboxes.items ≡ node.n
-  pub addressed : (to : ℕ) → IsOutboxTo node.set node.n node.id to (outbox_to node to)
+  pub addressed : (to : ℕ) → IsOutboxTo node.family node.n node.id to (outbox_to node to)
   pub nothing_to_self : (outbox_to node node.id).items ≡ []
 
 -- The node is that of owner `id` among n, hasn't failed, and has made no step: its history is that of the opening, nothing is known of
 -- the moves of its classes, and it has nothing to send.
-pub record IsOpened (openings : List Opening) (set : PieceSet) (id n : ℕ) (node : Node) : Type 0 where
-  pub of : (node.set ≡ set) × (node.id ≡ id) × (node.n ≡ n)
+pub record IsOpened (openings : List Opening) (family : Family) (id n : ℕ) (node : Node) : Type 0 where
+  pub of : (node.family ≡ family) × (node.id ≡ id) × (node.n ≡ n)
   pub history : node.history.settlements ≡ opening_settlements (status_in openings) n id (places_of node.share)
   pub places : (place : ℕ) → (place < places_of node.share) ↔ (place * n + id < length openings)
   pub statuses : (class : ℕ) → IsOwn node.share class → status_at node.share class ≡ status_in openings class
   pub cells : (class : ℕ) → IsOwn node.share class → SameCell (cell_at node.share class) (fresh (opening_of openings class).moves)
   pub nothing : (node.expanded ≡ 0) × (node.own.items ≡ [])
-  pub outboxes : (to : ℕ) → outbox_to node to ≡ empty_outbox set n id to
+  pub outboxes : (to : ℕ) → outbox_to node to ≡ empty_outbox family n id to
   pub going : node.failed ≡ None
 
 -- The first settlement that wasn't expanded is: its items for the node itself are the last that it has to apply, and
@@ -52,19 +52,19 @@ pub record IsOpened (openings : List Opening) (set : PieceSet) (id n : ℕ) (nod
 pub record IsExpanded (old new : Node) : Type 0 where
   pub settlement : Settlement
   pub first : slice_get old.history.settlements old.expanded ≡ Some settlement
-  pub own : new.own.items ≡ old.own.items ++ items_of (predecessors old.set) old.n old.id settlement
+  pub own : new.own.items ≡ old.own.items ++ items_of (predecessors old.family) old.n old.id settlement
   pub sent : (to : ℕ) → to < old.n → to ≢ old.id →
-      outbox_to new to ≡ added (outbox_to old to) settlement (items_of (predecessors old.set) old.n to settlement)
+      outbox_to new to ≡ added (outbox_to old to) settlement (items_of (predecessors old.family) old.n to settlement)
   pub unsent : outbox_to new old.id ≡ outbox_to old old.id
   pub expanded : new.expanded ≡ old.expanded + 1
-  pub same : (new.set ≡ old.set) × (new.id ≡ old.id) × (new.n ≡ old.n) × (new.share ≡ old.share) × (new.history ≡ old.history)
+  pub same : (new.family ≡ old.family) × (new.id ≡ old.id) × (new.n ≡ old.n) × (new.share ≡ old.share) × (new.history ≡ old.history)
 
 -- The first of the own items is applied.
 pub record HasApplied (old new : Node) : Type 0 where
   pub item : Item
   pub first : old.own.items ≡ item ∷ new.own.items
   pub taken : IsTaken item old.share new.share old.history new.history
-  pub same : (new.set ≡ old.set) × (new.id ≡ old.id) × (new.n ≡ old.n) × (new.expanded ≡ old.expanded)
+  pub same : (new.family ≡ old.family) × (new.id ≡ old.id) × (new.n ≡ old.n) × (new.expanded ≡ old.expanded)
   pub outboxes : new.outboxes.items ≡ old.outboxes.items
 
 -- the first of the own items can't be applied
@@ -77,7 +77,7 @@ pub record HasItemFault (node : Node) (why : Cause) : Type 0 where
 -- The items are applied, in order.
 pub record HasTaken (items : List Item) (old new : Node) : Type 0 where
   pub taken : AreTaken items old.share new.share old.history new.history
-  pub same : (new.set ≡ old.set) × (new.id ≡ old.id) × (new.n ≡ old.n) × (new.expanded ≡ old.expanded)
+  pub same : (new.family ≡ old.family) × (new.id ≡ old.id) × (new.n ≡ old.n) × (new.expanded ≡ old.expanded)
   pub own : new.own.items ≡ old.own.items
   pub outboxes : new.outboxes.items ≡ old.outboxes.items
 
@@ -93,16 +93,16 @@ pub record HasTakenBefore (items : List Item) (old new : Node) (why : Cause) : T
 
 -- The batch, which is from the node to that other one, is cut from the outbox for it.
 pub record HasCut (to size : ℕ) (batch : BatchView) (old new : Node) : Type 0 where
-  pub of : (batch.set ≡ old.set) × (batch.n ≡ old.n) × (batch.from ≡ old.id) × (batch.to ≡ to)
+  pub of : (batch.family ≡ old.family) × (batch.n ≡ old.n) × (batch.from ≡ old.id) × (batch.to ≡ to)
   pub cut : IsCut (outbox_to old to) size batch (outbox_to new to)
   pub entries : All HasEntries batch.items
   pub others : (other : ℕ) → other ≢ to → outbox_to new other ≡ outbox_to old other
-  pub same : (new.set ≡ old.set) × (new.id ≡ old.id) × (new.n ≡ old.n) × (new.expanded ≡ old.expanded)
+  pub same : (new.family ≡ old.family) × (new.id ≡ old.id) × (new.n ≡ old.n) × (new.expanded ≡ old.expanded)
   pub kept : (new.share ≡ old.share) × (new.history ≡ old.history) × (new.own.items ≡ old.own.items)
 
 -- The node is as it was, but for the room that its history has.
 pub record IsUnchanged (old new : Node) : Type 0 where
-  pub same : (new.set ≡ old.set) × (new.id ≡ old.id) × (new.n ≡ old.n) × (new.expanded ≡ old.expanded)
+  pub same : (new.family ≡ old.family) × (new.id ≡ old.id) × (new.n ≡ old.n) × (new.expanded ≡ old.expanded)
   pub kept : (new.share ≡ old.share) × IsHistory old.history new.history × (new.own.items ≡ old.own.items)
   pub outboxes : new.outboxes.items ≡ old.outboxes.items
 

@@ -1,7 +1,7 @@
 -- The outboxes of a node, one for each node.
 use Rattle.std.specs.Prelude.{◌≡◌, ◌≢◌, ℕ, ◌<◌, ◌≤◌, List, length, slice_index_or}
 use Rattle.std.specs.List.{All}
-use Rattle.dob_pieces.specs.declared.piece_set.PieceSet.{PieceSet}
+use Rattle.dob_pieces.specs.declared.profile.Family.{Family}
 use Rattle.dob_unmove.specs.Edges.{predecessors}
 use Rattle.dob_share.specs.declared.news.Settlement.{Settlement}
 use Rattle.dob_update.specs.Items.{items_of}
@@ -9,12 +9,12 @@ use Rattle.dob_update.specs.Batches.{BatchView, OutboxView, empty_outbox, added,
 use Rattle.dob_node.specs.TakenItems.{HasEntries}
 
 -- the outbox for a node, among those of one of n nodes
-abbrev pub outbox_in : PieceSet → ℕ → ℕ → List OutboxView → ℕ → OutboxView
-outbox_in set n from outboxes to = slice_index_or outboxes to (empty_outbox set n from to)
+abbrev pub outbox_in : Family → ℕ → ℕ → List OutboxView → ℕ → OutboxView
+outbox_in family n from outboxes to = slice_index_or outboxes to (empty_outbox family n from to)
 
 -- an outbox from one of n nodes to another, with items that have such values as a table can have
-pub record IsOutboxTo (set : PieceSet) (n from to : ℕ) (outbox : OutboxView) : Type 0 where
-  pub of : (outbox.set ≡ set) × (outbox.n ≡ n) × (outbox.from ≡ from) × (outbox.to ≡ to)
+pub record IsOutboxTo (family : Family) (n from to : ℕ) (outbox : OutboxView) : Type 0 where
+  pub of : (outbox.family ≡ family) × (outbox.n ≡ n) × (outbox.from ≡ from) × (outbox.to ≡ to)
   pub entries : All HasEntries outbox.items
 
 -- Of the outboxes for the nodes below a number, each but one has the settlement more, with its items for that node,
@@ -28,10 +28,10 @@ pub record AreAdded (targets : List ℕ) (settlement : Settlement) (n from upto 
 
 -- The outboxes are those before with a settlement more, as above, where these were outboxes from one node to each.
 pub record HaveOneMore (targets : List ℕ) (from upto : ℕ) (before outboxes : List OutboxView) : Type 0 where
-  pub set : PieceSet
+  pub family : Family
   pub settlement : Settlement
-  pub targets_are : targets ≡ predecessors set settlement.class
-  pub addressed : (to : ℕ) → IsOutboxTo set (length before) from to (outbox_in set (length before) from before to)
+  pub targets_are : targets ≡ predecessors family settlement.class
+  pub addressed : (to : ℕ) → IsOutboxTo family (length before) from to (outbox_in family (length before) from before to)
   pub are_added : AreAdded targets settlement (length before) from upto before outboxes
 
 -- The batch is cut from the outbox for that node; the others are the same.

@@ -1,15 +1,15 @@
 -- Nodes that have nothing left to do, and what they hold.
 use Rattle.std.specs.Prelude.{◌≡◌, ℕ, ◌+◌, ◌<◌, ◌≤◌, List, length, Some, All, Contains, slice_get, take}
-use Rattle.dob_pieces.specs.declared.piece_set.PieceSet.{PieceSet}
+use Rattle.dob_pieces.specs.declared.profile.Family.{Family}
 use Rattle.dob_pieces.specs.declared.setup.Setup.{Setup}
 use Rattle.dob_moves.specs.declared.position_status.Status.{Status}
 use Rattle.dob_moves.specs.declared.position_status.Status.TheVariants.{Caught, Tried, Stuck, Open}
 use Rattle.dob_moves.specs.Statuses.{HasStatus}
-use Rattle.dob_rank.specs.Marks.{classes_of}
+use Rattle.dob_rank.specs.Families.{classes_of}
 use Rattle.dob_value.specs.declared.value.Value.{Value}
 use Rattle.dob_value.specs.declared.value.Value.TheVariants.{Win, Loss, Draw}
 use Rattle.dob_value.specs.Follows.{IsEntry, IsValueTable}
-use Rattle.dob_unmove.specs.Classes.{RepresentsIn}
+use Rattle.dob_unmove.specs.Classes.{RepresentsClass}
 use Rattle.dob_unmove.specs.Edges.{predecessors}
 use Rattle.dob_share.specs.declared.news.Settlement.{Settlement}
 use Rattle.dob_share.specs.declared.news.Item.{Item}
@@ -40,23 +40,23 @@ FollowsAtStatus Open known v = FollowsFromKnown known v
 -- Nothing is left to do: each history is wholly expanded, all items of the settlements expanded are sent (those for
 -- the node itself, those for the others), all that was sent is applied, and each class has the value that follows from
 -- what the copies of its moves know.
-pub record IsQuiet (set : PieceSet) (targets : ℕ → List ℕ) (n : ℕ) (histories : ℕ → List Settlement) (expanded : ℕ → ℕ)
+pub record IsQuiet (family : Family) (targets : ℕ → List ℕ) (n : ℕ) (histories : ℕ → List Settlement) (expanded : ℕ → ℕ)
     (sent applied : ℕ → ℕ → List Item) : Type 0 where
   pub nothing_to_expand : (i : ℕ) → i < n → expanded i ≡ length (histories i)
   pub nothing_to_send : (i j : ℕ) → i < n → j < n → sent i j ≡ items_from targets n j (take (expanded i) (histories i))
   pub nothing_waits : (i j : ℕ) → i < n → j < n → applied i j ≡ sent i j
-  pub values : (p : Setup) (class : ℕ) → RepresentsIn set p class → (status : Status) × HasStatus p status
-      × FollowsAtStatus status (all_known targets (classes_of set) n histories (λ i. applied i (owner_of n class)) class)
+  pub values : (p : Setup) (class : ℕ) → RepresentsClass family p class → (status : Status) × HasStatus family.profile p status
+      × FollowsAtStatus status (all_known targets (classes_of family) n histories (λ i. applied i (owner_of n class)) class)
       (value_of (histories (owner_of n class)) class)
 
 -- the values of the classes, in order, by the histories of their owners
-pub record AreGathered (set : PieceSet) (n : ℕ) (histories : ℕ → List Settlement) (values : List Value) : Type 0 where
-  pub whole : length values ≡ classes_of set
+pub record AreGathered (family : Family) (n : ℕ) (histories : ℕ → List Settlement) (values : List Value) : Type 0 where
+  pub whole : length values ≡ classes_of family
   pub entries : All IsEntry values
-  pub each : (class : ℕ) → class < classes_of set → slice_get values class ≡ Some (value_of (histories (owner_of n class)) class)
+  pub each : (class : ℕ) → class < classes_of family → slice_get values class ≡ Some (value_of (histories (owner_of n class)) class)
 
 -- quiet nodes hold the value table
 abbrev pub QuietIsRight : Type 0
-QuietIsRight = (set : PieceSet) (n : ℕ) (histories : ℕ → List Settlement) (expanded : ℕ → ℕ) (sent applied : ℕ → ℕ → List Item)
-    (values : List Value) → 0 < n → IsQuiet set (predecessors set) n histories expanded sent applied →
-    AreGathered set n histories values → IsValueTable set values
+QuietIsRight = (family : Family) (n : ℕ) (histories : ℕ → List Settlement) (expanded : ℕ → ℕ) (sent applied : ℕ → ℕ → List Item)
+    (values : List Value) → 0 < n → IsQuiet family (predecessors family) n histories expanded sent applied →
+    AreGathered family n histories values → IsValueTable family values

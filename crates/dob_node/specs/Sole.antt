@@ -1,9 +1,9 @@
 -- One node that owns all classes, and its way to the value table.
 use Rattle.std.specs.Prelude.{◌≡◌, ℕ, zero, suc, ◌+◌, ◌<◌, ◌≤◌, ◌⊎◌, nat_lt, cond, List, [], ◌++◌, length, take}
-use Rattle.dob_pieces.specs.declared.piece_set.PieceSet.{PieceSet}
+use Rattle.dob_pieces.specs.declared.profile.Family.{Family}
 use Rattle.dob_moves.specs.Statuses.{HasStatus}
-use Rattle.dob_rank.specs.Marks.{classes_of}
-use Rattle.dob_rank.specs.ClassRows.{class_setup}
+use Rattle.dob_rank.specs.Families.{classes_of}
+use Rattle.dob_rank.specs.Families.{class_setup}
 use Rattle.dob_unmove.specs.Edges.{predecessors}
 use Rattle.dob_share.specs.declared.news.Settlement.{Settlement}
 use Rattle.dob_share.specs.declared.news.Item.{Item}
@@ -33,8 +33,8 @@ sole_applied applied zero (suc _) = []
 sole_applied applied (suc _) _ = []
 
 -- the items that a history makes, all of which are for the one node
-abbrev pub sole_items : PieceSet → List Settlement → List Item
-sole_items set history = items_from (predecessors set) 1 0 history
+abbrev pub sole_items : Family → List Settlement → List Item
+sole_items family history = items_from (predecessors family) 1 0 history
 
 -- the cells of the classes below a number
 abbrev pub cells_below : ℕ → Share → ℕ → Cell
@@ -45,44 +45,44 @@ cells_below classes share class = cond (nat_lt class classes) (cell_at share cla
 pub record IsSole (node : Node) (applied : List Item) : Type 0 where
   pub sound : IsSound node
   pub alone : (node.n ≡ 1) × (node.id ≡ 0)
-  pub statuses : (class : ℕ) → class < classes_of node.set → HasStatus (class_setup node.set class) (status_at node.share class)
-  pub emitted : sole_items node.set (take node.expanded node.history.settlements) ≡ applied ++ node.own.items
-  pub lawful : AreLawfulNodes node.set 1 (sole_history node.history.settlements) (sole_applied applied)
-      (cells_below (classes_of node.set) node.share) (value_of node.history.settlements)
-  pub falls : HaveFalls node.set 1 (sole_history node.history.settlements) (cells_below (classes_of node.set) node.share)
+  pub statuses : (class : ℕ) → class < classes_of node.family → HasStatus node.family.profile (class_setup node.family class) (status_at node.share class)
+  pub emitted : sole_items node.family (take node.expanded node.history.settlements) ≡ applied ++ node.own.items
+  pub lawful : AreLawfulNodes node.family 1 (sole_history node.history.settlements) (sole_applied applied)
+      (cells_below (classes_of node.family) node.share) (value_of node.history.settlements)
+  pub falls : HaveFalls node.family 1 (sole_history node.history.settlements) (cells_below (classes_of node.family) node.share)
 
 -- the one node as it is opened, before its first step
-abbrev pub IsBegun : PieceSet → Node → Type 0
-IsBegun set node = (openings : List Opening) × AreOpenings set openings × IsOpened openings set 0 1 node × IsSound node
+abbrev pub IsBegun : Family → Node → Type 0
+IsBegun family node = (openings : List Opening) × AreOpenings family openings × IsOpened openings family 0 1 node × IsSound node
 
 -- a step of the one node: it applies the first of its own items, or where it has none expands its next settlement
 abbrev pub IsSoleStep : Node → Node → Type 0
 IsSoleStep old new = HasApplied old new ⊎ ((old.own.items ≡ []) × IsExpanded old new)
 
 -- the one node has come from its beginning by that many steps
-abbrev pub HasCome : PieceSet → ℕ → Node → Type 0
-HasCome set zero node = IsBegun set node
-HasCome set (suc steps) node = (before : Node) × HasCome set steps before × IsSoleStep before node
+abbrev pub HasCome : Family → ℕ → Node → Type 0
+HasCome family zero node = IsBegun family node
+HasCome family (suc steps) node = (before : Node) × HasCome family steps before × IsSoleStep before node
 
 -- the one node has made that many steps, and is as said above
 abbrev pub HasMade : ℕ → Node → Type 0
-HasMade steps node = (applied : List Item) × IsSole node applied × (node.expanded + length applied ≡ steps) × HasCome node.set steps node
+HasMade steps node = (applied : List Item) × IsSole node applied × (node.expanded + length applied ≡ steps) × HasCome node.family steps node
 
 -- the node has nothing to expand or to apply
 abbrev pub IsDone : Node → Type 0
 IsDone node = (node.expanded ≡ length node.history.settlements) × (node.own.items ≡ [])
 
 -- The one node has something left to do after that many steps.
-pub record IsUnderWay (set : PieceSet) (steps : ℕ) : Type 0 where
+pub record IsUnderWay (family : Family) (steps : ℕ) : Type 0 where
   pub node : Node
-  pub of : node.set ≡ set
+  pub of : node.family ≡ family
   pub made : HasMade steps node
   pub left : IsDone node → ⊥
 
 -- The one node has nothing left to do after at most that many steps.
-pub record IsDoneWithin (set : PieceSet) (limit : ℕ) : Type 0 where
+pub record IsDoneWithin (family : Family) (limit : ℕ) : Type 0 where
   pub node : Node
-  pub of : node.set ≡ set
+  pub of : node.family ≡ family
   pub steps : ℕ
   pub few : steps ≤ limit
   pub made : HasMade steps node
@@ -90,18 +90,18 @@ pub record IsDoneWithin (set : PieceSet) (limit : ℕ) : Type 0 where
 
 -- The item that the one node has to apply next, after fewer than that many steps, fits, but would give its class a
 -- value that is too deep.
-pub record IsTooDeepWithin (set : PieceSet) (limit : ℕ) : Type 0 where
+pub record IsTooDeepWithin (family : Family) (limit : ℕ) : Type 0 where
   pub node : Node
-  pub of : node.set ≡ set
+  pub of : node.family ≡ family
   pub steps : ℕ
   pub few : steps < limit
   pub made : HasMade steps node
   pub fault : HasItemFault node TooDeep
 
 -- Why the one node has stopped before that many steps: never that an item doesn't fit.
-abbrev pub HasStoppedAlone : PieceSet → ℕ → Cause → Type 0
-HasStoppedAlone set limit TooDeep = IsTooDeepWithin set limit
-HasStoppedAlone set limit (Contradiction class) = ⊥
-HasStoppedAlone set limit Memory = Unit {0}
-HasStoppedAlone set limit Held = ⊥
-HasStoppedAlone set limit Counts = ⊥
+abbrev pub HasStoppedAlone : Family → ℕ → Cause → Type 0
+HasStoppedAlone family limit TooDeep = IsTooDeepWithin family limit
+HasStoppedAlone family limit (Contradiction class) = ⊥
+HasStoppedAlone family limit Memory = Unit {0}
+HasStoppedAlone family limit Held = ⊥
+HasStoppedAlone family limit Counts = ⊥

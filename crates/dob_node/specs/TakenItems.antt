@@ -1,8 +1,8 @@
 -- A node's cells with its history, and what an item that it takes makes of both.
 use Rattle.std.specs.Prelude.{◌≡◌, ◌≢◌, ℕ, ◌%◌, ◌^◌, ◌<◌, ◌≤◌, ◌↔◌, List, [], ◌∷◌, ◌++◌, length, Option, None, Some}
 use Rattle.std.specs.List.{All}
-use Rattle.dob_pieces.specs.declared.piece_set.PieceSet.{PieceSet}
-use Rattle.dob_rank.specs.Marks.{classes_of}
+use Rattle.dob_pieces.specs.declared.profile.Family.{Family}
+use Rattle.dob_rank.specs.Families.{classes_of}
 use Rattle.dob_value.specs.Follows.{IsEntry}
 use Rattle.dob_share.specs.declared.news.Settlement.{Settlement}
 use Rattle.dob_share.specs.declared.news.Item.{Item}
@@ -23,16 +23,16 @@ pub record HasParities (cell : Cell) : Type 0 where
   pub wins : (plies : ℕ) → 0 < cell.wins plies → plies % 2 ≡ 1
   pub least : (plies : ℕ) → cell.least ≡ Some plies → plies % 2 ≡ 0
 
--- The share and the history of owner `id` among n of a piece set's classes: the share has its own classes and gave as
+-- The share and the history of owner `id` among n of a family's classes: the share has its own classes and gave as
 -- many settlements as the history has, each of an own class.
-pub record AreKept (set : PieceSet) (n id : ℕ) (share : Share) (history : HistoryView) : Type 0 where
+pub record AreKept (family : Family) (n id : ℕ) (share : Share) (history : HistoryView) : Type 0 where
   pub share_is : (share.n ≡ n) × (share.id ≡ id)
   pub history_is : (history.n ≡ n) × (history.id ≡ id)
   pub one_of_n : id < n
-  pub few : classes_of set ≤ 2 ^ 32
-  pub owned : (class : ℕ) → IsOwn share class ↔ ((owner_of n class ≡ id) × (class < classes_of set))
+  pub few : classes_of family ≤ 2 ^ 32
+  pub owned : (class : ℕ) → IsOwn share class ↔ ((owner_of n class ≡ id) × (class < classes_of family))
   pub counted : share.settled ≡ length history.settlements
-  pub classes : All (λ (s : Settlement). s.class < classes_of set) history.settlements
+  pub classes : All (λ (s : Settlement). s.class < classes_of family) history.settlements
   pub parities : (class : ℕ) → IsOwn share class → HasParities (cell_at share class)
 
 -- the settlement, where there is one

@@ -2,7 +2,7 @@
 ghost use Rattle.std.specs.Prelude.{◌≡◌, Some};
 ghost use Rattle.dob_node.specs.declared.cause.Cause.TheVariants as cause;
 ghost use Rattle.dob_node.specs.declared.cause.Fault.TheVariants as fault;
-ghost use Rattle.dob_node.specs.Causes.{cause_of_share, fault_of_rank};
+ghost use Rattle.dob_node.specs.Causes.{cause_of_share};
 
 use dob_pieces::Memory;
 use std::alloc::{AllocError, AllocFailed};
@@ -27,8 +27,6 @@ pub enum Cause {
 /// Why one node alone gives no table.
 #[derive(Clone, Copy, Debug, PartialEq, Eq)]
 pub enum Fault {
-    /// E8: the piece set is larger than those that have classes.
-    SetTooLarge,
     /// E12: the value of a class would have a distance above the greatest that is kept.
     TooDeep,
     /// E13: an item to the class of that number doesn't fit its cell.
@@ -76,7 +74,6 @@ impl fmt::Display for Fault {
 
     fn fmt<W: fmt::Write>(&self, f: &mut fmt::Formatter<W>) -> fmt::Result {
         match self {
-            Fault::SetTooLarge => write!(f, "{}", dob_rank::Fault::SetTooLarge),
             Fault::TooDeep => write!(f, "{}", dob_share::Fault::TooDeep),
             Fault::Contradiction(class) => write!(f, "{}", dob_share::Fault::Contradiction(*class)),
             Fault::Memory => write!(f, "{Memory}"),
@@ -126,16 +123,5 @@ impl<T: Drop> From<AllocFailed<T>> for Fault {
 
     fn from(_lower: AllocFailed<T>) -> Fault {
         Fault::Memory
-    }
-}
-
-impl From<dob_rank::Fault> for Fault {
-    ghost from_gives = { λ lower given. given ≡ fault_of_rank lower };
-
-    fn from(lower: dob_rank::Fault) -> Fault {
-        match lower {
-            dob_rank::Fault::SetTooLarge => Fault::SetTooLarge,
-            dob_rank::Fault::Memory => Fault::Memory,
-        }
     }
 }

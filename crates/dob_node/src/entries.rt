@@ -12,12 +12,9 @@ use dob_value::{MAX_DISTANCE, Value};
 pub fn have_entries(items: &[Item]) -> bool
     ensures { IsTrue result ↔ All HasEntries items.now }
 {
-    for item in items {
-        if !is_entry(item.was) || !is_entry(item.now) {
-            return false;
-        }
-    }
-    true
+    items
+        .iter()
+        .all(|item| is_entry(item.was) && is_entry(item.now))
 }
 
 // Whether a table can have the value.

@@ -1,7 +1,7 @@
 // The history of a node: the settlements of its own classes, in order, in 8 bytes each. It makes the room for a settlement
 // before an item changes a cell, and for those of a batch before its first item does.
 ghost use Rattle.std.specs.Prelude.{◌≡◌, ◌≢◌, ◌↔◌, ℕ, ◌+◌, ◌/◌, ◌^◌, ◌<◌, ◌≤◌, ◌∷◌, ◌++◌, [], length, take, Some, Err, IfErr, OnOk, OnErr, slice_get};
-ghost use Rattle.dob_pieces.specs.declared.piece_set.PieceSet.{PieceSet as Set};
+ghost use Rattle.dob_pieces.specs.declared.profile.Family.{Family as Set};
 ghost use Rattle.dob_value.specs.Follows.{IsEntry};
 ghost use Rattle.dob_share.specs.Owners.{owner_of};
 ghost use Rattle.dob_share.specs.Shares.{Fits, GoesTooDeep};
@@ -125,7 +125,7 @@ impl History {
     /// Errors, which leave the share and the history as they were: `Memory`, but not where there is room; else `Contradiction` where the item doesn't fit,
     /// else `TooDeep` where its class's value would be too deep.
     pub(crate) fn take_item(&mut self, share: &mut Share, item: Item) -> Result<(), Cause>
-        requires kept { (set : Set) × AreKept set share.old.n share.old.id share.old self.old }
+        requires kept { (family : Set) × AreKept family share.old.n share.old.id share.old self.old }
         requires entries { HasEntries item }
         ensures contradiction { result ≢ Err cause.Memory → (result ≡ Err (cause.Contradiction item.to)) ↔ (¬ Fits share.old item) }
         ensures too_deep { result ≢ Err cause.Memory → (result ≡ Err cause.TooDeep) ↔ (Fits share.old item × GoesTooDeep share.old item) }
@@ -134,7 +134,7 @@ impl History {
         ensures room { OnOk result (self.old.room ≤ self.new.room + 1) }
         ensures unchanged { OnErr result ((share.new ≡ share.old) × (self.new ≡ self.old)) }
         ensures taken { OnOk result (IsTaken item share.old share.new self.old self.new) }
-        ensures kept { OnOk result ((set : Set) → AreKept set share.old.n share.old.id share.old self.old → AreKept set share.old.n share.old.id share.new self.new) }
+        ensures kept { OnOk result ((family : Set) → AreKept family share.old.n share.old.id share.old self.old → AreKept family share.old.n share.old.id share.new self.new) }
     {
         // Numbers of settlements always fit.
         let count = self.len();

@@ -1,8 +1,7 @@
-// One node that owns all classes of a piece set, and makes its value table alone.
-ghost use Rattle.std.specs.Prelude.{◌≡◌, ℕ, ◌+◌, ◌<◌, ◌≤◌, ◌↔◌, ◌⊎◌, true, false, None, Err, IfOk, IfErr, IfSome, OnOk, IsErrOf};
-ghost use Rattle.dob_pieces.specs.declared.piece_set.PieceSet.{PieceSet as Set};
-ghost use Rattle.dob_rank.specs.Marks.{classes_of};
-ghost use Rattle.dob_rank.specs.Limits.{IsTooLarge};
+// One node that owns all classes of a family, and makes its value table alone.
+ghost use Rattle.std.specs.Prelude.{◌≡◌, ℕ, ◌+◌, ◌<◌, ◌≤◌, ◌⊎◌, true, false, None, Err, IfOk, IfErr, IfSome, OnOk, IsErrOf};
+ghost use Rattle.dob_pieces.specs.declared.profile.Family.{Family as Set};
+ghost use Rattle.dob_rank.specs.Families.{classes_of};
 ghost use Rattle.dob_value.specs.Follows.{IsValueTable};
 ghost use Rattle.dob_share.specs.Shares.{IsOwn, HasValueNow};
 ghost use Rattle.dob_node.specs.Nodes.{IsSound};
@@ -12,29 +11,27 @@ ghost use Rattle.dob_node.specs.Sole.{HasMade, IsDone, IsUnderWay, IsDoneWithin,
 use crate::cause::{Cause, Fault};
 use crate::node::Node;
 use crate::openings::opening;
-use dob_pieces::{Memory, PieceSet};
+use dob_pieces::{Family, Memory};
 use dob_rank::{Classes, SegmentLength};
 use dob_value::{Table, Value};
 use std::alloc::Global;
 
-/// The value table of a piece set, made by one node that owns all its classes in at most `limit` steps: each applies the
+/// The value table of a family, made by one node that owns all its classes in at most `limit` steps: each applies the
 /// first of its own items, or where it has none is an expansion. `None` where the node has something left to do after them.
 ///
-/// Errors: `SetTooLarge` where the set has more than six pieces besides the lions; `TooDeep` where a class came to a
-/// value with a distance above the greatest that is kept, which doesn't happen to a set of fewer than 65,535 classes;
-/// `Memory`. An item that doesn't fit its cell never comes.
-pub fn alone(alloc: Global, set: PieceSet, limit: u64) -> Result<Option<Table>, Fault>
-    ensures too_large { IsErrOf result Fault.SetTooLarge ↔ IsTooLarge set }
-    ensures too_deep { result ≡ Err Fault.TooDeep → IsTooDeepWithin set limit }
-    ensures few { classes_of set < 65535 → ¬ (result ≡ Err Fault.TooDeep) }
+/// Errors: `TooDeep` where a class came to a value with a distance above the greatest that is kept, which doesn't happen to a
+/// family of fewer than 65,535 classes; `Memory`. An item that doesn't fit its cell never comes.
+pub fn alone(alloc: Global, family: Family, limit: u64) -> Result<Option<Table>, Fault>
+    ensures too_deep { result ≡ Err Fault.TooDeep → IsTooDeepWithin family limit }
+    ensures few { classes_of family < 65535 → ¬ (result ≡ Err Fault.TooDeep) }
     ensures fits { (class : ℕ) → ¬ (result ≡ Err (Fault.Contradiction class)) }
-    ensures set { IfOk result (λ given. IfSome given (λ table. table.set ≡ set)) }
-    ensures table { IfOk result (λ given. IfSome given (λ table. IsValueTable set table.values)) }
-    ensures none { result ≡ Ok None → IsUnderWay set limit }
-    ensures done { IfOk result (λ given. IfSome given (λ table. IsDoneWithin set limit)) }
+    ensures family { IfOk result (λ given. IfSome given (λ table. table.family ≡ family)) }
+    ensures table { IfOk result (λ given. IfSome given (λ table. IsValueTable family table.values)) }
+    ensures none { result ≡ Ok None → IsUnderWay family limit }
+    ensures done { IfOk result (λ given. IfSome given (λ table. IsDoneWithin family limit)) }
 {
-    let classes = Classes::open(alloc, set)?;
-    let node = begin(alloc, &classes, set)?;
+    let classes = Classes::open(alloc, family)?;
+    let node = begin(alloc, &classes, family)?;
     let Some(ended) = finish(node, &classes, limit)? else {
         return Ok(None);
     };
@@ -43,27 +40,26 @@ pub fn alone(alloc: Global, set: PieceSet, limit: u64) -> Result<Option<Table>, 
 }
 
 // The node of all classes, before its first step.
-fn begin(alloc: Global, classes: &Classes, set: PieceSet) -> Result<Node, Memory>
-    requires { classes.now.set ≡ set }
-    ensures set { IfOk result (λ node. node.set ≡ set) }
+fn begin(alloc: Global, classes: &Classes, family: Family) -> Result<Node, Memory>
+    requires { classes.now.family ≡ family }
+    ensures family { IfOk result (λ node. node.family ≡ family) }
     ensures made { IfOk result (λ node. HasMade 0 node) }
     ensures going { IfOk result (λ node. node.failed ≡ None) }
 {
     let openings = opening(alloc, classes, SegmentLength::longest())?;
-    Node::open(alloc, &openings, set, 0, 1)
+    Node::open(alloc, &openings, family, 0, 1)
 }
 
 // The node when it has nothing left to do, after steps up to that many. `None` where it has something left after them.
 fn finish(mut node: Node, classes: &Classes, limit: u64) -> Result<Option<Node>, Fault>
-    requires set { classes.now.set ≡ node.set }
+    requires family { classes.now.family ≡ node.family }
     requires begun { HasMade 0 node }
     requires going { node.failed ≡ None }
-    ensures too_large { ¬ (result ≡ Err Fault.SetTooLarge) }
-    ensures too_deep { result ≡ Err Fault.TooDeep → IsTooDeepWithin node.set limit }
+    ensures too_deep { result ≡ Err Fault.TooDeep → IsTooDeepWithin node.family limit }
     ensures fits { (class : ℕ) → ¬ (result ≡ Err (Fault.Contradiction class)) }
-    ensures set { IfOk result (λ given. IfSome given (λ ended. ended.set ≡ node.set)) }
+    ensures family { IfOk result (λ given. IfSome given (λ ended. ended.family ≡ node.family)) }
     ensures done { IfOk result (λ given. IfSome given (λ ended. (steps : ℕ) × (steps ≤ limit) × HasMade steps ended × IsDone ended)) }
-    ensures left { result ≡ Ok None → IsUnderWay node.set limit }
+    ensures left { result ≡ Ok None → IsUnderWay node.family limit }
 {
     match make_steps(&mut node, classes, limit) {
         Ok(()) => {}
@@ -77,11 +73,11 @@ fn finish(mut node: Node, classes: &Classes, limit: u64) -> Result<Option<Node>,
 
 // The table of the values that the node has come to.
 fn table_of(alloc: Global, node: Node, classes: Classes) -> Result<Table, Memory>
-    requires set { classes.set ≡ node.set }
+    requires family { classes.family ≡ node.family }
     requires made { (steps : ℕ) × HasMade steps node }
     requires done { IsDone node }
-    ensures set { IfOk result (λ table. table.set ≡ node.set) }
-    ensures table { IfOk result (λ table. IsValueTable node.set table.values) }
+    ensures family { IfOk result (λ table. table.family ≡ node.family) }
+    ensures table { IfOk result (λ table. IsValueTable node.family table.values) }
 {
     let value_at = |class: u64| -> Value
         requires { IsOwn node.share class }
@@ -92,7 +88,7 @@ fn table_of(alloc: Global, node: Node, classes: Classes) -> Result<Table, Memory
 
 // Why there is no table where the node has stopped.
 fn fault_of(why: Cause) -> Fault
-    requires { (set : Set) × (limit : ℕ) × HasStoppedAlone set limit why }
+    requires { (family : Set) × (limit : ℕ) × HasStoppedAlone family limit why }
     ensures { IsFaultOf why result }
 {
     match why {
@@ -105,11 +101,11 @@ fn fault_of(why: Cause) -> Fault
 
 // One step of the node: the first own item, or where there is none the next expansion. False where it is idle.
 fn step(node: &mut Node, classes: &Classes) -> Result<bool, Cause>
-    requires set { classes.now.set ≡ node.old.set }
+    requires family { classes.now.family ≡ node.old.family }
     requires sound { IsSound node.old }
     requires going { node.old.failed ≡ None }
-    ensures set { OnOk result (node.new.set ≡ node.old.set) }
-    ensures stopped { IfErr result (λ why. (steps limit : ℕ) → HasMade steps node.old → steps < limit → HasStoppedAlone node.old.set limit why) }
+    ensures family { OnOk result (node.new.family ≡ node.old.family) }
+    ensures stopped { IfErr result (λ why. (steps limit : ℕ) → HasMade steps node.old → steps < limit → HasStoppedAlone node.old.family limit why) }
     ensures idle { result ≡ Ok false → IsDone node.new × (node.new ≡ node.old) }
     ensures going { OnOk result (node.new.failed ≡ None) }
     ensures made { result ≡ Ok true → (steps : ℕ) → HasMade steps node.old → HasMade (steps + 1) node.new }
@@ -122,11 +118,11 @@ fn step(node: &mut Node, classes: &Classes) -> Result<bool, Cause>
 
 // Steps of the node, up to that many.
 fn make_steps(node: &mut Node, classes: &Classes, limit: u64) -> Result<(), Cause>
-    requires set { classes.now.set ≡ node.old.set }
+    requires family { classes.now.family ≡ node.old.family }
     requires opened { HasMade 0 node.old }
     requires going { node.old.failed ≡ None }
-    ensures set { OnOk result (node.new.set ≡ node.old.set) }
-    ensures stopped { IfErr result (λ why. HasStoppedAlone node.old.set limit why) }
+    ensures family { OnOk result (node.new.family ≡ node.old.family) }
+    ensures stopped { IfErr result (λ why. HasStoppedAlone node.old.family limit why) }
     ensures made { OnOk result ((steps : ℕ) × (steps ≤ limit) × HasMade steps node.new × ((steps ≡ limit) ⊎ IsDone node.new)) }
 {
     for _step in 0..limit {

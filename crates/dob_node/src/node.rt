@@ -15,7 +15,7 @@ use crate::history::History;
 use crate::outboxes::{add_for_others, are_empty, cut_at, empty_outboxes};
 use crate::taking::take_items;
 use dob_moves::Status;
-use dob_pieces::{Memory, PieceSet};
+use dob_pieces::{Family, Memory};
 use dob_rank::{Classes, Segments};
 use dob_share::{Item, Opening, Settlement, Share, opening_at, owner};
 use dob_unmove::back_into;
@@ -28,12 +28,12 @@ use std::mem;
 /// How many batches a node may cut for another.
 pub const MAX_BATCHES: u64 = 1 << 40;
 
-/// A node that owns the classes k * n + id of a piece set, one of n. Once a call that grows it or applies an item has failed, the
+/// A node that owns the classes k * n + id of a family, one of n. Once a call that grows it or applies an item has failed, the
 /// node has failed for that cause, and what it has stays as it is.
 #[derive(Drop)]
 pub struct Node {
     alloc: Global,
-    set: PieceSet,
+    family: Family,
     id: usize,
     n: usize,
     share: Share,
@@ -68,22 +68,22 @@ impl Node {
     pub fn open(
         alloc: Global,
         openings: &Segments<Opening>,
-        set: PieceSet,
+        family: Family,
         id: usize,
         n: usize,
     ) -> Result<Node, Memory>
-        requires openings { AreOpenings set openings.now }
+        requires openings { AreOpenings family openings.now }
         requires owner { id < n }
         requires owners { n ≤ 16 }
-        ensures opened { IfOk result (λ node. IsOpened openings.now set id n node) }
+        ensures opened { IfOk result (λ node. IsOpened openings.now family id n node) }
         ensures sound { IfOk result (λ node. IsSound node) }
     {
         let share = Share::open(alloc, openings, id, n)?;
         let history = opening_history(alloc, openings, share.places(), id, n)?;
-        let outboxes = empty_outboxes(alloc, set, n, id)?;
+        let outboxes = empty_outboxes(alloc, family, n, id)?;
         Ok(Node {
             alloc,
-            set,
+            family,
             id,
             n,
             share,
@@ -102,7 +102,7 @@ impl Node {
     ///
     /// Error: `Memory`, by which the node fails and stays as it was.
     pub fn expand(&mut self, classes: &Classes) -> Result<bool, Cause>
-        requires set { classes.now.set ≡ self.old.set }
+        requires family { classes.now.family ≡ self.old.family }
         requires sound { IsSound self.old }
         requires going { self.old.failed ≡ None }
         ensures done { (result ≡ Ok false) ↔ (self.old.expanded ≡ length self.old.history.settlements) }
@@ -122,7 +122,7 @@ impl Node {
 
     // As `expand`, but that the node doesn't fail.
     fn expand_next(&mut self, classes: &Classes) -> Result<bool, Cause>
-        requires set { classes.now.set ≡ self.old.set }
+        requires family { classes.now.family ≡ self.old.family }
         requires sound { IsSound self.old }
         ensures done { (result ≡ Ok false) ↔ (self.old.expanded ≡ length self.old.history.settlements) }
         ensures nothing { result ≡ Ok false → self.new ≡ self.old }
@@ -195,7 +195,7 @@ impl Node {
         Ok(true)
     }
 
-    /// Applies the items of a batch in order. The batch has to be of the node's piece set and number of nodes, and its items have to have
+    /// Applies the items of a batch in order. The batch has to be of the node's family and number of nodes, and its items have to have
     /// values that a table can have, which `have_entries` tests. An item for a class of another node doesn't fit. It makes its growths first.
     ///
     /// Errors, by which the node fails: `Memory`, which leaves it as it was, and never comes where there is room for as many items
@@ -203,7 +203,7 @@ impl Node {
     /// doesn't fit its class's cell then; `TooDeep` where it fits and its class's value would be too deep.
     pub fn apply_batch(&mut self, batch: &Batch) -> Result<(), Cause>
         requires sound { IsSound self.old }
-        requires set { batch.now.set ≡ self.old.set }
+        requires family { batch.now.family ≡ self.old.family }
         requires n { batch.now.n ≡ self.old.n }
         requires entries { All HasEntries batch.now.items }
         requires going { self.old.failed ≡ None }
@@ -224,7 +224,7 @@ impl Node {
     // As `apply_batch`, but that the node doesn't fail.
     fn take_batch(&mut self, batch: &Batch) -> Result<(), Cause>
         requires sound { IsSound self.old }
-        requires set { batch.now.set ≡ self.old.set }
+        requires family { batch.now.family ≡ self.old.family }
         requires n { batch.now.n ≡ self.old.n }
         requires entries { All HasEntries batch.now.items }
         ensures taken { OnOk result (HasTaken batch.now.items self.old self.new) }

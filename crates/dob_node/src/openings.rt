@@ -1,29 +1,42 @@
 // What is known of each class before anything is settled: its status and its number of moves.
 ghost use Rattle.std.specs.Prelude.{◌<◌, IfOk};
-ghost use Rattle.dob_rank.specs.Marks.{classes_of};
-ghost use Rattle.dob_rank.specs.ClassRows.{class_setup};
+ghost use Rattle.dob_rank.specs.Bitboards.{AreBitboards};
+ghost use Rattle.dob_rank.specs.Families.{classes_of};
+ghost use Rattle.dob_rank.specs.Families.{class_setup};
 ghost use Rattle.dob_node.specs.Openings.{IsOpening, AreOpenings};
 
-use dob_moves::status_and_count;
-use dob_pieces::{Memory, Position};
-use dob_rank::{Classes, SegmentLength, Segments};
+use dob_moves::status_and_count_shown;
+use dob_pieces::{Memory, Profile, Side};
+use dob_rank::{Classes, SegmentLength, Segments, Shown};
 use dob_share::Opening;
 use std::alloc::Global;
 
-/// The position's status and number of moves.
-pub(crate) fn opening_of(position: &Position) -> Opening
-    ensures { IsOpening position.now.setup result }
+/// The status and number of moves, by the rules of the profile, of the position that the sets show to the mover. The position only
+/// says of what they are.
+#[inline(always)]
+pub(crate) fn opening_of(profile: Profile, shown: &Shown) -> Opening
+    requires { AreBitboards shown.now.position.setup shown.now.bits }
+    ensures { IsOpening profile shown.now.position.setup result }
 {
-    let (status, moves) = status_and_count(position);
+    let bits = &shown.bits;
+    let (status, moves) = status_and_count_shown(
+        profile,
+        &shown.position,
+        &bits.masks(),
+        bits.hands.mover,
+    );
     Opening { status, moves }
 }
 
 /// The status and the number of moves of the class of that number.
 pub fn opening_in(classes: &Classes, class: u64) -> Opening
-    requires { class < classes_of classes.now.set }
-    ensures { IsOpening (class_setup classes.now.set class) result }
+    requires { class < classes_of classes.now.family }
+    ensures { IsOpening classes.now.family.profile (class_setup classes.now.family class) result }
 {
-    opening_of(&classes.class_at(class))
+    opening_of(
+        classes.family.profile,
+        &classes.shown_at(class, Side::Mover),
+    )
 }
 
 /// The status and the number of moves of each class, in the order of the classes, in segments of that length.
@@ -35,7 +48,7 @@ pub fn opening(
     classes: &Classes,
     segment_length: SegmentLength,
 ) -> Result<Segments<Opening>, Memory>
-    ensures { IfOk result (λ openings. AreOpenings classes.now.set openings) }
+    ensures { IfOk result (λ openings. AreOpenings classes.now.family openings) }
 {
     let mut openings = Segments::new(alloc, segment_length);
     for class in 0..classes.class_count() {

@@ -2,13 +2,13 @@
 ghost use Rattle.std.specs.Prelude.{◌≡◌, ℕ, ◌+◌, ◌<◌, ◌≤◌, ◌↔◌, List, [], length, vec_len, slice_index_or};
 ghost use Rattle.std.specs.Prelude.{slice_set, ◌*◌, ◌^◌, IsTrue, IsNone, IfOk, IfSome, OnOk, OnErr};
 ghost use Rattle.std.specs.List.{All};
-ghost use Rattle.dob_pieces.specs.declared.piece_set.PieceSet.{PieceSet as Set};
+ghost use Rattle.dob_pieces.specs.declared.profile.Family.{Family as Set};
 ghost use Rattle.dob_unmove.specs.Edges.{predecessors};
 ghost use Rattle.dob_update.specs.Items.{items_of};
 ghost use Rattle.dob_update.specs.Batches.{OutboxView, most_items, HasOneMore, empty_outbox, added};
 ghost use Rattle.dob_node.specs.Outboxes.{outbox_in, IsOutboxTo, AreAdded, HaveOneMore, IsCutFrom};
 
-use dob_pieces::{Memory, PieceSet};
+use dob_pieces::{Family, Memory};
 use dob_share::Settlement;
 use dob_update::{Batch, Outbox, count_items};
 use std::alloc::Global;
@@ -16,16 +16,16 @@ use std::alloc::Global;
 /// Outboxes with nothing to send, of node `from` among `n`, for each node.
 pub(crate) fn empty_outboxes(
     alloc: Global,
-    set: PieceSet,
+    family: Family,
     n: usize,
     from: usize,
 ) -> Result<Vec<Outbox>, Memory>
     ensures whole { IfOk result (λ list. length list.items ≡ n) }
-    ensures empty { IfOk result (λ list. (to : ℕ) → outbox_in set n from list.items to ≡ empty_outbox set n from to) }
+    ensures empty { IfOk result (λ list. (to : ℕ) → outbox_in family n from list.items to ≡ empty_outbox family n from to) }
 {
     let mut outboxes = Vec::with_capacity(alloc, n)?;
     for to in 0..n {
-        outboxes.push(Outbox::new(alloc, set, n, from, to))?;
+        outboxes.push(Outbox::new(alloc, family, n, from, to))?;
     }
     Ok(outboxes)
 }
@@ -40,7 +40,7 @@ pub(crate) fn add_for_others(
     targets: &[u64],
     from: usize,
 ) -> Result<(), Memory>
-    requires addressed { let n = length outboxes.old.items in (set : Set) × (targets.now ≡ predecessors set settlement.class) × ((to : ℕ) → IsOutboxTo set n from to (outbox_in set n from outboxes.old.items to)) }
+    requires addressed { let n = length outboxes.old.items in (family : Set) × (targets.now ≡ predecessors family settlement.class) × ((to : ℕ) → IsOutboxTo family n from to (outbox_in family n from outboxes.old.items to)) }
     ensures added { let n = length outboxes.old.items in OnOk result (AreAdded targets.now settlement n from n outboxes.old.items outboxes.new.items) }
     ensures unchanged { OnErr result (outboxes.new.items ≡ outboxes.old.items) }
 {
@@ -67,7 +67,7 @@ fn add_to(
     targets: &[u64],
 ) -> Result<(), Memory>
     requires there { to < vec_len outboxes.old }
-    requires of { (default : OutboxView) → let outbox = slice_index_or outboxes.old.items to default in (outbox.n ≡ vec_len outboxes.old) × (outbox.to ≡ to) × (targets.now ≡ predecessors outbox.set settlement.class) }
+    requires of { (default : OutboxView) → let outbox = slice_index_or outboxes.old.items to default in (outbox.n ≡ vec_len outboxes.old) × (outbox.to ≡ to) × (targets.now ≡ predecessors outbox.family settlement.class) }
     ensures added { OnOk result ((default : OutboxView) → outboxes.new.items ≡ slice_set outboxes.old.items to (added (slice_index_or outboxes.old.items to default) settlement (items_of (λ _. targets.now) (vec_len outboxes.old) to settlement))) }
     ensures unchanged { OnErr result (outboxes.new.items ≡ outboxes.old.items) }
 {
@@ -126,10 +126,5 @@ pub(crate) fn cut_at(
 pub(crate) fn are_empty(outboxes: &[Outbox]) -> bool
     ensures { IsTrue result ↔ All (λ (o : OutboxView). o.items ≡ []) outboxes.now }
 {
-    for outbox in outboxes {
-        if !outbox.is_empty() {
-            return false;
-        }
-    }
-    true
+    outboxes.iter().all(|outbox| outbox.is_empty())
 }

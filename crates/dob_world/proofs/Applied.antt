@@ -23,11 +23,11 @@ pub record Grows (i j : ℕ) (items : List Item) (old new : Nodes) : Type 0 wher
 module _ (k : Setting) (some : 0 < k.n) (i j : ℕ) (low_i : i < k.n) (low_j : j < k.n) (item : Item) (old : Nodes) (lawful : AreLawful k old)
     (rest : List Item) (is_next : items_in k old i j ≡ old.applied i j ++ item ∷ rest) where
   -- the next item fits its cell
-  pub next_fits : CanApply k.set k.n j old.cell item
-  next_fits = can_apply k.set k.n old.history old.applied old.cell (value_in k.n old) some lawful i j low_i low_j item (rest, is_next)
+  pub next_fits : CanApply k.family k.n j old.cell item
+  next_fits = can_apply k.family k.n old.history old.applied old.cell (value_in k.n old) some lawful i j low_i low_j item (rest, is_next)
 
   pub lawful_step : (new : Nodes) → Applies k i j item old new → AreLawful k new
-  lawful_step new step = lawful_after k.set k.n old.history old.applied old.cell (value_in k.n old) some lawful i j low_i low_j item (rest, is_next)
+  lawful_step new step = lawful_after k.family k.n old.history old.applied old.cell (value_in k.n old) some lawful i j low_i low_j item (rest, is_next)
       new.applied step.listed new.cell (value_in k.n new) step.cells new.history step.settled
 
 pub step_grows : (k : Setting) (i j : ℕ) (item : Item) (old new : Nodes) → Applies k i j item old new → Grows i j (item ∷ []) old new
@@ -80,7 +80,7 @@ both_grow i j front behind old between new one other = record {
 pub next_after : (k : Setting) (i j : ℕ) (front rest : List Item) (old new : Nodes) → i ≢ j → Grows i j front old new →
     items_in k old i j ≡ old.applied i j ++ (front ++ rest) → items_in k new i j ≡ new.applied i j ++ rest
 next_after k i j front rest old new differs grows is =
-    ap (λ h. items_from (predecessors k.set) k.n j h) (grows.elsewhere i differs)
+    ap (λ h. items_from (predecessors k.family) k.n j h) (grows.elsewhere i differs)
     ∙ is
     ∙ sym (append_assoc (old.applied i j) front rest)
     ∙ ap (λ xs. xs ++ rest) (sym grows.applied)

@@ -1,6 +1,6 @@
 -- Each event leaves every settlement a fall, and for few classes no item goes too deep: a node stops for lack of memory.
 use Rattle.std.proofs.Common.{◌≡◌, ◌≢◌, ℕ, ◌<◌, inl, inr, sym, ap, ◌∙◌, subst, append_assoc, List, [], ◌∷◌, ◌++◌, drop}
-use Rattle.dob_rank.specs.Marks.{classes_of}
+use Rattle.dob_rank.specs.Families.{classes_of}
 use Rattle.dob_unmove.specs.Edges.{predecessors}
 use Rattle.dob_share.specs.declared.news.Item.{Item}
 use Rattle.dob_update.specs.Items.{items_from}
@@ -24,11 +24,11 @@ bound_stays k old new stay falls = subst (λ (nodes : Nodes). HaveFallsIn k node
 module _ (k : Setting) (some : 0 < k.n) (i j : ℕ) (low_i : i < k.n) (low_j : j < k.n) (item : Item) (old : Nodes) (lawful : AreLawful k old)
     (falls : HaveFallsIn k old) (rest : List Item) (is_next : items_in k old i j ≡ old.applied i j ++ item ∷ rest) where
   falls_step : (new : Nodes) → Applies k i j item old new → HaveFallsIn k new
-  falls_step new step = falls_stay k.set k.n old.history old.applied old.cell (value_in k.n old) some lawful falls i j low_i low_j item (rest, is_next)
+  falls_step new step = falls_stay k.family k.n old.history old.applied old.cell (value_in k.n old) some lawful falls i j low_i low_j item (rest, is_next)
       new.cell (value_in k.n new) step.cells new.history step.settled
 
-  next_not_deep : classes_of k.set < 65535 → GoesTooDeep old item → ⊥
-  next_not_deep few deep = not_too_deep k.set k.n old.history old.applied old.cell (value_in k.n old) some lawful falls i j low_i low_j item (rest, is_next)
+  next_not_deep : classes_of k.family < 65535 → GoesTooDeep old item → ⊥
+  next_not_deep few deep = not_too_deep k.family k.n old.history old.applied old.cell (value_in k.n old) some lawful falls i j low_i low_j item (rest, is_next)
       few deep
 
 module _ (k : Setting) (some : 0 < k.n) (i j : ℕ) (low_i : i < k.n) (low_j : j < k.n) (differs : i ≢ j) where
@@ -46,7 +46,7 @@ module _ (k : Setting) (some : 0 < k.n) (i j : ℕ) (low_i : i < k.n) (low_j : j
 module _ (k : Setting) (some : 0 < k.n) (old : WorldView) (lawful : AreLawful k old.nodes) (linked : IsLinked k old) (falls : HaveFallsIn k old.nodes) where
   -- what a node hasn't expanded yet is for later
   abbrev later : ℕ → ℕ → List Item
-  later i j = items_from (predecessors k.set) k.n j (drop (old.expanded i) (old.nodes.history i))
+  later i j = items_from (predecessors k.family) k.n j (drop (old.expanded i) (old.nodes.history i))
 
   owned_falls : (i : ℕ) (new : WorldView) → i < k.n → AppliesOwn k i old new → HaveFallsIn k new.nodes
   owned_falls i new low step = falls_step k some i i low low step.item old.nodes lawful falls (new.own i ++ later i i)
@@ -57,11 +57,11 @@ module _ (k : Setting) (some : 0 < k.n) (old : WorldView) (lawful : AreLawful k 
       (items_of_batches (new.waiting i j) ++ (old.outbox i j ++ later i j)) old.nodes new.nodes lawful falls
       (next_waiting k old i j step.batch (new.waiting i j) linked low_i low_j differs step.first) step.applied
 
-  own_not_deep : (i : ℕ) → classes_of k.set < 65535 → i < k.n → OwnGoesTooDeep old i → ⊥
+  own_not_deep : (i : ℕ) → classes_of k.family < 65535 → i < k.n → OwnGoesTooDeep old i → ⊥
   own_not_deep i few low deep = next_not_deep k some i i low low deep.item old.nodes lawful falls (deep.behind ++ later i i)
       (next_own k old i (deep.item ∷ deep.behind) linked low deep.first) few deep.deep
 
-  taken_not_deep : (i j : ℕ) → classes_of k.set < 65535 → i < k.n → j < k.n → i ≢ j → TakenGoesTooDeep k old i j → ⊥
+  taken_not_deep : (i j : ℕ) → classes_of k.family < 65535 → i < k.n → j < k.n → i ≢ j → TakenGoesTooDeep k old i j → ⊥
   taken_not_deep i j few low_i low_j differs deep =
       let others = items_of_batches deep.batches ++ (old.outbox i j ++ later i j) in
       let next : items_in k old.nodes i j ≡ old.nodes.applied i j ++ (deep.front ++ ((deep.item ∷ deep.behind) ++ others)) =
@@ -88,7 +88,7 @@ happening_keeps_falls k old new Announce some lawful linked falls can step = sub
 
 -- for few classes a node stops for lack of memory alone
 pub few_stop : (k : Setting) (state : State) (event : Event) (fault : Fault) → 0 < k.n → AreLawful k state.world.nodes → IsLinked k state.world →
-    HaveFallsIn k state.world.nodes → classes_of k.set < 65535 → IsStopBy k state event fault → IsForMemory fault
+    HaveFallsIn k state.world.nodes → classes_of k.family < 65535 → IsStopBy k state event fault → IsForMemory fault
 few_stop k state (Expand i) fault some lawful linked falls few stop = (i, stop.1)
 few_stop k state (Own i) fault some lawful linked falls few stop = elim stop.1 [
   | inl memory ↦ (i, memory)

@@ -1,7 +1,7 @@
 -- Each batch that a node has cut for another one is posted: at the start, and after each event.
 use Rattle.std.proofs.Common.{◌≡◌, ◌≢◌, ℕ, ◌+◌, ◌^◌, ◌<◌, ◌≤◌, inl, inr, refl, sym, ap, ◌∙◌, subst, arith, List, Option, None, Some, slice_get, set}
 use Rattle.std.proofs.lemmas.Bool.{cases_eq}
-use Rattle.dob_pieces.specs.declared.piece_set.PieceSet.{PieceSet}
+use Rattle.dob_pieces.specs.declared.profile.Family.{Family}
 use Rattle.dob_update.specs.Batches.{OutboxView}
 use Rattle.dob_share.specs.declared.opening.Opening.{Opening}
 use Rattle.dob_node.specs.declared.node.Node.{Node}
@@ -15,17 +15,17 @@ use Rattle.dob_world.proofs.Slots.{here, was, elsewhere, stays}
 
 -- ---- outboxes that stay
 
-pub outbox_same : (node after : Node) → after.set ≡ node.set → after.id ≡ node.id → after.n ≡ node.n → after.outboxes.items ≡ node.outboxes.items →
+pub outbox_same : (node after : Node) → after.family ≡ node.family → after.id ≡ node.id → after.n ≡ node.n → after.outboxes.items ≡ node.outboxes.items →
     (j : ℕ) → outbox_to after j ≡ outbox_to node j
-outbox_same node after set_is id_is n_is boxes j =
-    ap (λ (s : PieceSet). outbox_in s after.n after.id after.outboxes.items j) set_is
-    ∙ ap (λ (m : ℕ). outbox_in node.set m after.id after.outboxes.items j) n_is
-    ∙ ap (λ (m : ℕ). outbox_in node.set node.n m after.outboxes.items j) id_is
-    ∙ ap (λ (xs : List OutboxView). outbox_in node.set node.n node.id xs j) boxes
+outbox_same node after family_is id_is n_is boxes j =
+    ap (λ (s : Family). outbox_in s after.n after.id after.outboxes.items j) family_is
+    ∙ ap (λ (m : ℕ). outbox_in node.family m after.id after.outboxes.items j) n_is
+    ∙ ap (λ (m : ℕ). outbox_in node.family node.n m after.outboxes.items j) id_is
+    ∙ ap (λ (xs : List OutboxView). outbox_in node.family node.n node.id xs j) boxes
 
-pub next_same : (node after : Node) → after.set ≡ node.set → after.id ≡ node.id → after.n ≡ node.n → after.outboxes.items ≡ node.outboxes.items →
+pub next_same : (node after : Node) → after.family ≡ node.family → after.id ≡ node.id → after.n ≡ node.n → after.outboxes.items ≡ node.outboxes.items →
     (j : ℕ) → (outbox_to after j).next ≡ (outbox_to node j).next
-next_same node after set_is id_is n_is boxes j = ap (λ (o : OutboxView). o.next) (outbox_same node after set_is id_is n_is boxes j)
+next_same node after family_is id_is n_is boxes j = ap (λ (o : OutboxView). o.next) (outbox_same node after family_is id_is n_is boxes j)
 
 -- ---- after an event
 
@@ -77,9 +77,9 @@ cuts_same n nodes old new stay cuts m l low_m low_l differs = cuts m l low_m low
 
 -- ---- at the start
 
-pub cuts_start : (openings : List Opening) (set : PieceSet) (n : ℕ) (nodes : List Node) (ring : Ring) → AreOpenedNodes openings set n n nodes →
+pub cuts_start : (openings : List Opening) (family : Family) (n : ℕ) (nodes : List Node) (ring : Ring) → AreOpenedNodes openings family n n nodes →
     IsStartRing n ring → AreCutsPosted n nodes ring
-cuts_start openings set n nodes ring opened start i j low_i low_j differs = none_cut (slice_get nodes i) refl ∙ sym (start.posted i j low_i low_j)
+cuts_start openings family n nodes ring opened start i j low_i low_j differs = none_cut (slice_get nodes i) refl ∙ sym (start.posted i j low_i low_j)
   where
     none_cut : (given : Option Node) → slice_get nodes i ≡ given → part 0 (λ (x : Node). (outbox_to x j).next) given ≡ 0
     none_cut None is = refl

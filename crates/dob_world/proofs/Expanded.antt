@@ -5,8 +5,8 @@ use Rattle.std.proofs.lemmas.Bool.{cases_lt, cases_eq}
 use Rattle.std.proofs.lemmas.Option.{slice_get_within}
 use Rattle.std.proofs.lemmas.List.{length-set}
 use Rattle.dob_moves.specs.Statuses.{HasStatus}
-use Rattle.dob_rank.specs.Marks.{classes_of}
-use Rattle.dob_rank.specs.ClassRows.{class_setup}
+use Rattle.dob_rank.specs.Families.{classes_of}
+use Rattle.dob_rank.specs.Families.{class_setup}
 use Rattle.dob_unmove.specs.Edges.{predecessors}
 use Rattle.dob_share.specs.declared.share.Share.{Share}
 use Rattle.dob_share.specs.Owners.{owner_of}
@@ -37,20 +37,20 @@ in_place_node k nodes lanes i node after there places is = record {
 
 module _ (k : Setting) (nodes : List Node) (lanes : List Lane) (i : ℕ) (node after : Node) (there : slice_get nodes i ≡ Some node)
     (is : IsNodeOf k i node) (step : IsExpanded node after) where
-  items_same : (j : ℕ) → items_of (predecessors node.set) node.n j step.settlement ≡ items_of (predecessors k.set) k.n j step.settlement
+  items_same : (j : ℕ) → items_of (predecessors node.family) node.n j step.settlement ≡ items_of (predecessors k.family) k.n j step.settlement
   items_same j = ap (λ st. items_of (predecessors st) node.n j step.settlement) is.of.0
-      ∙ ap (λ m. items_of (predecessors k.set) m j step.settlement) is.of.2
+      ∙ ap (λ m. items_of (predecessors k.family) m j step.settlement) is.of.2
 
   pub still_node : IsSound after → after.failed ≡ None → IsNodeOf k i after
   still_node sound going = record {
     sound = sound;
     going = going;
     of = (step.same.0 ∙ is.of.0, step.same.1 ∙ is.of.1, step.same.2 ∙ is.of.2);
-    statuses = subst (λ (share : Share). (class : ℕ) → IsOwn share class → HasStatus (class_setup k.set class) (status_at share class))
+    statuses = subst (λ (share : Share). (class : ℕ) → IsOwn share class → HasStatus k.family.profile (class_setup k.family class) (status_at share class))
         (sym step.same.3) is.statuses;
   }
 
-  pub expands : Expands k i (world_shown k.set k.n nodes lanes) (world_shown k.set k.n (set nodes i after) lanes)
+  pub expands : Expands k i (world_shown k.family k.n nodes lanes) (world_shown k.family k.n (set nodes i after) lanes)
   unfolding world_shown nodes_shown
   expands = record {
     settlement = step.settlement;
@@ -58,13 +58,13 @@ module _ (k : Setting) (nodes : List Node) (lanes : List Lane) (i : ℕ) (node a
     expanded = here nodes i node after there 0 (λ (x : Node). x.expanded) ∙ step.expanded
         ∙ ap (λ (e : ℕ). e + 1) (sym (was nodes i node after there 0 (λ (x : Node). x.expanded)));
     own = here nodes i node after there [] (λ (x : Node). x.own.items) ∙ step.own
-        ∙ ap (λ m. node.own.items ++ items_of (predecessors node.set) node.n m step.settlement) is.of.1
+        ∙ ap (λ m. node.own.items ++ items_of (predecessors node.family) node.n m step.settlement) is.of.1
         ∙ ap (λ xs. node.own.items ++ xs) (items_same i)
-        ∙ ap (λ xs. xs ++ items_of (predecessors k.set) k.n i step.settlement) (sym (was nodes i node after there [] (λ (x : Node). x.own.items)));
+        ∙ ap (λ xs. xs ++ items_of (predecessors k.family) k.n i step.settlement) (sym (was nodes i node after there [] (λ (x : Node). x.own.items)));
     outboxes = λ j low differs. here nodes i node after there [] (λ (x : Node). (outbox_to x j).items)
         ∙ ap (λ (o : OutboxView). o.items) (step.sent j (subst (λ (m : ℕ). j < m) (sym is.of.2) low) (λ same. differs (same ∙ is.of.1)))
         ∙ ap (λ xs. (outbox_to node j).items ++ xs) (items_same j)
-        ∙ ap (λ xs. xs ++ items_of (predecessors k.set) k.n j step.settlement) (sym (was nodes i node after there [] (λ (x : Node). (outbox_to x j).items)));
+        ∙ ap (λ xs. xs ++ items_of (predecessors k.family) k.n j step.settlement) (sym (was nodes i node after there [] (λ (x : Node). (outbox_to x j).items)));
     others = (
       elsewhere nodes i node after there 0 (λ (x : Node). x.expanded),
       elsewhere nodes i node after there [] (λ (x : Node). x.own.items),
@@ -73,14 +73,14 @@ module _ (k : Setting) (nodes : List Node) (lanes : List Lane) (i : ℕ) (node a
     nodes = record {
       history = stays nodes i node after there [] (λ (x : Node). x.history.settlements) (ap (λ (h : HistoryView). h.settlements) step.same.4);
       applied = λ m l. refl;
-      cell = λ class. ap (λ c. cond (nat_lt class (classes_of k.set)) c (fresh 0))
+      cell = λ class. ap (λ c. cond (nat_lt class (classes_of k.family)) c (fresh 0))
           (stays nodes i node after there (fresh 0) (λ (x : Node). cell_at x.share class) (ap (λ (s : Share). cell_at s class) step.same.3)
           (owner_of k.n class));
     };
     links = (λ m l. refl, λ m l. refl);
   }
 
-  pub can_expand : (world_shown k.set k.n nodes lanes).expanded i < length ((world_shown k.set k.n nodes lanes).nodes.history i)
+  pub can_expand : (world_shown k.family k.n nodes lanes).expanded i < length ((world_shown k.family k.n nodes lanes).nodes.history i)
   unfolding world_shown nodes_shown
   can_expand = slice_get_within (part [] (λ (x : Node). x.history.settlements) (slice_get nodes i)) (part 0 (λ (x : Node). x.expanded) (slice_get nodes i))
       step.settlement
@@ -88,7 +88,7 @@ module _ (k : Setting) (nodes : List Node) (lanes : List Lane) (i : ℕ) (node a
 
 module _ (k : Setting) (nodes : List Node) (lanes : List Lane) (i : ℕ) (node after : Node) (there : slice_get nodes i ≡ Some node) where
   pub cant_expand : node.expanded ≡ length node.history.settlements →
-      (world_shown k.set k.n nodes lanes).expanded i < length ((world_shown k.set k.n nodes lanes).nodes.history i) → ⊥
+      (world_shown k.family k.n nodes lanes).expanded i < length ((world_shown k.family k.n nodes lanes).nodes.history i) → ⊥
   unfolding world_shown nodes_shown
   cant_expand all less =
       let e : part 0 (λ (x : Node). x.expanded) (slice_get nodes i) ≡ node.expanded = was nodes i node after there 0 (λ (x : Node). x.expanded) in
@@ -98,7 +98,7 @@ module _ (k : Setting) (nodes : List Node) (lanes : List Lane) (i : ℕ) (node a
 
   -- a settlement is left where not all of them are expanded
   pub left_to_expand : node.expanded ≤ length node.history.settlements → (node.expanded ≡ length node.history.settlements → ⊥) →
-      (world_shown k.set k.n nodes lanes).expanded i < length ((world_shown k.set k.n nodes lanes).nodes.history i)
+      (world_shown k.family k.n nodes lanes).expanded i < length ((world_shown k.family k.n nodes lanes).nodes.history i)
   unfolding world_shown nodes_shown
   left_to_expand within left =
       let e : part 0 (λ (x : Node). x.expanded) (slice_get nodes i) ≡ node.expanded = was nodes i node node there 0 (λ (x : Node). x.expanded) in

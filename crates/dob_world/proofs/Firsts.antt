@@ -1,5 +1,5 @@
--- First elements, and calls that can't have failed.
-use Rattle.std.proofs.Common.{◌≡◌, refl, sym, ap, ◌∙◌, ℕ, List, [], ◌∷◌, ◌++◌, length, take, Some, None, slice_get, Result, Ok, Err, OnOk, OnErr}
+-- First elements, lists that have some, and calls that can't have failed.
+use Rattle.std.proofs.Common.{◌≡◌, ◌<◌, refl, sym, ap, ◌∙◌, arith, ℕ, List, [], ◌∷◌, ◌++◌, length, take, Some, None, slice_get, Result, Ok, Err, OnOk, OnErr}
 
 pub none_first : {X : Type 0} (xs : List X) → slice_get xs 0 ≡ None → xs ≡ []
 none_first [] is = refl
@@ -10,6 +10,9 @@ first_same xs rest x y there is = let e : Some x ≡ Some y = sym there ∙ ap (
 
 pub some_first : {X : Type 0} (xs : List X) (x : X) → slice_get xs 0 ≡ Some x → xs ≡ [] → ⊥
 some_first xs x there is = let e : Some x ≡ None = sym there ∙ ap (λ zs. slice_get zs 0) is in cc
+
+pub none_some : {X : Type 0} (xs : List X) → xs ≡ [] → 0 < length xs → ⊥
+none_some xs is some = let e : length xs ≡ 0 = ap length is in omega arith
 
 pub went_well : {T E : Type 0} (r : Result T E) (A B : Type 0) → OnOk r A → OnErr r B → (B → ⊥) → A
 went_well (Ok v) A B good bad not = good

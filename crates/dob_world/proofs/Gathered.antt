@@ -1,7 +1,7 @@
 -- The values that the nodes of a world show.
 use Rattle.std.proofs.Common.{◌≡◌, ℕ, ◌<◌, cond, refl, sym, ap, ◌∙◌, subst, List, Some, slice_get, eqb}
 use Rattle.std.proofs.lemmas.Bool.{lt-ltb}
-use Rattle.dob_rank.specs.Marks.{classes_of}
+use Rattle.dob_rank.specs.Families.{classes_of}
 use Rattle.dob_value.specs.declared.value.Value.{Value}
 use Rattle.dob_value.specs.declared.value.Value.TheVariants.{Draw}
 use Rattle.dob_value.specs.Follows.{IsEntry}
@@ -19,10 +19,10 @@ use Rattle.dob_world.specs.Standing.{IsNodeOf, AreInPlace}
 use Rattle.dob_world.proofs.Made.{kept_of}
 
 module _ (k : Setting) (nodes : List Node) (lanes : List Lane) (some : 0 < k.n) (places : AreInPlace k nodes lanes)
-    (lawful : AreLawful k (world_shown k.set k.n nodes lanes).nodes) (class : ℕ) (low : class < classes_of k.set) (node : Node)
+    (lawful : AreLawful k (world_shown k.family k.n nodes lanes).nodes) (class : ℕ) (low : class < classes_of k.family) (node : Node)
     (there : slice_get nodes (owner_of k.n class) ≡ Some node) where
   abbrev pub shown : Nodes
-  shown = (world_shown k.set k.n nodes lanes).nodes
+  shown = (world_shown k.family k.n nodes lanes).nodes
 
   is_node : IsNodeOf k (owner_of k.n class) node
   is_node = places.node (owner_of k.n class) node there
@@ -34,12 +34,12 @@ module _ (k : Setting) (nodes : List Node) (lanes : List Lane) (some : 0 < k.n) 
   cell_shown : shown.cell class ≡ cell_at node.share class
   unfolding world_shown nodes_shown
   cell_shown = ap (λ b. cond b (part (fresh 0) (λ (x : Node). cell_at x.share class) (slice_get nodes (owner_of k.n class))) (fresh 0))
-      (lt-ltb class (classes_of k.set) low)
+      (lt-ltb class (classes_of k.family) low)
       ∙ ap (part (fresh 0) (λ (x : Node). cell_at x.share class)) there
 
   -- it shows the value of the world
   pub shows : (v : Value) → HasValueNow node.share class v → v ≡ value_in k.n shown class
-  shows v is = value_shown k.set k.n shown.history shown.applied shown.cell (value_in k.n shown) lawful class low (cell_at node.share class) cell_shown
+  shows v is = value_shown k.family k.n shown.history shown.applied shown.cell (value_in k.n shown) lawful class low (cell_at node.share class) cell_shown
       (status_at node.share class) v (is_node.statuses class owned) is
 
   -- which a table can have

@@ -17,10 +17,10 @@ use Rattle.dob_world.proofs.Linked.{linked_expanded, linked_own, linked_posted, 
 
 -- of the own items
 pub next_own : (k : Setting) (world : WorldView) (i : ℕ) (items : List Item) → IsLinked k world → i < k.n → world.own i ≡ items →
-    items_in k world.nodes i i ≡ world.nodes.applied i i ++ (items ++ items_from (predecessors k.set) k.n i (drop (world.expanded i) (world.nodes.history i)))
+    items_in k world.nodes i i ≡ world.nodes.applied i i ++ (items ++ items_from (predecessors k.family) k.n i (drop (world.expanded i) (world.nodes.history i)))
 next_own k world i items linked low is =
-    let later = items_from (predecessors k.set) k.n i (drop (world.expanded i) (world.nodes.history i)) in
-    emitted_all (predecessors k.set) k.n i (world.nodes.history i) (world.expanded i)
+    let later = items_from (predecessors k.family) k.n i (drop (world.expanded i) (world.nodes.history i)) in
+    emitted_all (predecessors k.family) k.n i (world.nodes.history i) (world.expanded i)
     ∙ ap (λ xs. xs ++ later) (linked.own i low)
     ∙ append_assoc (world.nodes.applied i i) (world.own i) later
     ∙ ap (λ xs. world.nodes.applied i i ++ (xs ++ later)) is
@@ -29,10 +29,10 @@ next_own k world i items linked low is =
 pub next_waiting : (k : Setting) (world : WorldView) (i j : ℕ) (batch : BatchView) (batches : List BatchView) → IsLinked k world → i < k.n → j < k.n →
     i ≢ j → world.waiting i j ≡ batch ∷ batches →
     items_in k world.nodes i j ≡ world.nodes.applied i j ++ (batch.items ++ (items_of_batches batches ++ (world.outbox i j
-    ++ items_from (predecessors k.set) k.n j (drop (world.expanded i) (world.nodes.history i)))))
+    ++ items_from (predecessors k.family) k.n j (drop (world.expanded i) (world.nodes.history i)))))
 next_waiting k world i j batch batches linked low_i low_j differs is =
-    let later = items_from (predecessors k.set) k.n j (drop (world.expanded i) (world.nodes.history i)) in
-    emitted_all (predecessors k.set) k.n j (world.nodes.history i) (world.expanded i)
+    let later = items_from (predecessors k.family) k.n j (drop (world.expanded i) (world.nodes.history i)) in
+    emitted_all (predecessors k.family) k.n j (world.nodes.history i) (world.expanded i)
     ∙ ap (λ xs. xs ++ later) (linked.posted i j low_i low_j differs)
     ∙ append_assoc (world.sent i j) (world.outbox i j) later
     ∙ ap (λ xs. xs ++ (world.outbox i j ++ later)) (linked.taken i j low_i low_j differs)
@@ -49,7 +49,7 @@ module _ (k : Setting) (old new : WorldView) (lawful : AreLawful k old.nodes) (l
   pub owned_keeps : (i : ℕ) → 0 < k.n → i < k.n → AppliesOwn k i old new → AreLawful k new.nodes × IsLinked k new
   owned_keeps i some low step =
       let next = next_own k old i (step.item ∷ new.own i) linked low step.first in
-      let later = items_from (predecessors k.set) k.n i (drop (old.expanded i) (old.nodes.history i)) in (
+      let later = items_from (predecessors k.family) k.n i (drop (old.expanded i) (old.nodes.history i)) in (
         lawful_step k some i i low low step.item old.nodes lawful (new.own i ++ later) next new.nodes step.applied,
         linked_own k i old new low linked step (step_grows k i i step.item old.nodes new.nodes step.applied),
       )
@@ -63,7 +63,7 @@ module _ (k : Setting) (old new : WorldView) (lawful : AreLawful k old.nodes) (l
   pub taken_keeps : (i j : ℕ) → 0 < k.n → i < k.n → j < k.n → i ≢ j → TakesBatch k i j old new → AreLawful k new.nodes × IsLinked k new
   taken_keeps i j some low_i low_j differs step =
       let next = next_waiting k old i j step.batch (new.waiting i j) linked low_i low_j differs step.first in
-      let later = items_from (predecessors k.set) k.n j (drop (old.expanded i) (old.nodes.history i)) in
+      let later = items_from (predecessors k.family) k.n j (drop (old.expanded i) (old.nodes.history i)) in
       let both = all_applied k some i j low_i low_j differs step.batch.items (items_of_batches (new.waiting i j) ++ (old.outbox i j ++ later))
       old.nodes new.nodes lawful next step.applied in (
         both.0,
@@ -103,10 +103,10 @@ events_keep_all k old new (event ∷ events) some lawful linked after = elim aft
 
 pub lists_are_beginnings : ListsAreBeginnings
 lists_are_beginnings k world i j linked low_i low_j differs =
-    let later = items_from (predecessors k.set) k.n j (drop (world.expanded i) (world.nodes.history i)) in (
+    let later = items_from (predecessors k.family) k.n j (drop (world.expanded i) (world.nodes.history i)) in (
       (
         world.outbox i j ++ later,
-        emitted_all (predecessors k.set) k.n j (world.nodes.history i) (world.expanded i)
+        emitted_all (predecessors k.family) k.n j (world.nodes.history i) (world.expanded i)
             ∙ ap (λ xs. xs ++ later) (linked.posted i j low_i low_j differs)
             ∙ append_assoc (world.sent i j) (world.outbox i j) later,
       ),
@@ -117,7 +117,7 @@ lists_are_beginnings k world i j linked low_i low_j differs =
 
 pub own_item_fits : OwnItemFits
 own_item_fits k world i item rest some lawful linked low is =
-    let later = items_from (predecessors k.set) k.n i (drop (world.expanded i) (world.nodes.history i)) in
+    let later = items_from (predecessors k.family) k.n i (drop (world.expanded i) (world.nodes.history i)) in
     next_fits k some i i low low item world.nodes lawful (rest ++ later) (next_own k world i (item ∷ rest) linked low is)
 
 -- What is left of nodes of which one has applied the first items of a batch: they are lawful, and the batch's others come next.
@@ -131,7 +131,7 @@ pub front_applied : (k : Setting) (world : WorldView) (i j : ℕ) (batch : Batch
     0 < k.n → AreLawful k world.nodes → IsLinked k world → i < k.n → j < k.n → i ≢ j → world.waiting i j ≡ batch ∷ batches → batch.items ≡ front ++ behind →
     AppliesAll k i j front world.nodes nodes → FrontApplied k i j front behind world.nodes nodes
 front_applied k world i j batch batches front behind nodes some lawful linked low_i low_j differs first items_are applied =
-    let later = items_from (predecessors k.set) k.n j (drop (world.expanded i) (world.nodes.history i)) in
+    let later = items_from (predecessors k.family) k.n j (drop (world.expanded i) (world.nodes.history i)) in
     let others = items_of_batches batches ++ (world.outbox i j ++ later) in
     let next : items_in k world.nodes i j ≡ world.nodes.applied i j ++ (front ++ (behind ++ others)) =
     next_waiting k world i j batch batches linked low_i low_j differs first

@@ -42,10 +42,10 @@ module _ (k : Setting) (old new : WorldView) (some : 0 < k.n) (lawful : AreLawfu
   sent_begins m l low_m low_l apart =
       let begun = (lists_are_beginnings k old m l linked low_m low_l apart).0 in
       let more = (applied_some.grows.history m).0 in
-      let later = items_from (predecessors k.set) k.n l more in (
+      let later = items_from (predecessors k.family) k.n l more in (
         begun.0 ++ later,
-        ap (λ h. items_from (predecessors k.set) k.n l h) (applied_some.grows.history m).1
-            ∙ items_from-append (predecessors k.set) k.n l (old.nodes.history m) more
+        ap (λ h. items_from (predecessors k.family) k.n l h) (applied_some.grows.history m).1
+            ∙ items_from-append (predecessors k.family) k.n l (old.nodes.history m) more
             ∙ ap (λ xs. xs ++ later) begun.1
             ∙ append_assoc (old.sent m l) begun.0 later,
       )

@@ -1,6 +1,6 @@
 -- The lemmas, in the order in which they are read. First lists, nodes and lanes.
 pub mod Places  -- what holds at one node or link and at all others
-pub mod Firsts  -- first elements, and calls that can't have failed
+pub mod Firsts  -- first elements, lists that have some, and calls that can't have failed
 pub mod Slots  -- elements of lists after a write, and nodes and lanes among them
 pub mod InPlace  -- nodes and lanes where they stand
 pub mod Lent  -- what a world shows of its nodes and lanes is what it lends

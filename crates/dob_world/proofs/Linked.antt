@@ -17,7 +17,7 @@ use Rattle.dob_world.proofs.Applied.{Grows}
 
 module _ (k : Setting) (i : ℕ) (old new : WorldView) (low_i : i < k.n) (linked : IsLinked k old) (step : Expands k i old new) where
   abbrev targets : ℕ → List ℕ
-  targets = predecessors k.set
+  targets = predecessors k.family
 
   emitted_here : (j : ℕ) → emitted_in k new i j ≡ emitted_in k old i j ++ items_of targets k.n j step.settlement
   emitted_here j =
@@ -80,8 +80,8 @@ module _ (k : Setting) (i j : ℕ) (items : List Item) (old new : WorldView) (li
     (same : (m : ℕ) → new.expanded m ≡ old.expanded m) where
   emitted_same : (m l : ℕ) → m < k.n → emitted_in k new m l ≡ emitted_in k old m l
   emitted_same m l low =
-      ap (λ e. items_from (predecessors k.set) k.n l (take e (new.nodes.history m))) (same m)
-      ∙ emitted_grown (predecessors k.set) k.n l (old.nodes.history m) (grows.history m).0 (new.nodes.history m) (old.expanded m)
+      ap (λ e. items_from (predecessors k.family) k.n l (take e (new.nodes.history m))) (same m)
+      ∙ emitted_grown (predecessors k.family) k.n l (old.nodes.history m) (grows.history m).0 (new.nodes.history m) (old.expanded m)
       (linked.expanded m low) (grows.history m).1
 
   within_same : (m : ℕ) → m < k.n → new.expanded m ≤ length (new.nodes.history m)
@@ -130,8 +130,8 @@ module _ (k : Setting) (i j : ℕ) (old new : WorldView) (low_i : i < k.n) (low_
     (step : Posts k i j old new) where
   emitted_still : (m l : ℕ) → emitted_in k new m l ≡ emitted_in k old m l
   emitted_still m l =
-      ap (λ h. items_from (predecessors k.set) k.n l (take (new.expanded m) h)) (step.nodes.history m)
-      ∙ ap (λ e. items_from (predecessors k.set) k.n l (take e (old.nodes.history m))) (step.same.0 m)
+      ap (λ h. items_from (predecessors k.family) k.n l (take (new.expanded m) h)) (step.nodes.history m)
+      ∙ ap (λ e. items_from (predecessors k.family) k.n l (take e (old.nodes.history m))) (step.same.0 m)
 
   pub linked_posted : IsLinked k new
   linked_posted = record {

@@ -6,8 +6,8 @@ use Rattle.std.proofs.lemmas.List.{append-nil}
 use Rattle.std.proofs.lemmas.List.Elements.{All-head, All-tail, All-append, All-cons, All-nil}
 use Rattle.dob_moves.specs.declared.position_status.Status.{Status}
 use Rattle.dob_moves.specs.Statuses.{HasStatus}
-use Rattle.dob_rank.specs.Marks.{classes_of}
-use Rattle.dob_rank.specs.ClassRows.{class_setup}
+use Rattle.dob_rank.specs.Families.{classes_of}
+use Rattle.dob_rank.specs.Families.{class_setup}
 use Rattle.dob_unmove.specs.Edges.{predecessors}
 use Rattle.dob_share.specs.declared.news.Item.{Item}
 use Rattle.dob_share.specs.declared.share.Share.{Share}
@@ -36,34 +36,34 @@ use Rattle.dob_world.proofs.Moves.{applies_one, applies_many}
 
 -- ---- nodes and lanes that are kept
 
-pub low_own : (k : Setting) (i : ℕ) (node : Node) → IsSound node → (node.set ≡ k.set) × (node.id ≡ i) × (node.n ≡ k.n) → (class : ℕ) →
-    IsOwn node.share class → class < classes_of k.set
-low_own k i node sound of class own = (((kept_sound k.set k.n i node of sound).owned class).0 own).1
+pub low_own : (k : Setting) (i : ℕ) (node : Node) → IsSound node → (node.family ≡ k.family) × (node.id ≡ i) × (node.n ≡ k.n) → (class : ℕ) →
+    IsOwn node.share class → class < classes_of k.family
+low_own k i node sound of class own = (((kept_sound k.family k.n i node of sound).owned class).0 own).1
 
-pub node_opened : (k : Setting) (i : ℕ) (node : Node) → IsSound node → (node.set ≡ k.set) × (node.id ≡ i) × (node.n ≡ k.n) →
-    ((class : ℕ) → IsOwn node.share class → HasStatus (class_setup k.set class) (status_at node.share class)) → node.failed ≡ None →
+pub node_opened : (k : Setting) (i : ℕ) (node : Node) → IsSound node → (node.family ≡ k.family) × (node.id ≡ i) × (node.n ≡ k.n) →
+    ((class : ℕ) → IsOwn node.share class → HasStatus k.family.profile (class_setup k.family class) (status_at node.share class)) → node.failed ≡ None →
     IsNodeOf k i node
 node_opened k i node sound of statuses going = record { sound = sound; of = of; statuses = statuses; going = going }
 
-pub kept_of : (k : Setting) (i : ℕ) (node : Node) → IsNodeOf k i node → AreKept k.set k.n i node.share node.history
-kept_of k i node is = kept_sound k.set k.n i node is.of is.sound
+pub kept_of : (k : Setting) (i : ℕ) (node : Node) → IsNodeOf k i node → AreKept k.family k.n i node.share node.history
+kept_of k i node is = kept_sound k.family k.n i node is.of is.sound
 
-pub node_after : (k : Setting) (i : ℕ) (node after : Node) → IsNodeOf k i node → IsSound after → after.failed ≡ None → after.set ≡ node.set →
+pub node_after : (k : Setting) (i : ℕ) (node after : Node) → IsNodeOf k i node → IsSound after → after.failed ≡ None → after.family ≡ node.family →
     after.id ≡ node.id →
     after.n ≡ node.n → ((class : ℕ) → status_at after.share class ≡ status_at node.share class) → IsNodeOf k i after
-node_after k i node after is sound going set_is id_is n_is statuses = record {
+node_after k i node after is sound going family_is id_is n_is statuses = record {
   sound = sound;
   going = going;
   of = of_after;
-  statuses = λ class own. subst (λ (s : Status). HasStatus (class_setup k.set class) s) (sym (statuses class))
+  statuses = λ class own. subst (λ (s : Status). HasStatus k.family.profile (class_setup k.family class) s) (sym (statuses class))
       (is.statuses class (((kept_of k i node is).owned class).1 ((kept_there.owned class).0 own)));
 }
   where
-    of_after : (after.set ≡ k.set) × (after.id ≡ i) × (after.n ≡ k.n)
-    of_after = (set_is ∙ is.of.0, id_is ∙ is.of.1, n_is ∙ is.of.2)
+    of_after : (after.family ≡ k.family) × (after.id ≡ i) × (after.n ≡ k.n)
+    of_after = (family_is ∙ is.of.0, id_is ∙ is.of.1, n_is ∙ is.of.2)
 
-    kept_there : AreKept k.set k.n i after.share after.history
-    kept_there = kept_sound k.set k.n i after of_after sound
+    kept_there : AreKept k.family k.n i after.share after.history
+    kept_there = kept_sound k.family k.n i after of_after sound
 
 pub chain_statuses : (items : List Item) (share after : Share) (history grown : HistoryView) → AreTaken items share after history grown → (class : ℕ) →
     status_at after class ≡ status_at share class
@@ -82,24 +82,24 @@ module _ (k : Setting) (nodes : List Node) (lanes : List Lane) (i : ℕ) (low : 
   pub lane_owned : IsLaneOf k i i lane → IsLaneOf k i i next
   lane_owned of = record {
     capacity = ap (λ (l : LinkView). l.capacity) step.same.0 ∙ of.capacity;
-    batches = subst (λ (l : LinkView). All (IsBatchFor k.set k.n i) l.waiting) (sym step.same.0) of.batches;
+    batches = subst (λ (l : LinkView). All (IsBatchFor k.family k.n i) l.waiting) (sym step.same.0) of.batches;
   }
 
-  own_first : (world_shown k.set k.n nodes lanes).own i ≡ step.applied.item ∷ after.own.items
+  own_first : (world_shown k.family k.n nodes lanes).own i ≡ step.applied.item ∷ after.own.items
   unfolding world_shown
   own_first = was nodes i node after there_n [] (λ (x : Node). x.own.items) ∙ step.applied.first
 
-  pub owns : 0 < k.n → AreLawful k (world_shown k.set k.n nodes lanes).nodes → IsLinked k (world_shown k.set k.n nodes lanes) →
-      AppliesOwn k i (world_shown k.set k.n nodes lanes) (world_shown k.set k.n (set nodes i after) (set lanes (i * k.n + i) next))
+  pub owns : 0 < k.n → AreLawful k (world_shown k.family k.n nodes lanes).nodes → IsLinked k (world_shown k.family k.n nodes lanes) →
+      AppliesOwn k i (world_shown k.family k.n nodes lanes) (world_shown k.family k.n (set nodes i after) (set lanes (i * k.n + i) next))
   unfolding world_shown
   owns some lawful linked = record {
     item = step.applied.item;
     first = own_first ∙ ap (λ xs. step.applied.item ∷ xs) (sym (here nodes i node after there_n [] (λ (x : Node). x.own.items)));
     applied = applies_one k nodes lanes i i low low node after lane next there_n there_l whole some step.applied.item
-        (after.own.items ++ items_from (predecessors k.set) k.n i (drop ((world_shown k.set k.n nodes lanes).expanded i)
-        ((world_shown k.set k.n nodes lanes).nodes.history i)))
+        (after.own.items ++ items_from (predecessors k.family) k.n i (drop ((world_shown k.family k.n nodes lanes).expanded i)
+        ((world_shown k.family k.n nodes lanes).nodes.history i)))
         (kept_of k i node is) step.applied.taken lawful
-        (next_own k (world_shown k.set k.n nodes lanes) i (step.applied.item ∷ after.own.items) linked low own_first) step.listed;
+        (next_own k (world_shown k.family k.n nodes lanes) i (step.applied.item ∷ after.own.items) linked low own_first) step.listed;
     others = elsewhere nodes i node after there_n [] (λ (x : Node). x.own.items);
     same = (
       stays nodes i node after there_n 0 (λ (x : Node). x.expanded) step.applied.same.3,
@@ -155,10 +155,10 @@ module _ (k : Setting) (nodes : List Node) (lanes : List Lane) (i j : ℕ) (low_
     (lane next : Lane) (there_n : slice_get nodes j ≡ Some node) (there_l : lane_at k.n lanes i j ≡ Some lane) (whole : length lanes ≡ k.n * k.n)
     (is : IsNodeOf k j node) (is_lane : IsLaneOf k i j lane) (items : List Item) (step : ReceivesFront items node lane after next) where
   abbrev before : WorldView
-  before = world_shown k.set k.n nodes lanes
+  before = world_shown k.family k.n nodes lanes
 
   abbrev later : WorldView
-  later = world_shown k.set k.n (set nodes j after) (set lanes (i * k.n + j) next)
+  later = world_shown k.family k.n (set nodes j after) (set lanes (i * k.n + j) next)
 
   pub node_received : IsSound after → after.failed ≡ None → IsNodeOf k j after
   node_received sound going = node_after k j node after is sound going step.taken.same.0 step.taken.same.1 step.taken.same.2
@@ -167,13 +167,13 @@ module _ (k : Setting) (nodes : List Node) (lanes : List Lane) (i j : ℕ) (low_
   waits_are : lane.link.waiting ≡ step.batch ∷ next.link.waiting
   waits_are = ap (λ (l : LinkView). l.waiting) step.first
 
-  batches_are : All (IsBatchFor k.set k.n j) (step.batch ∷ next.link.waiting)
-  batches_are = subst (λ bs. All (IsBatchFor k.set k.n j) bs) waits_are is_lane.batches
+  batches_are : All (IsBatchFor k.family k.n j) (step.batch ∷ next.link.waiting)
+  batches_are = subst (λ bs. All (IsBatchFor k.family k.n j) bs) waits_are is_lane.batches
 
   pub lane_received : IsLaneOf k i j next
   lane_received = record {
     capacity = sym (ap (λ (l : LinkView). l.capacity) step.first) ∙ is_lane.capacity;
-    batches = All-tail (IsBatchFor k.set k.n j) step.batch next.link.waiting batches_are;
+    batches = All-tail (IsBatchFor k.family k.n j) step.batch next.link.waiting batches_are;
   }
 
   pub waits_first : before.waiting i j ≡ step.batch ∷ next.link.waiting
@@ -202,10 +202,10 @@ module _ (k : Setting) (nodes : List Node) (lanes : List Lane) (i j : ℕ) (low_
   unfolding world_shown
   items_received some lawful linked =
       let others = items_of_batches next.link.waiting ++ (before.outbox i j
-      ++ items_from (predecessors k.set) k.n j (drop (before.expanded i) (before.nodes.history i))) in
+      ++ items_from (predecessors k.family) k.n j (drop (before.expanded i) (before.nodes.history i))) in
       applies_many k nodes lanes i j low_i low_j node after lane next there_n there_l whole some items (step.behind ++ others) differs (kept_of k j node is)
       (All-front items step.behind (subst (λ xs. All HasEntries xs) step.items_are
-      (All-head (IsBatchFor k.set k.n j) step.batch next.link.waiting batches_are).entries)) step.taken.taken lawful
+      (All-head (IsBatchFor k.family k.n j) step.batch next.link.waiting batches_are).entries)) step.taken.taken lawful
       (next_waiting k before i j step.batch next.link.waiting linked low_i low_j differs waits_first
       ∙ ap (λ xs. before.nodes.applied i j ++ (xs ++ others)) step.items_are
       ∙ ap (λ xs. before.nodes.applied i j ++ xs) (append_assoc items step.behind others)) step.listed
@@ -249,7 +249,7 @@ module _ (k : Setting) (nodes : List Node) (lanes : List Lane) (i j : ℕ) (low_
   node_posted sound going = node_after k i node after is sound going step.cut.same.0 step.cut.same.1 step.cut.same.2
       (λ class. ap (λ (s : Share). status_at s class) step.cut.kept.0)
 
-  batch_for : IsBatchFor k.set k.n j step.batch
+  batch_for : IsBatchFor k.family k.n j step.batch
   batch_for = record {
     of = (
       step.cut.cut.of_link.0 ∙ (is.sound.addressed j).of.0 ∙ is.of.0,
@@ -262,12 +262,12 @@ module _ (k : Setting) (nodes : List Node) (lanes : List Lane) (i j : ℕ) (low_
   pub lane_posted : IsLaneOf k i j next
   lane_posted = record {
     capacity = ap (λ (l : LinkView). l.capacity) step.link ∙ is_lane.capacity;
-    batches = subst (λ (l : LinkView). All (IsBatchFor k.set k.n j) l.waiting) (sym step.link)
-        (All-append (IsBatchFor k.set k.n j) lane.link.waiting (step.batch ∷ []) is_lane.batches
-        (All-cons (IsBatchFor k.set k.n j) step.batch [] batch_for (All-nil (IsBatchFor k.set k.n j))));
+    batches = subst (λ (l : LinkView). All (IsBatchFor k.family k.n j) l.waiting) (sym step.link)
+        (All-append (IsBatchFor k.family k.n j) lane.link.waiting (step.batch ∷ []) is_lane.batches
+        (All-cons (IsBatchFor k.family k.n j) step.batch [] batch_for (All-nil (IsBatchFor k.family k.n j))));
   }
 
-  pub posts : Posts k i j (world_shown k.set k.n nodes lanes) (world_shown k.set k.n (set nodes i after) (set lanes (i * k.n + j) next))
+  pub posts : Posts k i j (world_shown k.family k.n nodes lanes) (world_shown k.family k.n (set nodes i after) (set lanes (i * k.n + j) next))
   unfolding world_shown nodes_shown
   posts = record {
     batch = step.batch;
@@ -292,7 +292,7 @@ module _ (k : Setting) (nodes : List Node) (lanes : List Lane) (i j : ℕ) (low_
     nodes = record {
       history = stays nodes i node after there_n [] (λ (x : Node). x.history.settlements) (ap (λ (h : HistoryView). h.settlements) step.cut.kept.1);
       applied = lane_stays k.n lanes i j lane next low_i low_j whole there_l [] (λ (x : Lane). x.applied.items) step.same;
-      cell = λ class. ap (λ c. cond (nat_lt class (classes_of k.set)) c (fresh 0)) (stays nodes i node after there_n (fresh 0)
+      cell = λ class. ap (λ c. cond (nat_lt class (classes_of k.family)) c (fresh 0)) (stays nodes i node after there_n (fresh 0)
           (λ (x : Node). cell_at x.share class) (ap (λ (s : Share). cell_at s class) step.cut.kept.0) (owner_of k.n class));
     };
   }

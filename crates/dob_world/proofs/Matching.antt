@@ -14,9 +14,7 @@ use Rattle.dob_world.specs.Events.{Happens, Expands, AppliesOwn, Posts, TakesBat
 use Rattle.dob_world.specs.Standing.{HasAtMost}
 use Rattle.dob_world.specs.Laws.{HappeningKeepsMatch}
 use Rattle.dob_world.proofs.Places.{at_link}
-
-none_some : {X : Type 0} (xs : List X) → xs ≡ [] → 0 < length xs → ⊥
-none_some xs is some = let e : length xs ≡ 0 = ap length is in omega arith
+use Rattle.dob_world.proofs.Firsts.{none_some}
 
 -- a node that isn't idle is black
 pub busy_black : (k : Setting) (state : State) → Matches k state → (i : ℕ) → i < k.n → (IsIdle k state.world i → ⊥) → state.ring.black i ≡ true

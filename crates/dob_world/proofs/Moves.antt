@@ -4,7 +4,7 @@ use Rattle.std.proofs.Common.{ap, ◌∙◌, subst, List, [], ◌∷◌, ◌++�
 use Rattle.std.specs.List.{All}
 use Rattle.std.proofs.lemmas.Bool.{eqb-true, eq-eqb, and_parts, and_cases}
 use Rattle.std.proofs.lemmas.List.{length-set}
-use Rattle.dob_rank.specs.Marks.{classes_of}
+use Rattle.dob_rank.specs.Families.{classes_of}
 use Rattle.dob_share.specs.declared.news.Item.{Item}
 use Rattle.dob_share.specs.Owners.{owner_of}
 use Rattle.dob_share.specs.Cells.{Cell, fresh}
@@ -37,15 +37,15 @@ in_place_both k nodes lanes m node after i j lane next low_i low_j there_n there
 module _ (k : Setting) (nodes : List Node) (lanes : List Lane) (i j : ℕ) (low_i : i < k.n) (low_j : j < k.n) (node after : Node) (lane next : Lane)
     (there_n : slice_get nodes j ≡ Some node) (there_l : lane_at k.n lanes i j ≡ Some lane) (whole : length lanes ≡ k.n * k.n) where
   abbrev pub old : Nodes
-  old = nodes_shown k.set k.n nodes lanes
+  old = nodes_shown k.family k.n nodes lanes
 
   abbrev pub new : Nodes
-  new = nodes_shown k.set k.n (set nodes j after) (set lanes (i * k.n + j) next)
+  new = nodes_shown k.family k.n (set nodes j after) (set lanes (i * k.n + j) next)
 
   pub cell_there : (class : ℕ) → own_test k j class ≡ true → cell_at node.share class ≡ old.cell class
   unfolding nodes_shown
   cell_there class is =
-      let both = and_parts (nat_lt class (classes_of k.set)) (eqb (owner_of k.n class) j) is in
+      let both = and_parts (nat_lt class (classes_of k.family)) (eqb (owner_of k.n class) j) is in
       sym (ap (λ b. cond b (part (fresh 0) (λ (x : Node). cell_at x.share class) (slice_get nodes (owner_of k.n class))) (fresh 0)) both.0
       ∙ ap (λ m. part (fresh 0) (λ (x : Node). cell_at x.share class) (slice_get nodes m)) (eqb-true (owner_of k.n class) j both.1)
       ∙ was nodes j node after there_n (fresh 0) (λ (x : Node). cell_at x.share class))
@@ -53,17 +53,17 @@ module _ (k : Setting) (nodes : List Node) (lanes : List Lane) (i j : ℕ) (low_
   pub cell_then : (class : ℕ) → own_test k j class ≡ true → cell_at after.share class ≡ new.cell class
   unfolding nodes_shown
   cell_then class is =
-      let both = and_parts (nat_lt class (classes_of k.set)) (eqb (owner_of k.n class) j) is in
+      let both = and_parts (nat_lt class (classes_of k.family)) (eqb (owner_of k.n class) j) is in
       sym (ap (λ b. cond b (part (fresh 0) (λ (x : Node). cell_at x.share class) (slice_get (set nodes j after) (owner_of k.n class))) (fresh 0)) both.0
       ∙ ap (λ m. part (fresh 0) (λ (x : Node). cell_at x.share class) (slice_get (set nodes j after) m)) (eqb-true (owner_of k.n class) j both.1)
       ∙ here nodes j node after there_n (fresh 0) (λ (x : Node). cell_at x.share class))
 
   cell_elsewhere : (class : ℕ) → own_test k j class ≡ false → old.cell class ≡ new.cell class
   unfolding nodes_shown
-  cell_elsewhere class is = elim (and_cases (nat_lt class (classes_of k.set)) (eqb (owner_of k.n class) j) is) [
+  cell_elsewhere class is = elim (and_cases (nat_lt class (classes_of k.family)) (eqb (owner_of k.n class) j) is) [
     | inl high ↦ ap (λ b. cond b (part (fresh 0) (λ (x : Node). cell_at x.share class) (slice_get nodes (owner_of k.n class))) (fresh 0)) high
         ∙ sym (ap (λ b. cond b (part (fresh 0) (λ (x : Node). cell_at x.share class) (slice_get (set nodes j after) (owner_of k.n class))) (fresh 0)) high)
-    | inr other ↦ ap (λ c. cond (nat_lt class (classes_of k.set)) c (fresh 0)) (sym (elsewhere nodes j node after there_n (fresh 0)
+    | inr other ↦ ap (λ c. cond (nat_lt class (classes_of k.family)) c (fresh 0)) (sym (elsewhere nodes j node after there_n (fresh 0)
         (λ (x : Node). cell_at x.share class) (owner_of k.n class) (λ same. let e = eq-eqb (owner_of k.n class) j same in cc)))
   ]
 
@@ -114,7 +114,7 @@ module _ (k : Setting) (nodes : List Node) (lanes : List Lane) (i j : ℕ) (low_
             (cell_elsewhere class));
       })
 
-  pub applies_one : 0 < k.n → (item : Item) (rest : List Item) → AreKept k.set k.n j node.share node.history →
+  pub applies_one : 0 < k.n → (item : Item) (rest : List Item) → AreKept k.family k.n j node.share node.history →
       IsTaken item node.share after.share node.history after.history → AreLawful k old → items_in k old i j ≡ old.applied i j ++ item ∷ rest →
       next.applied.items ≡ lane.applied.items ++ item ∷ [] → Applies k i j item old new
   applies_one some item rest kept taken lawful is listed =
@@ -126,7 +126,7 @@ module _ (k : Setting) (nodes : List Node) (lanes : List Lane) (i j : ℕ) (low_
       (subst (λ x. AreLawful k x) old_same lawful)
       (ap (λ x. items_in k x i j) (sym old_same) ∙ is ∙ ap (λ xs. xs ++ item ∷ rest) applied_was))))
 
-  pub applies_many : 0 < k.n → (items rest : List Item) → i ≢ j → AreKept k.set k.n j node.share node.history → All HasEntries items →
+  pub applies_many : 0 < k.n → (items rest : List Item) → i ≢ j → AreKept k.family k.n j node.share node.history → All HasEntries items →
       AreTaken items node.share after.share node.history after.history → AreLawful k old → items_in k old i j ≡ old.applied i j ++ (items ++ rest) →
       next.applied.items ≡ lane.applied.items ++ items → AppliesAll k i j items old new
   applies_many some items rest differs kept entries taken lawful is listed =

@@ -33,11 +33,11 @@ pub none_of : {X : Type 0} (xs : List X) → xs ≡ [] → 0 < length xs → ⊥
 none_of xs is some = let e : length xs ≡ 0 = ap length is in omega arith
 
 module _ (k : Setting) (nodes : List Node) (lanes : List Lane) (some : 0 < k.n) (places : AreInPlace k nodes lanes)
-    (lawful : AreLawful k (world_shown k.set k.n nodes lanes).nodes) (linked : IsLinked k (world_shown k.set k.n nodes lanes))
+    (lawful : AreLawful k (world_shown k.family k.n nodes lanes).nodes) (linked : IsLinked k (world_shown k.family k.n nodes lanes))
     (node after : Node) (lane next : Lane) (sound : IsSound after) (going : after.failed ≡ None) where
   pub owned : (i : ℕ) → i < k.n → slice_get nodes i ≡ Some node → lane_at k.n lanes i i ≡ Some lane → HasListed node lane after next →
-      Outcome k ((i < k.n) × (0 < length ((world_shown k.set k.n nodes lanes).own i)))
-      (AppliesOwn k i (world_shown k.set k.n nodes lanes) (world_shown k.set k.n (set nodes i after) (set lanes (i * k.n + i) next)))
+      Outcome k ((i < k.n) × (0 < length ((world_shown k.family k.n nodes lanes).own i)))
+      (AppliesOwn k i (world_shown k.family k.n nodes lanes) (world_shown k.family k.n (set nodes i after) (set lanes (i * k.n + i) next)))
       (set nodes i after) (set lanes (i * k.n + i) next)
   owned i low there_n there_l step =
       let is = places.node i node there_n in
@@ -45,7 +45,7 @@ module _ (k : Setting) (nodes : List Node) (lanes : List Lane) (some : 0 < k.n) 
       record {
         can = (
           low,
-          some_of ((world_shown k.set k.n nodes lanes).own i) ((world_shown k.set k.n (set nodes i after) (set lanes (i * k.n + i) next)).own i)
+          some_of ((world_shown k.family k.n nodes lanes).own i) ((world_shown k.family k.n (set nodes i after) (set lanes (i * k.n + i) next)).own i)
               happens.item happens.first,
         );
         happens = happens;
@@ -55,8 +55,8 @@ module _ (k : Setting) (nodes : List Node) (lanes : List Lane) (some : 0 < k.n) 
       }
 
   pub received : (i j : ℕ) → i < k.n → j < k.n → i ≢ j → slice_get nodes j ≡ Some node → lane_at k.n lanes i j ≡ Some lane → HasReceived node lane after next →
-      Outcome k ((i < k.n) × (j < k.n) × (i ≢ j) × (0 < length ((world_shown k.set k.n nodes lanes).waiting i j)))
-      (TakesBatch k i j (world_shown k.set k.n nodes lanes) (world_shown k.set k.n (set nodes j after) (set lanes (i * k.n + j) next)))
+      Outcome k ((i < k.n) × (j < k.n) × (i ≢ j) × (0 < length ((world_shown k.family k.n nodes lanes).waiting i j)))
+      (TakesBatch k i j (world_shown k.family k.n nodes lanes) (world_shown k.family k.n (set nodes j after) (set lanes (i * k.n + j) next)))
       (set nodes j after) (set lanes (i * k.n + j) next)
   received i j low_i low_j differs there_n there_l step =
       let is = places.node j node there_n in
@@ -67,7 +67,7 @@ module _ (k : Setting) (nodes : List Node) (lanes : List Lane) (some : 0 < k.n) 
           low_i,
           low_j,
           differs,
-          some_of ((world_shown k.set k.n nodes lanes).waiting i j) next.link.waiting step.batch
+          some_of ((world_shown k.family k.n nodes lanes).waiting i j) next.link.waiting step.batch
               (waits_first k nodes lanes i j low_i low_j differs node after lane next there_n there_l places.lanes_whole is is_lane step.batch.items all),
         );
         happens = receives k nodes lanes i j low_i low_j differs node after lane next there_n there_l places.lanes_whole is is_lane step.batch.items all refl
@@ -78,19 +78,19 @@ module _ (k : Setting) (nodes : List Node) (lanes : List Lane) (some : 0 < k.n) 
             (lane_received k nodes lanes i j low_i low_j differs node after lane next there_n there_l places.lanes_whole is is_lane step.batch.items all);
       }
 
-  outbox_was : (i j : ℕ) → slice_get nodes i ≡ Some node → (world_shown k.set k.n nodes lanes).outbox i j ≡ (outbox_to node j).items
+  outbox_was : (i j : ℕ) → slice_get nodes i ≡ Some node → (world_shown k.family k.n nodes lanes).outbox i j ≡ (outbox_to node j).items
   unfolding world_shown
   outbox_was i j there = was nodes i node after there [] (λ (x : Node). (outbox_to x j).items)
 
-  waiting_was : (i j : ℕ) → i < k.n → j < k.n → lane_at k.n lanes i j ≡ Some lane → (world_shown k.set k.n nodes lanes).waiting i j ≡ lane.link.waiting
+  waiting_was : (i j : ℕ) → i < k.n → j < k.n → lane_at k.n lanes i j ≡ Some lane → (world_shown k.family k.n nodes lanes).waiting i j ≡ lane.link.waiting
   unfolding world_shown
   waiting_was i j low_i low_j there = lane_was k.n lanes i j lane next low_i low_j places.lanes_whole there [] (λ (x : Lane). x.link.waiting)
 
   pub posted : (i j : ℕ) → i < k.n → j < k.n → i ≢ j → slice_get nodes i ≡ Some node → lane_at k.n lanes i j ≡ Some lane →
       HasPosted j k.batch node lane after next → ((outbox_to node j).items ≡ [] → ⊥) → length lane.link.waiting < lane.link.capacity →
-      Outcome k ((i < k.n) × (j < k.n) × (i ≢ j) × (0 < length ((world_shown k.set k.n nodes lanes).outbox i j))
-      × (length ((world_shown k.set k.n nodes lanes).waiting i j) < k.capacity))
-      (Posts k i j (world_shown k.set k.n nodes lanes) (world_shown k.set k.n (set nodes i after) (set lanes (i * k.n + j) next)))
+      Outcome k ((i < k.n) × (j < k.n) × (i ≢ j) × (0 < length ((world_shown k.family k.n nodes lanes).outbox i j))
+      × (length ((world_shown k.family k.n nodes lanes).waiting i j) < k.capacity))
+      (Posts k i j (world_shown k.family k.n nodes lanes) (world_shown k.family k.n (set nodes i after) (set lanes (i * k.n + j) next)))
       (set nodes i after) (set lanes (i * k.n + j) next)
   posted i j low_i low_j differs there_n there_l step full room =
       let is = places.node i node there_n in
@@ -113,20 +113,20 @@ module _ (k : Setting) (nodes : List Node) (lanes : List Lane) (some : 0 < k.n) 
 -- ---- what can't happen
 
 module _ (k : Setting) (nodes : List Node) (lanes : List Lane) (node : Node) (lane : Lane) (whole : length lanes ≡ k.n * k.n) where
-  pub cant_own : (i : ℕ) → slice_get nodes i ≡ Some node → node.own.items ≡ [] → 0 < length ((world_shown k.set k.n nodes lanes).own i) → ⊥
+  pub cant_own : (i : ℕ) → slice_get nodes i ≡ Some node → node.own.items ≡ [] → 0 < length ((world_shown k.family k.n nodes lanes).own i) → ⊥
   unfolding world_shown
   cant_own i there none some = none_of (part [] (λ (x : Node). x.own.items) (slice_get nodes i))
       (was nodes i node node there [] (λ (x : Node). x.own.items) ∙ none) some
 
   pub cant_take : (i j : ℕ) → i < k.n → j < k.n → lane_at k.n lanes i j ≡ Some lane → lane.link.waiting ≡ [] →
-      0 < length ((world_shown k.set k.n nodes lanes).waiting i j) → ⊥
+      0 < length ((world_shown k.family k.n nodes lanes).waiting i j) → ⊥
   unfolding world_shown
   cant_take i j low_i low_j there none some = none_of (part [] (λ (x : Lane). x.link.waiting) (lane_at k.n lanes i j))
       (lane_was k.n lanes i j lane lane low_i low_j whole there [] (λ (x : Lane). x.link.waiting) ∙ none) some
 
   pub cant_post : (i j : ℕ) → i < k.n → j < k.n → slice_get nodes i ≡ Some node → lane_at k.n lanes i j ≡ Some lane → lane.link.capacity ≡ k.capacity →
       ((outbox_to node j).items ≡ []) ⊎ (lane.link.capacity ≤ length lane.link.waiting) →
-      0 < length ((world_shown k.set k.n nodes lanes).outbox i j) → length ((world_shown k.set k.n nodes lanes).waiting i j) < k.capacity → ⊥
+      0 < length ((world_shown k.family k.n nodes lanes).outbox i j) → length ((world_shown k.family k.n nodes lanes).waiting i j) < k.capacity → ⊥
   unfolding world_shown
   cant_post i j low_i low_j there_n there_l cap (inl none) some room = none_of (part [] (λ (x : Node). (outbox_to x j).items) (slice_get nodes i))
       (was nodes i node node there_n [] (λ (x : Node). (outbox_to x j).items) ∙ none) some
@@ -138,13 +138,13 @@ module _ (k : Setting) (nodes : List Node) (lanes : List Lane) (node : Node) (la
 -- ---- what can happen where a node has something to do
 
 module _ (k : Setting) (nodes : List Node) (lanes : List Lane) (node : Node) (lane : Lane) (whole : length lanes ≡ k.n * k.n) where
-  pub some_own : (i : ℕ) → slice_get nodes i ≡ Some node → (node.own.items ≡ [] → ⊥) → 0 < length ((world_shown k.set k.n nodes lanes).own i)
+  pub some_own : (i : ℕ) → slice_get nodes i ≡ Some node → (node.own.items ≡ [] → ⊥) → 0 < length ((world_shown k.family k.n nodes lanes).own i)
   unfolding world_shown
   some_own i there some = subst (λ (xs : List Item). 0 < length xs) (sym (was nodes i node node there [] (λ (x : Node). x.own.items)))
       (not_none node.own.items some)
 
   pub some_waits : (i j : ℕ) → i < k.n → j < k.n → lane_at k.n lanes i j ≡ Some lane → (lane.link.waiting ≡ [] → ⊥) →
-      0 < length ((world_shown k.set k.n nodes lanes).waiting i j)
+      0 < length ((world_shown k.family k.n nodes lanes).waiting i j)
   unfolding world_shown
   some_waits i j low_i low_j there some =
       subst (λ (xs : List BatchView). 0 < length xs) (sym (lane_was k.n lanes i j lane lane low_i low_j whole there [] (λ (x : Lane). x.link.waiting)))
@@ -152,7 +152,7 @@ module _ (k : Setting) (nodes : List Node) (lanes : List Lane) (node : Node) (la
 
   pub can_post : (i j : ℕ) → i < k.n → j < k.n → slice_get nodes i ≡ Some node → lane_at k.n lanes i j ≡ Some lane → lane.link.capacity ≡ k.capacity →
       ((outbox_to node j).items ≡ [] → ⊥) → length lane.link.waiting < lane.link.capacity →
-      (0 < length ((world_shown k.set k.n nodes lanes).outbox i j)) × (length ((world_shown k.set k.n nodes lanes).waiting i j) < k.capacity)
+      (0 < length ((world_shown k.family k.n nodes lanes).outbox i j)) × (length ((world_shown k.family k.n nodes lanes).waiting i j) < k.capacity)
   unfolding world_shown
   can_post i j low_i low_j there_n there_l cap some room = (
     subst (λ (xs : List Item). 0 < length xs) (sym (was nodes i node node there_n [] (λ (x : Node). (outbox_to x j).items)))

@@ -10,9 +10,7 @@ use Rattle.dob_world.specs.declared.event.Event.TheVariants.{Expand, Own, Post, 
 use Rattle.dob_world.specs.Worlds.{Setting, State, Matches, IsAtRest, waiting_batches}
 use Rattle.dob_world.specs.Events.{CanHappen}
 use Rattle.dob_world.specs.Laws.{EndIsRest, RestStays, EndIsSilent}
-
-none_some : {X : Type 0} (xs : List X) → xs ≡ [] → 0 < length xs → ⊥
-none_some xs is some = let e : length xs ≡ 0 = ap length is in omega arith
+use Rattle.dob_world.proofs.Firsts.{none_some}
 
 none_long : {X : Type 0} (xs : List X) → length xs ≡ 0 → xs ≡ []
 none_long [] is = refl

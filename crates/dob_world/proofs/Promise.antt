@@ -42,8 +42,8 @@ known_values k nodes lawful class Caught below is = lawful.over class Caught bel
 known_values k nodes lawful class Tried below is = lawful.over class Tried below is (λ same. cc)
 known_values k nodes lawful class Stuck below is = lawful.over class Stuck below is (λ same. cc)
 known_values k nodes lawful class Open below is =
-    value_follows (known_of k.set k.n nodes.history nodes.applied class) (nodes.cell class) (value_in k.n nodes class) (lawful.sums class below is)
-    (some_known k.set class below k.n nodes.history (λ i. nodes.applied i (owner_of k.n class)) is) (lawful.cell_values class below is)
+    value_follows (known_of k.family k.n nodes.history nodes.applied class) (nodes.cell class) (value_in k.n nodes class) (lawful.sums class below is)
+    (some_known k.family class below k.n nodes.history (λ i. nodes.applied i (owner_of k.n class)) is) (lawful.cell_values class below is)
 
 -- a lawful and linked world has the promise's first part
 pub begins : (k : Setting) (world : Shown) → AreLawful k world.nodes → IsLinked k world → AreBeginnings k world
@@ -55,7 +55,7 @@ begins k world lawful linked = record {
   known = known_values k world.nodes lawful;
 }
 
-module _ (k : Setting) (setting : IsSetting k) (openings : HasOpenings k.set) where
+module _ (k : Setting) (setting : IsSetting k) (openings : HasOpenings k.family) where
   pub right_at_rest : (world : Shown) → AreLawful k world.nodes → IsLinked k world → IsAtRest k world → HasRightValues k world
   right_at_rest world lawful linked rest values are =
       rest_is_right k world openings.0 values setting.nodes.0 openings.1 lawful linked rest are.whole are.each
@@ -157,9 +157,9 @@ standing_headline world standing = headline_of (setting_of world) standing.setti
     standing.matches
 
 pub stood_headline : (k : Setting) (nodes : List Node) (lanes : List Lane) (detector : Detector) (steps : ℕ) → Stand k nodes lanes detector steps →
-    Headline k (record { world = world_shown k.set k.n nodes lanes; ring = ring_of detector })
+    Headline k (record { world = world_shown k.family k.n nodes lanes; ring = ring_of detector })
 stood_headline k nodes lanes detector steps stand = headline_of k stand.setting stand.openings
-    (record { world = world_shown k.set k.n nodes lanes; ring = ring_of detector }) stand.lawful stand.linked stand.matches
+    (record { world = world_shown k.family k.n nodes lanes; ring = ring_of detector }) stand.lawful stand.linked stand.matches
 
 -- a world that is as it was stands as it did
 pub stand_unchanged : (old new : World) → IsUnchanged old new → IsStanding old → IsStanding new

@@ -1,7 +1,7 @@
 -- Nodes and lanes, one more.
 use Rattle.std.proofs.Common.{◌≡◌, ℕ, ◌+◌, inl, inr, refl, sym, ap, ◌∙◌, subst, List, [], ◌∷◌, ◌++◌}
 use Rattle.std.proofs.lemmas.List.{length-append}
-use Rattle.dob_pieces.specs.declared.piece_set.PieceSet.{PieceSet}
+use Rattle.dob_pieces.specs.declared.profile.Family.{Family}
 use Rattle.dob_pieces.proofs.Elements.{at_end}
 use Rattle.dob_share.specs.declared.opening.Opening.{Opening}
 use Rattle.dob_node.specs.declared.node.Node.{Node}
@@ -9,14 +9,14 @@ use Rattle.dob_node.specs.Nodes.{IsSound, IsOpened}
 use Rattle.dob_world.specs.declared.lane.Lane.{Lane}
 use Rattle.dob_world.specs.Start.{IsEmptyLane, AreEmptyLanes, AreOpenedNodes}
 
-pub opened_more : (openings : List Opening) (set : PieceSet) (n m : ℕ) (nodes new : List Node) (node : Node) → AreOpenedNodes openings set n m nodes →
-    IsOpened openings set m n node → IsSound node → new ≡ nodes ++ node ∷ [] → AreOpenedNodes openings set n (m + 1) new
-opened_more openings set n m nodes new node are opened sound is = subst (λ xs. AreOpenedNodes openings set n (m + 1) xs) (sym is) (record {
+pub opened_more : (openings : List Opening) (family : Family) (n m : ℕ) (nodes new : List Node) (node : Node) → AreOpenedNodes openings family n m nodes →
+    IsOpened openings family m n node → IsSound node → new ≡ nodes ++ node ∷ [] → AreOpenedNodes openings family n (m + 1) new
+opened_more openings family n m nodes new node are opened sound is = subst (λ xs. AreOpenedNodes openings family n (m + 1) xs) (sym is) (record {
   whole = length-append nodes (node ∷ []) ∙ ap (λ (k : ℕ). k + 1) are.whole;
   each = λ i x there. elim (at_end nodes node x i there) [
     | inl before ↦ are.each i x before
-    | inr last ↦ subst (λ (y : Node). IsOpened openings set i n y × IsSound y) last.1
-        (subst (λ (k : ℕ). IsOpened openings set k n node) (sym (last.0 ∙ are.whole)) opened, sound)
+    | inr last ↦ subst (λ (y : Node). IsOpened openings family i n y × IsSound y) last.1
+        (subst (λ (k : ℕ). IsOpened openings family k n node) (sym (last.0 ∙ are.whole)) opened, sound)
   ];
 })
 
@@ -30,8 +30,8 @@ empty_more capacity m lanes new lane are empty is = subst (λ xs. AreEmptyLanes 
   ];
 })
 
-pub none_opened : (openings : List Opening) (set : PieceSet) (n : ℕ) → AreOpenedNodes openings set n 0 []
-none_opened openings set n = record { whole = refl; each = λ i node there. absurd cc }
+pub none_opened : (openings : List Opening) (family : Family) (n : ℕ) → AreOpenedNodes openings family n 0 []
+none_opened openings family n = record { whole = refl; each = λ i node there. absurd cc }
 
 pub none_empty : (capacity : ℕ) → AreEmptyLanes capacity 0 []
 none_empty capacity = record { whole = refl; each = λ i lane there. absurd cc }

@@ -53,12 +53,12 @@ after_more k old between new events event one other after step =
 
 state_same : (old new : World) → IsUnchanged old new → state_of new ≡ state_of old
 state_same old new same =
-    ap (λ (d : Detector). with_ring (world_shown new.classes.set new.n new.nodes.items new.lanes.items) (ring_of d)) same.detector
+    ap (λ (d : Detector). with_ring (world_shown new.classes.family new.n new.nodes.items new.lanes.items) (ring_of d)) same.detector
     ∙ ap (λ (w : Shown). with_ring w (ring_of old.detector)) (
-    ap (λ set. world_shown set new.n new.nodes.items new.lanes.items) (ap (λ (k : Setting). k.set) same.setting)
-    ∙ ap (λ n. world_shown old.classes.set n new.nodes.items new.lanes.items) (ap (λ (k : Setting). k.n) same.setting)
-    ∙ ap (λ nodes. world_shown old.classes.set old.n nodes new.lanes.items) same.nodes
-    ∙ ap (λ lanes. world_shown old.classes.set old.n old.nodes.items lanes) same.lanes)
+    ap (λ family. world_shown family new.n new.nodes.items new.lanes.items) (ap (λ (k : Setting). k.family) same.setting)
+    ∙ ap (λ n. world_shown old.classes.family n new.nodes.items new.lanes.items) (ap (λ (k : Setting). k.n) same.setting)
+    ∙ ap (λ nodes. world_shown old.classes.family old.n nodes new.lanes.items) same.nodes
+    ∙ ap (λ lanes. world_shown old.classes.family old.n old.nodes.items lanes) same.lanes)
 
 -- What a step makes of a world.
 pub record Stepped (event : Event) (old new : World) : Type 0 where

@@ -12,7 +12,7 @@ use Rattle.dob_world.specs.Laws.{RestIsRight}
 module _ (k : Setting) (world : WorldView) (linked : IsLinked k world) (rest : IsAtRest k world) where
   -- all items of a history are those of the settlements expanded
   all_emitted : (i j : ℕ) → i < k.n → emitted_in k world i j ≡ items_in k world.nodes i j
-  all_emitted i j low = ap (λ h. items_from (predecessors k.set) k.n j h)
+  all_emitted i j low = ap (λ h. items_from (predecessors k.family) k.n j h)
       (take_all (world.expanded i) (world.nodes.history i) (let is : world.expanded i ≡ length (world.nodes.history i) = rest.expanded i low in omega arith))
 
   -- and all of them are applied
@@ -33,5 +33,5 @@ module _ (k : Setting) (world : WorldView) (linked : IsLinked k world) (rest : I
 
 pub rest_is_right : RestIsRight
 rest_is_right k world openings values some are lawful linked rest whole each =
-    lawful_is_right k.set k.n world.nodes.history world.nodes.applied world.nodes.cell (value_in k.n world.nodes) openings values some are lawful
+    lawful_is_right k.family k.n world.nodes.history world.nodes.applied world.nodes.cell (value_in k.n world.nodes) openings values some are lawful
     (all_done k world linked rest) whole each

@@ -10,8 +10,8 @@ use Rattle.dob_moves.specs.declared.position_status.Status.TheVariants.{Open}
 use Rattle.dob_moves.specs.MoveLists.{moves_of}
 use Rattle.dob_moves.specs.Statuses.{HasStatus}
 use Rattle.dob_moves.proofs.Cases.{one_status}
-use Rattle.dob_rank.specs.Marks.{classes_of}
-use Rattle.dob_rank.specs.ClassRows.{class_setup}
+use Rattle.dob_rank.specs.Families.{classes_of}
+use Rattle.dob_rank.specs.Families.{class_setup}
 use Rattle.dob_value.specs.declared.value.Value.TheVariants.{Draw}
 use Rattle.dob_value.specs.Follows.{IsEntry}
 use Rattle.dob_unmove.specs.Edges.{predecessors}
@@ -52,13 +52,13 @@ part_nil : {X Y : Type 0} (f : X → List Y) (o : Option X) → ((x : X) → o �
 part_nil f None none = refl
 part_nil f (Some x) none = none x refl
 
-module _ (k : Setting) (openings : List Opening) (nodes : List Node) (lanes : List Lane) (some : 0 < k.n) (are : AreOpenings k.set openings)
-    (opened : AreOpenedNodes openings k.set k.n k.n nodes) (empty : AreEmptyLanes k.capacity (k.n * k.n) lanes) where
+module _ (k : Setting) (openings : List Opening) (nodes : List Node) (lanes : List Lane) (some : 0 < k.n) (are : AreOpenings k.family openings)
+    (opened : AreOpenedNodes openings k.family k.n k.n nodes) (empty : AreEmptyLanes k.capacity (k.n * k.n) lanes) where
   abbrev status : ℕ → Status
   status = status_in openings
 
   abbrev shown : Nodes
-  shown = nodes_shown k.set k.n nodes lanes
+  shown = nodes_shown k.family k.n nodes lanes
 
   of_n : (i : ℕ) → i < k.n → (node : Node) × (slice_get nodes i ≡ Some node)
   of_n i low = some_at nodes i (subst (λ (m : ℕ). i < m) (sym opened.whole) low)
@@ -68,8 +68,8 @@ module _ (k : Setting) (openings : List Opening) (nodes : List Node) (lanes : Li
 
   is_node : (i : ℕ) (node : Node) → slice_get nodes i ≡ Some node → IsNodeOf k i node
   is_node i node there = let o = opened.each i node there in
-      node_opened k i node o.1 o.0.of (λ class own. subst (λ (s : Status). HasStatus (class_setup k.set class) s) (sym (o.0.statuses class own))
-      (listed_opening k.set openings class are (low_own k i node o.1 o.0.of class own)).status) o.0.going
+      node_opened k i node o.1 o.0.of (λ class own. subst (λ (s : Status). HasStatus k.family.profile (class_setup k.family class) s) (sym (o.0.statuses class own))
+      (listed_opening k.family openings class are (low_own k i node o.1 o.0.of class own)).status) o.0.going
 
   lane_empty : (i j : ℕ) (lane : Lane) → lane_at k.n lanes i j ≡ Some lane → IsEmptyLane k.capacity lane
   lane_empty i j lane there = by (nat_lt j k.n) refl
@@ -85,7 +85,7 @@ module _ (k : Setting) (openings : List Opening) (nodes : List Node) (lanes : Li
     node = is_node;
     lane = λ i j lane there. let e = lane_empty i j lane there in record {
       capacity = ap (λ (l : LinkView). l.capacity) e.link;
-      batches = subst (λ (l : LinkView). All (IsBatchFor k.set k.n j) l.waiting) (sym e.link) (All-nil (IsBatchFor k.set k.n j));
+      batches = subst (λ (l : LinkView). All (IsBatchFor k.family k.n j) l.waiting) (sym e.link) (All-nil (IsBatchFor k.family k.n j));
     };
   }
 
@@ -100,7 +100,7 @@ module _ (k : Setting) (openings : List Opening) (nodes : List Node) (lanes : Li
   place_is : (p : ℕ) → p / k.n * k.n + owner_of k.n p ≡ p
   place_is p = let e : p % k.n + p / k.n * k.n ≡ p = mod-add-div' p k.n in omega arith
 
-  value_is : (p : ℕ) (s : Status) → p < classes_of k.set → HasStatus (class_setup k.set p) s → value_in k.n shown p ≡ or_else (opening_value s) Draw
+  value_is : (p : ℕ) (s : Status) → p < classes_of k.family → HasStatus k.family.profile (class_setup k.family p) s → value_in k.n shown p ≡ or_else (opening_value s) Draw
   value_is p s low is =
       let i = owner_of k.n p in
       let low_i : i < k.n = below_owner k.n p some in
@@ -112,9 +112,9 @@ module _ (k : Setting) (openings : List Opening) (nodes : List Node) (lanes : Li
       ∙ ap (λ (m : ℕ). value_of (opening_settlements status k.n i (places_of node.share)) m) (sym (place_is p))
       ∙ opened_value k.n i low_i status (places_of node.share) (p / k.n) (((opened.each i node there).0.places (p / k.n)).1 within)
       ∙ ap (λ (m : ℕ). or_else (opening_value (status m)) Draw) (place_is p)
-      ∙ ap (λ st. or_else (opening_value st) Draw) (one_status (class_setup k.set p) (status p) s (listed_opening k.set openings p are low).status is)
+      ∙ ap (λ st. or_else (opening_value st) Draw) (one_status k.family.profile (class_setup k.family p) (status p) s (listed_opening k.family openings p are low).status is)
 
-  cell_is : (p : ℕ) → p < classes_of k.set → SameCell (shown.cell p) (fresh (length (moves_of (class_setup k.set p))))
+  cell_is : (p : ℕ) → p < classes_of k.family → SameCell (shown.cell p) (fresh (length (moves_of k.family.profile (class_setup k.family p))))
   unfolding nodes_shown
   cell_is p low =
       let i = owner_of k.n p in
@@ -122,25 +122,25 @@ module _ (k : Setting) (openings : List Opening) (nodes : List Node) (lanes : Li
       let node = (of_n i low_i).0 in
       let there = (of_n i low_i).1 in
       let at : shown.cell p ≡ cell_at node.share p =
-      ap (λ b. cond b (part (fresh 0) (λ (x : Node). cell_at x.share p) (slice_get nodes i)) (fresh 0)) (lt-ltb p (classes_of k.set) low)
+      ap (λ b. cond b (part (fresh 0) (λ (x : Node). cell_at x.share p) (slice_get nodes i)) (fresh 0)) (lt-ltb p (classes_of k.family) low)
       ∙ ap (part (fresh 0) (λ (x : Node). cell_at x.share p)) there in
-      subst (λ c. SameCell c (fresh (length (moves_of (class_setup k.set p))))) (sym at)
-      (subst (λ (m : ℕ). SameCell (cell_at node.share p) (fresh m)) (listed_opening k.set openings p are low).moves
+      subst (λ c. SameCell c (fresh (length (moves_of k.family.profile (class_setup k.family p))))) (sym at)
+      (subst (λ (m : ℕ). SameCell (cell_at node.share p) (fresh m)) (listed_opening k.family openings p are low).moves
       ((opened.each i node there).0.cells p (((kept_of k i node (is_node i node there)).owned p).1 (refl, low))))
 
-  chained_start : (i : ℕ) → i < k.n → IsChained (classes_of k.set) k.n i (shown.history i)
+  chained_start : (i : ℕ) → i < k.n → IsChained (classes_of k.family) k.n i (shown.history i)
   chained_start i low = let at = of_n i low in
-      subst (λ xs. IsChained (classes_of k.set) k.n i xs) (sym (history_is i at.0 at.1))
-      (opened_chained k.n i low status (classes_of k.set) (places_of at.0.share) (λ q less.
+      subst (λ xs. IsChained (classes_of k.family) k.n i xs) (sym (history_is i at.0 at.1))
+      (opened_chained k.n i low status (classes_of k.family) (places_of at.0.share) (λ q less.
       subst (λ (m : ℕ). q * k.n + i < m) are.whole (((opened.each i at.0 at.1).0.places q).0 less)))
 
   falls_begun : HaveFallsIn k shown
-  falls_begun = falls_start k.set k.n shown.history shown.cell chained_start
+  falls_begun = falls_start k.family k.n shown.history shown.cell chained_start
       (λ i low. let at = of_n i low in
       subst (λ xs. All (λ (s : Settlement). IsFirst s.now) xs) (sym (history_is i at.0 at.1)) (opened_first status k.n i (places_of at.0.share)))
-      (λ class low. fresh_within (classes_of k.set) (length (moves_of (class_setup k.set class))) (shown.cell class) (cell_is class low))
+      (λ class low. fresh_within (classes_of k.family) (length (moves_of k.family.profile (class_setup k.family class))) (shown.cell class) (cell_is class low))
 
-  pub falls_shown : HaveFallsIn k (world_shown k.set k.n nodes lanes).nodes
+  pub falls_shown : HaveFallsIn k (world_shown k.family k.n nodes lanes).nodes
   unfolding world_shown
   falls_shown = falls_begun
 
@@ -151,28 +151,28 @@ module _ (k : Setting) (openings : List Opening) (nodes : List Node) (lanes : Li
         subst (λ xs. All (λ (s : Settlement). IsEntry s.now) xs) (sym (history_is i at.0 at.1))
         (opened_entries k.n i low status (places_of at.0.share));
     begun = λ i j low_i low_j. (
-      items_from (predecessors k.set) k.n j (shown.history i),
-      ap (λ xs. xs ++ items_from (predecessors k.set) k.n j (shown.history i)) (sym (none_applied i j)),
+      items_from (predecessors k.family) k.n j (shown.history i),
+      ap (λ xs. xs ++ items_from (predecessors k.family) k.n j (shown.history i)) (sym (none_applied i j)),
     );
-    sums = λ p low is. SumsUp-same (known_of k.set k.n shown.history shown.applied p) (shown.cell p)
-        (fresh (length (moves_of (class_setup k.set p)))) (cell_is p low)
-        (start_sums k.set p low k.n shown.history (λ i. shown.applied i (owner_of k.n p)) (λ i. none_applied i (owner_of k.n p)));
+    sums = λ p low is. SumsUp-same (known_of k.family k.n shown.history shown.applied p) (shown.cell p)
+        (fresh (length (moves_of k.family.profile (class_setup k.family p)))) (cell_is p low)
+        (start_sums k.family p low k.n shown.history (λ i. shown.applied i (owner_of k.n p)) (λ i. none_applied i (owner_of k.n p)));
     cell_values = λ p low is. subst (λ v. CellValue (shown.cell p) v) (sym (value_is p Open low is))
-        (CellValue-same (shown.cell p) (fresh (length (moves_of (class_setup k.set p)))) Draw (cell_is p low) (refl, inr (λ plies. refl)));
+        (CellValue-same (shown.cell p) (fresh (length (moves_of k.family.profile (class_setup k.family p)))) Draw (cell_is p low) (refl, inr (λ plies. refl)));
     over = λ p s low is closed. subst (λ v. FollowsAtStatus s [] v) (sym (value_is p s low is)) (closed_follows s closed);
     values = λ p low. refl;
   }
 
-  pub lawful_shown : AreLawful k (world_shown k.set k.n nodes lanes).nodes
+  pub lawful_shown : AreLawful k (world_shown k.family k.n nodes lanes).nodes
   unfolding world_shown
   lawful_shown = lawful_start
 
-  pub waits_start : (i j : ℕ) → (world_shown k.set k.n nodes lanes).waiting i j ≡ []
+  pub waits_start : (i j : ℕ) → (world_shown k.family k.n nodes lanes).waiting i j ≡ []
   unfolding world_shown
   waits_start i j = part_nil (λ (x : Lane). x.link.waiting) (lane_at k.n lanes i j)
       (λ lane there. ap (λ (l : LinkView). l.waiting) (lane_empty i j lane there).link)
 
-  pub linked_start : IsLinked k (world_shown k.set k.n nodes lanes)
+  pub linked_start : IsLinked k (world_shown k.family k.n nodes lanes)
   unfolding world_shown
   linked_start = record {
     expanded = λ i low. let e = none_expanded i low in omega arith;
@@ -202,5 +202,5 @@ module _ (k : Setting) (openings : List Opening) (nodes : List Node) (lanes : Li
           (λ lane there. ap (λ (l : LinkView). l.waiting) (lane_empty i j lane there).link)
 
       emitted_none : (i j : ℕ) → i < k.n →
-          items_from (predecessors k.set) k.n j (take (part 0 (λ (x : Node). x.expanded) (slice_get nodes i)) (shown.history i)) ≡ []
-      emitted_none i j low = ap (λ e. items_from (predecessors k.set) k.n j (take e (shown.history i))) (none_expanded i low)
+          items_from (predecessors k.family) k.n j (take (part 0 (λ (x : Node). x.expanded) (slice_get nodes i)) (shown.history i)) ≡ []
+      emitted_none i j low = ap (λ e. items_from (predecessors k.family) k.n j (take e (shown.history i))) (none_expanded i low)

@@ -15,16 +15,14 @@ use Rattle.dob_world.specs.Worlds.{Setting, State, IsIdle}
 use Rattle.dob_world.specs.Events.{CanHappen, Happens}
 use Rattle.dob_world.specs.Shown.{nodes_shown, world_shown, ring_of}
 use Rattle.dob_world.specs.Standing.{AreInPlace, IsCounted, Stand, HasAtMost, AreCutsPosted}
+use Rattle.dob_world.proofs.Firsts.{none_some}
 use Rattle.dob_world.proofs.Slots.{was}
 use Rattle.dob_world.proofs.Kept.{happening_keeps_all}
 use Rattle.dob_world.proofs.Bounds.{happening_keeps_falls}
 use Rattle.dob_world.proofs.Matching.{busy_black, happening_keeps_match, posted_most}
 
 abbrev pub state_at : Setting → List Node → List Lane → Detector → State
-state_at k nodes lanes detector = record { world = world_shown k.set k.n nodes lanes; ring = ring_of detector }
-
-none_some : {X : Type 0} (xs : List X) → xs ≡ [] → 0 < length xs → ⊥
-none_some xs is some = let e : length xs ≡ 0 = ap length is in omega arith
+state_at k nodes lanes detector = record { world = world_shown k.family k.n nodes lanes; ring = ring_of detector }
 
 module _ (k : Setting) (nodes : List Node) (lanes : List Lane) (detector : Detector) (steps : ℕ) (stand : Stand k nodes lanes detector steps) where
   pub stand_after : (after : List Node) (next : List Lane) (new : Detector) (event : Event) → steps < 2 ^ 40 → AreInPlace k after next → IsCounted new →
@@ -68,17 +66,17 @@ module _ (k : Setting) (nodes : List Node) (lanes : List Lane) (detector : Detec
   pub announceable_there : IsAnnounceable k.n (ring_of detector) true → IsAnnounceable detector.n (ring_of detector) true
   announceable_there may = subst (λ (m : ℕ). IsAnnounceable m (ring_of detector) true) (sym stand.same_n) may
 
-  pub sender_black : (i j : ℕ) → i < k.n → j < k.n → i ≢ j → 0 < length ((world_shown k.set k.n nodes lanes).outbox i j) → (ring_of detector).black i ≡ true
+  pub sender_black : (i j : ℕ) → i < k.n → j < k.n → i ≢ j → 0 < length ((world_shown k.family k.n nodes lanes).outbox i j) → (ring_of detector).black i ≡ true
   sender_black i j low_i low_j differs some = busy_black k (state_at k nodes lanes detector) stand.matches i low_i
-      (λ idle. none_some ((world_shown k.set k.n nodes lanes).outbox i j) (idle.outboxes j low_j (λ same. differs (sym same))) some)
+      (λ idle. none_some ((world_shown k.family k.n nodes lanes).outbox i j) (idle.outboxes j low_j (λ same. differs (sym same))) some)
 
   pub room_to_post : (i j : ℕ) → i < k.n → j < k.n → steps < 2 ^ 40 → (ring_of detector).posted i j < 2 ^ 40
   room_to_post i j low_i low_j room = let few : (ring_of detector).posted i j ≤ steps = stand.few i j low_i low_j in omega (arith, few, room)
 
-  pub batch_waits : (i j : ℕ) → i < k.n → j < k.n → 0 < length ((world_shown k.set k.n nodes lanes).waiting i j) →
+  pub batch_waits : (i j : ℕ) → i < k.n → j < k.n → 0 < length ((world_shown k.family k.n nodes lanes).waiting i j) →
       (ring_of detector).taken i j < (ring_of detector).posted i j
   batch_waits i j low_i low_j some =
-      let is : (ring_of detector).posted i j ≡ (ring_of detector).taken i j + length ((world_shown k.set k.n nodes lanes).waiting i j) =
+      let is : (ring_of detector).posted i j ≡ (ring_of detector).taken i j + length ((world_shown k.family k.n nodes lanes).waiting i j) =
       stand.matches.posted i j low_i low_j in
       omega (arith, is, some)
 
@@ -91,7 +89,7 @@ beyond (x ∷ xs) (suc i) d past = beyond xs i d (omega arith)
 
 module _ (k : Setting) (nodes : List Node) (lanes : List Lane) (places : AreInPlace k nodes lanes) (i : ℕ) (node : Node) (low : i < k.n)
     (there : slice_get nodes i ≡ Some node) where
-  pub idle_shown : IsIdleNode node → IsIdle k (world_shown k.set k.n nodes lanes) i
+  pub idle_shown : IsIdleNode node → IsIdle k (world_shown k.family k.n nodes lanes) i
   unfolding world_shown nodes_shown
   idle_shown idle = record {
     expanded = was nodes i node node there 0 (λ (x : Node). x.expanded) ∙ idle.expanded
@@ -100,7 +98,7 @@ module _ (k : Setting) (nodes : List Node) (lanes : List Lane) (places : AreInPl
     outboxes = λ j low_j differs. was nodes i node node there [] (λ (x : Node). (outbox_to x j).items) ∙ idle.sent j;
   }
 
-  pub shown_idle : IsIdle k (world_shown k.set k.n nodes lanes) i → IsIdleNode node
+  pub shown_idle : IsIdle k (world_shown k.family k.n nodes lanes) i → IsIdleNode node
   unfolding world_shown nodes_shown
   shown_idle idle = record {
     expanded = sym (was nodes i node node there 0 (λ (x : Node). x.expanded)) ∙ idle.expanded
@@ -112,7 +110,7 @@ module _ (k : Setting) (nodes : List Node) (lanes : List Lane) (places : AreInPl
             (places.node i node there).sound.nothing_to_self
         | inr other ↦ sym (was nodes i node node there [] (λ (x : Node). (outbox_to x to).items)) ∙ idle.outboxes to within other
       ]
-      | inr past ↦ ap (λ (o : OutboxView). o.items) (beyond node.outboxes.items to (empty_outbox node.set node.n node.id to)
+      | inr past ↦ ap (λ (o : OutboxView). o.items) (beyond node.outboxes.items to (empty_outbox node.family node.n node.id to)
           (let count : length node.outboxes.items ≡ node.n = (places.node i node there).sound.receivers in
           let of : node.n ≡ k.n = (places.node i node there).of.2 in
           omega (arith, count, of, past)))

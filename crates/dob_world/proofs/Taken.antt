@@ -5,7 +5,7 @@ use Rattle.std.specs.List.{All}
 use Rattle.std.proofs.lemmas.Bool.{cases_eq, eqb-true, eq-eqb, ne_eqb, lt-ltb, ltb-true, and_parts, and_right}
 use Rattle.std.proofs.lemmas.List.{append-nil}
 use Rattle.std.proofs.lemmas.List.Elements.{All-head, All-tail}
-use Rattle.dob_rank.specs.Marks.{classes_of}
+use Rattle.dob_rank.specs.Families.{classes_of}
 use Rattle.dob_share.specs.declared.news.Settlement.{Settlement}
 use Rattle.dob_share.specs.declared.news.Item.{Item}
 use Rattle.dob_share.specs.declared.share.Share.{Share}
@@ -30,7 +30,7 @@ use Rattle.dob_world.proofs.Applied.{next_fits, lawful_step, step_grows, next_af
 -- ---- nodes of which one has that share and history, and has applied those items of another
 
 abbrev pub own_test : Setting → ℕ → ℕ → Bool
-own_test k j class = nat_lt class (classes_of k.set) && eqb (owner_of k.n class) j
+own_test k j class = nat_lt class (classes_of k.family) && eqb (owner_of k.n class) j
 
 abbrev pub with_share : Setting → ℕ → ℕ → Nodes → Share → List Settlement → List Item → Nodes
 with_share k i j nodes share history items = record {
@@ -64,18 +64,18 @@ module _ (k : Setting) (i j : ℕ) (nodes : Nodes) (share : Share) (history : Li
   applied_else m l (inl other) = ap (λ b. cond (b && eqb l j) items (nodes.applied m l)) (ne_eqb m i other)
   applied_else m l (inr other) = applied_receiver m l other
 
-  pub own_is : (class : ℕ) → class < classes_of k.set → owner_of k.n class ≡ j → own_test k j class ≡ true
-  own_is class low own = ap (λ b. b && eqb (owner_of k.n class) j) (lt-ltb class (classes_of k.set) low) ∙ eq-eqb (owner_of k.n class) j own
+  pub own_is : (class : ℕ) → class < classes_of k.family → owner_of k.n class ≡ j → own_test k j class ≡ true
+  own_is class low own = ap (λ b. b && eqb (owner_of k.n class) j) (lt-ltb class (classes_of k.family) low) ∙ eq-eqb (owner_of k.n class) j own
 
-  pub cell_here : (class : ℕ) → class < classes_of k.set → owner_of k.n class ≡ j → given.cell class ≡ cell_at share class
+  pub cell_here : (class : ℕ) → class < classes_of k.family → owner_of k.n class ≡ j → given.cell class ≡ cell_at share class
   cell_here class low own = ap (λ b. cond b (cell_at share class) (nodes.cell class)) (own_is class low own)
 
 -- ---- what is taken
 
 module _ (k : Setting) (i j : ℕ) (nodes : Nodes) (share after : Share) (history grown : HistoryView) (items : List Item) (item : Item)
-    (kept : AreKept k.set k.n j share history) (taken : IsTaken item share after history grown)
+    (kept : AreKept k.family k.n j share history) (taken : IsTaken item share after history grown)
     (lawful : AreLawful k (with_share k i j nodes share history.settlements items))
-    (can : CanApply k.set k.n j (with_share k i j nodes share history.settlements items).cell item) where
+    (can : CanApply k.family k.n j (with_share k i j nodes share history.settlements items).cell item) where
   abbrev pub old : Nodes
   old = with_share k i j nodes share history.settlements items
 
@@ -110,8 +110,8 @@ module _ (k : Setting) (i j : ℕ) (nodes : Nodes) (share after : Share) (histor
 
   cells_after : (p : ℕ) → p ≢ item.to → SameCell (new.cell p) (old.cell p)
   cells_after p other = same_by (own_test k j p) (cell_at after p) (cell_at share p) (nodes.cell p) (λ is.
-      let both = and_parts (nat_lt p (classes_of k.set)) (eqb (owner_of k.n p) j) is in
-      taken.others p ((kept.owned p).1 (eqb-true (owner_of k.n p) j both.1, ltb-true p (classes_of k.set) both.0)) other)
+      let both = and_parts (nat_lt p (classes_of k.family)) (eqb (owner_of k.n p) j) is in
+      taken.others p ((kept.owned p).1 (eqb-true (owner_of k.n p) j both.1, ltb-true p (classes_of k.family) both.0)) other)
 
   values_after : ((p : ℕ) → p ≢ item.to → value_of g p ≡ value_of h p) → (p : ℕ) → p ≢ item.to → value_in k.n new p ≡ value_in k.n old p
   values_after same p other = elim (cases_eq (owner_of k.n p) j) [
@@ -179,14 +179,14 @@ stay_by before after is = record {
   cell = λ class. ap (λ (x : Nodes). x.cell class) is;
 }
 
-pub kept_after : (k : Setting) (j : ℕ) (share after : Share) (history grown : HistoryView) (item : Item) → AreKept k.set k.n j share history →
-    HasEntries item → IsTaken item share after history grown → AreKept k.set k.n j after grown
-kept_after k j share after history grown item kept entries taken = kept_still k.set k.n j share after history item kept entries taken.classes taken.fits
+pub kept_after : (k : Setting) (j : ℕ) (share after : Share) (history grown : HistoryView) (item : Item) → AreKept k.family k.n j share history →
+    HasEntries item → IsTaken item share after history grown → AreKept k.family k.n j after grown
+kept_after k j share after history grown item kept entries taken = kept_still k.family k.n j share after history item kept entries taken.classes taken.fits
     taken.cell taken.others taken.settled.0 taken.settled.1 grown taken.settled.2
 
 module _ (k : Setting) (some : 0 < k.n) (i j : ℕ) (low_i : i < k.n) (low_j : j < k.n) (nodes : Nodes) where
   pub item_applies : (share after : Share) (history grown : HistoryView) (items rest : List Item) (item : Item) →
-      AreKept k.set k.n j share history → IsTaken item share after history grown → AreLawful k (with_share k i j nodes share history.settlements items) →
+      AreKept k.family k.n j share history → IsTaken item share after history grown → AreLawful k (with_share k i j nodes share history.settlements items) →
       items_in k (with_share k i j nodes share history.settlements items) i j ≡ items ++ item ∷ rest →
       Applies k i j item (with_share k i j nodes share history.settlements items) (with_share k i j nodes after grown.settlements (items ++ item ∷ []))
   item_applies share after history grown items rest item kept taken lawful is =
@@ -195,17 +195,17 @@ module _ (k : Setting) (some : 0 < k.n) (i j : ℕ) (low_i : i < k.n) (low_j : j
       (is ∙ ap (λ xs. xs ++ item ∷ rest) (sym (applied_here k i j nodes share history.settlements items))))
 
   pub items_apply : (more : List Item) (share after : Share) (history grown : HistoryView) (items rest : List Item) → i ≢ j →
-      AreKept k.set k.n j share history → All HasEntries more → AreTaken more share after history grown →
+      AreKept k.family k.n j share history → All HasEntries more → AreTaken more share after history grown →
       AreLawful k (with_share k i j nodes share history.settlements items) →
       items_in k (with_share k i j nodes share history.settlements items) i j ≡ items ++ (more ++ rest) →
       AppliesAll k i j more (with_share k i j nodes share history.settlements items) (with_share k i j nodes after grown.settlements (items ++ more))
-      × AreKept k.set k.n j after grown
+      × AreKept k.family k.n j after grown
   items_apply [] share after history grown items rest differs kept entries taken lawful is = (
     stay_by (with_share k i j nodes share history.settlements items) (with_share k i j nodes after grown.settlements (items ++ []))
         (ap (λ x. with_share k i j nodes x grown.settlements (items ++ [])) taken.0
         ∙ ap (λ (x : HistoryView). with_share k i j nodes share x.settlements (items ++ [])) taken.1
         ∙ ap (λ xs. with_share k i j nodes share history.settlements xs) (append-nil items)),
-    kept_with_room k.set k.n j after history grown taken.1 (subst (λ (x : Share). AreKept k.set k.n j x history) (sym taken.0) kept),
+    kept_with_room k.family k.n j after history grown taken.1 (subst (λ (x : Share). AreKept k.family k.n j x history) (sym taken.0) kept),
   )
   items_apply (item ∷ more) share after history grown items rest differs kept entries taken lawful is =
       let between = taken.0 in

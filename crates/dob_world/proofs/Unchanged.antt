@@ -1,7 +1,7 @@
 -- What a node and a lane show that are as they were.
 use Rattle.std.proofs.Common.{◌≡◌, ℕ, ◌+◌, ◌*◌, ◌<◌, ap, cond, nat_lt, List, [], length, Some, slice_get, set}
 use Rattle.dob_link.specs.Links.{LinkView}
-use Rattle.dob_rank.specs.Marks.{classes_of}
+use Rattle.dob_rank.specs.Families.{classes_of}
 use Rattle.dob_share.specs.declared.share.Share.{Share}
 use Rattle.dob_share.specs.Cells.{fresh}
 use Rattle.dob_share.specs.Owners.{owner_of}
@@ -19,13 +19,13 @@ use Rattle.dob_world.proofs.Slots.{stays, lane_stays}
 
 -- a node that is as it was shows what it did
 pub node_unseen : (k : Setting) (nodes : List Node) (lanes : List Lane) (i : ℕ) (node after : Node) → slice_get nodes i ≡ Some node →
-    IsUnchanged node after → world_shown k.set k.n (set nodes i after) lanes ≡ world_shown k.set k.n nodes lanes
+    IsUnchanged node after → world_shown k.family k.n (set nodes i after) lanes ≡ world_shown k.family k.n nodes lanes
 unfolding world_shown nodes_shown
 node_unseen k nodes lanes i node after there same = λ d. record {
   nodes = record {
     history = λ m. stays nodes i node after there [] (λ (x : Node). x.history.settlements) (ap (λ (h : HistoryView). h.settlements) same.kept.1) m d;
     applied = λ m l. part [] (λ (x : Lane). x.applied.items) (lane_at k.n lanes m l);
-    cell = λ class. cond (nat_lt class (classes_of k.set)) (stays nodes i node after there (fresh 0) (λ (x : Node). cell_at x.share class)
+    cell = λ class. cond (nat_lt class (classes_of k.family)) (stays nodes i node after there (fresh 0) (λ (x : Node). cell_at x.share class)
         (ap (λ (s : Share). cell_at s class) same.kept.0) (owner_of k.n class) d) (fresh 0);
   };
   expanded = λ m. stays nodes i node after there 0 (λ (x : Node). x.expanded) same.same.3 m d;
@@ -38,13 +38,13 @@ node_unseen k nodes lanes i node after there same = λ d. record {
 
 -- and so does a lane
 pub lane_unseen : (k : Setting) (nodes : List Node) (lanes : List Lane) (i j : ℕ) (lane next : Lane) → i < k.n → j < k.n → length lanes ≡ k.n * k.n →
-    lane_at k.n lanes i j ≡ Some lane → LaneStays lane next → world_shown k.set k.n nodes (set lanes (i * k.n + j) next) ≡ world_shown k.set k.n nodes lanes
+    lane_at k.n lanes i j ≡ Some lane → LaneStays lane next → world_shown k.family k.n nodes (set lanes (i * k.n + j) next) ≡ world_shown k.family k.n nodes lanes
 unfolding world_shown nodes_shown
 lane_unseen k nodes lanes i j lane next low_i low_j whole there same = λ d. record {
   nodes = record {
     history = λ m. part [] (λ (x : Node). x.history.settlements) (slice_get nodes m);
     applied = λ m l. lane_stays k.n lanes i j lane next low_i low_j whole there [] (λ (x : Lane). x.applied.items) same.applied m l d;
-    cell = λ class. cond (nat_lt class (classes_of k.set)) (part (fresh 0) (λ (x : Node). cell_at x.share class) (slice_get nodes (owner_of k.n class)))
+    cell = λ class. cond (nat_lt class (classes_of k.family)) (part (fresh 0) (λ (x : Node). cell_at x.share class) (slice_get nodes (owner_of k.n class)))
         (fresh 0);
   };
   expanded = λ m. part 0 (λ (x : Node). x.expanded) (slice_get nodes m);

@@ -72,8 +72,8 @@ pub record Expands (k : Setting) (i : ℕ) (old new : WorldView) : Type 0 where
   pub settlement : Settlement
   pub is_next : slice_get (old.nodes.history i) (old.expanded i) ≡ Some settlement
   pub expanded : new.expanded i ≡ old.expanded i + 1
-  pub own : new.own i ≡ old.own i ++ items_of (predecessors k.set) k.n i settlement
-  pub outboxes : (j : ℕ) → j < k.n → j ≢ i → new.outbox i j ≡ old.outbox i j ++ items_of (predecessors k.set) k.n j settlement
+  pub own : new.own i ≡ old.own i ++ items_of (predecessors k.family) k.n i settlement
+  pub outboxes : (j : ℕ) → j < k.n → j ≢ i → new.outbox i j ≡ old.outbox i j ++ items_of (predecessors k.family) k.n j settlement
   pub others : StaysElsewhere i old.expanded new.expanded × StaysElsewhere i old.own new.own × StaysElsewhere i old.outbox new.outbox
   pub nodes : NodesStay old.nodes new.nodes
   pub links : LinksStay old.waiting new.waiting × LinksStay old.sent new.sent

@@ -3,8 +3,8 @@ use Rattle.std.specs.Prelude.{◌≡◌, ◌≢◌, ℕ, ◌<◌, true, List}
 use Rattle.dob_pieces.specs.Lists.{IsBeginning}
 use Rattle.dob_moves.specs.declared.position_status.Status.{Status}
 use Rattle.dob_moves.specs.Statuses.{HasStatus}
-use Rattle.dob_rank.specs.Marks.{classes_of}
-use Rattle.dob_rank.specs.ClassRows.{class_setup}
+use Rattle.dob_rank.specs.Families.{classes_of}
+use Rattle.dob_rank.specs.Families.{class_setup}
 use Rattle.dob_value.specs.declared.value.Value.{Value}
 use Rattle.dob_value.specs.Follows.{IsValueTable}
 use Rattle.dob_node.specs.Histories.{AreValuesBelow}
@@ -17,8 +17,8 @@ use Rattle.dob_world.specs.Events.{CanHappen, MayEnd}
 
 -- Each class has the value that follows, at its status, from what the copies of its moves know by the items applied.
 abbrev pub HaveKnownValues : Setting → Nodes → Type 0
-HaveKnownValues k nodes = (class : ℕ) (status : Status) → class < classes_of k.set → HasStatus (class_setup k.set class) status →
-    FollowsAtStatus status (known_of k.set k.n nodes.history nodes.applied class) (value_in k.n nodes class)
+HaveKnownValues k nodes = (class : ℕ) (status : Status) → class < classes_of k.family → HasStatus k.family.profile (class_setup k.family class) status →
+    FollowsAtStatus status (known_of k.family k.n nodes.history nodes.applied class) (value_in k.n nodes class)
 
 -- What was sent over each link is a beginning of the items of the sender's history, and what its receiver has applied is a
 -- beginning of what was sent, in its order and each item once; of its own items a node has applied a beginning. Each cell
@@ -37,7 +37,7 @@ pub record IsSilent (k : Setting) (state : State) : Type 0 where
 
 -- The values of all classes are those of the game: each position's win or loss with the least forced distance, or a draw.
 abbrev pub HasRightValues : Setting → WorldView → Type 0
-HasRightValues k world = (values : List Value) → AreValuesBelow (value_in k.n world.nodes) (classes_of k.set) values → IsValueTable k.set values
+HasRightValues k world = (values : List Value) → AreValuesBelow (value_in k.n world.nodes) (classes_of k.family) values → IsValueTable k.family values
 
 -- What each owner has applied from a sender is a beginning of what that sender sent; once the end is announced nothing more
 -- is sent or applied, and the values are right. The ring's state is lawful and matches the world, as many batches are in

@@ -2,7 +2,7 @@
 -- no public call promises it.
 use Rattle.std.specs.Prelude.{◌≡◌, ℕ, [], ◌∷◌, ◌++◌}
 use Rattle.std.specs.List.{All}
-use Rattle.dob_pieces.specs.declared.piece_set.PieceSet.{PieceSet}
+use Rattle.dob_pieces.specs.declared.profile.Family.{Family}
 use Rattle.dob_update.specs.Batches.{BatchView}
 use Rattle.dob_link.specs.Links.{link_of}
 use Rattle.dob_node.specs.declared.cause.Cause.{Cause}
@@ -12,8 +12,8 @@ use Rattle.dob_node.specs.Nodes.{HasApplied, HasTaken, HasTakenBefore, HasCut}
 use Rattle.dob_world.specs.declared.lane.Lane.{Lane}
 
 -- a batch for one of n nodes, with items that have such values as a table can have
-pub record IsBatchFor (set : PieceSet) (n to : ℕ) (batch : BatchView) : Type 0 where
-  pub of : (batch.set ≡ set) × (batch.n ≡ n) × (batch.to ≡ to)
+pub record IsBatchFor (family : Family) (n to : ℕ) (batch : BatchView) : Type 0 where
+  pub of : (batch.family ≡ family) × (batch.n ≡ n) × (batch.to ≡ to)
   pub entries : All HasEntries batch.items
 
 -- the same batches wait on the lane, and it lists the same items

@@ -1,7 +1,7 @@
 -- Laws of worlds, of which `src/laws.rt` has one function each.
 use Rattle.std.specs.Prelude.{◌≡◌, ◌≢◌, ℕ, ◌^◌, ◌<◌, ◌≤◌, true, List, ◌∷◌, ◌++◌, length, Some, slice_get}
 use Rattle.dob_pieces.specs.Lists.{IsBeginning}
-use Rattle.dob_rank.specs.Marks.{classes_of}
+use Rattle.dob_rank.specs.Families.{classes_of}
 use Rattle.dob_value.specs.declared.value.Value.{Value}
 use Rattle.dob_value.specs.Follows.{IsValueTable}
 use Rattle.dob_share.specs.declared.news.Item.{Item}
@@ -43,20 +43,20 @@ ListsAreBeginnings = (k : Setting) (world : WorldView) (i j : ℕ) → IsLinked 
 -- the first own item fits its cell
 abbrev pub OwnItemFits : Type 0
 OwnItemFits = (k : Setting) (world : WorldView) (i : ℕ) (item : Item) (rest : List Item) → 0 < k.n → AreLawful k world.nodes → IsLinked k world →
-    i < k.n → world.own i ≡ item ∷ rest → CanApply k.set k.n i world.nodes.cell item
+    i < k.n → world.own i ≡ item ∷ rest → CanApply k.family k.n i world.nodes.cell item
 
 -- each item of the first batch of a link fits its cell, once those before it are applied
 abbrev pub TakenItemFits : Type 0
 TakenItemFits = (k : Setting) (world : WorldView) (i j : ℕ) (batch : BatchView) (batches : List BatchView) (front : List Item) (item : Item)
     (behind : List Item) (nodes : Nodes) → 0 < k.n → AreLawful k world.nodes → IsLinked k world → i < k.n → j < k.n → i ≢ j →
     world.waiting i j ≡ batch ∷ batches → batch.items ≡ front ++ item ∷ behind → AppliesAll k i j front world.nodes nodes →
-    CanApply k.set k.n j nodes.cell item
+    CanApply k.family k.n j nodes.cell item
 
 -- a lawful and linked world at rest has the value table
 abbrev pub RestIsRight : Type 0
-RestIsRight = (k : Setting) (world : WorldView) (openings : List Opening) (values : List Value) → 0 < k.n → AreOpenings k.set openings →
-    AreLawful k world.nodes → IsLinked k world → IsAtRest k world → length values ≡ classes_of k.set →
-    ((class : ℕ) → class < classes_of k.set → slice_get values class ≡ Some (value_in k.n world.nodes class)) → IsValueTable k.set values
+RestIsRight = (k : Setting) (world : WorldView) (openings : List Opening) (values : List Value) → 0 < k.n → AreOpenings k.family openings →
+    AreLawful k world.nodes → IsLinked k world → IsAtRest k world → length values ≡ classes_of k.family →
+    ((class : ℕ) → class < classes_of k.family → slice_get values class ≡ Some (value_in k.n world.nodes class)) → IsValueTable k.family values
 
 -- where the end may be announced, nothing is left to do
 abbrev pub EndIsRest : Type 0

@@ -1,11 +1,10 @@
 -- Which worlds there are, and what a run of events leaves.
 use Rattle.std.specs.Prelude.{◌≡◌, ℕ, ◌+◌, ◌-◌, ◌*◌, ◌<◌, ◌≤◌, Bool, true, false, None, Some, List}
-use Rattle.dob_rank.specs.Limits.{IsSmall}
 use Rattle.dob_update.specs.Batches.{AreSizes}
 use Rattle.dob_safra.specs.Laws.{IsSize}
 use Rattle.dob_world.specs.declared.event.Event.{Event}
 use Rattle.dob_world.specs.declared.fault.Fault.{Fault}
-use Rattle.dob_world.specs.declared.fault.Fault.TheVariants.{SetTooLarge, Nodes, Sizes, Stopped, Memory}
+use Rattle.dob_world.specs.declared.fault.Fault.TheVariants.{Nodes, Sizes, Stopped, Memory}
 use Rattle.dob_world.specs.declared.world.World.{World}
 use Rattle.dob_world.specs.Worlds.{Setting, State, HaveFallsIn}
 use Rattle.dob_world.specs.Runs.{IsAfter, IsAfterSteps}
@@ -19,9 +18,8 @@ use Rattle.dob_world.specs.Start.{IsStart}
 
 -- Why there is no world of that setting: the first of these that isn't so, or memory is refused where all are.
 abbrev pub HasSettingFault : Setting → Fault → Type 0
-HasSettingFault k SetTooLarge = ¬ IsSmall k.set
-HasSettingFault k Nodes = IsSmall k.set × (¬ IsSize k.n)
-HasSettingFault k Sizes = IsSmall k.set × IsSize k.n × (¬ AreSizes k.batch k.capacity)
+HasSettingFault k Nodes = ¬ IsSize k.n
+HasSettingFault k Sizes = IsSize k.n × (¬ AreSizes k.batch k.capacity)
 HasSettingFault k (Stopped node why) = ⊥
 HasSettingFault k Memory = IsSetting k
 

@@ -1,7 +1,7 @@
 -- What a world shows: its nodes, lanes and ring as functions of node numbers. The lists of a program's world are read here alone.
 use Rattle.std.specs.Prelude.{ℕ, ◌+◌, ◌*◌, nat_lt, false, cond, List, [], Option, None, Some, slice_get, slice_index, slice_index_or}
-use Rattle.dob_pieces.specs.declared.piece_set.PieceSet.{PieceSet}
-use Rattle.dob_rank.specs.Marks.{classes_of}
+use Rattle.dob_pieces.specs.declared.profile.Family.{Family}
+use Rattle.dob_rank.specs.Families.{classes_of}
 use Rattle.dob_share.specs.Owners.{owner_of}
 use Rattle.dob_share.specs.Cells.{fresh}
 use Rattle.dob_share.specs.Shares.{cell_at}
@@ -14,7 +14,7 @@ use Rattle.dob_world.specs.declared.world.World.{World}
 use Rattle.dob_world.specs.Worlds.{Setting, Nodes, WorldView, State}
 
 abbrev pub setting_of : World → Setting
-setting_of world = record { set = world.classes.set; n = world.n; batch = world.batch; capacity = world.capacity }
+setting_of world = record { family = world.classes.family; n = world.n; batch = world.batch; capacity = world.capacity }
 
 -- something of what is in a place, where something is
 abbrev pub part : {X Y : Type 0} → Y → (X → Y) → Option X → Y
@@ -26,17 +26,17 @@ abbrev pub lane_at : ℕ → List Lane → ℕ → ℕ → Option Lane
 lane_at n lanes i j = cond (nat_lt j n) (slice_get lanes (i * n + j)) None
 
 -- what nodes and lanes show
-unfoldable pub nodes_shown : PieceSet → ℕ → List Node → List Lane → Nodes
-nodes_shown set n nodes lanes = record {
+unfoldable pub nodes_shown : Family → ℕ → List Node → List Lane → Nodes
+nodes_shown family n nodes lanes = record {
   history = λ i. part [] (λ (node : Node). node.history.settlements) (slice_get nodes i);
   applied = λ i j. part [] (λ (lane : Lane). lane.applied.items) (lane_at n lanes i j);
-  cell = λ class. cond (nat_lt class (classes_of set)) (part (fresh 0) (λ (node : Node). cell_at node.share class) (slice_get nodes (owner_of n class)))
+  cell = λ class. cond (nat_lt class (classes_of family)) (part (fresh 0) (λ (node : Node). cell_at node.share class) (slice_get nodes (owner_of n class)))
       (fresh 0);
 }
 
-unfoldable pub world_shown : PieceSet → ℕ → List Node → List Lane → WorldView
-world_shown set n nodes lanes = record {
-  nodes = nodes_shown set n nodes lanes;
+unfoldable pub world_shown : Family → ℕ → List Node → List Lane → WorldView
+world_shown family n nodes lanes = record {
+  nodes = nodes_shown family n nodes lanes;
   expanded = λ i. part 0 (λ (node : Node). node.expanded) (slice_get nodes i);
   own = λ i. part [] (λ (node : Node). node.own.items) (slice_get nodes i);
   outbox = λ i j. part [] (λ (node : Node). (outbox_to node j).items) (slice_get nodes i);
@@ -55,7 +55,7 @@ ring_of detector = record {
 }
 
 abbrev pub state_of : World → State
-state_of world = record { world = world_shown world.classes.set world.n world.nodes.items world.lanes.items; ring = ring_of world.detector }
+state_of world = record { world = world_shown world.classes.family world.n world.nodes.items world.lanes.items; ring = ring_of world.detector }
 
 -- how many batches node i has cut for node j
 abbrev pub cut_by : List Node → ℕ → ℕ → ℕ

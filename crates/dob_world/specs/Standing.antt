@@ -2,10 +2,9 @@
 -- hand on: nothing of the promise is defined here.
 use Rattle.std.specs.Prelude.{◌≡◌, ◌≢◌, ℕ, ◌+◌, ◌*◌, ◌<◌, ◌≤◌, false, pos, List, length, None, Some, MatchOption, slice_get, slice_index_or}
 use Rattle.std.specs.List.{All}
-use Rattle.dob_pieces.specs.declared.piece_set.PieceSet.{PieceSet}
+use Rattle.dob_pieces.specs.declared.profile.Family.{Family}
 use Rattle.dob_moves.specs.Statuses.{HasStatus}
-use Rattle.dob_rank.specs.Limits.{IsSmall}
-use Rattle.dob_rank.specs.ClassRows.{class_setup}
+use Rattle.dob_rank.specs.Families.{class_setup}
 use Rattle.dob_share.specs.declared.opening.Opening.{Opening}
 use Rattle.dob_share.specs.Shares.{IsOwn, status_at}
 use Rattle.dob_update.specs.Batches.{AreSizes}
@@ -26,21 +25,20 @@ use Rattle.dob_world.specs.Shown.{setting_of, world_shown, lane_at, ring_of, sta
 
 -- all are in their limits
 pub record IsSetting (k : Setting) : Type 0 where
-  pub small : IsSmall k.set
   pub nodes : IsSize k.n
   pub sizes : AreSizes k.batch k.capacity
 
 -- the node of owner i, which hasn't failed
 pub record IsNodeOf (k : Setting) (i : ℕ) (node : Node) : Type 0 where
   pub sound : IsSound node
-  pub of : (node.set ≡ k.set) × (node.id ≡ i) × (node.n ≡ k.n)
-  pub statuses : (class : ℕ) → IsOwn node.share class → HasStatus (class_setup k.set class) (status_at node.share class)
+  pub of : (node.family ≡ k.family) × (node.id ≡ i) × (node.n ≡ k.n)
+  pub statuses : (class : ℕ) → IsOwn node.share class → HasStatus k.family.profile (class_setup k.family class) (status_at node.share class)
   pub going : node.failed ≡ None
 
 -- the lane from node i to node j
 pub record IsLaneOf (k : Setting) (i j : ℕ) (lane : Lane) : Type 0 where
   pub capacity : lane.link.capacity ≡ k.capacity
-  pub batches : All (IsBatchFor k.set k.n j) lane.link.waiting
+  pub batches : All (IsBatchFor k.family k.n j) lane.link.waiting
 
 -- nodes and lanes stand in their places
 pub record AreInPlace (k : Setting) (nodes : List Node) (lanes : List Lane) : Type 0 where
@@ -49,9 +47,9 @@ pub record AreInPlace (k : Setting) (nodes : List Node) (lanes : List Lane) : Ty
   pub node : (i : ℕ) (node : Node) → slice_get nodes i ≡ Some node → IsNodeOf k i node
   pub lane : (i j : ℕ) (lane : Lane) → lane_at k.n lanes i j ≡ Some lane → IsLaneOf k i j lane
 
--- the classes of the piece set have their openings
-abbrev pub HasOpenings : PieceSet → Type 0
-HasOpenings set = (openings : List Opening) × AreOpenings set openings
+-- the classes of the family have their openings
+abbrev pub HasOpenings : Family → Type 0
+HasOpenings family = (openings : List Opening) × AreOpenings family openings
 
 -- A list has a place for each pair of nodes or for each node, and each node's counter is kept.
 pub record IsCounted (detector : Detector) : Type 0 where
@@ -74,14 +72,14 @@ AreCutsPosted n nodes ring = (i j : ℕ) → i < n → j < n → i ≢ j → cut
 -- linked, settlements have falls, and the ring matches the world.
 pub record Stand (k : Setting) (nodes : List Node) (lanes : List Lane) (detector : Detector) (steps : ℕ) : Type 0 where
   pub setting : IsSetting k
-  pub openings : HasOpenings k.set
+  pub openings : HasOpenings k.family
   pub places : AreInPlace k nodes lanes
   pub counted : IsCounted detector
   pub same_n : detector.n ≡ k.n
-  pub lawful : AreLawful k (world_shown k.set k.n nodes lanes).nodes
-  pub falls : HaveFallsIn k (world_shown k.set k.n nodes lanes).nodes
-  pub linked : IsLinked k (world_shown k.set k.n nodes lanes)
-  pub matches : Matches k (record { world = world_shown k.set k.n nodes lanes; ring = ring_of detector })
+  pub lawful : AreLawful k (world_shown k.family k.n nodes lanes).nodes
+  pub falls : HaveFallsIn k (world_shown k.family k.n nodes lanes).nodes
+  pub linked : IsLinked k (world_shown k.family k.n nodes lanes)
+  pub matches : Matches k (record { world = world_shown k.family k.n nodes lanes; ring = ring_of detector })
   pub few : HasAtMost k.n steps (ring_of detector)
   pub cuts : AreCutsPosted k.n nodes (ring_of detector)
 

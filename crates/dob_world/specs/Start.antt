@@ -1,6 +1,6 @@
 -- A world before its first event.
 use Rattle.std.specs.Prelude.{◌≡◌, ℕ, ◌*◌, List, [], length, Some, slice_get}
-use Rattle.dob_pieces.specs.declared.piece_set.PieceSet.{PieceSet}
+use Rattle.dob_pieces.specs.declared.profile.Family.{Family}
 use Rattle.dob_share.specs.declared.opening.Opening.{Opening}
 use Rattle.dob_link.specs.Links.{link_of}
 use Rattle.dob_node.specs.declared.node.Node.{Node}
@@ -22,17 +22,17 @@ pub record AreEmptyLanes (capacity count : ℕ) (lanes : List Lane) : Type 0 whe
   pub each : (place : ℕ) (lane : Lane) → slice_get lanes place ≡ Some lane → IsEmptyLane capacity lane
 
 -- the nodes below a number among n, as they are opened
-pub record AreOpenedNodes (openings : List Opening) (set : PieceSet) (n upto : ℕ) (nodes : List Node) : Type 0 where
+pub record AreOpenedNodes (openings : List Opening) (family : Family) (n upto : ℕ) (nodes : List Node) : Type 0 where
   pub whole : length nodes ≡ upto
-  pub each : (i : ℕ) (node : Node) → slice_get nodes i ≡ Some node → IsOpened openings set i n node × IsSound node
+  pub each : (i : ℕ) (node : Node) → slice_get nodes i ≡ Some node → IsOpened openings family i n node × IsSound node
 
 -- The state before the first event: each node is opened, nothing has gone over a lane, and the ring is at its start.
 pub record IsStart (k : Setting) (state : State) : Type 0 where
   pub openings : List Opening
-  pub are_openings : AreOpenings k.set openings
+  pub are_openings : AreOpenings k.family openings
   pub nodes : List Node
   pub lanes : List Lane
-  pub opened : AreOpenedNodes openings k.set k.n k.n nodes
+  pub opened : AreOpenedNodes openings k.family k.n k.n nodes
   pub empty : AreEmptyLanes k.capacity (k.n * k.n) lanes
-  pub world_is : state.world ≡ world_shown k.set k.n nodes lanes
+  pub world_is : state.world ≡ world_shown k.family k.n nodes lanes
   pub ring : IsStartRing k.n state.ring

@@ -1,7 +1,7 @@
 -- A world of nodes, links and the ring as functions of node numbers: what it consists of, when it is lawful and linked, and
 -- when nothing is left to do.
 use Rattle.std.specs.Prelude.{◌≡◌, ◌≢◌, ℕ, ◌+◌, ◌<◌, ◌≤◌, false, List, [], ◌++◌, length, take}
-use Rattle.dob_pieces.specs.declared.piece_set.PieceSet.{PieceSet}
+use Rattle.dob_pieces.specs.declared.profile.Family.{Family}
 use Rattle.dob_value.specs.declared.value.Value.{Value}
 use Rattle.dob_unmove.specs.Edges.{predecessors}
 use Rattle.dob_share.specs.declared.news.Settlement.{Settlement}
@@ -15,15 +15,15 @@ use Rattle.dob_node.specs.Lawful.{AreLawfulNodes}
 use Rattle.dob_node.specs.Falls.{HaveFalls}
 use Rattle.dob_safra.specs.Rings.{Ring, sum_below, IsLawfulRing}
 
--- what a world is made for: a piece set, the number of nodes, the greatest size of a batch, and the links' capacity
+-- what a world is made for: a family, the number of nodes, the greatest size of a batch, and the links' capacity
 pub record Setting : Type 0 where
-  pub set : PieceSet
+  pub family : Family
   pub n : ℕ
   pub batch : ℕ
   pub capacity : ℕ
 
-abbrev pub setting_by : PieceSet → ℕ → ℕ → ℕ → Setting
-setting_by set n batch capacity = record { set = set; n = n; batch = batch; capacity = capacity }
+abbrev pub setting_by : Family → ℕ → ℕ → ℕ → Setting
+setting_by family n batch capacity = record { family = family; n = n; batch = batch; capacity = capacity }
 
 -- What the nodes know: each one's history, the items from node i that node j has applied, and the cell of each class,
 -- which its owner keeps.
@@ -54,19 +54,19 @@ value_in n nodes class = value_of (nodes.history (owner_of n class)) class
 
 -- all items that node i has for node j
 abbrev pub items_in : Setting → Nodes → ℕ → ℕ → List Item
-items_in k nodes i j = items_from (predecessors k.set) k.n j (nodes.history i)
+items_in k nodes i j = items_from (predecessors k.family) k.n j (nodes.history i)
 
 -- those of the settlements that node i has expanded
 abbrev pub emitted_in : Setting → WorldView → ℕ → ℕ → List Item
-emitted_in k world i j = items_from (predecessors k.set) k.n j (take (world.expanded i) (world.nodes.history i))
+emitted_in k world i j = items_from (predecessors k.family) k.n j (take (world.expanded i) (world.nodes.history i))
 
 -- each cell and value is what the histories and the items applied say
 abbrev pub AreLawful : Setting → Nodes → Type 0
-AreLawful k nodes = AreLawfulNodes k.set k.n nodes.history nodes.applied nodes.cell (value_in k.n nodes)
+AreLawful k nodes = AreLawfulNodes k.family k.n nodes.history nodes.applied nodes.cell (value_in k.n nodes)
 
 -- each settlement stands first in a fall, and no distance in a history or in a cell is above the number of classes
 abbrev pub HaveFallsIn : Setting → Nodes → Type 0
-HaveFallsIn k nodes = HaveFalls k.set k.n nodes.history nodes.cell
+HaveFallsIn k nodes = HaveFalls k.family k.n nodes.history nodes.cell
 
 -- No item is lost, invented or out of place on its way: the items of the settlements expanded are those that a node has
 -- applied from itself followed by its own items; or for another node those sent followed by the outbox, and those sent

@@ -1,12 +1,13 @@
 // A world that is driven by rounds of events until nothing is left to do.
 ghost use Rattle.std.specs.Prelude.{◌≡◌, ℕ, ◌+◌, ◌*◌, ◌^◌, ◌<◌, ◌≤◌, false, None, IfOk, IfErr, OnErr};
-ghost use Rattle.dob_rank.specs.Marks.{classes_of};
+ghost use Rattle.dob_rank.specs.Families.{classes_of};
 ghost use Rattle.dob_world.specs.Rounds.{round_length, round_event};
 ghost use Rattle.dob_world.specs.Shown.{setting_of, state_of};
 ghost use Rattle.dob_world.specs.Standing.{IsStanding, IsKept};
 ghost use Rattle.dob_world.specs.Worlds.{HaveFallsIn};
 ghost use Rattle.dob_world.specs.Stops.{IsForMemory};
 ghost use Rattle.dob_world.specs.Results.{HasMadeRound, HasDriven, StopsInRounds};
+ghost use Rattle.dob_safra.specs.Tokens.{most_nodes};
 
 use crate::event::Event;
 use crate::fault::Fault;
@@ -25,7 +26,7 @@ impl World {
         requires standing { IsStanding self.old }
         requires going { self.old.failed ≡ None }
         ensures driven { IfOk result (λ still. HasDriven self.old rounds still self.new) }
-        ensures memory { classes_of (setting_of self.old).set < 65535 → IfErr result IsForMemory }
+        ensures memory { classes_of (setting_of self.old).family < 65535 → IfErr result IsForMemory }
         ensures falls { IfOk result (λ still. HaveFallsIn (setting_of self.new) (state_of self.new).world.nodes) }
         ensures stopped { IfErr result (λ fault. StopsInRounds self.old rounds fault self.new) }
         ensures unannounced { OnErr result (self.new.detector.announced ≡ false) }
@@ -47,7 +48,7 @@ impl World {
         requires standing { IsStanding self.old }
         requires going { self.old.failed ≡ None }
         ensures made { IfOk result (λ still. HasMadeRound self.old still self.new) }
-        ensures memory { classes_of (setting_of self.old).set < 65535 → IfErr result IsForMemory }
+        ensures memory { classes_of (setting_of self.old).family < 65535 → IfErr result IsForMemory }
         ensures stopped { IfErr result (λ fault. StopsInRounds self.old 1 fault self.new) }
         ensures kept { IsKept self.new }
     {
@@ -66,7 +67,7 @@ impl World {
 // The event of that number in a round of `n` nodes.
 fn event_at(n: usize, place: usize) -> Event
     requires some { 0 < n }
-    requires few { n ≤ 16 }
+    requires few { n ≤ most_nodes }
     requires place { place < round_length n }
     ensures { result ≡ round_event n place }
 {

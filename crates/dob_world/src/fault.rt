@@ -1,7 +1,6 @@
 // Why there is no world, or why one stops.
 ghost use Rattle.std.specs.Prelude.{◌≡◌, Some};
 ghost use Rattle.dob_world.specs.declared.fault.Fault.TheVariants as fault;
-ghost use Rattle.dob_world.specs.Faults.{fault_of_rank};
 
 use dob_node::{Cause, Stopped};
 use dob_pieces::Memory;
@@ -11,8 +10,6 @@ use std::fmt;
 /// Why a world isn't opened, or makes no further step.
 #[derive(Clone, Copy, Debug, PartialEq, Eq)]
 pub enum Fault {
-    /// E8: the piece set is larger than those that have classes.
-    SetTooLarge,
     /// E9: the number of nodes isn't 1 to 16.
     Nodes,
     /// E10: the greatest size of a batch isn't 1 to 4096, or the capacity of a link isn't 1 to 1024.
@@ -30,7 +27,6 @@ impl fmt::Display for Fault {
 
     fn fmt<W: fmt::Write>(&self, f: &mut fmt::Formatter<W>) -> fmt::Result {
         match self {
-            Fault::SetTooLarge => write!(f, "{}", dob_rank::Fault::SetTooLarge),
             Fault::Nodes => write!(f, "{}", dob_safra::Nodes),
             Fault::Sizes => write!(f, "{}", dob_update::Sizes),
             Fault::Stopped { node, cause } => write!(f, "{}", Stopped(*node, *cause)),
@@ -46,16 +42,5 @@ impl From<Memory> for Fault {
 
     fn from(_lower: Memory) -> Fault {
         Fault::Memory
-    }
-}
-
-impl From<dob_rank::Fault> for Fault {
-    ghost from_gives = { λ lower given. given ≡ fault_of_rank lower };
-
-    fn from(lower: dob_rank::Fault) -> Fault {
-        match lower {
-            dob_rank::Fault::SetTooLarge => Fault::SetTooLarge,
-            dob_rank::Fault::Memory => Fault::Memory,
-        }
     }
 }

@@ -2,10 +2,11 @@
 ghost use Rattle.std.specs.Prelude.{◌≤◌, IfOk};
 ghost use Rattle.dob_node.specs.Openings.{AreOpenings};
 ghost use Rattle.dob_world.specs.Start.{AreOpenedNodes, AreEmptyLanes};
+ghost use Rattle.dob_safra.specs.Tokens.{most_nodes};
 
 use crate::lane::Lane;
 use dob_node::{Node, Opening};
-use dob_pieces::{Memory, PieceSet};
+use dob_pieces::{Family, Memory};
 use dob_rank::Segments;
 use std::alloc::Global;
 
@@ -13,16 +14,16 @@ use std::alloc::Global;
 pub(crate) fn open_nodes(
     alloc: Global,
     openings: &Segments<Opening>,
-    set: PieceSet,
+    family: Family,
     n: usize,
 ) -> Result<Vec<Node>, Memory>
-    requires openings { AreOpenings set openings.now }
-    requires owners { n ≤ 16 }
-    ensures { IfOk result (λ nodes. AreOpenedNodes openings.now set n n nodes.items) }
+    requires openings { AreOpenings family openings.now }
+    requires owners { n ≤ most_nodes }
+    ensures { IfOk result (λ nodes. AreOpenedNodes openings.now family n n nodes.items) }
 {
     let mut nodes = Vec::new(alloc);
     for id in 0..n {
-        nodes.push(Node::open(alloc, openings, set, id, n)?)?;
+        nodes.push(Node::open(alloc, openings, family, id, n)?)?;
     }
     Ok(nodes)
 }

@@ -1,6 +1,6 @@
 // Events one after another.
 ghost use Rattle.std.specs.Prelude.{◌≡◌, ◌^◌, ◌<◌, ◌≤◌, ◌⊎◌, length, IfOk, IfErr};
-ghost use Rattle.dob_rank.specs.Marks.{classes_of};
+ghost use Rattle.dob_rank.specs.Families.{classes_of};
 ghost use Rattle.dob_world.specs.Worlds.{setting_by};
 ghost use Rattle.dob_world.specs.Results.{HasSettingFault, HasRun, HasStoppedAt};
 ghost use Rattle.dob_world.specs.Stops.{IsForMemory};
@@ -8,7 +8,7 @@ ghost use Rattle.dob_world.specs.Stops.{IsForMemory};
 use crate::event::Event;
 use crate::fault::Fault;
 use crate::world::World;
-use dob_pieces::PieceSet;
+use dob_pieces::Family;
 use std::alloc::Global;
 
 /// The world of `n` nodes, with batches of at most `batch` items and links with room for `capacity` batches, after the
@@ -20,19 +20,19 @@ use std::alloc::Global;
 /// distance is above the number of classes.
 pub fn run(
     alloc: Global,
-    set: PieceSet,
+    family: Family,
     n: usize,
     batch: usize,
     capacity: usize,
     events: &[Event],
 ) -> Result<World, Fault>
     requires few { length events.now ≤ 2 ^ 40 }
-    ensures run { IfOk result (λ world. HasRun (setting_by set n batch capacity) events.now world) }
-    ensures memory { classes_of set < 65535 → IfErr result (λ fault. HasSettingFault (setting_by set n batch capacity) fault ⊎ IsForMemory fault) }
-    ensures fault { IfErr result (λ fault. HasSettingFault (setting_by set n batch capacity) fault
-        ⊎ HasStoppedAt (setting_by set n batch capacity) events.now fault) }
+    ensures run { IfOk result (λ world. HasRun (setting_by family n batch capacity) events.now world) }
+    ensures memory { classes_of family < 65535 → IfErr result (λ fault. HasSettingFault (setting_by family n batch capacity) fault ⊎ IsForMemory fault) }
+    ensures fault { IfErr result (λ fault. HasSettingFault (setting_by family n batch capacity) fault
+        ⊎ HasStoppedAt (setting_by family n batch capacity) events.now fault) }
 {
-    let mut world = match World::open(alloc, set, n, batch, capacity) {
+    let mut world = match World::open(alloc, family, n, batch, capacity) {
         Ok(world) => world,
         Err(fault) => return Err(fault),
     };

@@ -5,6 +5,7 @@ ghost use Rattle.std.specs.List.{All};
 ghost use Rattle.dob_node.specs.declared.cause.Cause.TheVariants as cause;
 ghost use Rattle.dob_node.specs.Nodes.{outbox_to, IsSound, IsUnchanged, HasItemFault};
 ghost use Rattle.dob_world.specs.Lanes.{LaneStays, IsBatchFor, HasListed, HasPosted, HasReceived, HasReceivedFront};
+ghost use Rattle.dob_update.specs.Batches.{most_items};
 
 use crate::lane::Lane;
 use dob_link::Link;
@@ -46,7 +47,7 @@ pub(crate) fn post(node: &mut Node, lane: &mut Lane, to: usize, size: usize) -> 
     requires going { node.old.failed ≡ None }
     requires to { to < node.old.n }
     requires some { 0 < size }
-    requires at_most { size ≤ 4096 }
+    requires at_most { size ≤ most_items }
     ensures none { (result ≡ Ok false) → ((outbox_to node.old to).items ≡ []) ⊎ (lane.old.link.capacity ≤ length lane.old.link.waiting) }
     ensures nothing { result ≡ Ok false → (node.new ≡ node.old) × (lane.new ≡ lane.old) }
     ensures some { result ≡ Ok true → ((outbox_to node.old to).items ≡ [] → ⊥) × (length lane.old.link.waiting < lane.old.link.capacity) }
@@ -81,7 +82,7 @@ pub(crate) fn post(node: &mut Node, lane: &mut Lane, to: usize, size: usize) -> 
 pub(crate) fn receive(node: &mut Node, lane: &mut Lane) -> Result<bool, Cause>
     requires sound { IsSound node.old }
     requires going { node.old.failed ≡ None }
-    requires batches { All (IsBatchFor node.old.set node.old.n node.old.id) lane.old.link.waiting }
+    requires batches { All (IsBatchFor node.old.family node.old.n node.old.id) lane.old.link.waiting }
     ensures none { (result ≡ Ok false) ↔ (lane.old.link.waiting ≡ []) }
     ensures nothing { result ≡ Ok false → (node.new ≡ node.old) × (lane.new ≡ lane.old) }
     ensures received { result ≡ Ok true → HasReceived node.old lane.old node.new lane.new }

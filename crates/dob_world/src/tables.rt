@@ -1,6 +1,6 @@
 // The table of the values that a world holds.
 ghost use Rattle.std.specs.Prelude.{◌≡◌, ◌<◌, true, IfOk};
-ghost use Rattle.dob_rank.specs.Marks.{classes_of};
+ghost use Rattle.dob_rank.specs.Families.{classes_of};
 ghost use Rattle.dob_value.specs.Follows.{IsEntry, IsValueTable};
 ghost use Rattle.dob_node.specs.Histories.{AreValuesBelow};
 ghost use Rattle.dob_world.specs.Worlds.{value_in, IsAtRest};
@@ -9,7 +9,7 @@ ghost use Rattle.dob_world.specs.Standing.{IsStanding};
 
 use crate::world::World;
 use dob_pieces::Memory;
-use dob_rank::{Classes, Fault};
+use dob_rank::Classes;
 use dob_share::owner;
 use dob_value::{Table, Value};
 
@@ -20,20 +20,16 @@ impl World {
     /// Error: `Memory`.
     pub fn gather(&self) -> Result<Table, Memory>
         requires standing { IsStanding self.now }
-        ensures set { IfOk result (λ table. table.set ≡ self.now.classes.set) }
-        ensures values { IfOk result (λ table. AreValuesBelow (value_in self.now.n (state_of self.now).world.nodes) (classes_of self.now.classes.set)
+        ensures family { IfOk result (λ table. table.family ≡ self.now.classes.family) }
+        ensures values { IfOk result (λ table. AreValuesBelow (value_in self.now.n (state_of self.now).world.nodes) (classes_of self.now.classes.family)
             table.values) }
-        ensures right { IsAtRest (setting_of self.now) (state_of self.now).world → IfOk result (λ table. IsValueTable self.now.classes.set table.values) }
-        ensures announced { (state_of self.now).ring.announced ≡ true → IfOk result (λ table. IsValueTable self.now.classes.set table.values) }
+        ensures right { IsAtRest (setting_of self.now) (state_of self.now).world → IfOk result (λ table. IsValueTable self.now.classes.family table.values) }
+        ensures announced { (state_of self.now).ring.announced ≡ true → IfOk result (λ table. IsValueTable self.now.classes.family table.values) }
     {
-        let classes = match Classes::open(self.alloc, self.classes.set) {
-            Ok(classes) => classes,
-            Err(Fault::Memory) => return Err(Memory),
-            Err(Fault::SetTooLarge) => unreachable!(),
-        };
+        let classes = Classes::open(self.alloc, self.classes.family)?;
         let value_at = |class: u64| -> Value
             requires standing { IsStanding self.now }
-            requires low { class < classes_of self.now.classes.set }
+            requires low { class < classes_of self.now.classes.family }
             ensures value { result ≡ value_in self.entry.now.n (state_of self.entry.now).world.nodes class }
             ensures entry { IsEntry result }
         { self.value_of(class) };
@@ -43,7 +39,7 @@ impl World {
     // The present value of the class.
     fn value_of(&self, class: u64) -> Value
         requires standing { IsStanding self.now }
-        requires low { class < classes_of self.now.classes.set }
+        requires low { class < classes_of self.now.classes.family }
         ensures value { result ≡ value_in self.now.n (state_of self.now).world.nodes class }
         ensures entry { IsEntry result }
     {

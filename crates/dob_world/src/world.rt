@@ -1,7 +1,6 @@
-// The world: nodes that own the classes of a piece set, a lane from each to each, and what detects the end.
-ghost use Rattle.std.specs.Prelude.{◌≡◌, ◌+◌, ◌*◌, ◌^◌, ◌<◌, ◌≤◌, ◌↔◌, true, false, IfOk, IfErr, IfSome, OnOk, OnErr, Err, vec_len};
-ghost use Rattle.dob_rank.specs.Limits.{IsTooLarge};
-ghost use Rattle.dob_rank.specs.Marks.{classes_of};
+// The world: nodes that own the classes of a family, a lane from each to each, and what detects the end.
+ghost use Rattle.std.specs.Prelude.{◌≡◌, ◌+◌, ◌*◌, ◌^◌, ◌<◌, ◌≤◌, true, false, IfOk, IfErr, IfSome, OnOk, OnErr, Err, vec_len};
+ghost use Rattle.dob_rank.specs.Families.{classes_of};
 
 use crate::detector::Detector;
 use crate::event::Event;
@@ -11,13 +10,13 @@ use crate::parts::{open_lanes, open_nodes};
 use crate::step::Step;
 use crate::steps::{apply_own, post, receive};
 use dob_node::{Node, opening};
-use dob_pieces::PieceSet;
-use dob_rank::{Classes, SegmentLength, is_too_large};
+use dob_pieces::Family;
+use dob_rank::{Classes, SegmentLength};
 use dob_safra::is_size;
 use dob_update::are_sizes;
 use std::alloc::Global;
 
-/// Nodes of which each owns a share of a piece set's classes, the links between them, the lists of all items that were
+/// Nodes of which each owns a share of a family's classes, the links between them, the lists of all items that were
 /// sent over these and applied, and the ring that detects the end. There are as many nodes and lanes as it says, also after a
 /// stop.
 #[derive(Drop)]
@@ -51,33 +50,29 @@ impl World {
     /// A world of `n` nodes before its first event, with batches of at most `batch` items and links with room for
     /// `capacity` batches.
     ///
-    /// Errors, tested in this order: `SetTooLarge` where the set has more than `MOST_PIECES` pieces besides the lions; `Nodes`
-    /// where `n` isn't 1 to 16; `Sizes` where `batch` isn't 1 to 4096 or `capacity` not 1 to 1024; `Memory`.
+    /// Errors, tested in this order: `Nodes` where `n` isn't 1 to 16; `Sizes` where `batch` isn't 1 to 4096 or `capacity` not
+    /// 1 to 1024; `Memory`.
     pub fn open(
         alloc: Global,
-        set: PieceSet,
+        family: Family,
         n: usize,
         batch: usize,
         capacity: usize,
     ) -> Result<World, Fault>
-        ensures too_large { result ≡ Err fault.SetTooLarge ↔ IsTooLarge set }
-        ensures setting { IfOk result (λ world. setting_of world ≡ setting_by set n batch capacity) }
+        ensures setting { IfOk result (λ world. setting_of world ≡ setting_by family n batch capacity) }
         ensures standing { IfOk result (λ world. IsStanding world × (world.failed ≡ None) × (world.steps ≡ 0)) }
         ensures opened { IfOk result (λ world. IsStart (setting_of world) (state_of world)) }
-        ensures fault { IfErr result (λ fault. HasSettingFault (setting_by set n batch capacity) fault) }
+        ensures fault { IfErr result (λ fault. HasSettingFault (setting_by family n batch capacity) fault) }
     {
-        if is_too_large(set) {
-            return Err(Fault::SetTooLarge);
-        }
         if !is_size(n) {
             return Err(Fault::Nodes);
         }
         if !are_sizes(batch, capacity) {
             return Err(Fault::Sizes);
         }
-        let classes = Classes::open(alloc, set)?;
+        let classes = Classes::open(alloc, family)?;
         let openings = opening(alloc, &classes, SegmentLength::longest())?;
-        let nodes = open_nodes(alloc, &openings, set, n)?;
+        let nodes = open_nodes(alloc, &openings, family, n)?;
         let lanes = open_lanes(alloc, n * n, capacity)?;
         let detector = Detector::open(alloc, n)?;
         Ok(World {
@@ -113,7 +108,7 @@ impl World {
         ensures named { self.old.failed ≡ None → IfErr result (λ fault. IsStopped event fault self.old self.new) }
         ensures stays { IfSome self.old.failed (λ fault. (result ≡ Err fault) × (self.new ≡ self.old)) }
         ensures unannounced { OnErr result (self.new.detector.announced ≡ false) }
-        ensures memory { self.old.failed ≡ None → classes_of (setting_of self.old).set < 65535 → IfErr result IsForMemory }
+        ensures memory { self.old.failed ≡ None → classes_of (setting_of self.old).family < 65535 → IfErr result IsForMemory }
         ensures falls { OnOk result (HaveFallsIn (setting_of self.new) (state_of self.new).world.nodes) }
         ensures silent { self.old.detector.announced ≡ true → result ≡ Ok Step.Skipped }
         ensures headline { OnOk result (Headline (setting_of self.new) (state_of self.new)) }

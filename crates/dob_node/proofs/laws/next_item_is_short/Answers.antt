@@ -3,5 +3,5 @@ use Rattle.dob_node.proofs.Rises.{not_too_deep}
 use Rattle.dob_node.proofs.laws.next_item_is_short.Goals as goal
 
 pub returns : goal.returns
-returns c = λ set n histories applied cell value i j item some low_i low_j lawful have is_next few deep.
-    not_too_deep set n histories applied cell value some lawful have i j low_i low_j item is_next few deep
+returns c = λ family n histories applied cell value i j item some low_i low_j lawful have is_next few deep.
+    not_too_deep family n histories applied cell value some lawful have i j low_i low_j item is_next few deep

@@ -4,4 +4,4 @@ use Rattle.dob_node.proofs.Totals.{start_sums}
 use Rattle.dob_node.proofs.laws.nothing_is_known.Goals as goal
 
 pub returns : goal.returns
-returns c = λ set n histories applied p low none. start_sums set p low n histories (λ i. applied i (owner_of n p)) (λ i. none i (owner_of n p))
+returns c = λ family n histories applied p low none. start_sums family p low n histories (λ i. applied i (owner_of n p)) (λ i. none i (owner_of n p))

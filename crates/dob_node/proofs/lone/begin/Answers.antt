@@ -6,6 +6,6 @@ use Rattle.dob_node.proofs.lone.begin.Goals as goal
 
 pub returns-clause-made : goal.returns-clause-made
 returns-clause-made c =
-    made_none_ok c.args.set c.in_ok-openings.openings c.open.result
-    (subst (λ set. AreOpenings set c.in_ok-openings.openings) c.requires c.in_ok-openings.ensures)
+    made_none_ok c.args.family c.in_ok-openings.openings c.open.result
+    (subst (λ family. AreOpenings family c.in_ok-openings.openings) c.requires c.in_ok-openings.ensures)
     c.open.ensures.opened c.open.ensures.sound

@@ -6,7 +6,7 @@ use Rattle.dob_node.proofs.lone.make_steps.Given as goal
 abbrev pub invariant-loop-step : goal.invariant-loop-step
 invariant-loop-step l = record {
   made : HasMade l._step l.node;
-  set : l.classes.set ≡ l.node.set;
-  same : l.node.set ≡ l.initial.node.set;
+  family : l.classes.family ≡ l.node.family;
+  same : l.node.family ≡ l.initial.node.family;
   going : l.node.failed ≡ None;
 }

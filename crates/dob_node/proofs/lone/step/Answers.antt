@@ -11,7 +11,7 @@ pub returns-in_err-apply_own-clause-stopped : goal.returns-in_err-apply_own-clau
 returns-in_err-apply_own-clause-stopped c =
     let node = c.args.node.now in
     let why = c.in_err-apply_own.field-0.0 in
-    carried (λ given. (steps limit : ℕ) → HasMade steps node → steps < limit → HasStoppedAlone node.set limit given) c.from_residual.result why
+    carried (λ given. (steps limit : ℕ) → HasMade steps node → steps < limit → HasStoppedAlone node.family limit given) c.from_residual.result why
     c.from_residual.ensures.1 (λ steps limit made low. stopped_sole node steps limit why made low c.in_err-apply_own.ensures.stopped)
 
 pub returns-then-branch-clause-made : goal.returns-then-branch-clause-made

@@ -3,4 +3,4 @@ use Rattle.dob_node.specs.Openings.{AreOpeningsBelow}
 use Rattle.dob_node.proofs.openings.opening.Given as goal
 
 abbrev pub invariant-loop-class : goal.invariant-loop-class
-invariant-loop-class l = AreOpeningsBelow l.classes.set l.class l.openings
+invariant-loop-class l = AreOpeningsBelow l.classes.family l.class l.openings

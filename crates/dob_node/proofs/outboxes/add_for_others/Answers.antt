@@ -1,6 +1,6 @@
 -- One outbox more has the settlement, or is left out.
 use Rattle.std.proofs.Common.{◌≡◌, ◌<◌, ℕ, length, vec_len, set, get_or, sym, ap, ◌∙◌, subst, arith}
-use Rattle.dob_pieces.specs.declared.piece_set.PieceSet.{PieceSet}
+use Rattle.dob_pieces.specs.declared.profile.Family.{Family}
 use Rattle.dob_unmove.specs.Edges.{predecessors}
 use Rattle.dob_update.specs.Items.{items_of}
 use Rattle.dob_update.specs.Batches.{OutboxView, empty_outbox, added}
@@ -25,9 +25,9 @@ add_to-requires-clause-of c =
     let count : n ≡ length old.items = c.len-n.ensures ∙ old.ok.0 in
     let same : vec_len mid ≡ n = mid.ok.0 ∙ c.loop-to.invariant.whole ∙ sym count in
     subst (λ (m : ℕ). (default : OutboxView) → ((get_or mid.items to default).n ≡ m) × ((get_or mid.items to default).to ≡ to)
-    × (targets ≡ predecessors (get_or mid.items to default).set settlement.class)) (sym same)
+    × (targets ≡ predecessors (get_or mid.items to default).family settlement.class)) (sym same)
     (addressed_still targets settlement n from to old.items mid.items c.loop-to.invariant
-    (subst (λ (m : ℕ). (st : PieceSet) × (targets ≡ predecessors st settlement.class) × ((to : ℕ) → IsOutboxTo st m from to (outbox_in st m from old.items to)))
+    (subst (λ (m : ℕ). (st : Family) × (targets ≡ predecessors st settlement.class) × ((to : ℕ) → IsOutboxTo st m from to (outbox_in st m from old.items to)))
     (sym count) c.requires.addressed)
     (subst (λ (m : ℕ). to < m) count c.loop-to-test.true))
 

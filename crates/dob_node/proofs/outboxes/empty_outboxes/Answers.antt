@@ -11,6 +11,6 @@ loop-to-preserved c =
     let is : c.push.new.self.items ≡ old ++ c.new.result ∷ [] = c.in_ok-push.ensures.items in
     record {
       whole = ap length is ∙ length-append old (c.new.result ∷ []) ∙ ap (λ (k : ℕ). k + 1) c.loop-to.invariant.whole;
-      empty = empties_more c.args.set c.args.n c.args.from c.loop-to.to old c.push.new.self.items c.loop-to.invariant.whole c.loop-to.invariant.empty
+      empty = empties_more c.args.family c.args.n c.args.from c.loop-to.to old c.push.new.self.items c.loop-to.invariant.whole c.loop-to.invariant.empty
           (is ∙ ap (λ (o : OutboxView). old ++ o ∷ []) c.new.ensures);
     }

@@ -6,7 +6,7 @@ use Rattle.dob_node.proofs.TakenLists.{taken_next, stops_there, taken_before, ca
 use Rattle.dob_node.proofs.taking.take_items.Goals as goal
 
 pub loop-item-init : goal.loop-item-init
-loop-item-init c = record { taken = (refl, refl); counted = refl; room = omega arith; kept = λ set kept. kept }
+loop-item-init c = record { taken = (refl, refl); counted = refl; room = omega arith; kept = λ family kept. kept }
 
 pub take_item-requires-clause-kept : goal.take_item-requires-clause-kept
 take_item-requires-clause-kept c =
@@ -49,6 +49,6 @@ loop-item-preserved c =
       room = omega arith;
       taken = taken_next c.args.items.now c.loop-item.item-index _ share c.loop-item.share c.take_item.new.share history c.loop-item.history
           c.take_item.new.self c.loop-item-test.true c.loop-item.invariant.taken out.taken;
-      kept = λ set kept. kept_back set share.n share.id c.loop-item.share c.take_item.new.share c.loop-item.history c.take_item.new.self
-          (c.loop-item.invariant.kept set kept) out.kept;
+      kept = λ family kept. kept_back family share.n share.id c.loop-item.share c.take_item.new.share c.loop-item.history c.take_item.new.self
+          (c.loop-item.invariant.kept family kept) out.kept;
     }

@@ -1,6 +1,6 @@
 -- The items so far are taken, and counted; as much room is left as for those that aren't.
 use Rattle.std.proofs.Common.{◌≡◌, ◌+◌, ◌≤◌, take}
-use Rattle.dob_pieces.specs.declared.piece_set.PieceSet.{PieceSet}
+use Rattle.dob_pieces.specs.declared.profile.Family.{Family}
 use Rattle.dob_node.specs.TakenItems.{AreKept, AreTaken}
 use Rattle.dob_node.proofs.taking.take_items.Given as goal
 
@@ -9,6 +9,6 @@ invariant-loop-item l = record {
   taken : AreTaken (take l.item-index l.items) l.initial.share l.share l.initial.history l.history;
   counted : l.taken ≡ l.item-index;
   room : l.initial.history.room ≤ l.history.room + l.item-index;
-  kept : (set : PieceSet) → AreKept set l.initial.share.n l.initial.share.id l.initial.share l.initial.history →
-      AreKept set l.initial.share.n l.initial.share.id l.share l.history;
+  kept : (family : Family) → AreKept family l.initial.share.n l.initial.share.id l.initial.share l.initial.history →
+      AreKept family l.initial.share.n l.initial.share.id l.share l.history;
 }

@@ -5,9 +5,9 @@ use Rattle.dob_world.proofs.Pushed.{opened_more, none_opened}
 use Rattle.dob_world.proofs.parts.open_nodes.Goals as goal
 
 pub loop-id-init : goal.loop-id-init
-loop-id-init c = subst (λ xs. AreOpenedNodes c.args.openings.now c.args.set c.args.n 0 xs) (sym c.new-nodes.ensures.items)
-    (none_opened c.args.openings.now c.args.set c.args.n)
+loop-id-init c = subst (λ xs. AreOpenedNodes c.args.openings.now c.args.family c.args.n 0 xs) (sym c.new-nodes.ensures.items)
+    (none_opened c.args.openings.now c.args.family c.args.n)
 
 pub loop-id-preserved : goal.loop-id-preserved
-loop-id-preserved c = opened_more c.args.openings.now c.args.set c.args.n c.loop-id.id c.loop-id.nodes.items c.push.new.self.items c.in_ok-open.field-0
+loop-id-preserved c = opened_more c.args.openings.now c.args.family c.args.n c.loop-id.id c.loop-id.nodes.items c.push.new.self.items c.in_ok-open.field-0
     c.loop-id.invariant c.in_ok-open.ensures.opened c.in_ok-open.ensures.sound c.in_ok-push.ensures.items

@@ -1,6 +1,6 @@
 -- The opening world is the one after no events, and each event makes a run longer.
 use Rattle.std.proofs.Common.{◌<◌, inr, refl, sym, ap, subst, arith, [], Ok}
-use Rattle.dob_rank.specs.Marks.{classes_of}
+use Rattle.dob_rank.specs.Families.{classes_of}
 use Rattle.dob_world.specs.Worlds.{Setting, setting_by}
 use Rattle.dob_world.specs.Shown.{state_of}
 use Rattle.dob_world.specs.Start.{IsStart}
@@ -9,7 +9,7 @@ use Rattle.dob_world.proofs.runs.run.Goals as goal
 
 pub loop-event-init : goal.loop-event-init
 loop-event-init c =
-    let k : Setting = setting_by c.args.set c.args.n c.args.batch c.args.capacity in
+    let k : Setting = setting_by c.args.family c.args.n c.args.batch c.args.capacity in
     let world = c.in-Ok.world in
     let opened = c.in-Ok.ensures in
     record {
@@ -20,7 +20,7 @@ loop-event-init c =
 
 pub loop-event-preserved : goal.loop-event-preserved
 loop-event-preserved c =
-    let k : Setting = setting_by c.args.set c.args.n c.args.batch c.args.capacity in
+    let k : Setting = setting_by c.args.family c.args.n c.args.batch c.args.capacity in
     let out = c.in-Ok-step.ensures in
     let step = stepped _ c.loop-event.world c.step.new.self c.in-Ok-step.field-0 (λ e. out.done (ap Ok e)) (λ e. out.skipped (ap Ok e)) in
     record {
@@ -32,11 +32,11 @@ loop-event-preserved c =
 pub returns-in-Err-step-clause-memory : goal.returns-in-Err-step-clause-memory
 returns-in-Err-step-clause-memory c = λ few.
     let run = c.loop-event.invariant.run in
-    inr (c.in-Err-step.ensures.memory run.going (subst (λ (k : Setting). classes_of k.set < 65535) (sym run.setting) few))
+    inr (c.in-Err-step.ensures.memory run.going (subst (λ (k : Setting). classes_of k.family < 65535) (sym run.setting) few))
 
 pub returns-in-Err-step-clause-fault : goal.returns-in-Err-step-clause-fault
 returns-in-Err-step-clause-fault c =
-    let k : Setting = setting_by c.args.set c.args.n c.args.batch c.args.capacity in
+    let k : Setting = setting_by c.args.family c.args.n c.args.batch c.args.capacity in
     let run = c.loop-event.invariant.run in
     inr (run_stops k c.args.events.now c.loop-event.event-index _ c.loop-event.world c.in-Err-step.fault c.loop-event-test.true run
     (c.in-Err-step.ensures.named run.going).stop)

@@ -6,6 +6,6 @@ use Rattle.dob_world.proofs.runs.run.Given as goal
 
 abbrev pub invariant-loop-event : goal.invariant-loop-event
 invariant-loop-event l = record {
-  run : HasRun (setting_by l.fn.set l.n l.batch l.capacity) (take l.event-index l.events) l.world;
+  run : HasRun (setting_by l.fn.family l.n l.batch l.capacity) (take l.event-index l.events) l.world;
   steps : l.world.steps ≤ l.event-index;
 }

@@ -71,7 +71,7 @@ returns-in-Some-clause-taken c =
     }
 
 pub returns-in-Some-clause-kept : goal.returns-in-Some-clause-kept
-returns-in-Some-clause-kept c = λ set kept.
+returns-in-Some-clause-kept c = λ family kept.
     let share = c.args.share.now in
     let after = c.apply.new.self in
     let history = c.args.self.now in
@@ -85,7 +85,7 @@ returns-in-Some-clause-kept c = λ set kept.
     c.in-Some.settlement settled) in
     let grown = next_seen c.self.inside.n c.self.inside.id c.self.inside.room _ c.self.inside.count c.self.inside.stored c.make_room.new.stored c.store.new.stored
     history c.in-Some.settlement c.self.view_is c.make_room.ensures.same (c.store.ensures.one_more c.self.inside.id own) in
-    kept_still set share.n share.id share after history item kept c.requires.entries out.classes fits out.cell out.others
+    kept_still family share.n share.id share after history item kept c.requires.entries out.classes fits out.cell out.others
     (Some c.in-Some.settlement) settled _ grown
 
 pub returns-in_default-clause-taken : goal.returns-in_default-clause-taken
@@ -106,14 +106,14 @@ returns-in_default-clause-taken c =
     }
 
 pub returns-in_default-clause-kept : goal.returns-in_default-clause-kept
-returns-in_default-clause-kept c = λ set kept.
+returns-in_default-clause-kept c = λ family kept.
     let share = c.args.share.now in
     let after = c.apply.new.self in
     let history = c.args.self.now in
     let item = c.args.item in
     let out = c.in_ok-given.ensures in
     let fits : Fits share item = sure_fits share item (λ no. let is = out.contradiction.1 no in cc) in
-    kept_still set share.n share.id share after history item kept c.requires.entries out.classes fits out.cell out.others
+    kept_still family share.n share.id share after history item kept c.requires.entries out.classes fits out.cell out.others
     None (subst (λ given. HasSettled share after item.to given) c.in_default.is out.settled) _
     (room_made c.self.inside.n c.self.inside.id c.self.inside.room c.self.inside.room c.self.inside.count c.self.inside.stored c.make_room.new.stored history c.self.view_is c.make_room.ensures.same
     ∙ same_history (record history { room = c.self.inside.room }))

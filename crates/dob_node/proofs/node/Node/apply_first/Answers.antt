@@ -9,14 +9,14 @@ use Rattle.dob_node.proofs.node.Node.apply_first.Goals as goal
 pub take_item-requires-clause-kept : goal.take_item-requires-clause-kept
 take_item-requires-clause-kept c =
     let node = c.args.self.now in
-    (node.set, kept_own node.set node.n node.id node.share node.history c.requires.sound.kept)
+    (node.family, kept_own node.family node.n node.id node.share node.history c.requires.sound.kept)
 
 pub returns-clause-sound : goal.returns-clause-sound
 returns-clause-sound c =
     let node = c.args.self.now in
     let out = c.in_ok-take_item.ensures in
     record {
-      kept = kept_back node.set node.n node.id node.share c.take_item.new.share node.history c.take_item.new.self c.requires.sound.kept out.kept;
+      kept = kept_back node.family node.n node.id node.share c.take_item.new.share node.history c.take_item.new.self c.requires.sound.kept out.kept;
       emitted = emitted_still c.index-item.result.now node.share c.take_item.new.share node.history c.take_item.new.self node.expanded out.taken c.requires.sound.emitted;
       entries = subst (λ xs. All HasEntries xs) (sym c.pop_front.ensures.rest) (All-drop HasEntries 1 node.own.items c.requires.sound.entries);
       receivers = c.requires.sound.receivers;

@@ -10,7 +10,7 @@ pub returns-clause-sound : goal.returns-clause-sound
 returns-clause-sound c =
     let node = c.args.self.now in
     let sound = c.requires.sound in
-    let ready = ready_cut node.set node.n node.id c.args.to c.args.size c.in_ok-batch.batch node.outboxes.items c.cut_at.new.outboxes.items
+    let ready = ready_cut node.family node.n node.id c.args.to c.args.size c.in_ok-batch.batch node.outboxes.items c.cut_at.new.outboxes.items
     c.in_ok-batch.ensures.cut c.in_ok-batch.ensures.nothing
     (record { receivers = sound.receivers; addressed = sound.addressed; nothing_to_self = sound.nothing_to_self }) in
     record {
@@ -26,14 +26,14 @@ pub returns-clause-cut : goal.returns-clause-cut
 returns-clause-cut c =
     let node = c.args.self.now in
     let to = c.args.to in
-    let outbox = outbox_in node.set node.n node.id node.outboxes.items to in
-    let left = outbox_in node.set node.n node.id c.cut_at.new.outboxes.items to in
+    let outbox = outbox_in node.family node.n node.id node.outboxes.items to in
+    let left = outbox_in node.family node.n node.id c.cut_at.new.outboxes.items to in
     let whom = c.requires.sound.addressed to in
-    IfSome_then c.in_ok-batch.batch c.in_ok-batch.ensures.cut (λ batch is. let cut = is.cut (empty_outbox node.set node.n node.id to) in record {
-      of = cut_of node.set node.n node.id to c.args.size batch outbox left cut whom;
+    IfSome_then c.in_ok-batch.batch c.in_ok-batch.ensures.cut (λ batch is. let cut = is.cut (empty_outbox node.family node.n node.id to) in record {
+      of = cut_of node.family node.n node.id to c.args.size batch outbox left cut whom;
       cut = cut;
-      entries = cut_entries node.set node.n node.id to c.args.size batch outbox left cut whom;
-      others = λ other apart. is.others other (empty_outbox node.set node.n node.id other) apart;
+      entries = cut_entries node.family node.n node.id to c.args.size batch outbox left cut whom;
+      others = λ other apart. is.others other (empty_outbox node.family node.n node.id other) apart;
       same = (refl, refl, refl, refl);
       kept = (refl, refl, refl);
     })

@@ -15,9 +15,9 @@ add_for_others-requires c =
     let node = c.args.self.now in
     record {
       addressed = (
-        node.set,
-        c.deref.ensures.value ∙ c.in_ok-targets.ensures.list ∙ ap (λ st. predecessors st c.get-settlement.result.class) c.requires.set,
-        λ to. subst (λ (m : ℕ). IsOutboxTo node.set m node.id to (outbox_in node.set m node.id node.outboxes.items to)) (sym c.requires.sound.receivers)
+        node.family,
+        c.deref.ensures.value ∙ c.in_ok-targets.ensures.list ∙ ap (λ st. predecessors st c.get-settlement.result.class) c.requires.family,
+        λ to. subst (λ (m : ℕ). IsOutboxTo node.family m node.id to (outbox_in node.family m node.id node.outboxes.items to)) (sym c.requires.sound.receivers)
             (c.requires.sound.addressed to),
       );
     }
@@ -28,7 +28,7 @@ returns-clause-sound c =
     let sound = c.requires.sound in
     let s = c.get-settlement.result in
     let targets = c.deref-2.result.now in
-    let ready = ready_added node.set c.deref.result.now s node.n node.id node.outboxes.items c.add_for_others.new.outboxes.items
+    let ready = ready_added node.family c.deref.result.now s node.n node.id node.outboxes.items c.add_for_others.new.outboxes.items
     c.get-settlement.ensures.was c.get-settlement.ensures.now c.in_ok-add_for_others.ensures.added
     (record { receivers = sound.receivers; addressed = sound.addressed; nothing_to_self = sound.nothing_to_self }) in
     record {
@@ -46,7 +46,7 @@ pub returns-in_err-add_for_others-clause-sound : goal.returns-in_err-add_for_oth
 returns-in_err-add_for_others-clause-sound c =
     let node = c.args.self.now in
     let sound = c.requires.sound in
-    let ready = ready_same node.set node.n node.id node.outboxes.items c.add_for_others.new.outboxes.items c.in_err-add_for_others.ensures.unchanged
+    let ready = ready_same node.family node.n node.id node.outboxes.items c.add_for_others.new.outboxes.items c.in_err-add_for_others.ensures.unchanged
     (record { receivers = sound.receivers; addressed = sound.addressed; nothing_to_self = sound.nothing_to_self }) in
     record {
       kept = sound.kept;

@@ -16,7 +16,7 @@ returns c =
       λ yes. record {
         expanded = search rules;
         applied = grind (arith, common_steps, c.if-not-is_empty.ensures);
-        sent = λ to. all_empty node.outboxes.items (subst Nothing c.deref.ensures.value (c.are_empty.ensures.0 yes)) node.set node.n node.id to;
+        sent = λ to. all_empty node.outboxes.items (subst Nothing c.deref.ensures.value (c.are_empty.ensures.0 yes)) node.family node.n node.id to;
       },
-      λ idle. c.are_empty.ensures.1 (subst Nothing (sym c.deref.ensures.value) (empty_all node.outboxes.items node.set node.n node.id idle.sent)),
+      λ idle. c.are_empty.ensures.1 (subst Nothing (sym c.deref.ensures.value) (empty_all node.outboxes.items node.family node.n node.id idle.sent)),
     )

@@ -11,7 +11,7 @@ use Rattle.dob_node.proofs.Sends.{addressed_empty}
 use Rattle.dob_node.proofs.node.Node.open.Goals as goal
 
 pub opening_history-requires-clause-few : goal.opening_history-requires-clause-few
-opening_history-requires-clause-few c = few_listed c.args.set c.args.openings.now c.requires.openings
+opening_history-requires-clause-few c = few_listed c.args.family c.args.openings.now c.requires.openings
 
 pub opening_history-requires-clause-places : goal.opening_history-requires-clause-places
 opening_history-requires-clause-places c = λ place low.
@@ -38,13 +38,13 @@ pub returns-clause-sound : goal.returns-clause-sound
 returns-clause-sound c =
     let out = c.in_ok-share.ensures in
     record {
-      kept = opened_kept c.args.set c.args.openings.now c.args.n c.args.id c.in_ok-share.share c.in_ok-history.history c.requires.openings c.requires.owner
-          (few_listed c.args.set c.args.openings.now c.requires.openings) out.who out.owned out.cells out.settled
+      kept = opened_kept c.args.family c.args.openings.now c.args.n c.args.id c.in_ok-share.share c.in_ok-history.history c.requires.openings c.requires.owner
+          (few_listed c.args.family c.args.openings.now c.requires.openings) out.who out.owned out.cells out.settled
           (subst (λ (k : ℕ). c.in_ok-history.history ≡ record { id = c.args.id; n = c.args.n; settlements = opening_settlements (status_in c.args.openings.now) c.args.n c.args.id k; room = 0 })
           c.places.ensures c.in_ok-history.ensures);
       emitted = omega arith;
       entries = subst (λ xs. All HasEntries xs) (sym c.new.ensures.items) (All-nil HasEntries);
       receivers = c.in_ok-outboxes.ensures.whole;
-      addressed = addressed_empty c.args.set c.args.n c.args.id c.in_ok-outboxes.outboxes.items c.in_ok-outboxes.ensures.empty;
+      addressed = addressed_empty c.args.family c.args.n c.args.id c.in_ok-outboxes.outboxes.items c.in_ok-outboxes.ensures.empty;
       nothing_to_self = ap (λ (o : OutboxView). o.items) (c.in_ok-outboxes.ensures.empty c.args.id);
     }

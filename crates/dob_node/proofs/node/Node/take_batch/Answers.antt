@@ -16,9 +16,9 @@ returns-in_err-reserve-clause-stopped c =
 pub take_items-requires-clause-kept : goal.take_items-requires-clause-kept
 take_items-requires-clause-kept c =
     let node = c.args.self.now in (
-      node.set,
-      kept_own node.set node.n node.id node.share c.reserve.new.self
-          (kept_with_room node.set node.n node.id node.share node.history c.reserve.new.self c.reserve.ensures.same c.requires.sound.kept),
+      node.family,
+      kept_own node.family node.n node.id node.share c.reserve.new.self
+          (kept_with_room node.family node.n node.id node.share node.history c.reserve.new.self c.reserve.ensures.same c.requires.sound.kept),
     )
 
 pub returns-in_err-take_items-clause-stopped : goal.returns-in_err-take_items-clause-stopped
@@ -60,8 +60,8 @@ returns-in_err-take_items-clause-sound c =
     let front = all_with_room before.front node.share c.take_items.new.share node.history c.reserve.new.self c.take_items.new.history c.reserve.ensures.same
     before.taken in
     record {
-      kept = kept_back node.set node.n node.id node.share c.take_items.new.share c.reserve.new.self c.take_items.new.history
-          (kept_with_room node.set node.n node.id node.share node.history c.reserve.new.self c.reserve.ensures.same sound.kept) c.take_items.ensures.kept;
+      kept = kept_back node.family node.n node.id node.share c.take_items.new.share c.reserve.new.self c.take_items.new.history
+          (kept_with_room node.family node.n node.id node.share node.history c.reserve.new.self c.reserve.ensures.same sound.kept) c.take_items.ensures.kept;
       emitted = emitted_all before.front node.share c.take_items.new.share node.history c.take_items.new.history node.expanded front sound.emitted;
       entries = sound.entries;
       receivers = sound.receivers;
@@ -89,8 +89,8 @@ returns-clause-sound c =
     let all = all_with_room c.items-items.result.now node.share c.take_items.new.share node.history c.reserve.new.self c.take_items.new.history
     c.reserve.ensures.same out.taken in
     record {
-      kept = kept_back node.set node.n node.id node.share c.take_items.new.share c.reserve.new.self c.take_items.new.history
-          (kept_with_room node.set node.n node.id node.share node.history c.reserve.new.self c.reserve.ensures.same sound.kept) out.kept;
+      kept = kept_back node.family node.n node.id node.share c.take_items.new.share c.reserve.new.self c.take_items.new.history
+          (kept_with_room node.family node.n node.id node.share node.history c.reserve.new.self c.reserve.ensures.same sound.kept) out.kept;
       emitted = emitted_all c.items-items.result.now node.share c.take_items.new.share node.history c.take_items.new.history node.expanded all sound.emitted;
       entries = sound.entries;
       receivers = sound.receivers;

@@ -1,6 +1,6 @@
 -- One round more, after which the world is still or not.
 use Rattle.std.proofs.Common.{◌+◌, ◌<◌, ◌≤◌, Bool, true, false, arith, sym, subst}
-use Rattle.dob_rank.specs.Marks.{classes_of}
+use Rattle.dob_rank.specs.Families.{classes_of}
 use Rattle.dob_world.specs.Worlds.{Setting}
 use Rattle.dob_world.specs.Results.{HasMadeRound}
 use Rattle.dob_world.proofs.Left.{kept_standing, kept_left}
@@ -23,7 +23,7 @@ loop-round-preserved c = round_more c.args.self.now c.loop-round.self c.round.ne
 
 pub returns-in-Err-clause-memory : goal.returns-in-Err-clause-memory
 returns-in-Err-clause-memory c = λ few.
-    c.in-Err.ensures.memory (subst (λ (k : Setting). classes_of k.set < 65535) (sym c.loop-round.invariant.setting) few)
+    c.in-Err.ensures.memory (subst (λ (k : Setting). classes_of k.family < 65535) (sym c.loop-round.invariant.setting) few)
 
 pub returns-in-Ok-true-clause-falls : goal.returns-in-Ok-true-clause-falls
 returns-in-Ok-true-clause-falls c = c.in-Ok-true.ensures.made.standing.falls

@@ -14,8 +14,8 @@ use Rattle.dob_world.proofs.Unchanged.{node_unseen}
 use Rattle.dob_world.proofs.Stood.{stand_after}
 use Rattle.dob_world.proofs.world.World.expand.Goals as goal
 
-pub expand-requires-clause-set : goal.expand-requires-clause-set
-expand-requires-clause-set c =
+pub expand-requires-clause-family : goal.expand-requires-clause-family
+expand-requires-clause-family c =
     let low : c.args.node < length c.args.self.now.nodes.items = omega (arith, c.requires.standing.places.nodes_whole) in
     let is = c.requires.standing.places.node c.args.node c.index_mut.result.now (read_there c.args.self.now.nodes.items c.args.node c.index_mut.result.now
     low c.index_mut.ensures.value) in

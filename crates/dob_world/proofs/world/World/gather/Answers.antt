@@ -1,7 +1,7 @@
 -- At rest it is the value table.
 use Rattle.std.proofs.Common.{ℕ, IfOk, ap, subst}
-use Rattle.dob_pieces.specs.declared.piece_set.PieceSet.{PieceSet}
-use Rattle.dob_rank.specs.Marks.{classes_of}
+use Rattle.dob_pieces.specs.declared.profile.Family.{Family}
+use Rattle.dob_rank.specs.Families.{classes_of}
 use Rattle.dob_value.proofs.Parity.{IfOk-both}
 use Rattle.dob_node.specs.Histories.{AreValuesBelow}
 use Rattle.dob_node.proofs.ShownValues.{values_given}
@@ -14,13 +14,13 @@ use Rattle.dob_world.proofs.world.World.gather.Goals.{After-from_fn}
 
 -- the values given are those that the nodes show
 shown : (c : After-from_fn) → IfOk c.from_fn.result (λ table. AreValuesBelow (value_in c.args.self.now.n (state_of c.args.self.now).world.nodes)
-    (classes_of c.args.self.now.classes.set) table.values)
+    (classes_of c.args.self.now.classes.family) table.values)
 shown c =
     let value = value_in c.args.self.now.n (state_of c.args.self.now).world.nodes in
     IfOk-both c.from_fn.result _ _ _ (λ table given same.
-    subst (λ (count : ℕ). AreValuesBelow value count table.values) (ap (λ (set : PieceSet). classes_of set) c.in-Ok.ensures.set)
-    (values_given _ value (classes_of c.in-Ok.classes.set) table.values given (λ class v low has. has.0)))
-    c.from_fn.ensures.given c.from_fn.ensures.set
+    subst (λ (count : ℕ). AreValuesBelow value count table.values) (ap (λ (family : Family). classes_of family) c.in_ok-classes.ensures.family)
+    (values_given _ value (classes_of c.in_ok-classes.classes.family) table.values given (λ class v low has. has.0)))
+    c.from_fn.ensures.given c.from_fn.ensures.family
 
 pub returns-clause-values : goal.returns-clause-values
 returns-clause-values c = shown c
@@ -31,7 +31,7 @@ returns-clause-right c = λ rest.
     let standing = c.requires.standing in
     IfOk-both c.from_fn.result _ _ _ (λ table values same.
     rest_is_right k (state_of c.args.self.now).world standing.openings.0 table.values standing.setting.nodes.0
-    standing.openings.1 standing.lawful standing.linked rest values.whole values.each) (shown c) c.from_fn.ensures.set
+    standing.openings.1 standing.lawful standing.linked rest values.whole values.each) (shown c) c.from_fn.ensures.family
 
 pub returns-clause-announced : goal.returns-clause-announced
 returns-clause-announced c = λ ended.

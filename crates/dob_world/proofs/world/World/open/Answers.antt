@@ -1,12 +1,10 @@
 -- The world as it is opened.
-use Rattle.std.proofs.Common.{◌<◌, refl, sym, subst, arith}
+use Rattle.std.proofs.Common.{◌<◌, refl, sym, subst}
 use Rattle.std.proofs.lemmas.Bool.{both_ways}
 use Rattle.dob_world.specs.Worlds.{Setting}
-use Rattle.dob_pieces.specs.declared.piece_set.PieceSet.{PieceSet}
 use Rattle.dob_world.specs.Shown.{world_shown, ring_of}
 use Rattle.dob_world.specs.Standing.{IsSetting}
 use Rattle.dob_world.specs.Start.{AreOpenedNodes}
-use Rattle.dob_rank.specs.Limits.{IsSmall}
 use Rattle.dob_world.proofs.Starts.{places_start, falls_shown, lawful_shown, linked_start, waits_start}
 use Rattle.dob_world.proofs.Cuts.{cuts_start}
 use Rattle.dob_world.proofs.Promise.{matches_start, few_start}
@@ -14,17 +12,16 @@ use Rattle.dob_world.proofs.world.World.open.Goals as goal
 
 pub returns-clause-standing : goal.returns-clause-standing
 returns-clause-standing c =
-    let k : Setting = record { set = c.in_ok-classes.classes.set; n = c.args.n; batch = c.args.batch; capacity = c.args.capacity } in
+    let k : Setting = record { family = c.in_ok-classes.classes.family; n = c.args.n; batch = c.args.batch; capacity = c.args.capacity } in
     let openings = c.in_ok-openings.openings in
     let nodes = c.in_ok-nodes.nodes.items in
     let lanes = c.in_ok-lanes.lanes.items in
     let size = c.is_size.ensures.0 c.if-not-is_size.false in
     let some : 0 < c.args.n = size.0 in
-    let opened : AreOpenedNodes openings k.set k.n k.n nodes =
-    subst (λ st. AreOpenedNodes openings st c.args.n c.args.n nodes) (sym c.in_ok-classes.ensures.set)
+    let opened : AreOpenedNodes openings k.family k.n k.n nodes =
+    subst (λ st. AreOpenedNodes openings st c.args.n c.args.n nodes) (sym c.in_ok-classes.ensures.family)
     c.in_ok-nodes.ensures in
     let setting : IsSetting k = record {
-      small = subst (λ (st : PieceSet). IsSmall st) (sym c.in_ok-classes.ensures.set) (c.is_too_large.ensures.small c.if-is_too_large.false);
       nodes = size;
       sizes = c.are_sizes.ensures.0 c.if-not-are_sizes.false;
     } in
@@ -38,10 +35,10 @@ returns-clause-standing c =
         lawful = lawful_shown k openings nodes lanes some c.in_ok-openings.ensures opened c.in_ok-lanes.ensures;
         falls = falls_shown k openings nodes lanes some c.in_ok-openings.ensures opened c.in_ok-lanes.ensures;
         linked = linked_start k openings nodes lanes some c.in_ok-openings.ensures opened c.in_ok-lanes.ensures;
-        matches = matches_start k (record { world = world_shown k.set k.n nodes lanes; ring = ring_of detector }) setting c.in_ok-detector.ensures.start
+        matches = matches_start k (record { world = world_shown k.family k.n nodes lanes; ring = ring_of detector }) setting c.in_ok-detector.ensures.start
             (waits_start k openings nodes lanes some c.in_ok-openings.ensures opened c.in_ok-lanes.ensures);
         few = few_start c.args.n (ring_of detector) 0 c.in_ok-detector.ensures.start;
-        cuts = cuts_start openings k.set k.n nodes (ring_of detector) opened c.in_ok-detector.ensures.start;
+        cuts = cuts_start openings k.family k.n nodes (ring_of detector) opened c.in_ok-detector.ensures.start;
       },
       refl,
       refl,
@@ -49,14 +46,10 @@ returns-clause-standing c =
 
 pub returns-then-not-is_size-clause-fault : goal.returns-then-not-is_size-clause-fault
 returns-then-not-is_size-clause-fault c =
-    (c.is_too_large.ensures.small c.if-is_too_large.false, λ size. both_ways _ c.if-not-is_size.true (c.is_size.ensures.1 size))
+    λ size. both_ways _ c.if-not-is_size.true (c.is_size.ensures.1 size)
 
 pub returns-then-not-are_sizes-clause-fault : goal.returns-then-not-are_sizes-clause-fault
 returns-then-not-are_sizes-clause-fault c = (
-  c.is_too_large.ensures.small c.if-is_too_large.false,
   c.is_size.ensures.0 c.if-not-is_size.false,
   λ sizes. both_ways _ c.if-not-are_sizes.true (c.are_sizes.ensures.1 sizes),
 )
-
-pub returns-then-is_too_large-clause-fault : goal.returns-then-is_too_large-clause-fault
-returns-then-is_too_large-clause-fault c = λ small. let large = c.is_too_large.ensures.large c.if-is_too_large.true in absurd (omega (arith, large, small))

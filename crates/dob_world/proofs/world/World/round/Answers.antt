@@ -1,7 +1,7 @@
 -- One event more is made, or skipped.
 use Rattle.std.proofs.Common.{◌≡◌, ◌<◌, arith, refl, sym, subst, ap, Ok}
 use Rattle.dob_world.specs.declared.event.Event.{Event}
-use Rattle.dob_rank.specs.Marks.{classes_of}
+use Rattle.dob_rank.specs.Families.{classes_of}
 use Rattle.dob_world.specs.Worlds.{Setting}
 use Rattle.dob_world.specs.Rounds.{round_length}
 use Rattle.dob_world.specs.Effects.{IsStopped}
@@ -29,7 +29,7 @@ returns-clause-made c =
 pub returns-in-Err-clause-memory : goal.returns-in-Err-clause-memory
 returns-in-Err-clause-memory c = λ few.
     let way = c.loop-place.invariant.way in
-    c.in-Err.ensures.memory way.going (subst (λ (k : Setting). classes_of k.set < 65535) (sym way.setting) few)
+    c.in-Err.ensures.memory way.going (subst (λ (k : Setting). classes_of k.family < 65535) (sym way.setting) few)
 
 pub returns-in-Err-clause-stopped : goal.returns-in-Err-clause-stopped
 returns-in-Err-clause-stopped c =

@@ -1,7 +1,7 @@
 -- The node that takes a batch.
 use Rattle.std.proofs.Common.{ℕ, ◌<◌, ◌+◌, ◌*◌, refl, sym, ap, ◌∙◌, subst, Ok, Err, slice_set}
 use Rattle.std.specs.List.{All}
-use Rattle.dob_pieces.specs.declared.piece_set.PieceSet.{PieceSet}
+use Rattle.dob_pieces.specs.declared.profile.Family.{Family}
 use Rattle.dob_update.specs.Batches.{BatchView}
 use Rattle.dob_world.specs.Lanes.{IsBatchFor}
 use Rattle.dob_world.specs.declared.event.Event.TheVariants.{Take}
@@ -57,9 +57,9 @@ receive-requires-clause-batches c =
     let there_n = node_there k nodes lanes c.requires.standing.places j node low_j c.index_mut.ensures.value in
     let there_l = lane_there k nodes lanes c.requires.standing.places i j lane low_i low_j c.index_mut-2.ensures.value in
     let of = (c.requires.standing.places.node j node there_n).of in
-    subst (λ (st : PieceSet). All (λ (b : BatchView). IsBatchFor st node.n node.id b) lane.link.waiting) (sym of.0)
-    (subst (λ (m : ℕ). All (λ (b : BatchView). IsBatchFor k.set m node.id b) lane.link.waiting) (sym of.2)
-    (subst (λ (m : ℕ). All (λ (b : BatchView). IsBatchFor k.set k.n m b) lane.link.waiting) (sym of.1)
+    subst (λ (st : Family). All (λ (b : BatchView). IsBatchFor st node.n node.id b) lane.link.waiting) (sym of.0)
+    (subst (λ (m : ℕ). All (λ (b : BatchView). IsBatchFor k.family m node.id b) lane.link.waiting) (sym of.2)
+    (subst (λ (m : ℕ). All (λ (b : BatchView). IsBatchFor k.family k.n m b) lane.link.waiting) (sym of.1)
     (c.requires.standing.places.lane i j lane there_l).batches))
 
 pub count_take-requires-clause-counted : goal.count_take-requires-clause-counted
