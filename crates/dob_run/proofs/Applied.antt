@@ -3,7 +3,7 @@ use Rattle.std.proofs.Common.{◌≡◌, ◌≢◌, ℕ, zero, suc, ◌-◌, eqb
 use Rattle.std.proofs.Common.{length, length-append, length-drop, take, drop}
 use Rattle.std.proofs.lemmas.Bool.{eq-eqb, ne_eqb}
 use Rattle.std.proofs.lemmas.List.{take-append-le}
-use Rattle.dob_pieces.specs.declared.piece_set.PieceSet.{PieceSet}
+use Rattle.dob_pieces.specs.declared.profile.Family.{Family}
 use Rattle.dob_share.specs.declared.news.Item.{Item}
 use Rattle.dob_update.specs.Batches.{BatchView, items_of_batches}
 use Rattle.dob_update.proofs.BatchItems.{items_in_more}
@@ -79,9 +79,9 @@ worked_else before after batch more k other =
 
 -- ---- what is known, told of the node after a step
 
-pub knows_after : (old new : Node) (applied : ℕ → List Item) → new.set ≡ old.set → new.id ≡ old.id → new.n ≡ old.n →
-    KnowsRight old.set old.n old.id new.share new.history.settlements applied → KnowsRight new.set new.n new.id new.share new.history.settlements applied
-knows_after old new applied set_is id_is n_is knows =
-    subst (λ (s : PieceSet). KnowsRight s new.n new.id new.share new.history.settlements applied) (sym set_is)
-    (subst (λ (m : ℕ). KnowsRight old.set m new.id new.share new.history.settlements applied) (sym n_is)
-    (subst (λ (i : ℕ). KnowsRight old.set old.n i new.share new.history.settlements applied) (sym id_is) knows))
+pub knows_after : (old new : Node) (applied : ℕ → List Item) → new.family ≡ old.family → new.id ≡ old.id → new.n ≡ old.n →
+    KnowsRight old.family old.n old.id new.share new.history.settlements applied → KnowsRight new.family new.n new.id new.share new.history.settlements applied
+knows_after old new applied family_is id_is n_is knows =
+    subst (λ (s : Family). KnowsRight s new.n new.id new.share new.history.settlements applied) (sym family_is)
+    (subst (λ (m : ℕ). KnowsRight old.family m new.id new.share new.history.settlements applied) (sym n_is)
+    (subst (λ (i : ℕ). KnowsRight old.family old.n i new.share new.history.settlements applied) (sym id_is) knows))

@@ -3,14 +3,13 @@ use Rattle.std.proofs.Common.{◌≡◌, ℕ, Bool, true, ◌<◌, ◌≤◌, Li
 use Rattle.std.specs.Prelude.{IfOk, IfErr, OnOk, Some, slice_get}
 use Rattle.std.specs.List.{AllZip}
 use Rattle.dob_pieces.proofs.Elements.{some_at}
-use Rattle.dob_pieces.specs.declared.piece_set.PieceSet.{PieceSet}
-use Rattle.dob_rank.specs.Limits.{IsSmall}
+use Rattle.dob_pieces.specs.declared.profile.Family.{Family}
 use Rattle.dob_update.specs.Batches.{BatchView}
 use Rattle.dob_board.specs.declared.board.Board.{Board}
 use Rattle.dob_chan.specs.Ends.{sent_by, taken_by}
 use Rattle.dob_node.specs.declared.cause.Cause.{Cause}
 use Rattle.dob_run.specs.declared.fault.Fault.{Fault}
-use Rattle.dob_run.specs.declared.fault.Fault.TheVariants.{SetTooLarge, Nodes, Sizes, Stopped, Memory}
+use Rattle.dob_run.specs.declared.fault.Fault.TheVariants.{Nodes, Sizes, Stopped, Memory}
 use Rattle.dob_run.specs.declared.build_end.Built.{Built}
 use Rattle.dob_run.specs.declared.hands.Outlet.{Outlet}
 use Rattle.dob_run.specs.declared.runner.Runner.{Runner}
@@ -35,8 +34,8 @@ use Rattle.dob_run.proofs.CrewRunners.{zip_at, seat_at, seat_there, are_linked, 
 use Rattle.dob_run.proofs.RunFaults.{stops_so}
 use Rattle.dob_run.proofs.Threaded.{all_kept}
 
-module _ (No : ℕ → Type 0) (until : Until) (set : PieceSet) (n size capacity : ℕ) (board : Board) (ended : List Runner)
-    (ran : HasRun No until set n size capacity board ended) where
+module _ (No : ℕ → Type 0) (until : Until) (family : Family) (n size capacity : ℕ) (board : Board) (ended : List Runner)
+    (ran : HasRun No until family n size capacity board ended) where
   kept : AllZip KeepsRunner ran.old ended
   kept = all_kept No until ran.old ended ran.ends
 
@@ -44,40 +43,39 @@ module _ (No : ℕ → Type 0) (until : Until) (set : PieceSet) (n size capacity
   still_crew = crew_kept board ran.old ended ran.opened.crew kept
 
   -- what is made of it is made within the limits
-  pub is_within : {A : Type 0} (result : Result A Fault) → OnOk result (IsSmall set × AreWithin n size capacity)
-  is_within (Ok made) = (ran.small, ran.within)
+  pub is_within : {A : Type 0} (result : Result A Fault) → OnOk result (AreWithin n size capacity)
+  is_within (Ok made) = ran.within
   is_within (Err why) = tt
 
   -- a runner that has failed is one of the crew
-  fault_by : (node : ℕ) (why : Cause) (runner : Runner) → slice_get ended node ≡ Some runner → HasBuildFault set n size capacity (Stopped node why)
+  fault_by : (node : ℕ) (why : Cause) (runner : Runner) → slice_get ended node ≡ Some runner → HasBuildFault n size capacity (Stopped node why)
   fault_by node why runner at =
       let low : node < n = omega (arith, crew_low board ended still_crew node runner at, ran.opened.nodes) in
-      (ran.small, ran.within, low)
+      (ran.within, low)
 
   -- ---- where it was closed after some turns
 
-  pub first_fault : (fault : Fault) → IsFirstFailed ended fault → HasBuildFault set n size capacity fault
+  pub first_fault : (fault : Fault) → IsFirstFailed ended fault → HasBuildFault n size capacity fault
   first_fault (Stopped node why) first = fault_by node why first.0 first.1
-  first_fault SetTooLarge first = absurd first
   first_fault Nodes first = absurd first
   first_fault Sizes first = absurd first
   first_fault Memory first = absurd first
 
-  pub first_stops : (fault : Fault) → IsFirstFailed ended fault → StopsSo IsFirstFailed No until set n size capacity fault
-  first_stops fault first = stops_so IsFirstFailed No until set n size capacity board ended fault ran first
+  pub first_stops : (fault : Fault) → IsFirstFailed ended fault → StopsSo IsFirstFailed No until family n size capacity fault
+  first_stops fault first = stops_so IsFirstFailed No until family n size capacity board ended fault ran first
 
-  pub has_turned : (turned : Turned) → AreUnfailed ended → HasLeft board.nodes ended turned → IsTurned set n size turned
+  pub has_turned : (turned : Turned) → AreUnfailed ended → HasLeft board.nodes ended turned → IsTurned family n size turned
   has_turned turned unfailed left =
-      subst (λ (k : ℕ). IsTurned set k size turned) ran.opened.nodes
-      (turned_is board set size ended turned still_crew left (for_kept set size ran.old ended ran.opened.each kept unfailed))
+      subst (λ (k : ℕ). IsTurned family k size turned) ran.opened.nodes
+      (turned_is board family size ended turned still_crew left (for_kept family size ran.old ended ran.opened.each kept unfailed))
 
 -- ---- who was let on
 
 -- of a new crew, whose run went on
-pub are_let_on : (Says : ℕ → Bool → Type 0) (until : Until) (set : PieceSet) (n size capacity : ℕ) (board : Board) (old ended : List Runner) →
-    IsNewCrew set n size capacity board old → AllZip (EndsBy Says until) old ended → IsCrew board (map endpoint_of ended) → AreLetOn Says until ended
-are_let_on Says (until.Turns count) set n size capacity board old ended opened ends crew = tt
-are_let_on Says until.Halted set n size capacity board old ended opened ends crew = λ k runner at unfailed.
+pub are_let_on : (Says : ℕ → Bool → Type 0) (until : Until) (family : Family) (n size capacity : ℕ) (board : Board) (old ended : List Runner) →
+    IsNewCrew family n size capacity board old → AllZip (EndsBy Says until) old ended → IsCrew board (map endpoint_of ended) → AreLetOn Says until ended
+are_let_on Says (until.Turns count) family n size capacity board old ended opened ends crew = tt
+are_let_on Says until.Halted family n size capacity board old ended opened ends crew = λ k runner at unfailed.
     let was = zip_at (EndsBy Says until.Halted) old ended k runner ends at in
     subst (λ (m : ℕ). Says m true) (seat_at board ended crew k runner at).node (was.2.1 (opened.new k was.0 was.1).0.running unfailed)
 
@@ -91,8 +89,8 @@ all_let_on Says n board ended nodes crew are (Err why) unfailed = tt
 
 -- ---- what went over its links by then
 
-module _ (No : ℕ → Type 0) (turns : ℕ) (set : PieceSet) (n size capacity : ℕ) (board : Board) (ended : List Runner)
-    (ran : HasRun No (until.Turns turns) set n size capacity board ended) (unfailed : AreUnfailed ended) where
+module _ (No : ℕ → Type 0) (turns : ℕ) (family : Family) (n size capacity : ℕ) (board : Board) (ended : List Runner)
+    (ran : HasRun No (until.Turns turns) family n size capacity board ended) (unfailed : AreUnfailed ended) where
   few_offered : (i j : ℕ) (runner : Runner) (outlet : Outlet) → slice_get ended i ≡ Some runner → slice_get runner.endpoint.outlets.items j ≡ Some outlet →
       length (offered outlet) ≤ turns
   few_offered i j runner outlet at out =
@@ -120,7 +118,7 @@ module _ (No : ℕ → Type 0) (turns : ℕ) (set : PieceSet) (n size capacity :
 
   carried : (turned : Turned) → HasLeft board.nodes ended turned → CarriesFew board.nodes turns turned
   carried turned left =
-      let crew = still_crew No (until.Turns turns) set n size capacity board ended ran in
+      let crew = still_crew No (until.Turns turns) family n size capacity board ended ran in
       let there : (k : ℕ) → k < board.nodes → (runner : Runner) × (slice_get ended k ≡ Some runner) =
       λ k low. some_at ended k (omega (arith, crew_many board ended crew, low)) in
       record {
@@ -169,50 +167,45 @@ module _ (No : ℕ → Type 0) (turns : ℕ) (set : PieceSet) (n size capacity :
 -- ---- where it was run to its end
 
 -- no node was held back where the gate never says no
-unheld : (No : ℕ → Type 0) (set : PieceSet) (n size capacity : ℕ) → ((node : ℕ) → ¬ No node) → (fault : Fault) →
-    StopsSo IsFailureOf No until.Halted set n size capacity fault → IsUnheld fault
-unheld No set n size capacity never (Stopped node why) stops = λ held.
+unheld : (No : ℕ → Type 0) (family : Family) (n size capacity : ℕ) → ((node : ℕ) → ¬ No node) → (fault : Fault) →
+    StopsSo IsFailureOf No until.Halted family n size capacity fault → IsUnheld fault
+unheld No family n size capacity never (Stopped node why) stops = λ held.
     let runner = stops.names.runner in
     let was = zip_at (Ends No until.Halted) stops.ran.old stops.ended node runner stops.ran.ends stops.names.at in
     never runner.endpoint.seat.node (subst (IsReasonFor No runner) held (was.2.2 why stops.names.cause))
-unheld No set n size capacity never SetTooLarge stops = tt
-unheld No set n size capacity never Nodes stops = tt
-unheld No set n size capacity never Sizes stops = tt
-unheld No set n size capacity never Memory stops = tt
+unheld No family n size capacity never Nodes stops = tt
+unheld No family n size capacity never Sizes stops = tt
+unheld No family n size capacity never Memory stops = tt
 
-pub if_unheld : (No : ℕ → Type 0) (set : PieceSet) (n size capacity : ℕ) (result : Result Built Fault) →
-    IfErr result (StopsSo IsFailureOf No until.Halted set n size capacity) → ((node : ℕ) → ¬ No node) → IfErr result IsUnheld
-if_unheld No set n size capacity (Ok built) stops never = tt
-if_unheld No set n size capacity (Err fault) stops never = unheld No set n size capacity never fault stops
+pub if_unheld : (No : ℕ → Type 0) (family : Family) (n size capacity : ℕ) (result : Result Built Fault) →
+    IfErr result (StopsSo IsFailureOf No until.Halted family n size capacity) → ((node : ℕ) → ¬ No node) → IfErr result IsUnheld
+if_unheld No family n size capacity (Ok built) stops never = tt
+if_unheld No family n size capacity (Err fault) stops never = unheld No family n size capacity never fault stops
 
-module _ (No : ℕ → Type 0) (set : PieceSet) (n size capacity : ℕ) (board : Board) (ended : List Runner)
-    (ran : HasRun No until.Halted set n size capacity board ended) where
-  pub have_stopped : HaveStopped set size ended
-  have_stopped = record {
-    small = ran.small;
-    each = λ k runner at.
-        let was = zip_at (Ends No until.Halted) ran.old ended k runner ran.ends at in
-        let is = ran.opened.each k was.0 was.1 in
-        record { set_is = was.2.0.set ∙ is.set_is; size_is = was.2.0.size ∙ is.size_is; halted = was.2.1 };
-  }
+module _ (No : ℕ → Type 0) (family : Family) (n size capacity : ℕ) (board : Board) (ended : List Runner)
+    (ran : HasRun No until.Halted family n size capacity board ended) where
+  pub have_stopped : HaveStopped family size ended
+  have_stopped = λ k runner at.
+      let was = zip_at (Ends No until.Halted) ran.old ended k runner ran.ends at in
+      let is = ran.opened.each k was.0 was.1 in
+      record { family_is = was.2.0.family ∙ is.family_is; size_is = was.2.0.size ∙ is.size_is; halted = was.2.1 }
 
   pub is_built : (result : Result Built Fault) →
-      IfOk result (λ built. (m : ℕ) → HaveStopped set m ended → IsBuilt set board.nodes m built) → IfOk result (IsBuilt set n size)
-  is_built (Ok built) is = subst (λ (k : ℕ). IsBuilt set k size built) ran.opened.nodes (is size have_stopped)
+      IfOk result (λ built. (m : ℕ) → HaveStopped family m ended → IsBuilt family board.nodes m built) → IfOk result (IsBuilt family n size)
+  is_built (Ok built) is = subst (λ (k : ℕ). IsBuilt family k size built) ran.opened.nodes (is size have_stopped)
   is_built (Err why) is = tt
 
-  fault_for : (fault : Fault) → IsFailureOf ended fault → HasBuildFault set n size capacity fault
-  fault_for (Stopped node why) failure = fault_by No until.Halted set n size capacity board ended ran node why failure.runner failure.at
-  fault_for Memory failure = (ran.small, ran.within)
-  fault_for SetTooLarge failure = absurd failure
+  fault_for : (fault : Fault) → IsFailureOf ended fault → HasBuildFault n size capacity fault
+  fault_for (Stopped node why) failure = fault_by No until.Halted family n size capacity board ended ran node why failure.runner failure.at
+  fault_for Memory failure = ran.within
   fault_for Nodes failure = absurd failure
   fault_for Sizes failure = absurd failure
 
-  pub has_fault : (result : Result Built Fault) → IfErr result (IsFailureOf ended) → IfErr result (HasBuildFault set n size capacity)
+  pub has_fault : (result : Result Built Fault) → IfErr result (IsFailureOf ended) → IfErr result (HasBuildFault n size capacity)
   has_fault (Ok built) failure = tt
   has_fault (Err fault) failure = fault_for fault failure
 
-  pub is_stopped : (result : Result Built Fault) → IfErr result (IsFailureOf ended) → IfErr result (StopsSo IsFailureOf No until.Halted set n size capacity)
+  pub is_stopped : (result : Result Built Fault) → IfErr result (IsFailureOf ended) → IfErr result (StopsSo IsFailureOf No until.Halted family n size capacity)
   is_stopped (Ok built) failure = tt
   is_stopped (Err fault) failure =
-      stops_so IsFailureOf No until.Halted set n size capacity board ended fault ran failure
+      stops_so IsFailureOf No until.Halted family n size capacity board ended fault ran failure

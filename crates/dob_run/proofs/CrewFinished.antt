@@ -5,11 +5,11 @@ use Rattle.std.specs.Prelude.{slice_get}
 use Rattle.std.proofs.lemmas.Bool.{cases_eq}
 use Rattle.std.proofs.lemmas.List.{append-nil, take_all}
 use Rattle.std.proofs.lemmas.Option.{slice_get-get_or}
-use Rattle.dob_pieces.specs.declared.piece_set.PieceSet.{PieceSet}
+use Rattle.dob_pieces.specs.declared.profile.Family.{Family}
 use Rattle.dob_pieces.proofs.Elements.{some_at}
 use Rattle.dob_moves.specs.declared.position_status.Status.{Status}
 use Rattle.dob_moves.specs.declared.position_status.Status.TheVariants.{Caught, Tried, Stuck, Open}
-use Rattle.dob_rank.specs.Marks.{classes_of}
+use Rattle.dob_rank.specs.Families.{classes_of}
 use Rattle.dob_value.specs.declared.value.Value.{Value}
 use Rattle.dob_value.specs.Follows.{IsValueTable}
 use Rattle.dob_unmove.specs.Edges.{predecessors}
@@ -53,10 +53,10 @@ closed_follows Open cell v closed is = absurd (closed refl)
 
 -- ---- nodes as functions of their numbers
 
-module _ (set : PieceSet) (n : ℕ) (some : 0 < n) (histories : ℕ → List Settlement) (applied : ℕ → ℕ → List Item) (share : ℕ → Share)
-    (knows : (i : ℕ) → i < n → KnowsRight set n i (share i) (histories i) (λ k. applied k i))
-    (all : (i j : ℕ) → i < n → j < n → applied i j ≡ items_from (predecessors set) n j (histories i))
-    (shown : (class : ℕ) → class < classes_of set → (v : Value) × HasValueNow (share (owner_of n class)) class v) where
+module _ (family : Family) (n : ℕ) (some : 0 < n) (histories : ℕ → List Settlement) (applied : ℕ → ℕ → List Item) (share : ℕ → Share)
+    (knows : (i : ℕ) → i < n → KnowsRight family n i (share i) (histories i) (λ k. applied k i))
+    (all : (i j : ℕ) → i < n → j < n → applied i j ≡ items_from (predecessors family) n j (histories i))
+    (shown : (class : ℕ) → class < classes_of family → (v : Value) × HasValueNow (share (owner_of n class)) class v) where
   abbrev value : ℕ → Value
   value class = value_of (histories (owner_of n class)) class
 
@@ -67,25 +67,25 @@ module _ (set : PieceSet) (n : ℕ) (some : 0 < n) (histories : ℕ → List Set
   low_owner class = below_owner n class some
 
   -- the value shown
-  pub shows : (class : ℕ) → class < classes_of set → (v : Value) → HasValueNow (share (owner_of n class)) class v → v ≡ value class
+  pub shows : (class : ℕ) → class < classes_of family → (v : Value) → HasValueNow (share (owner_of n class)) class v → v ≡ value class
   shows class low v is = (knows (owner_of n class) (low_owner class)).values class v low refl is
 
-  has_value : (class : ℕ) → class < classes_of set → HasValueNow (share (owner_of n class)) class (value class)
+  has_value : (class : ℕ) → class < classes_of family → HasValueNow (share (owner_of n class)) class (value class)
   has_value class low = let given = shown class low in subst (λ v. HasValueNow (share (owner_of n class)) class v) (shows class low given.0 given.1) given.1
 
-  could : (j : ℕ) → j < n → CanHaveMade set n j histories (λ k. applied k j)
+  could : (j : ℕ) → j < n → CanHaveMade family n j histories (λ k. applied k j)
   could j low = record {
     chained = λ i low_i. (knows i low_i).chained;
     begun = λ i low_i. ([], sym (all i j low_i low) ∙ sym (append-nil (applied i j)));
   }
 
-  pub are_lawful : AreLawful set n histories applied cell value
+  pub are_lawful : AreLawful family n histories applied cell value
   are_lawful = record {
     chained = λ i low. (knows i low).chained;
     entries = λ i low. (knows i low).entries;
     begun = λ i j low_i low_j. ([], sym (all i j low_i low_j) ∙ sym (append-nil (applied i j)));
     sums = λ class low is. (let owner = knows (owner_of n class) (low_owner class) in
-        sums_by (known_of set n histories applied class) (cell class)
+        sums_by (known_of family n histories applied class) (cell class)
         (owner.sums histories (could (owner_of n class) (low_owner class)) class low refl (owner.statuses class Open low refl is)));
     cell_values = λ class low is. subst (λ s. IsValue s (cell class) (value class))
         ((knows (owner_of n class) (low_owner class)).statuses class Open low refl is) (has_value class low);
@@ -94,9 +94,9 @@ module _ (set : PieceSet) (n : ℕ) (some : 0 < n) (histories : ℕ → List Set
     values = λ class low. refl;
   }
 
-  pub known_is_right : (openings : List Opening) (values : List Value) → AreOpenings set openings → length values ≡ classes_of set →
-      ((class : ℕ) → class < classes_of set → slice_get values class ≡ Some (value class)) → IsValueTable set values
-  known_is_right openings values are whole each = lawful_is_right set n histories applied cell value openings values some are are_lawful all whole each
+  pub known_is_right : (openings : List Opening) (values : List Value) → AreOpenings family openings → length values ≡ classes_of family →
+      ((class : ℕ) → class < classes_of family → slice_get values class ≡ Some (value class)) → IsValueTable family values
+  known_is_right openings values are whole each = lawful_is_right family n histories applied cell value openings values some are are_lawful all whole each
 
 -- ---- links
 
@@ -123,7 +123,7 @@ outlets_long endpoint = omega (arith, endpoint.outlets_len)
 
 -- ---- runners
 
-module _ (set : PieceSet) (n : ℕ) (some : 0 < n) (runners : List Runner) (are : AreFinished set n runners) where
+module _ (family : Family) (n : ℕ) (some : 0 < n) (runners : List Runner) (are : AreFinished family n runners) where
   first : (r : Runner) × (slice_get runners 0 ≡ Some r)
   first = some_at runners 0 (subst (λ m. 0 < m) (sym are.count) some)
 
@@ -133,17 +133,17 @@ module _ (set : PieceSet) (n : ℕ) (some : 0 < n) (runners : List Runner) (are 
   there : (i : ℕ) → i < n → slice_get runners i ≡ Some (at i)
   there i low = slice_get-get_or runners i first.0 (subst (λ m. i < m) (sym are.count) low)
 
-  place : (i : ℕ) → i < n → IsRunnerOf set n i (at i)
+  place : (i : ℕ) → i < n → IsRunnerOf family n i (at i)
   place i low = are.each i (at i) (there i low)
 
-  law : (i : ℕ) → i < n → IsLawfulRunner (at i).set (at i).size (at i).node (at i).endpoint
+  law : (i : ℕ) → i < n → IsLawfulRunner (at i).family (at i).size (at i).node (at i).endpoint
   law i low = (place i low).lawful
 
   rest : (i : ℕ) → i < n → IsIdle (at i).node × AreOut (at i).endpoint.outlets.items
   rest i low = (law i low).white (are.white i (at i) (there i low))
 
-  set_is : (i : ℕ) → i < n → (at i).node.set ≡ set
-  set_is i low = (law i low).of.0 ∙ (place i low).set_is
+  family_is : (i : ℕ) → i < n → (at i).node.family ≡ family
+  family_is i low = (law i low).of.0 ∙ (place i low).family_is
 
   id_is : (i : ℕ) → i < n → (at i).node.id ≡ i
   id_is i low = (law i low).of.1 ∙ (place i low).seat.0
@@ -160,20 +160,20 @@ module _ (set : PieceSet) (n : ℕ) (some : 0 < n) (runners : List Runner) (are 
   abbrev share : ℕ → Share
   share i = (at i).node.share
 
-  knows : (i : ℕ) → i < n → KnowsRight set n i (share i) (history i) (λ k. applied k i)
+  knows : (i : ℕ) → i < n → KnowsRight family n i (share i) (history i) (λ k. applied k i)
   knows i low =
-      subst (λ (s : PieceSet). KnowsRight s n i (share i) (history i) (λ k. applied k i)) (set_is i low)
-      (subst (λ (m : ℕ). KnowsRight (at i).node.set m i (share i) (history i) (λ k. applied k i)) (n_is i low)
-      (subst (λ (m : ℕ). KnowsRight (at i).node.set (at i).node.n m (share i) (history i) (λ k. applied k i)) (id_is i low) (law i low).knows))
+      subst (λ (s : Family). KnowsRight s n i (share i) (history i) (λ k. applied k i)) (family_is i low)
+      (subst (λ (m : ℕ). KnowsRight (at i).node.family m i (share i) (history i) (λ k. applied k i)) (n_is i low)
+      (subst (λ (m : ℕ). KnowsRight (at i).node.family (at i).node.n m (share i) (history i) (λ k. applied k i)) (id_is i low) (law i low).knows))
 
-  planned_all : (i j : ℕ) → i < n → planned (at i).node j ≡ items_from (predecessors set) n j (history i)
+  planned_all : (i j : ℕ) → i < n → planned (at i).node j ≡ items_from (predecessors family) n j (history i)
   planned_all i j low =
-      ap (λ (s : PieceSet). items_from (predecessors s) (at i).node.n j (take (at i).node.expanded (history i))) (set_is i low)
-      ∙ ap (λ (m : ℕ). items_from (predecessors set) m j (take (at i).node.expanded (history i))) (n_is i low)
-      ∙ ap (λ (xs : List Settlement). items_from (predecessors set) n j xs)
+      ap (λ (s : Family). items_from (predecessors s) (at i).node.n j (take (at i).node.expanded (history i))) (family_is i low)
+      ∙ ap (λ (m : ℕ). items_from (predecessors family) m j (take (at i).node.expanded (history i))) (n_is i low)
+      ∙ ap (λ (xs : List Settlement). items_from (predecessors family) n j xs)
       (take_all (at i).node.expanded (history i) (let emitted = (rest i low).0.expanded in omega (arith, emitted)))
 
-  own_all : (j : ℕ) → j < n → own_applied (at j).node ≡ items_from (predecessors set) n j (history j)
+  own_all : (j : ℕ) → j < n → own_applied (at j).node ≡ items_from (predecessors family) n j (history j)
   own_all j low =
       let node : Node = (at j).node in
       ap (λ (xs : List Item). take (length (planned node node.id) - length xs) (planned node node.id)) (rest j low).0.applied
@@ -181,7 +181,7 @@ module _ (set : PieceSet) (n : ℕ) (some : 0 < n) (runners : List Runner) (are 
       ∙ ap (λ (m : ℕ). planned node m) (id_is j low)
       ∙ planned_all j j low
 
-  other_all : (i j : ℕ) → i < n → j < n → i ≢ j → items_worked (at j).endpoint.inlet i ≡ items_from (predecessors set) n j (history i)
+  other_all : (i j : ℕ) → i < n → j < n → i ≢ j → items_worked (at j).endpoint.inlet i ≡ items_from (predecessors family) n j (history i)
   other_all i j low_i low_j apart =
       ap (λ (bs : List BatchView). items_of_batches bs) (link_done outlet.0 (at j).endpoint.inlet i inbox.0 ((rest i low_i).1 j outlet.0 outlet.1) inbox.1 long)
       ∙ sym (sends.items ∙ ap (λ (xs : List Item). items_of_batches (offered outlet.0) ++ xs) ((rest i low_i).0.sent j) ∙ append-nil (items_of_batches (offered outlet.0)))
@@ -203,21 +203,21 @@ module _ (set : PieceSet) (n : ℕ) (some : 0 < n) (runners : List Runner) (are 
       sends : SendsRight (at i).node (at i).size j (offered outlet.0)
       sends = (law i low_i).sends j outlet.0 (λ e. apart (sym (e ∙ (place i low_i).seat.0))) outlet.1
 
-  all_applied : (i j : ℕ) → i < n → j < n → applied i j ≡ items_from (predecessors set) n j (history i)
+  all_applied : (i j : ℕ) → i < n → j < n → applied i j ≡ items_from (predecessors family) n j (history i)
   all_applied i j low_i low_j = elim (cases_eq i j) [
     | inl same ↦ applied_here (at j).node (at j).endpoint.inlet i (same ∙ sym (id_is j low_j)) ∙ own_all j low_j
-        ∙ ap (λ (m : ℕ). items_from (predecessors set) n j (history m)) (sym same)
+        ∙ ap (λ (m : ℕ). items_from (predecessors family) n j (history m)) (sym same)
     | inr apart ↦ applied_else (at j).node (at j).endpoint.inlet i (λ e. apart (e ∙ id_is j low_j)) ∙ other_all i j low_i low_j apart
   ]
 
   -- so the values that it shows are the value table
-  pub finished_right : (openings : List Opening) (values : List Value) → AreOpenings set openings → AreShown set n runners values → IsValueTable set values
+  pub finished_right : (openings : List Opening) (values : List Value) → AreOpenings family openings → AreShown family n runners values → IsValueTable family values
   finished_right openings values openings_are shown =
-      known_is_right set n some history applied share knows all_applied given openings values openings_are shown.whole
-      (λ class low. (spot class low).1 ∙ ap Some (shows set n some history applied share knows all_applied given class low (spot class low).0 (given class low).1))
+      known_is_right family n some history applied share knows all_applied given openings values openings_are shown.whole
+      (λ class low. (spot class low).1 ∙ ap Some (shows family n some history applied share knows all_applied given class low (spot class low).0 (given class low).1))
     where
-      spot : (class : ℕ) → class < classes_of set → (v : Value) × (slice_get values class ≡ Some v)
+      spot : (class : ℕ) → class < classes_of family → (v : Value) × (slice_get values class ≡ Some v)
       spot class low = some_at values class (subst (λ m. class < m) (sym shown.whole) low)
 
-      given : (class : ℕ) → class < classes_of set → (v : Value) × HasValueNow (share (owner_of n class)) class v
+      given : (class : ℕ) → class < classes_of family → (v : Value) × HasValueNow (share (owner_of n class)) class v
       given class low = ((spot class low).0, shown.each class (spot class low).0 (at (owner_of n class)) (spot class low).1 (there (owner_of n class) (below_owner n class some)))

@@ -8,7 +8,7 @@ use Rattle.std.specs.declared.vec.Vec.{Vec}
 use Rattle.std.specs.List.{AllZip}
 use Rattle.std.proofs.lemmas.Option.{slice_get_within, same_Some}
 use Rattle.std.proofs.lemmas.Bool.{cases_eq}
-use Rattle.dob_pieces.specs.declared.piece_set.PieceSet.{PieceSet}
+use Rattle.dob_pieces.specs.declared.profile.Family.{Family}
 use Rattle.dob_share.specs.declared.news.Item.{Item}
 use Rattle.dob_update.specs.Batches.{BatchView, items_of_batches}
 use Rattle.dob_board.specs.declared.board.Board.{Board}
@@ -137,12 +137,12 @@ unfailed_more runners node before last k runner low at = elim (cases_eq k node) 
   | inr other ↦ before k runner (omega (arith, low, other)) at
 ]
 
--- the runners are still for that piece set and that size
-pub for_kept : (set : PieceSet) (size : ℕ) (old new : List Runner) → AreRunnersFor set size old → AllZip KeepsRunner old new → AreUnfailed new → AreRunnersFor set size new
-for_kept set size old new are kept unfailed k runner at =
+-- the runners are still for that family and that size
+pub for_kept : (family : Family) (size : ℕ) (old new : List Runner) → AreRunnersFor family size old → AllZip KeepsRunner old new → AreUnfailed new → AreRunnersFor family size new
+for_kept family size old new are kept unfailed k runner at =
     let was = zip_at KeepsRunner old new k runner kept at in
     let is = are k was.0 was.1 in
-    record { set_is = was.2.set ∙ is.set_is; size_is = was.2.size ∙ is.size_is; unfailed = unfailed k runner at }
+    record { family_is = was.2.family ∙ is.family_is; size_is = was.2.size ∙ is.size_is; unfailed = unfailed k runner at }
 
 -- what isn't left, and what is
 own_split : (whole own : List Item) → AreLast whole own → take (length whole - length own) whole ++ own ≡ whole
@@ -154,12 +154,12 @@ abbrev applied_by : Option Runner → ℕ → List Item
 applied_by None from = []
 applied_by (Some runner) from = applied_from runner.node runner.endpoint.inlet from
 
-module _ (board : Board) (set : PieceSet) (size : ℕ) (runners : List Runner) (turned : Turned) (crew : IsCrew board (map endpoint_of runners)) (left : HasLeft board.nodes runners turned)
-    (are : AreRunnersFor set size runners) where
-  lawful_at : (k : ℕ) (runner : Runner) → slice_get runners k ≡ Some runner → IsLawfulRunner set size runner.node runner.endpoint
+module _ (board : Board) (family : Family) (size : ℕ) (runners : List Runner) (turned : Turned) (crew : IsCrew board (map endpoint_of runners)) (left : HasLeft board.nodes runners turned)
+    (are : AreRunnersFor family size runners) where
+  lawful_at : (k : ℕ) (runner : Runner) → slice_get runners k ≡ Some runner → IsLawfulRunner family size runner.node runner.endpoint
   lawful_at k runner at =
       let is = are k runner at in
-      subst (λ (p : PieceSet × ℕ). IsLawfulRunner p.0 p.1 runner.node runner.endpoint) (λ q. (is.set_is q, is.size_is q)) (runner.lawful (inl is.unfailed))
+      subst (λ (p : Family × ℕ). IsLawfulRunner p.0 p.1 runner.node runner.endpoint) (λ q. (is.family_is q, is.size_is q)) (runner.lawful (inl is.unfailed))
 
   sends_at : (i j : ℕ) (from : Runner) (outlet : Outlet) → slice_get runners i ≡ Some from → slice_get from.endpoint.outlets.items j ≡ Some outlet → i ≢ j →
       SendsRight from.node size j (offered outlet)
@@ -167,7 +167,7 @@ module _ (board : Board) (set : PieceSet) (size : ℕ) (runners : List Runner) (
       (lawful_at i from at).sends j outlet (λ same. apart (sym (same ∙ (seat_at board runners crew i from at).node))) out
 
   worker_is : (i : ℕ) (worker : Worker) (runner : Runner) → slice_get runners i ≡ Some runner → worker.node ≡ runner.node →
-      IsWorker set board.nodes i (λ from. applied_by (slice_get runners i) from) worker
+      IsWorker family board.nodes i (λ from. applied_by (slice_get runners i) from) worker
   worker_is i worker runner at node_is =
       let law = lawful_at i runner at in
       let id : runner.node.id ≡ i = law.of.1 ∙ (seat_at board runners crew i runner at).node in
@@ -175,15 +175,15 @@ module _ (board : Board) (set : PieceSet) (size : ℕ) (runners : List Runner) (
       let own : planned runner.node i ≡ applied_by (Some runner) i ++ runner.node.own.items =
       ap (λ (k : ℕ). planned runner.node k) (sym id) ∙ sym (own_split (planned runner.node runner.node.id) runner.node.own.items law.own)
       ∙ ap (λ (items : List Item). items ++ runner.node.own.items) (sym (applied_here runner.node runner.endpoint.inlet i (sym id))) in
-      let knows : KnowsRight set board.nodes i runner.node.share runner.node.history.settlements (λ from. applied_by (Some runner) from) =
-      subst (λ (p : PieceSet × ℕ × ℕ). KnowsRight p.0 p.1 p.2 runner.node.share runner.node.history.settlements (λ from. applied_by (Some runner) from))
+      let knows : KnowsRight family board.nodes i runner.node.share runner.node.history.settlements (λ from. applied_by (Some runner) from) =
+      subst (λ (p : Family × ℕ × ℕ). KnowsRight p.0 p.1 p.2 runner.node.share runner.node.history.settlements (λ from. applied_by (Some runner) from))
       (λ q. (law.of.0 q, many_nodes q, id q)) law.knows in
-      let here : IsWorker set board.nodes i (λ from. applied_by (Some runner) from) worker = record {
-        of = (ap (λ (n : Node). n.set) node_is ∙ law.of.0, ap (λ (n : Node). n.id) node_is ∙ id, ap (λ (n : Node). n.n) node_is ∙ many_nodes);
+      let here : IsWorker family board.nodes i (λ from. applied_by (Some runner) from) worker = record {
+        of = (ap (λ (n : Node). n.family) node_is ∙ law.of.0, ap (λ (n : Node). n.id) node_is ∙ id, ap (λ (n : Node). n.n) node_is ∙ many_nodes);
         own = subst (λ (node : Node). planned node i ≡ applied_by (Some runner) i ++ node.own.items) (sym node_is) own;
-        knows = subst (λ (node : Node). KnowsRight set board.nodes i node.share node.history.settlements (λ from. applied_by (Some runner) from)) (sym node_is) knows;
+        knows = subst (λ (node : Node). KnowsRight family board.nodes i node.share node.history.settlements (λ from. applied_by (Some runner) from)) (sym node_is) knows;
       } in
-      subst (λ (o : Option Runner). IsWorker set board.nodes i (λ from. applied_by o from) worker) (sym at) here
+      subst (λ (o : Option Runner). IsWorker family board.nodes i (λ from. applied_by o from) worker) (sym at) here
 
   applied_of : (i j : ℕ) (to : Runner) → slice_get runners j ≡ Some to → i ≢ j →
       applied_by (slice_get runners j) i ≡ items_of_batches (worked_from to.endpoint.inlet i)
@@ -231,7 +231,7 @@ module _ (board : Board) (set : PieceSet) (size : ℕ) (runners : List Runner) (
         applied_is = λ apart. applied_of i j to at_j apart ∙ ap (λ (bs : List BatchView). items_of_batches bs) (sym (front inlet i));
       }
 
-  pub turned_is : IsTurned set board.nodes size turned
+  pub turned_is : IsTurned family board.nodes size turned
   turned_is = record {
     count = left.count ∙ crew_many board runners crew;
     words = left.words.count;

@@ -4,7 +4,7 @@ use Rattle.std.specs.Prelude.{slice_get}
 use Rattle.std.proofs.lemmas.List.{length-map}
 use Rattle.std.specs.List.{AllZip}
 use Rattle.std.proofs.lemmas.Option.{slice_get_within, same_Some}
-use Rattle.dob_pieces.specs.declared.piece_set.PieceSet.{PieceSet}
+use Rattle.dob_pieces.specs.declared.profile.Family.{Family}
 use Rattle.dob_pieces.proofs.Elements.{some_at}
 use Rattle.dob_board.specs.declared.board.Board.{Board}
 use Rattle.dob_board.specs.Seats.{IsSeatOf}
@@ -37,23 +37,23 @@ zip_long R [] (b ∷ ys) are = absurd are
 zip_long R (a ∷ xs) [] are = absurd are
 zip_long R (a ∷ xs) (b ∷ ys) are = let h = zip_long R xs ys are.1 in omega (arith, h)
 
-pub endpoints_are : (set : PieceSet) (size : ℕ) (endpoints : List Endpoint) (runners : List Runner) → AllZip (IsRunnerOf set size) endpoints runners → map endpoint_of runners ≡ endpoints
-endpoints_are set size [] [] are = refl
-endpoints_are set size [] (r ∷ runners) are = absurd are
-endpoints_are set size (m ∷ endpoints) [] are = absurd are
-endpoints_are set size (m ∷ endpoints) (r ∷ runners) are = λ i. are.0.0 i ∷ endpoints_are set size endpoints runners are.1 i
+pub endpoints_are : (family : Family) (size : ℕ) (endpoints : List Endpoint) (runners : List Runner) → AllZip (IsRunnerOf family size) endpoints runners → map endpoint_of runners ≡ endpoints
+endpoints_are family size [] [] are = refl
+endpoints_are family size [] (r ∷ runners) are = absurd are
+endpoints_are family size (m ∷ endpoints) [] are = absurd are
+endpoints_are family size (m ∷ endpoints) (r ∷ runners) are = λ i. are.0.0 i ∷ endpoints_are family size endpoints runners are.1 i
 
-pub runners_are : (set : PieceSet) (size : ℕ) (endpoints : List Endpoint) (runners : List Runner) → AllZip (IsRunnerOf set size) endpoints runners → AreRunnersFor set size runners
-runners_are set size endpoints runners are k runner at = (zip_at (IsRunnerOf set size) endpoints runners k runner are at).2.1
+pub runners_are : (family : Family) (size : ℕ) (endpoints : List Endpoint) (runners : List Runner) → AllZip (IsRunnerOf family size) endpoints runners → AreRunnersFor family size runners
+runners_are family size endpoints runners are k runner at = (zip_at (IsRunnerOf family size) endpoints runners k runner are at).2.1
 
-pub runners_new : (set : PieceSet) (size capacity : ℕ) (endpoints : List Endpoint) (runners : List Runner) → AllZip (IsRunnerOf set size) endpoints runners → AreNewEndpoints capacity endpoints →
-    (k : ℕ) (runner : Runner) → slice_get runners k ≡ Some runner → IsNew set runner.node runner.endpoint × IsNewEndpoint capacity runner.endpoint
-runners_new set size capacity endpoints runners are new k runner at =
-    let of = zip_at (IsRunnerOf set size) endpoints runners k runner are at in
+pub runners_new : (family : Family) (size capacity : ℕ) (endpoints : List Endpoint) (runners : List Runner) → AllZip (IsRunnerOf family size) endpoints runners → AreNewEndpoints capacity endpoints →
+    (k : ℕ) (runner : Runner) → slice_get runners k ≡ Some runner → IsNew family runner.node runner.endpoint × IsNewEndpoint capacity runner.endpoint
+runners_new family size capacity endpoints runners are new k runner at =
+    let of = zip_at (IsRunnerOf family size) endpoints runners k runner are at in
     (of.2.2, subst (λ (m : Endpoint). IsNewEndpoint capacity m) (sym of.2.0) (new k of.0 of.1))
 
-pub all_suit : (set : PieceSet) (size : ℕ) (runners : List Runner) → AreRunnersFor set size runners → AllSuit set runners
-all_suit set size runners are k runner at = let is = are k runner at in record { set_is = sym is.set_is; unfailed = is.unfailed }
+pub all_suit : (family : Family) (size : ℕ) (runners : List Runner) → AreRunnersFor family size runners → AllSuit family runners
+all_suit family size runners are k runner at = let is = are k runner at in record { family_is = sym is.family_is; unfailed = is.unfailed }
 
 -- ---- a crew's runners
 

@@ -5,9 +5,9 @@ use Rattle.std.proofs.Common.{Global}
 use Rattle.std.specs.Prelude.{slice_get, slice_index}
 use Rattle.std.specs.declared.vec.Vec.{Vec}
 use Rattle.std.proofs.lemmas.List.{length-map, append-nil}
-use Rattle.dob_pieces.specs.declared.piece_set.PieceSet.{PieceSet}
+use Rattle.dob_pieces.specs.declared.profile.Family.{Family}
 use Rattle.dob_pieces.proofs.Elements.{some_at}
-use Rattle.dob_rank.specs.Marks.{classes_of}
+use Rattle.dob_rank.specs.Families.{classes_of}
 use Rattle.dob_value.specs.declared.value.Value.{Value}
 use Rattle.dob_share.specs.Owners.{owner_of}
 use Rattle.dob_update.specs.Batches.{BatchView}
@@ -23,7 +23,7 @@ use Rattle.dob_node.specs.declared.cause.Cause.{Cause}
 use Rattle.dob_node.specs.declared.node.Node.{Node}
 use Rattle.dob_node.specs.Nodes.{IsIdle}
 use Rattle.dob_run.specs.declared.fault.Fault.{Fault}
-use Rattle.dob_run.specs.declared.fault.Fault.TheVariants.{SetTooLarge, Nodes, Sizes, Stopped, Memory}
+use Rattle.dob_run.specs.declared.fault.Fault.TheVariants.{Nodes, Sizes, Stopped, Memory}
 use Rattle.dob_run.specs.declared.hands.Outlet.{Outlet}
 use Rattle.dob_run.specs.declared.hands.Inlet.{Inlet}
 use Rattle.dob_run.specs.declared.runner.Runner.{Runner}
@@ -50,24 +50,24 @@ use Rattle.dob_run.proofs.Shown.{owner_is}
 
 -- ---- the words
 
-module _ (board : Board) (set : PieceSet) (size : ℕ) (runners : List Runner) (words : List ℕ) (crew : IsCrew board (map endpoint_of runners))
-    (stopped : HaveStopped set size runners) (are : AreWords board.nodes (map seat_in (map endpoint_of runners)) words) where
+module _ (board : Board) (family : Family) (size : ℕ) (runners : List Runner) (words : List ℕ) (crew : IsCrew board (map endpoint_of runners))
+    (stopped : HaveStopped family size runners) (are : AreWords board.nodes (map seat_in (map endpoint_of runners)) words) where
   there : (k : ℕ) → k < board.nodes → (runner : Runner) × (slice_get runners k ≡ Some runner)
   there k within = some_at runners k (omega (arith, within, crew_many board runners crew))
 
-  -- the piece set of the first of them is that of all
-  pub set_same : (s : PieceSet) → ((runner : Runner) → slice_get runners 0 ≡ Some runner → s ≡ runner.set) → s ≡ set
-  set_same s is = let runner = there 0 board.some in is runner.0 runner.1 ∙ (stopped.each 0 runner.0 runner.1).set_is
+  -- the family of the first of them is that of all
+  pub set_same : (s : Family) → ((runner : Runner) → slice_get runners 0 ≡ Some runner → s ≡ runner.family) → s ≡ family
+  set_same s is = let runner = there 0 board.some in is runner.0 runner.1 ∙ (stopped 0 runner.0 runner.1).family_is
 
   -- each seat knows the halt that the words say
   halt_is : (k : ℕ) (runner : Runner) → slice_get runners k ≡ Some runner → halt_word runner.endpoint.seat.halt ≡ slice_index words 2
-  halt_is k runner at = sym (are.halt_seen k runner.endpoint.seat (seat_there runners k runner at) (stopped.each k runner at).halted)
+  halt_is k runner at = sym (are.halt_seen k runner.endpoint.seat (seat_there runners k runner at) (stopped k runner at).halted)
 
   -- which isn't that the run goes on
   pub not_running : slice_index words 2 ≢ 0
   not_running none =
       let runner = there 0 board.some in
-      (stopped.each 0 runner.0 runner.1).halted (same_halt runner.0.endpoint.seat.halt Running (halt_is 0 runner.0 runner.1 ∙ none))
+      (stopped 0 runner.0 runner.1).halted (same_halt runner.0.endpoint.seat.halt Running (halt_is 0 runner.0 runner.1 ∙ none))
 
   -- ---- a run that failed
 
@@ -108,19 +108,18 @@ module _ (board : Board) (set : PieceSet) (size : ℕ) (runners : List Runner) (
       cause = first.2;
       known = inr (λ k runner at. same_halt runner.endpoint.seat.halt Ended (halt_is k runner at ∙ ended), λ k runner low_k at. first.3 k runner low_k at);
     }
-    late_failure SetTooLarge first = absurd first
     late_failure Nodes first = absurd first
     late_failure Sizes first = absurd first
     late_failure Memory first = absurd first
 
     -- where each runner is lawful, whether it gave up afterwards or not
-    law_own : (k : ℕ) (runner : Runner) → slice_get runners k ≡ Some runner → IsLawfulRunner runner.set runner.size runner.node runner.endpoint
+    law_own : (k : ℕ) (runner : Runner) → slice_get runners k ≡ Some runner → IsLawfulRunner runner.family runner.size runner.node runner.endpoint
     law_own k runner at = runner.lawful (inr (inl (same_halt runner.endpoint.seat.halt Ended (halt_is k runner at ∙ ended))))
 
-    law : (k : ℕ) (runner : Runner) → slice_get runners k ≡ Some runner → IsLawfulRunner set size runner.node runner.endpoint
+    law : (k : ℕ) (runner : Runner) → slice_get runners k ≡ Some runner → IsLawfulRunner family size runner.node runner.endpoint
     law k runner at =
-        let is = stopped.each k runner at in
-        subst (λ (p : PieceSet × ℕ). IsLawfulRunner p.0 p.1 runner.node runner.endpoint) (λ q. (is.set_is q, is.size_is q)) (law_own k runner at)
+        let is = stopped k runner at in
+        subst (λ (p : Family × ℕ). IsLawfulRunner p.0 p.1 runner.node runner.endpoint) (λ q. (is.family_is q, is.size_is q)) (law_own k runner at)
 
     white : (k : ℕ) (runner : Runner) → slice_get runners k ≡ Some runner → runner.endpoint.seat.black ≡ false
     white k runner at = are.all_white ended k runner.endpoint.seat (seat_there runners k runner at)
@@ -135,20 +134,20 @@ module _ (board : Board) (set : PieceSet) (size : ℕ) (runners : List Runner) (
     n_is k runner at = (law k runner at).of.2 ∙ (seat_at board runners crew k runner at).nodes
 
     -- the nodes own their classes
-    pub owners_are : (nodes : List Node) → nodes ≡ map node_of runners → AreOwners set (length nodes) nodes
+    pub owners_are : (nodes : List Node) → nodes ≡ map node_of runners → AreOwners family (length nodes) nodes
     owners_are nodes is k node at =
         let got = map_got node_of runners k node (ap (λ (l : List Node). slice_get l k) (sym is) ∙ at) in
         let count : board.nodes ≡ length nodes = sym (ap length is ∙ length-map runners node_of ∙ crew_many board runners crew) in
-        let owner = owner_is set size board.nodes k got.0.node got.0.endpoint (law k got.0 got.1) (id_is k got.0 got.1) (n_is k got.0 got.1) in
-        subst (λ (m : ℕ). IsOwner set m k node) count (subst (λ (x : Node). IsOwner set board.nodes k x) got.2 owner)
+        let owner = owner_is family size board.nodes k got.0.node got.0.endpoint (law k got.0 got.1) (id_is k got.0 got.1) (n_is k got.0 got.1) in
+        subst (λ (m : ℕ). IsOwner family m k node) count (subst (λ (x : Node). IsOwner family board.nodes k x) got.2 owner)
 
     -- what the nodes show is what the runners show
     shown_by : (nodes : List Node) (values : List Value) → nodes ≡ map node_of runners →
-        AreShownBelow (length nodes) (classes_of set) nodes values → AreShown set board.nodes runners values
+        AreShownBelow (length nodes) (classes_of family) nodes values → AreShown family board.nodes runners values
     shown_by nodes values is shown =
         let count : length nodes ≡ board.nodes = ap length is ∙ length-map runners node_of ∙ crew_many board runners crew in
-        let by_nodes : AreShownBelow board.nodes (classes_of set) (map node_of runners) values =
-        subst (λ (p : ℕ × List Node). AreShownBelow p.0 (classes_of set) p.1 values) (λ q. (count q, is q)) shown in
+        let by_nodes : AreShownBelow board.nodes (classes_of family) (map node_of runners) values =
+        subst (λ (p : ℕ × List Node). AreShownBelow p.0 (classes_of family) p.1 values) (λ q. (count q, is q)) shown in
         record {
           whole = by_nodes.whole;
           each = λ class value runner at owns. by_nodes.each class value at runner.node (get_map node_of runners (owner_of board.nodes class) runner owns);
@@ -163,12 +162,12 @@ module _ (board : Board) (set : PieceSet) (size : ℕ) (runners : List Runner) (
         ∙ are.taken j i taker.endpoint.seat (seat_there runners j taker at_j) (crew_low board runners crew i sender at_i)
 
     module _ (left : Left) (words_are : words ≡ left.closed.words.items) (has : AreClosed board.nodes (map endpoint_of runners) left) where
-      pub finished : AreFinished set board.nodes runners
+      pub finished : AreFinished family board.nodes runners
       finished = record {
         count = crew_many board runners crew;
         each = λ k runner at. record {
           seat = ((seat_at board runners crew k runner at).node, (seat_at board runners crew k runner at).nodes);
-          set_is = (stopped.each k runner at).set_is;
+          family_is = (stopped k runner at).family_is;
           lawful = law_own k runner at;
         };
         white = white;
@@ -178,16 +177,16 @@ module _ (board : Board) (set : PieceSet) (size : ℕ) (runners : List Runner) (
             let link = has.links i j outlet inlet links in (link.0.waiting.items, link.2.lawful);
       }
 
-      link_is : (values : List Value) → AreShown set board.nodes runners values →
+      link_is : (values : List Value) → AreShown family board.nodes runners values →
           (i j : ℕ) (sender taker : Runner) (outlet : Outlet) (inlet : Inlet) (link : Rejoined) → AreJoinedBy runners i j sender taker outlet inlet →
-          IsJoined i outlet.end inlet.end link → IsDone set board.nodes size words values i j link
+          IsJoined i outlet.end inlet.end link → IsDone family board.nodes size words values i j link
       link_is values shown i j sender taker outlet inlet link joined is = record {
         posted = posted;
         taken = sym (are.all_taken ended i j low_i low_j) ∙ posted;
         received = omega (arith, is.sent, is.received, sent, same, took);
         waiting = nothing_of link.waiting.items (omega (arith, sent, same, took));
-        enough = λ apart. subst (λ (m : ℕ). needed set board.nodes values i j ≤ m * size) (sym is_sent)
-            (needed_fits set board.nodes size i j sender.node sender.endpoint outlet values (law i sender joined.sends) (rest i sender joined.sends).0
+        enough = λ apart. subst (λ (m : ℕ). needed family board.nodes values i j ≤ m * size) (sym is_sent)
+            (needed_fits family board.nodes size i j sender.node sender.endpoint outlet values (law i sender joined.sends) (rest i sender joined.sends).0
             (id_is i sender joined.sends) (n_is i sender joined.sends) apart joined.out shown.whole
             (λ class value low owns at. shown.each class value sender at (ap (λ (m : ℕ). slice_get runners m) owns ∙ joined.sends)));
       }
@@ -224,17 +223,17 @@ module _ (board : Board) (set : PieceSet) (size : ℕ) (runners : List Runner) (
           took : length (worked_from inlet i) ≤ length (taken_of inlet.end i)
           took = omega (arith, ap length (parts inlet i), length-append (worked_from inlet i) (in_hand (held_from inlet.hand i)))
 
-      pub built_is : (nodes : List Node) (built : Built) → nodes ≡ map node_of runners → built.table.set ≡ set →
-          AreShownBelow (length nodes) (classes_of set) nodes built.table.values → built.closed ≡ left.closed → built.links ≡ left.links →
-          IsBuilt set board.nodes size built
-      built_is nodes built nodes_is set_is shown closed links =
+      pub built_is : (nodes : List Node) (built : Built) → nodes ≡ map node_of runners → built.table.family ≡ family →
+          AreShownBelow (length nodes) (classes_of family) nodes built.table.values → built.closed ≡ left.closed → built.links ≡ left.links →
+          IsBuilt family board.nodes size built
+      built_is nodes built nodes_is family_is shown closed links =
           let values : List Value = built.table.values in
-          let by_runners : AreShown set board.nodes runners values = shown_by nodes values nodes_is shown in
-          let openings = some_openings set in
+          let by_runners : AreShown family board.nodes runners values = shown_by nodes values nodes_is shown in
+          let openings = some_openings family in
           let items : words ≡ built.closed.words.items = words_are ∙ ap (λ (c : Closed). c.words.items) (sym closed) in
           record {
-            set_is = set_is;
-            values = finished_right set board.nodes board.some runners finished openings.0 values openings.1 by_runners;
+            family_is = family_is;
+            values = finished_right family board.nodes board.some runners finished openings.0 values openings.1 by_runners;
             words = ap length (sym items) ∙ are.count;
             ended = ap (λ (l : List ℕ). slice_index l 2) (sym items) ∙ ended;
             count = ap (λ (v : Vec Rejoined Global). length v.items) links ∙ has.count;
@@ -248,7 +247,7 @@ module _ (board : Board) (set : PieceSet) (size : ℕ) (runners : List Runner) (
                 let link = has.links i j outlet.0 inlet (are_linked runners i j from.0 to.0 outlet.0 inlet from.1 to.1 outlet.1 refl) in (
                   link.0,
                   ap (λ (v : Vec Rejoined Global). slice_get v.items (i * board.nodes + j)) links ∙ link.1,
-                  subst (λ (l : List ℕ). IsDone set board.nodes size l values i j link.0) items
+                  subst (λ (l : List ℕ). IsDone family board.nodes size l values i j link.0) items
                       (link_is values by_runners i j from.0 to.0 outlet.0 inlet link.0 joined link.2),
                 );
           }

@@ -2,13 +2,13 @@
 use Rattle.std.proofs.Common.{◌≡◌, ℕ, ◌+◌, ◌*◌, ◌/◌, ◌%◌, ◌<◌, inr, refl, sym, ap, ◌∙◌, subst, arith, List, [], length}
 use Rattle.std.specs.List.{All}
 use Rattle.std.proofs.Math.Nat.{mod-add-div'}
-use Rattle.dob_pieces.specs.declared.piece_set.PieceSet.{PieceSet}
+use Rattle.dob_pieces.specs.declared.profile.Family.{Family}
 use Rattle.dob_moves.specs.MoveLists.{moves_of}
 use Rattle.dob_moves.specs.declared.position_status.Status.{Status}
 use Rattle.dob_moves.specs.declared.position_status.Status.TheVariants.{Caught, Tried, Stuck, Open}
 use Rattle.dob_moves.proofs.Cases.{one_status}
-use Rattle.dob_rank.specs.Marks.{classes_of}
-use Rattle.dob_rank.specs.ClassRows.{class_setup}
+use Rattle.dob_rank.specs.Families.{classes_of}
+use Rattle.dob_rank.specs.Families.{class_setup}
 use Rattle.dob_value.specs.declared.value.Value.{Value}
 use Rattle.dob_value.specs.declared.value.Value.TheVariants.{Draw}
 use Rattle.dob_value.specs.Follows.{IsEntry}
@@ -42,22 +42,22 @@ opened_is Tried cell moves v same is = is
 opened_is Stuck cell moves v same is = is
 opened_is Open cell moves v same is = one_value cell v Draw is (CellValue-same cell (fresh moves) Draw same (refl, inr (λ plies. refl)))
 
-module _ (set : PieceSet) (n id : ℕ) (openings : List Opening) (node : Node) (are : AreOpenings set openings) (opened : IsOpened openings set id n node)
+module _ (family : Family) (n id : ℕ) (openings : List Opening) (node : Node) (are : AreOpenings family openings) (opened : IsOpened openings family id n node)
     (sound : IsSound node) where
-  kept : AreKept set n id node.share node.history
-  kept = kept_sound set n id node opened.of sound
+  kept : AreKept family n id node.share node.history
+  kept = kept_sound family n id node opened.of sound
 
   abbrev h : List Settlement
   h = node.history.settlements
 
-  is_own : (class : ℕ) → class < classes_of set → owner_of n class ≡ id → IsOwn node.share class
+  is_own : (class : ℕ) → class < classes_of family → owner_of n class ≡ id → IsOwn node.share class
   is_own class low own = (kept.owned class).1 (own, low)
 
-  cell_is : (class : ℕ) → class < classes_of set → owner_of n class ≡ id → SameCell (cell_at node.share class) (fresh (length (moves_of (class_setup set class))))
-  cell_is class low own = subst (λ (m : ℕ). SameCell (cell_at node.share class) (fresh m)) (listed_opening set openings class are low).moves
+  cell_is : (class : ℕ) → class < classes_of family → owner_of n class ≡ id → SameCell (cell_at node.share class) (fresh (length (moves_of family.profile (class_setup family class))))
+  cell_is class low own = subst (λ (m : ℕ). SameCell (cell_at node.share class) (fresh m)) (listed_opening family openings class are low).moves
       (opened.cells class (is_own class low own))
 
-  value_is : (class : ℕ) → class < classes_of set → owner_of n class ≡ id → value_of h class ≡ or_else (opening_value (status_in openings class)) Draw
+  value_is : (class : ℕ) → class < classes_of family → owner_of n class ≡ id → value_of h class ≡ or_else (opening_value (status_in openings class)) Draw
   value_is class low own =
       ap (λ xs. value_of xs class) opened.history
       ∙ ap (λ (m : ℕ). value_of (opening_settlements (status_in openings) n id (places_of node.share)) m) (sym place_is)
@@ -71,22 +71,22 @@ module _ (set : PieceSet) (n id : ℕ) (openings : List Opening) (node : Node) (
       within = subst (λ (m : ℕ). m < length openings) (sym place_is) (subst (λ (m : ℕ). class < m) (sym are.whole) low)
 
   module _ (applied : ℕ → List Item) (none : (k : ℕ) → applied k ≡ []) where
-    summed : AreSummed set n id node.share applied
+    summed : AreSummed family n id node.share applied
     summed histories could class low own at_open =
-        is_sum (known_by set n histories applied class) (cell_at node.share class)
-        (SumsUp-same (known_by set n histories applied class) (cell_at node.share class) (fresh (length (moves_of (class_setup set class))))
-        (cell_is class low own) (start_sums set class low n histories applied none))
+        is_sum (known_by family n histories applied class) (cell_at node.share class)
+        (SumsUp-same (known_by family n histories applied class) (cell_at node.share class) (fresh (length (moves_of family.profile (class_setup family class))))
+        (cell_is class low own) (start_sums family class low n histories applied none))
 
-    pub knows_opened : KnowsRight set n id node.share h applied
+    pub knows_opened : KnowsRight family n id node.share h applied
     knows_opened = record {
-      chained = subst (λ xs. IsChained (classes_of set) n id xs) (sym opened.history)
-          (opened_chained n id kept.one_of_n (status_in openings) (classes_of set) (places_of node.share)
+      chained = subst (λ xs. IsChained (classes_of family) n id xs) (sym opened.history)
+          (opened_chained n id kept.one_of_n (status_in openings) (classes_of family) (places_of node.share)
           (λ q less. subst (λ (m : ℕ). q * n + id < m) are.whole ((opened.places q).0 less)));
       entries = subst (λ xs. All (λ (s : Settlement). IsEntry s.now) xs) (sym opened.history)
           (opened_entries n id kept.one_of_n (status_in openings) (places_of node.share));
       statuses = λ class status low own has. opened.statuses class (is_own class low own)
-          ∙ one_status (class_setup set class) (status_in openings class) status (listed_opening set openings class are low).status has;
-      values = λ class v low own has. opened_is (status_in openings class) (cell_at node.share class) (length (moves_of (class_setup set class))) v (cell_is class low own)
+          ∙ one_status family.profile (class_setup family class) (status_in openings class) status (listed_opening family openings class are low).status has;
+      values = λ class v low own has. opened_is (status_in openings class) (cell_at node.share class) (length (moves_of family.profile (class_setup family class))) v (cell_is class low own)
           (subst (λ s. IsValue s (cell_at node.share class) v) (opened.statuses class (is_own class low own)) has)
           ∙ sym (value_is class low own);
       sums = summed;

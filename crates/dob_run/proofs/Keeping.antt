@@ -240,10 +240,10 @@ outbox_still old new to same = λ q. outbox_in (same.same.0 q) (same.same.2 q) (
 -- ---- runners
 
 pub runner_same : (r : Runner) → KeepsRunner r r
-runner_same r = record { endpoint = endpoint_same r.endpoint; set = refl; size = refl }
+runner_same r = record { endpoint = endpoint_same r.endpoint; family = refl; size = refl }
 
 pub runner_trans : (a b c : Runner) → KeepsRunner a b → KeepsRunner b c → KeepsRunner a c
-runner_trans a b c one two = record { endpoint = endpoint_trans a.endpoint b.endpoint c.endpoint one.endpoint two.endpoint; set = two.set ∙ one.set; size = two.size ∙ one.size }
+runner_trans a b c one two = record { endpoint = endpoint_trans a.endpoint b.endpoint c.endpoint one.endpoint two.endpoint; family = two.family ∙ one.family; size = two.size ∙ one.size }
 
 pub goes_trans : (a b c : Runner) → GoesOn a b → GoesOn b c → GoesOn a c
 goes_trans a b c one two = record { keeps = runner_trans a b c one.keeps two.keeps; unfailed = two.unfailed; halt = two.halt ∙ one.halt }

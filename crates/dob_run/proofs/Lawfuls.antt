@@ -7,7 +7,7 @@ use Rattle.std.specs.List.{All}
 use Rattle.std.proofs.lemmas.Bool.{cases_Bool, cases_lt, cases_eq, true≢false}
 use Rattle.std.proofs.lemmas.List.Elements.{All-head}
 use Rattle.std.proofs.lemmas.Option.{slice_get_within}
-use Rattle.dob_pieces.specs.declared.piece_set.PieceSet.{PieceSet}
+use Rattle.dob_pieces.specs.declared.profile.Family.{Family}
 use Rattle.dob_unmove.specs.Edges.{predecessors}
 use Rattle.dob_share.specs.declared.news.Settlement.{Settlement}
 use Rattle.dob_share.specs.declared.news.Item.{Item}
@@ -40,20 +40,20 @@ use Rattle.dob_run.proofs.Planned.{history_grown, last_more, last_less, each_mor
 -- ---- the endpoint alone changed
 
 worked_still : (node : Node) (old new : Endpoint) → ((k : ℕ) → items_worked new.inlet k ≡ items_worked old.inlet k) →
-    KnowsRight node.set node.n node.id node.share node.history.settlements (applied_from node old.inlet) →
-    KnowsRight node.set node.n node.id node.share node.history.settlements (applied_from node new.inlet)
-worked_still node old new same = knows_same node.set node.n node.id node.share node.history.settlements (applied_from node old.inlet)
+    KnowsRight node.family node.n node.id node.share node.history.settlements (applied_from node old.inlet) →
+    KnowsRight node.family node.n node.id node.share node.history.settlements (applied_from node new.inlet)
+worked_still node old new same = knows_same node.family node.n node.id node.share node.history.settlements (applied_from node old.inlet)
     (applied_from node new.inlet) (applied_still node node old.inlet new.inlet refl refl same)
 
 pub same_inlet : (old new : Endpoint) → new.inlet ≡ old.inlet → (k : ℕ) → items_worked new.inlet k ≡ items_worked old.inlet k
 same_inlet old new same k = ap (λ (i : Inlet). items_worked i k) same
 
 -- the same links, and another colour or the same
-pub recoloured : (set : PieceSet) (size : ℕ) (node : Node) (old new : Endpoint) → IsLawfulRunner set size node old → new.seat.node ≡ old.seat.node →
+pub recoloured : (family : Family) (size : ℕ) (node : Node) (old new : Endpoint) → IsLawfulRunner family size node old → new.seat.node ≡ old.seat.node →
     new.seat.nodes ≡ old.seat.nodes → new.outlets.items ≡ old.outlets.items →
     ((k : ℕ) → items_worked new.inlet k ≡ items_worked old.inlet k) →
-    (new.seat.black ≡ false → IsIdle node × AreOut old.outlets.items) → IsLawfulRunner set size node new
-recoloured set size node old new law same_node same_nodes same_outlets same_worked white = record {
+    (new.seat.black ≡ false → IsIdle node × AreOut old.outlets.items) → IsLawfulRunner family size node new
+recoloured family size node old new law same_node same_nodes same_outlets same_worked white = record {
   of = (law.of.0, law.of.1 ∙ sym same_node, law.of.2 ∙ sym same_nodes);
   sound = law.sound;
   sends = λ to outlet apart at. law.sends to outlet (λ e. apart (e ∙ sym same_node)) (ap (λ os. slice_get os to) (sym same_outlets) ∙ at);
@@ -64,13 +64,13 @@ recoloured set size node old new law same_node same_nodes same_outlets same_work
 }
 
 -- a runner that has something to do is black
-pub busy_black : (set : PieceSet) (size : ℕ) (node : Node) (endpoint : Endpoint) → IsLawfulRunner set size node endpoint → (IsIdle node → ⊥) → endpoint.seat.black ≡ true
-busy_black set size node endpoint law busy = elim (cases_Bool endpoint.seat.black) [ inl black ↦ black | inr white ↦ absurd (busy (law.white white).0) ]
+pub busy_black : (family : Family) (size : ℕ) (node : Node) (endpoint : Endpoint) → IsLawfulRunner family size node endpoint → (IsIdle node → ⊥) → endpoint.seat.black ≡ true
+busy_black family size node endpoint law busy = elim (cases_Bool endpoint.seat.black) [ inl black ↦ black | inr white ↦ absurd (busy (law.white white).0) ]
 
 -- the node is as it was, but for the room of its history
-pub unchanged_node : (set : PieceSet) (size : ℕ) (old new : Node) (endpoint : Endpoint) → IsLawfulRunner set size old endpoint → IsUnchanged old new → IsSound new →
-    IsLawfulRunner set size new endpoint
-unchanged_node set size old new endpoint law same sound =
+pub unchanged_node : (family : Family) (size : ℕ) (old new : Node) (endpoint : Endpoint) → IsLawfulRunner family size old endpoint → IsUnchanged old new → IsSound new →
+    IsLawfulRunner family size new endpoint
+unchanged_node family size old new endpoint law same sound =
     let settled : new.history.settlements ≡ old.history.settlements = ap (λ (h : HistoryView). h.settlements) same.kept.1 in
     let outbox : (to : ℕ) → outbox_to new to ≡ outbox_to old to = λ to. outbox_still old new to same in
     let plan : (to : ℕ) → planned new to ≡ planned old to = λ to q. items_from (predecessors (same.same.0 q)) (same.same.2 q) to (take (same.same.3 q) (settled q)) in
@@ -86,9 +86,9 @@ unchanged_node set size old new endpoint law same sound =
       unused = law.unused;
       own = subst (λ (p : List Item × List Item). AreLast p.0 p.1) (λ q. ((sym own) q, (sym same.kept.2) q)) law.own;
       knows = knows_after old new (applied_from new endpoint.inlet) same.same.0 same.same.1 same.same.2
-          (subst (λ (sh : Share). KnowsRight old.set old.n old.id sh new.history.settlements (applied_from new endpoint.inlet)) (sym same.kept.0)
-          (subst (λ (l : List Settlement). KnowsRight old.set old.n old.id old.share l (applied_from new endpoint.inlet)) (sym settled)
-          (knows_same old.set old.n old.id old.share old.history.settlements (applied_from old endpoint.inlet) (applied_from new endpoint.inlet)
+          (subst (λ (sh : Share). KnowsRight old.family old.n old.id sh new.history.settlements (applied_from new endpoint.inlet)) (sym same.kept.0)
+          (subst (λ (l : List Settlement). KnowsRight old.family old.n old.id old.share l (applied_from new endpoint.inlet)) (sym settled)
+          (knows_same old.family old.n old.id old.share old.history.settlements (applied_from old endpoint.inlet) (applied_from new endpoint.inlet)
           (applied_still old new endpoint.inlet endpoint.inlet same.same.1 (own_still old new own same.kept.2) (λ k. refl)) law.knows)));
       white = λ is. (let rest = law.white is in (
         record {
@@ -101,18 +101,18 @@ unchanged_node set size old new endpoint law same sound =
     }
 
 -- and so it is where its runner says that it failed
-pub unchanged_failed : (set : PieceSet) (size : ℕ) (old new : Node) (endpoint now : Endpoint) → IsLawfulRunner set size old endpoint → IsUnchanged old new → IsSound new →
-    HasSameLinks endpoint now → now.seat.black ≡ endpoint.seat.black → IsLawfulRunner set size new now
-unchanged_failed set size old new endpoint now law same sound links colour =
-    let still = unchanged_node set size old new endpoint law same sound in
-    recoloured set size new endpoint now still links.seat.node links.seat.nodes (ap (λ v. v.items) links.outlets) (same_inlet endpoint now links.inlet)
+pub unchanged_failed : (family : Family) (size : ℕ) (old new : Node) (endpoint now : Endpoint) → IsLawfulRunner family size old endpoint → IsUnchanged old new → IsSound new →
+    HasSameLinks endpoint now → now.seat.black ≡ endpoint.seat.black → IsLawfulRunner family size new now
+unchanged_failed family size old new endpoint now law same sound links colour =
+    let still = unchanged_node family size old new endpoint law same sound in
+    recoloured family size new endpoint now still links.seat.node links.seat.nodes (ap (λ v. v.items) links.outlets) (same_inlet endpoint now links.inlet)
     (λ is. still.white (sym colour ∙ is))
 
 -- one outlet was offered what it was before
-pub offered_again : (set : PieceSet) (size to : ℕ) (node : Node) (old new : Endpoint) → IsLawfulRunner set size node old → new.seat ≡ old.seat →
+pub offered_again : (family : Family) (size to : ℕ) (node : Node) (old new : Endpoint) → IsLawfulRunner family size node old → new.seat ≡ old.seat →
     HasChangedOne (λ (before after : Outlet). KeepsOutlet before after × (offered after ≡ offered before)) to old.outlets.items new.outlets.items →
-    new.inlet ≡ old.inlet → (AreOut old.outlets.items → AreOut new.outlets.items) → IsLawfulRunner set size node new
-offered_again set size to node old new law seat one inlet hands = record {
+    new.inlet ≡ old.inlet → (AreOut old.outlets.items → AreOut new.outlets.items) → IsLawfulRunner family size node new
+offered_again family size to node old new law seat one inlet hands = record {
   of = (law.of.0, law.of.1 ∙ sym (ap (λ s. s.node) seat), law.of.2 ∙ sym (ap (λ s. s.nodes) seat));
   sound = law.sound;
   sends = λ j outlet apart at. there j outlet (subst (λ os. slice_get os j ≡ Some outlet) one.4 at) (λ e. apart (e ∙ sym (ap (λ s. s.node) seat)));
@@ -135,14 +135,14 @@ offered_again set size to node old new law seat one inlet hands = record {
 
 -- ---- the node alone changed
 
-planned_same : (old new : Node) (to : ℕ) → new.set ≡ old.set → new.n ≡ old.n → new.expanded ≡ old.expanded →
+planned_same : (old new : Node) (to : ℕ) → new.family ≡ old.family → new.n ≡ old.n → new.expanded ≡ old.expanded →
     (more : List Settlement) → new.history.settlements ≡ old.history.settlements ++ more → old.expanded ≤ length old.history.settlements →
     planned new to ≡ planned old to
-planned_same old new to set n expanded more grown within =
-    ap (λ s. items_from (predecessors s) new.n to (take new.expanded new.history.settlements)) set
-    ∙ ap (λ m. items_from (predecessors old.set) m to (take new.expanded new.history.settlements)) n
-    ∙ ap (λ e. items_from (predecessors old.set) old.n to (take e new.history.settlements)) expanded
-    ∙ emitted_grown (predecessors old.set) old.n to old.history.settlements more new.history.settlements old.expanded within grown
+planned_same old new to family n expanded more grown within =
+    ap (λ s. items_from (predecessors s) new.n to (take new.expanded new.history.settlements)) family
+    ∙ ap (λ m. items_from (predecessors old.family) m to (take new.expanded new.history.settlements)) n
+    ∙ ap (λ e. items_from (predecessors old.family) old.n to (take e new.history.settlements)) expanded
+    ∙ emitted_grown (predecessors old.family) old.n to old.history.settlements more new.history.settlements old.expanded within grown
 
 sends_still : (old new : Node) (size to : ℕ) (batches : List BatchView) → planned new to ≡ planned old to → outbox_to new to ≡ outbox_to old to →
     SendsRight old size to batches → SendsRight new size to batches
@@ -153,9 +153,9 @@ sends_still old new size to batches plan outbox sends = record {
 }
 
 -- the own list lost its first item
-pub applied_own : (set : PieceSet) (size : ℕ) (old new : Node) (endpoint : Endpoint) → IsLawfulRunner set size old endpoint → HasApplied old new → IsSound new →
-    IsLawfulRunner set size new endpoint
-applied_own set size old new endpoint law step sound =
+pub applied_own : (family : Family) (size : ℕ) (old new : Node) (endpoint : Endpoint) → IsLawfulRunner family size old endpoint → HasApplied old new → IsSound new →
+    IsLawfulRunner family size new endpoint
+applied_own family size old new endpoint law step sound =
     let more = step.taken.settled in
     let grown : new.history.settlements ≡ old.history.settlements ++ listed more.0 = ap (λ (h : HistoryView). h.settlements) more.2 in
     let plan : (to : ℕ) → planned new to ≡ planned old to =
@@ -168,7 +168,7 @@ applied_own set size old new endpoint law step sound =
           (last_less (planned old old.id) step.item new.own.items (subst (λ own. AreLast (planned old old.id) own) step.first law.own));
       unused = law.unused;
       knows = knows_after old new (applied_from new endpoint.inlet) step.same.0 step.same.1 step.same.2
-          (taken_one old.set old.n old.id old.share new.share old.history new.history (applied_from old endpoint.inlet) (applied_from new endpoint.inlet)
+          (taken_one old.family old.n old.id old.share new.share old.history new.history (applied_from old endpoint.inlet) (applied_from new endpoint.inlet)
           old.id law.sound.kept.one_of_n step.item
           (one_more (ap (λ i. planned new i) step.same.1 ∙ plan old.id)) (λ k other. elsewhere k other) law.sound.kept
           (All-head HasEntries step.item new.own.items (subst (λ xs. All HasEntries xs) step.first law.sound.entries)) step.taken law.knows);
@@ -189,12 +189,12 @@ applied_own set size old new endpoint law step sound =
     nothing_first own item rest none some = absurd (cc)
 
 -- a batch of another node was counted as worked in, which blackens the seat, and applied
-pub applied_batch : (set : PieceSet) (size from : ℕ) (batch : BatchView) (node after : Node) (old new : Endpoint) → IsLawfulRunner set size node old →
+pub applied_batch : (family : Family) (size from : ℕ) (batch : BatchView) (node after : Node) (old new : Endpoint) → IsLawfulRunner family size node old →
     from < old.seat.nodes → from ≢ old.seat.node → All HasEntries batch.items → HasTaken batch.items node after → IsSound after →
     new.seat.node ≡ old.seat.node → new.seat.nodes ≡ old.seat.nodes → new.seat.black ≡ true → new.outlets.items ≡ old.outlets.items →
     ((k : ℕ) → k ≢ from → items_worked new.inlet k ≡ items_worked old.inlet k) →
-    items_worked new.inlet from ≡ items_worked old.inlet from ++ batch.items → IsLawfulRunner set size after new
-applied_batch set size from batch node after old new law low apart entries step sound same_node same_nodes black same_outlets same_worked more_worked = record {
+    items_worked new.inlet from ≡ items_worked old.inlet from ++ batch.items → IsLawfulRunner family size after new
+applied_batch family size from batch node after old new law low apart entries step sound same_node same_nodes black same_outlets same_worked more_worked = record {
   of = (step.same.0 ∙ law.of.0, step.same.1 ∙ (law.of.1 ∙ sym same_node), step.same.2 ∙ (law.of.2 ∙ sym same_nodes));
   sound = sound;
   sends = λ to outlet other at. sends_still node after size to (offered outlet) (plan to)
@@ -203,7 +203,7 @@ applied_batch set size from batch node after old new law low apart entries step 
   unused = λ outlet at. law.unused outlet (ap (λ i. slice_get old.outlets.items i) (sym same_node) ∙ ap (λ os. slice_get os new.seat.node) (sym same_outlets) ∙ at);
   own = subst (λ w. AreLast w after.own.items) (sym own_plan) (subst (λ own. AreLast (planned node node.id) own) (sym step.own) law.own);
   knows = knows_after node after (applied_from after new.inlet) step.same.0 step.same.1 step.same.2
-      (taken_all node.set node.n node.id from (subst (λ m. from < m) (sym law.of.2) low) batch.items node.share after.share node.history after.history
+      (taken_all node.family node.n node.id from (subst (λ m. from < m) (sym law.of.2) low) batch.items node.share after.share node.history after.history
       (applied_from node old.inlet) (applied_from after new.inlet) law.sound.kept entries step.taken one_more elsewhere law.knows);
   white = λ is. absurd (true≢false (sym black ∙ is));
 }
@@ -229,21 +229,21 @@ applied_batch set size from batch node after old new law low apart entries step 
         ∙ ap (λ xs. cond (eqb k node.id) (own_applied node) xs) (same_worked k other)
 
 -- a settlement was expanded
-pub expanded_one : (set : PieceSet) (size : ℕ) (old new : Node) (endpoint : Endpoint) → IsLawfulRunner set size old endpoint → IsExpanded old new → IsSound new →
-    IsLawfulRunner set size new endpoint
-expanded_one set size old new endpoint law step sound = record {
+pub expanded_one : (family : Family) (size : ℕ) (old new : Node) (endpoint : Endpoint) → IsLawfulRunner family size old endpoint → IsExpanded old new → IsSound new →
+    IsLawfulRunner family size new endpoint
+expanded_one family size old new endpoint law step sound = record {
   of = (step.same.0 ∙ law.of.0, step.same.1 ∙ law.of.1, step.same.2 ∙ law.of.2);
   sound = sound;
   sends = λ to outlet apart at. (let within = slice_get_within endpoint.outlets.items to outlet at in
       sent to (offered outlet) (low to within) (λ e. apart (e ∙ law.of.1)) (law.sends to outlet apart at));
   own = subst (λ w. AreLast w new.own.items) (sym (ap (λ i. planned new i) step.same.1 ∙ plan old.id))
-      (subst (λ own. AreLast (planned old old.id ++ items_of (predecessors old.set) old.n old.id step.settlement) own) (sym step.own)
-      (last_more (planned old old.id) old.own.items (items_of (predecessors old.set) old.n old.id step.settlement) law.own));
+      (subst (λ own. AreLast (planned old old.id ++ items_of (predecessors old.family) old.n old.id step.settlement) own) (sym step.own)
+      (last_more (planned old old.id) old.own.items (items_of (predecessors old.family) old.n old.id step.settlement) law.own));
   unused = law.unused;
   knows = knows_after old new (applied_from new endpoint.inlet) step.same.0 step.same.1 step.same.2
-      (subst (λ (sh : Share). KnowsRight old.set old.n old.id sh new.history.settlements (applied_from new endpoint.inlet)) (sym step.same.3)
-      (subst (λ (hv : HistoryView). KnowsRight old.set old.n old.id old.share hv.settlements (applied_from new endpoint.inlet)) (sym step.same.4)
-      (knows_same old.set old.n old.id old.share old.history.settlements (applied_from old endpoint.inlet) (applied_from new endpoint.inlet)
+      (subst (λ (sh : Share). KnowsRight old.family old.n old.id sh new.history.settlements (applied_from new endpoint.inlet)) (sym step.same.3)
+      (subst (λ (hv : HistoryView). KnowsRight old.family old.n old.id old.share hv.settlements (applied_from new endpoint.inlet)) (sym step.same.4)
+      (knows_same old.family old.n old.id old.share old.history.settlements (applied_from old endpoint.inlet) (applied_from new endpoint.inlet)
       (applied_still old new endpoint.inlet endpoint.inlet step.same.1 own_same (λ k. refl)) law.knows)));
   white = λ is. (let all = (law.white is).0.expanded in
       let some = slice_get_within old.history.settlements old.expanded step.settlement step.first in absurd (omega (arith, all, some)));
@@ -252,24 +252,24 @@ expanded_one set size old new endpoint law step sound = record {
     low : (to : ℕ) → to < length endpoint.outlets.items → to < old.n
     low to within = omega (arith, endpoint.outlets_len, law.of.2, within)
 
-    plan : (to : ℕ) → planned new to ≡ planned old to ++ items_of (predecessors old.set) old.n to step.settlement
+    plan : (to : ℕ) → planned new to ≡ planned old to ++ items_of (predecessors old.family) old.n to step.settlement
     plan to =
         ap (λ s. items_from (predecessors s) new.n to (take new.expanded new.history.settlements)) step.same.0
-        ∙ ap (λ m. items_from (predecessors old.set) m to (take new.expanded new.history.settlements)) step.same.2
-        ∙ ap (λ (h : HistoryView). items_from (predecessors old.set) old.n to (take new.expanded h.settlements)) step.same.4
-        ∙ ap (λ e. items_from (predecessors old.set) old.n to (take e old.history.settlements)) step.expanded
-        ∙ emitted_more (predecessors old.set) old.n to old.history.settlements old.expanded step.settlement step.first
+        ∙ ap (λ m. items_from (predecessors old.family) m to (take new.expanded new.history.settlements)) step.same.2
+        ∙ ap (λ (h : HistoryView). items_from (predecessors old.family) old.n to (take new.expanded h.settlements)) step.same.4
+        ∙ ap (λ e. items_from (predecessors old.family) old.n to (take e old.history.settlements)) step.expanded
+        ∙ emitted_more (predecessors old.family) old.n to old.history.settlements old.expanded step.settlement step.first
 
     own_same : own_applied new ≡ own_applied old
     own_same =
-        let more = items_of (predecessors old.set) old.n old.id step.settlement in
+        let more = items_of (predecessors old.family) old.n old.id step.settlement in
         ap (λ (xs : List Item). take (length xs - length new.own.items) xs) (ap (λ i. planned new i) step.same.1 ∙ plan old.id)
         ∙ ap (λ (xs : List Item). take (length (planned old old.id ++ more) - length xs) (planned old old.id ++ more)) step.own
         ∙ own_more (planned old old.id) old.own.items more
 
     sent : (to : ℕ) (batches : List BatchView) → to < old.n → to ≢ old.id → SendsRight old size to batches → SendsRight new size to batches
     sent to batches within apart sends =
-        let items = items_of (predecessors old.set) old.n to step.settlement in
+        let items = items_of (predecessors old.family) old.n to step.settlement in
         let outbox = step.sent to within apart in record {
           items = plan to ∙ ap (λ xs. xs ++ items) sends.items ∙ append_assoc (items_of_batches batches) (outbox_to old to).items items
               ∙ ap (λ (o : OutboxView). items_of_batches batches ++ o.items) (sym outbox);
@@ -279,11 +279,11 @@ expanded_one set size old new endpoint law step sound = record {
 
 -- ---- a batch was cut and put into the hand of an outlet
 
-pub cut_one : (set : PieceSet) (size to : ℕ) (batch : BatchView) (node after : Node) (old new : Endpoint) → IsLawfulRunner set size node old →
+pub cut_one : (family : Family) (size to : ℕ) (batch : BatchView) (node after : Node) (old new : Endpoint) → IsLawfulRunner family size node old →
     to ≢ old.seat.node → HasCut to size batch node after → IsSound after → new.seat.node ≡ old.seat.node → new.seat.nodes ≡ old.seat.nodes → new.seat.black ≡ true →
     HasChangedOne (λ (x y : Outlet). (y.end ≡ x.end) × (offered y ≡ offered x ++ batch ∷ [])) to old.outlets.items new.outlets.items →
-    new.inlet ≡ old.inlet → IsLawfulRunner set size after new
-cut_one set size to batch node after old new law not_own step sound same_node same_nodes black one inlet = record {
+    new.inlet ≡ old.inlet → IsLawfulRunner family size after new
+cut_one family size to batch node after old new law not_own step sound same_node same_nodes black one inlet = record {
   of = (step.same.0 ∙ law.of.0, step.same.1 ∙ (law.of.1 ∙ sym same_node), step.same.2 ∙ (law.of.2 ∙ sym same_nodes));
   sound = sound;
   sends = λ j outlet apart at. there j outlet (subst (λ os. slice_get os j ≡ Some outlet) one.4 at) (λ e. apart (e ∙ sym same_node));
@@ -292,9 +292,9 @@ cut_one set size to batch node after old new law not_own step sound same_node sa
   unused = λ outlet at. nothing old.seat.node outlet (subst (λ os. slice_get os old.seat.node ≡ Some outlet) one.4
       (ap (λ i. slice_get new.outlets.items i) (sym same_node) ∙ at)) refl;
   knows = knows_after node after (applied_from after new.inlet) step.same.0 step.same.1 step.same.2
-      (subst (λ (sh : Share). KnowsRight node.set node.n node.id sh after.history.settlements (applied_from after new.inlet)) (sym step.kept.0)
-      (subst (λ (hv : HistoryView). KnowsRight node.set node.n node.id node.share hv.settlements (applied_from after new.inlet)) (sym step.kept.1)
-      (knows_same node.set node.n node.id node.share node.history.settlements (applied_from node old.inlet) (applied_from after new.inlet)
+      (subst (λ (sh : Share). KnowsRight node.family node.n node.id sh after.history.settlements (applied_from after new.inlet)) (sym step.kept.0)
+      (subst (λ (hv : HistoryView). KnowsRight node.family node.n node.id node.share hv.settlements (applied_from after new.inlet)) (sym step.kept.1)
+      (knows_same node.family node.n node.id node.share node.history.settlements (applied_from node old.inlet) (applied_from after new.inlet)
       (applied_still node after old.inlet new.inlet step.same.1
       (own_still node after (ap (λ i. planned after i) step.same.1 ∙ plan node.id) step.kept.2) (same_inlet old new inlet)) law.knows)));
   white = λ is. absurd (true≢false (sym black ∙ is));
@@ -330,12 +330,12 @@ cut_one set size to batch node after old new law not_own step sound same_node sa
 -- ---- the start
 
 -- the node was opened, and nothing was offered
-pub begun : (set : PieceSet) (size : ℕ) (node : Node) (endpoint : Endpoint) → IsNew set node endpoint → IsLawfulRunner set size node endpoint
-begun set size node endpoint is = record {
+pub begun : (family : Family) (size : ℕ) (node : Node) (endpoint : Endpoint) → IsNew family node endpoint → IsLawfulRunner family size node endpoint
+begun family size node endpoint is = record {
   of = is.opened.of;
   sound = is.sound;
   sends = λ to outlet apart at. (let nothing : offered outlet ≡ [] = is.unsent to outlet at in
-      let outbox : outbox_to node to ≡ empty_outbox set endpoint.seat.nodes endpoint.seat.node to = is.opened.outboxes to in record {
+      let outbox : outbox_to node to ≡ empty_outbox family endpoint.seat.nodes endpoint.seat.node to = is.opened.outboxes to in record {
         items = planned_none to ∙ ap (λ (o : OutboxView). o.items) (sym outbox) ∙ ap (λ bs. items_of_batches bs ++ (outbox_to node to).items) (sym nothing);
         cut = ap (λ (o : OutboxView). o.next) outbox ∙ ap length (sym nothing);
         small = λ k batch there. absurd (none_there (offered outlet) nothing k batch there);
@@ -347,7 +347,7 @@ begun set size node endpoint is = record {
 }
   where
     planned_none : (to : ℕ) → planned node to ≡ []
-    planned_none to = ap (λ e. items_from (predecessors node.set) node.n to (take e node.history.settlements)) is.opened.nothing.0
+    planned_none to = ap (λ e. items_from (predecessors node.family) node.n to (take e node.history.settlements)) is.opened.nothing.0
 
     none_applied : (k : ℕ) → applied_from node endpoint.inlet k ≡ []
     none_applied k = (let own : own_applied node ≡ [] = ap (λ (xs : List Item). take (length xs - length node.own.items) xs) (planned_none node.id)
@@ -357,12 +357,12 @@ begun set size node endpoint is = record {
           | inr other ↦ applied_else node endpoint.inlet k other ∙ ap (λ (bs : List BatchView). items_of_batches (batches_of k bs)) is.untaken
         ])
 
-    knows_at_start : (applied : ℕ → List Item) → ((k : ℕ) → applied k ≡ []) → KnowsRight node.set node.n node.id node.share node.history.settlements applied
+    knows_at_start : (applied : ℕ → List Item) → ((k : ℕ) → applied k ≡ []) → KnowsRight node.family node.n node.id node.share node.history.settlements applied
     knows_at_start applied none =
-        subst (λ (s : PieceSet). KnowsRight s node.n node.id node.share node.history.settlements applied) (sym is.opened.of.0)
-        (subst (λ (i : ℕ). KnowsRight set node.n i node.share node.history.settlements applied) (sym is.opened.of.1)
-        (subst (λ (m : ℕ). KnowsRight set m endpoint.seat.node node.share node.history.settlements applied) (sym is.opened.of.2)
-        (knows_opened set endpoint.seat.nodes endpoint.seat.node is.openings node is.are_openings is.opened is.sound applied none)))
+        subst (λ (s : Family). KnowsRight s node.n node.id node.share node.history.settlements applied) (sym is.opened.of.0)
+        (subst (λ (i : ℕ). KnowsRight family node.n i node.share node.history.settlements applied) (sym is.opened.of.1)
+        (subst (λ (m : ℕ). KnowsRight family m endpoint.seat.node node.share node.history.settlements applied) (sym is.opened.of.2)
+        (knows_opened family endpoint.seat.nodes endpoint.seat.node is.openings node is.are_openings is.opened is.sound applied none)))
 
     none_there : (batches : List BatchView) → batches ≡ [] → (k : ℕ) (b : BatchView) → slice_get batches k ≡ Some b → ⊥
     none_there [] none k b there = absurd (cc)

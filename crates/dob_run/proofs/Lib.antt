@@ -4,7 +4,7 @@ pub mod Counted  -- the counts of links, after one link changed
 pub mod Senders  -- what came out of an inbox, of one sender
 -- The openings of the classes.
 pub mod Scanned  -- what was found of each class, in the order of the classes
-pub mod Openings  -- each piece set has openings, whether they were listed or not
+pub mod Openings  -- each family has openings, whether they were listed or not
 -- What a node knows, and what it has for the others.
 pub mod Summing  -- the sum of what is known, as an equation and as a relation
 pub mod Knowing  -- what a node knows stays right, whatever it takes

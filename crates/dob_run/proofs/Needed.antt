@@ -8,8 +8,8 @@ use Rattle.std.proofs.lemmas.List.{append-nil, length-map, take_all}
 use Rattle.std.proofs.lemmas.List.Concat.{length-flat_map}
 use Rattle.std.proofs.lemmas.List.Sums.{sum_by-cons, sum_by-le, length-filter}
 use Rattle.std.proofs.lemmas.Option.{slice_get-get_or}
-use Rattle.dob_pieces.specs.declared.piece_set.PieceSet.{PieceSet}
-use Rattle.dob_rank.specs.Marks.{classes_of}
+use Rattle.dob_pieces.specs.declared.profile.Family.{Family}
+use Rattle.dob_rank.specs.Families.{classes_of}
 use Rattle.dob_value.specs.declared.value.Value.{Value}
 use Rattle.dob_value.specs.declared.value.Value.TheVariants.{Draw}
 use Rattle.dob_value.specs.Entries.{is_draw}
@@ -167,28 +167,28 @@ few_items size batches small =
 
 -- ---- what is needed
 
-module _ (set : PieceSet) (n i j : ℕ) (history : List Settlement) (values : List Value) (whole : length values ≡ classes_of set)
-    (is : (class : ℕ) (value : Value) → class < classes_of set → owner_of n class ≡ i → slice_get values class ≡ Some value →
+module _ (family : Family) (n i j : ℕ) (history : List Settlement) (values : List Value) (whole : length values ≡ classes_of family)
+    (is : (class : ℕ) (value : Value) → class < classes_of family → owner_of n class ≡ i → slice_get values class ≡ Some value →
     value ≡ value_of history class) where
   -- what a class has to tell, and what it adds
   abbrev has : ℕ → ℕ
-  has class = cond {A = ℕ} (is_draw (get_or values class Draw)) 0 (edges_to set n j class)
+  has class = cond {A = ℕ} (is_draw (get_or values class Draw)) 0 (edges_to family n j class)
 
   abbrev adds : ℕ → ℕ
   adds class = cond {A = ℕ} (eqb (owner_of n class) i) (has class) 0
 
-  own_emitted : (class : ℕ) → class < classes_of set → owner_of n class ≡ i → has class ≤ of_told (edges_to set n j) history class
+  own_emitted : (class : ℕ) → class < classes_of family → owner_of n class ≡ i → has class ≤ of_told (edges_to family n j) history class
   own_emitted class low own = elim (cases_Bool (tells history class)) [
     | inl emitted ↦
-        let right : of_told (edges_to set n j) history class ≡ edges_to set n j class =
-        ap (λ b. cond {A = ℕ} b (edges_to set n j class) 0) emitted in
-        let left = no_more (is_draw (get_or values class Draw)) (edges_to set n j class) in
+        let right : of_told (edges_to family n j) history class ≡ edges_to family n j class =
+        ap (λ b. cond {A = ℕ} b (edges_to family n j class) 0) emitted in
+        let left = no_more (is_draw (get_or values class Draw)) (edges_to family n j class) in
         omega (arith, right, left)
     | inr unlisted ↦
         let there = slice_get-get_or values class Draw (subst (λ m. class < m) (sym whole) low) in
         let drawn : get_or values class Draw ≡ Draw =
         is class (get_or values class Draw) low own there ∙ unlisted_still history class Draw unlisted in
-        let left : has class ≡ 0 = ap (λ v. cond {A = ℕ} (is_draw v) 0 (edges_to set n j class)) drawn in
+        let left : has class ≡ 0 = ap (λ v. cond {A = ℕ} (is_draw v) 0 (edges_to family n j class)) drawn in
         omega (arith, left)
   ]
     where
@@ -196,7 +196,7 @@ module _ (set : PieceSet) (n i j : ℕ) (history : List Settlement) (values : Li
       no_more true m = omega arith
       no_more false m = omega arith
 
-  each_emitted : (class : ℕ) → class < classes_of set → adds class ≤ of_told (edges_to set n j) history class
+  each_emitted : (class : ℕ) → class < classes_of family → adds class ≤ of_told (edges_to family n j) history class
   each_emitted class low = elim (cases_Bool (eqb (owner_of n class) i)) [
     | inl own ↦
         let here : adds class ≡ has class = ap (λ b. cond {A = ℕ} b (has class) 0) own in
@@ -208,22 +208,22 @@ module _ (set : PieceSet) (n i j : ℕ) (history : List Settlement) (values : Li
   ]
 
   -- the items that the history makes are as many at least
-  needed_made : needed set n values i j ≤ length (items_from (predecessors set) n j history)
+  needed_made : needed family n values i j ≤ length (items_from (predecessors family) n j history)
   needed_made =
-      let less = sum_no_more adds (of_told (edges_to set n j) history) 0 (classes_of set) (λ class low. each_emitted class (omega arith)) in
-      let once = listed_once (edges_to set n j) history 0 (classes_of set) in
-      let made = length-items_from (predecessors set) n j history in
+      let less = sum_no_more adds (of_told (edges_to family n j) history) 0 (classes_of family) (λ class low. each_emitted class (omega arith)) in
+      let once = listed_once (edges_to family n j) history 0 (classes_of family) in
+      let made = length-items_from (predecessors family) n j history in
       omega (arith, less, once, made)
 
 -- A runner's node that has nothing left to expand or to send has offered room for all that its classes have to tell.
-pub needed_fits : (set : PieceSet) (n size i j : ℕ) (node : Node) (endpoint : Endpoint) (outlet : Outlet) (values : List Value) →
-    IsLawfulRunner set size node endpoint → IsIdle node → node.id ≡ i → node.n ≡ n → i ≢ j → slice_get endpoint.outlets.items j ≡ Some outlet →
-    length values ≡ classes_of set →
-    ((class : ℕ) (value : Value) → class < classes_of set → owner_of n class ≡ i → slice_get values class ≡ Some value →
+pub needed_fits : (family : Family) (n size i j : ℕ) (node : Node) (endpoint : Endpoint) (outlet : Outlet) (values : List Value) →
+    IsLawfulRunner family size node endpoint → IsIdle node → node.id ≡ i → node.n ≡ n → i ≢ j → slice_get endpoint.outlets.items j ≡ Some outlet →
+    length values ≡ classes_of family →
+    ((class : ℕ) (value : Value) → class < classes_of family → owner_of n class ≡ i → slice_get values class ≡ Some value →
     HasValueNow node.share class value) →
-    needed set n values i j ≤ length (offered outlet) * size
-needed_fits set n size i j node endpoint outlet values law idle id_is n_is apart there whole shown =
-    let made = needed_made set n i j node.history.settlements values whole values_are in
+    needed family n values i j ≤ length (offered outlet) * size
+needed_fits family n size i j node endpoint outlet values law idle id_is n_is apart there whole shown =
+    let made = needed_made family n i j node.history.settlements values whole values_are in
     let many = ap length all_items in
     let few = few_items size (offered outlet) sends.small in
     omega (arith, made, many, few)
@@ -231,16 +231,16 @@ needed_fits set n size i j node endpoint outlet values law idle id_is n_is apart
     sends : SendsRight node size j (offered outlet)
     sends = law.sends j outlet (λ e. apart (sym (e ∙ sym law.of.1 ∙ id_is))) there
 
-    values_are : (class : ℕ) (value : Value) → class < classes_of set → owner_of n class ≡ i → slice_get values class ≡ Some value →
+    values_are : (class : ℕ) (value : Value) → class < classes_of family → owner_of n class ≡ i → slice_get values class ≡ Some value →
         value ≡ value_of node.history.settlements class
-    values_are class value low own at = law.knows.values class value (subst (λ (s : PieceSet). class < classes_of s) (sym law.of.0) low)
+    values_are class value low own at = law.knows.values class value (subst (λ (s : Family). class < classes_of s) (sym law.of.0) low)
         (ap (λ m. owner_of m class) n_is ∙ own ∙ sym id_is) (shown class value low own at)
 
-    all_items : items_from (predecessors set) n j node.history.settlements ≡ items_of_batches (offered outlet)
+    all_items : items_from (predecessors family) n j node.history.settlements ≡ items_of_batches (offered outlet)
     all_items =
-        ap (λ (s : PieceSet). items_from (predecessors s) n j node.history.settlements) (sym law.of.0)
-        ∙ ap (λ m. items_from (predecessors node.set) m j node.history.settlements) (sym n_is)
-        ∙ ap (λ (xs : List Settlement). items_from (predecessors node.set) node.n j xs)
+        ap (λ (s : Family). items_from (predecessors s) n j node.history.settlements) (sym law.of.0)
+        ∙ ap (λ m. items_from (predecessors node.family) m j node.history.settlements) (sym n_is)
+        ∙ ap (λ (xs : List Settlement). items_from (predecessors node.family) node.n j xs)
         (sym (take_all node.expanded node.history.settlements (let emitted = idle.expanded in omega (arith, emitted))))
         ∙ sends.items
         ∙ ap (λ (xs : List Item). items_of_batches (offered outlet) ++ xs) (idle.sent j)

@@ -1,63 +1,48 @@
 -- Faults, from the ones that limits give to the ones that a crew gives.
 use Rattle.std.proofs.Common.{ℕ, List}
-use Rattle.dob_pieces.specs.declared.piece_set.PieceSet.{PieceSet}
-use Rattle.dob_rank.specs.Limits.{IsSmall}
+use Rattle.dob_pieces.specs.declared.profile.Family.{Family}
 use Rattle.dob_board.specs.declared.board.Board.{Board}
 use Rattle.dob_run.specs.declared.fault.Fault.{Fault}
-use Rattle.dob_run.specs.declared.fault.Fault.TheVariants.{SetTooLarge, Nodes, Sizes, Stopped, Memory}
+use Rattle.dob_run.specs.declared.fault.Fault.TheVariants.{Nodes, Sizes, Stopped, Memory}
 use Rattle.dob_run.specs.declared.runner.Runner.{Runner}
 use Rattle.dob_run.specs.declared.turn_loop.Until.{Until}
 use Rattle.dob_run.specs.TurnLoop.{HasRun}
-use Rattle.dob_run.specs.Faults.{HasSizeFault, HasCrewFault, HasStartFault, HasBuildFault}
+use Rattle.dob_run.specs.Faults.{HasSizeFault, HasCrewFault, HasBuildFault}
 use Rattle.dob_run.specs.BoundedRun.{StopsSo, IsUnheld}
 
 -- sizes outside their limits
 pub outside_none : (n batch capacity : ℕ) (fault : Fault) → HasSizeFault n batch capacity fault → HasCrewFault n batch capacity fault
-outside_none n batch capacity SetTooLarge why = absurd why
 outside_none n batch capacity Nodes why = why
 outside_none n batch capacity Sizes why = why
 outside_none n batch capacity (Stopped node cause) why = absurd why
 outside_none n batch capacity Memory why = absurd why
 
--- no crew is opened for a small set
-pub none_begun : (set : PieceSet) (n batch capacity : ℕ) (fault : Fault) → IsSmall set → HasCrewFault n batch capacity fault →
-    HasStartFault set n batch capacity fault
-none_begun set n batch capacity SetTooLarge small why = absurd why
-none_begun set n batch capacity Nodes small why = (small, why)
-none_begun set n batch capacity Sizes small why = (small, why)
-none_begun set n batch capacity (Stopped node cause) small why = absurd why
-none_begun set n batch capacity Memory small why = (small, why)
-
--- a crew that isn't begun leaves nothing
-pub unbegun_fault : (set : PieceSet) (n batch capacity : ℕ) (fault : Fault) → HasStartFault set n batch capacity fault → HasBuildFault set n batch capacity fault
-unbegun_fault set n batch capacity SetTooLarge why = why
-unbegun_fault set n batch capacity Nodes why = why
-unbegun_fault set n batch capacity Sizes why = why
-unbegun_fault set n batch capacity (Stopped node cause) why = absurd why
-unbegun_fault set n batch capacity Memory why = why
+-- a crew that isn't opened leaves nothing
+pub unbegun_fault : (n batch capacity : ℕ) (fault : Fault) → HasCrewFault n batch capacity fault → HasBuildFault n batch capacity fault
+unbegun_fault n batch capacity Nodes why = why
+unbegun_fault n batch capacity Sizes why = why
+unbegun_fault n batch capacity (Stopped node cause) why = absurd why
+unbegun_fault n batch capacity Memory why = why
 
 -- and holds no node back
-pub unbegun_unheld : (set : PieceSet) (n batch capacity : ℕ) (fault : Fault) → HasStartFault set n batch capacity fault → IsUnheld fault
-unbegun_unheld set n batch capacity SetTooLarge why = tt
-unbegun_unheld set n batch capacity Nodes why = tt
-unbegun_unheld set n batch capacity Sizes why = tt
-unbegun_unheld set n batch capacity (Stopped node cause) why = absurd why
-unbegun_unheld set n batch capacity Memory why = tt
+pub unbegun_unheld : (n batch capacity : ℕ) (fault : Fault) → HasCrewFault n batch capacity fault → IsUnheld fault
+unbegun_unheld n batch capacity Nodes why = tt
+unbegun_unheld n batch capacity Sizes why = tt
+unbegun_unheld n batch capacity (Stopped node cause) why = absurd why
+unbegun_unheld n batch capacity Memory why = tt
 
-module _ (Names : List Runner → Fault → Type 0) (No : ℕ → Type 0) (until : Until) (set : PieceSet) (n size capacity : ℕ) where
+module _ (Names : List Runner → Fault → Type 0) (No : ℕ → Type 0) (until : Until) (family : Family) (n size capacity : ℕ) where
   -- and no node of it is named
-  pub unbegun_stops : (fault : Fault) → HasStartFault set n size capacity fault → StopsSo Names No until set n size capacity fault
-  unbegun_stops SetTooLarge why = tt
+  pub unbegun_stops : (fault : Fault) → HasCrewFault n size capacity fault → StopsSo Names No until family n size capacity fault
   unbegun_stops Nodes why = tt
   unbegun_stops Sizes why = tt
   unbegun_stops (Stopped node cause) why = absurd why
   unbegun_stops Memory why = tt
 
   -- what stopped the runners of a crew that was run
-  pub stops_so : (board : Board) (ended : List Runner) (fault : Fault) → HasRun No until set n size capacity board ended →
-      Names ended fault → StopsSo Names No until set n size capacity fault
+  pub stops_so : (board : Board) (ended : List Runner) (fault : Fault) → HasRun No until family n size capacity board ended →
+      Names ended fault → StopsSo Names No until family n size capacity fault
   stops_so board ended (Stopped node why) ran names = record { board = board; ended = ended; ran = ran; names = names }
-  stops_so board ended SetTooLarge ran names = tt
   stops_so board ended Nodes ran names = tt
   stops_so board ended Sizes ran names = tt
   stops_so board ended Memory ran names = tt

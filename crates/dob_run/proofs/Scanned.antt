@@ -1,13 +1,13 @@
 -- What was found of each class, in the order of the classes.
-use Rattle.std.proofs.Common.{◌≡◌, ℕ, zero, suc, ◌+◌, ◌-◌, ◌≤◌, List, [], ◌∷◌, ◌++◌, length, Some, refl, ap, ◌∙◌, ◌⊎◌, ⊎_elim, inl, inr, subst, arith}
+use Rattle.std.proofs.Common.{◌≡◌, ℕ, zero, suc, ◌+◌, ◌-◌, ◌≤◌, List, [], ◌∷◌, ◌++◌, length, Some, refl, sym, ap, ◌∙◌, ◌⊎◌, ⊎_elim, inl, inr, subst, arith}
 use Rattle.std.specs.Prelude.{slice_get}
 use Rattle.std.proofs.lemmas.List.{length-append}
 use Rattle.std.specs.List.{AllZip, range_with_len}
-use Rattle.dob_pieces.specs.declared.piece_set.PieceSet.{PieceSet}
-use Rattle.dob_rank.specs.ClassRows.{class_setup}
+use Rattle.dob_pieces.specs.declared.profile.Family.{Family}
+use Rattle.dob_rank.specs.Families.{class_setup}
 use Rattle.dob_share.specs.declared.opening.Opening.{Opening}
 use Rattle.dob_node.specs.Openings.{IsOpening, AreOpeningsBelow}
-use Rattle.dob_run.specs.Scans.{AreOpeningsFrom}
+use Rattle.dob_run.specs.Scans.{AreFrom, AreOpeningsFrom}
 
 as_many : {X : Type 0} → (R : ℕ → X → Type 0) (from n : ℕ) (xs : List X) → AllZip R (range_with_len from n) xs → length xs ≡ n
 as_many R from zero [] are = refl
@@ -35,24 +35,44 @@ at_either (y ∷ xs) ys zero x e = inl e
 at_either (y ∷ xs) ys (suc k) x e =
     ⊎_elim (λ l. inl l) (λ r. let place = r.1 in inr (r.0, omega arith, r.2)) (at_either xs ys k x e)
 
-pub openings_are : (set : PieceSet) (first upto : ℕ) (openings : List Opening) → first ≤ upto →
-    AllZip (λ (class : ℕ) (given : Opening). IsOpening (class_setup set class) given) (range_with_len first (upto - first)) openings →
-    AreOpeningsFrom set first upto openings
-openings_are set first upto openings order are =
-    let many = as_many (λ (class : ℕ) (given : Opening). IsOpening (class_setup set class) given) first (upto - first) openings are in record {
+-- what the threads found of each class stands in the classes' order
+pub found_are : {X : Type 0} → (IsFound : ℕ → X → Type 0) (first upto : ℕ) (items : List X) → first ≤ upto →
+    AllZip IsFound (range_with_len first (upto - first)) items → AreFrom IsFound first upto items
+found_are IsFound first upto items order are =
+    let many = as_many IsFound first (upto - first) items are in record {
       whole = omega arith;
-      each = each_is (λ (c : ℕ) (o : Opening). IsOpening (class_setup set c) o) first (upto - first) openings are;
+      each = each_is IsFound first (upto - first) items are;
     }
 
+-- nothing was found of no class
+pub none_found : {X : Type 0} → (IsFound : ℕ → X → Type 0) (first : ℕ) (items : List X) → items ≡ [] → AreFrom IsFound first first items
+none_found {X} IsFound first items none = record {
+  whole = omega (arith, ap length none);
+  each = λ place item at. absurd (let nothing : slice_get [] place ≡ Some item = ap (λ (xs : List X). slice_get xs place) (sym none) ∙ at in cc);
+}
+
+-- what was found below a number, and from there on
+pub found_joined : {X : Type 0} → (IsFound : ℕ → X → Type 0) (begin first upto : ℕ) (before more : List X) → AreFrom IsFound begin first before →
+    AreFrom IsFound first upto more → AreFrom IsFound begin upto (before ++ more)
+found_joined IsFound begin first upto before more are next = record {
+  whole = omega (arith, length-append before more, are.whole, next.whole);
+  each = λ place item there. elim (at_either before more place item there) [
+    | inl earlier ↦ are.each place item earlier
+    | inr later ↦ (
+        let here : first + later.0 ≡ begin + place = omega (arith, are.whole, later.1) in
+        subst (λ (class : ℕ). IsFound class item) here (next.each later.0 item later.2))
+  ];
+}
+
 -- the openings below a number, and those from there on
-pub openings_joined : (set : PieceSet) (first upto : ℕ) (before more : List Opening) → AreOpeningsBelow set first before →
-    AreOpeningsFrom set first upto more → AreOpeningsBelow set upto (before ++ more)
-openings_joined set first upto before more are next = record {
+pub openings_joined : (family : Family) (first upto : ℕ) (before more : List Opening) → AreOpeningsBelow family first before →
+    AreOpeningsFrom family first upto more → AreOpeningsBelow family upto (before ++ more)
+openings_joined family first upto before more are next = record {
   whole = length-append before more ∙ ap (λ (n : ℕ). n + length more) are.whole ∙ next.whole;
   each = λ class given there. elim (at_either before more class given there) [
     | inl earlier ↦ are.each class given earlier
     | inr later ↦ (
         let place : first + later.0 ≡ class = omega (arith, are.whole, later.1) in
-        subst (λ (c : ℕ). IsOpening (class_setup set c) given) place (next.each later.0 given later.2))
+        subst (λ (c : ℕ). IsOpening family.profile (class_setup family c) given) place (next.each later.0 given later.2))
   ];
 }

@@ -111,12 +111,12 @@ uncut to r unfailed = record {
 }
 
 -- nor where nothing was left to send
-pub cut_nothing : (to : ℕ) (old new : Runner) → old.failed ≡ None → new.failed ≡ None → new.node ≡ old.node → new.endpoint ≡ old.endpoint → new.set ≡ old.set → new.size ≡ old.size →
+pub cut_nothing : (to : ℕ) (old new : Runner) → old.failed ≡ None → new.failed ≡ None → new.node ≡ old.node → new.endpoint ≡ old.endpoint → new.family ≡ old.family → new.size ≡ old.size →
     (outbox_to old.node to).items ≡ [] → CutsLeft to old new false
-cut_nothing to old new going unfailed node endpoint set size empty = (
+cut_nothing to old new going unfailed node endpoint family size empty = (
   record {
     goes = record {
-      keeps = record { endpoint = subst (KeepsEndpoint old.endpoint) (sym endpoint) (endpoint_same old.endpoint); set = set; size = size };
+      keeps = record { endpoint = subst (KeepsEndpoint old.endpoint) (sym endpoint) (endpoint_same old.endpoint); family = family; size = size };
       unfailed = unfailed;
       halt = ap (λ (m : Endpoint). m.seat.halt) endpoint;
     };

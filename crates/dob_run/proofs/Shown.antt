@@ -1,10 +1,15 @@
 -- The values that the nodes of a crew show.
-use Rattle.std.proofs.Common.{◌≡◌, ℕ, ◌<◌, List, length, refl, eqb, sym, ap, ◌∙◌, subst}
+use Rattle.std.proofs.Common.{◌≡◌, ℕ, ◌+◌, ◌<◌, arith, List, length, refl, eqb, sym, ap, ◌∙◌, subst}
+use Rattle.std.proofs.lemmas.List.{length-map}
+use Rattle.std.proofs.lemmas.Option.{slice_get-get_or}
+use Rattle.std.specs.List.{All}
+use Rattle.std.specs.Prelude.{slice_index_or}
 use Rattle.dob_pieces.proofs.Elements.{some_at}
-use Rattle.dob_pieces.specs.declared.piece_set.PieceSet.{PieceSet}
-use Rattle.dob_rank.specs.Marks.{classes_of}
+use Rattle.dob_pieces.specs.declared.profile.Family.{Family}
+use Rattle.dob_rank.specs.Families.{classes_of}
 use Rattle.dob_value.specs.declared.value.Value.{Value}
 use Rattle.dob_value.specs.declared.value.Value.TheVariants.{Draw}
+use Rattle.dob_value.specs.Codes.{value_of_code, values_of_codes}
 use Rattle.dob_value.specs.Follows.{IsEntry}
 use Rattle.dob_share.specs.declared.news.Settlement.{Settlement}
 use Rattle.dob_share.specs.Owners.{owner_of}
@@ -13,11 +18,13 @@ use Rattle.dob_node.proofs.Kept.{last_now-entry}
 use Rattle.dob_node.proofs.Rest.{below_owner}
 use Rattle.dob_run.specs.declared.endpoint.Endpoint.{Endpoint}
 use Rattle.dob_run.specs.LawfulRunners.{IsLawfulRunner}
-use Rattle.dob_run.specs.BuildEnd.{IsOwner, AreOwners, IsShown}
+use Rattle.dob_run.specs.BuildEnd.{IsOwner, AreOwners, IsShown, IsCodeShown, AreShownBelow}
+use Rattle.dob_run.specs.Scans.{AreFrom}
+use Rattle.dob_run.proofs.Places.{map_got}
 
 -- a lawful runner's node owns its classes
-pub owner_is : (set : PieceSet) (size n k : ℕ) (node : Node) (endpoint : Endpoint) → IsLawfulRunner set size node endpoint → node.id ≡ k → node.n ≡ n → IsOwner set n k node
-owner_is set size n k node endpoint law id_is n_is = record {
+pub owner_is : (family : Family) (size n k : ℕ) (node : Node) (endpoint : Endpoint) → IsLawfulRunner family size node endpoint → node.id ≡ k → node.n ≡ n → IsOwner family n k node
+owner_is family size n k node endpoint law id_is n_is = record {
   own = λ class low is. (law.sound.kept.owned class).1 (owner class is, few class low);
   entries = λ class value low is has. subst IsEntry (sym (law.knows.values class value (few class low) (owner class is) has))
       (last_now-entry (λ (s : Settlement). eqb s.class class) Draw node.history.settlements tt law.knows.entries);
@@ -26,12 +33,26 @@ owner_is set size n k node endpoint law id_is n_is = record {
     owner : (class : ℕ) → owner_of n class ≡ k → owner_of node.n class ≡ node.id
     owner class is = ap (λ (m : ℕ). owner_of m class) n_is ∙ is ∙ sym id_is
 
-    few : (class : ℕ) → class < classes_of set → class < classes_of node.set
-    few class low = subst (λ (s : PieceSet). class < classes_of s) (sym law.of.0) low
+    few : (class : ℕ) → class < classes_of family → class < classes_of node.family
+    few class low = subst (λ (s : Family). class < classes_of s) (sym law.of.0) low
 
 -- what a class's owner shows is such a value as a table can have
-pub shown_entry : (set : PieceSet) (nodes : List Node) (class : ℕ) (value : Value) → 0 < length nodes → AreOwners set (length nodes) nodes →
-    class < classes_of set → IsShown (length nodes) nodes class value → IsEntry value
-shown_entry set nodes class value some owners low shown =
+pub shown_entry : (family : Family) (nodes : List Node) (class : ℕ) (value : Value) → 0 < length nodes → AreOwners family (length nodes) nodes →
+    class < classes_of family → IsShown (length nodes) nodes class value → IsEntry value
+shown_entry family nodes class value some owners low shown =
     let owner = some_at nodes (owner_of (length nodes) class) (below_owner (length nodes) class some) in
     (owners (owner_of (length nodes) class) owner.0 owner.1).entries class value low refl (shown owner.0 owner.1)
+
+-- codes of what the nodes show are those of a table, and their values what the nodes show
+module _ (n count : ℕ) (nodes : List Node) (codes : List ℕ) (are : AreFrom (IsCodeShown n nodes) 0 count codes) where
+  pub codes_fit : All (λ (code : ℕ). code < 65536) codes
+  codes_fit = λ k d low. (are.each k (slice_index_or codes k d) (slice_get-get_or codes k d low)).0
+
+  pub values_shown : AreShownBelow n count nodes (values_of_codes codes)
+  values_shown = record {
+    whole = omega (arith, length-map codes value_of_code, are.whole);
+    each = λ class value at.
+        let got = map_got value_of_code codes class value at in
+        let here : 0 + class ≡ class = omega arith in
+        subst (λ (p : ℕ × Value). IsShown n nodes p.0 p.1) (λ i. (here i, got.2 i)) (are.each class got.0 got.1).1;
+  }

@@ -4,7 +4,7 @@ use Rattle.std.proofs.Common.{refl, sym, ap, ◌∙◌, subst, arith}
 use Rattle.std.specs.Prelude.{slice_get}
 use Rattle.std.proofs.lemmas.Option.{same_Some, slice_get_within}
 use Rattle.dob_pieces.proofs.Elements.{get_set_other, get_set_same}
-use Rattle.dob_pieces.specs.declared.piece_set.PieceSet.{PieceSet}
+use Rattle.dob_pieces.specs.declared.profile.Family.{Family}
 use Rattle.dob_update.specs.Batches.{BatchView}
 use Rattle.dob_node.specs.declared.node.Node.{Node}
 use Rattle.dob_node.specs.Nodes.{IsUnchanged}
@@ -37,7 +37,7 @@ changed_else {L} R xs ys k j one other = ap (λ (l : List L). slice_get l j) one
 -- ---- the batch in the hand
 
 -- the batch that is handed out is the one that was tested
-module _ (set : PieceSet) (n from to : ℕ) (inlet : Inlet) (batch : BatchView) (tested : HoldsFor set n from to inlet) (held : inlet.hand ≡ Some batch) where
+module _ (family : Family) (n from to : ℕ) (inlet : Inlet) (batch : BatchView) (tested : HoldsFor family n from to inlet) (held : inlet.hand ≡ Some batch) where
   same_batch : tested.batch ≡ batch
   same_batch = same_Some tested.batch batch (sym tested.held ∙ held)
 
@@ -47,8 +47,8 @@ module _ (set : PieceSet) (n from to : ℕ) (inlet : Inlet) (batch : BatchView) 
   pub of_other : batch.from ≢ to
   of_other same = tested.other (sym of_sender ∙ same)
 
-  pub fits_node : IsBatchFor set n batch.from to batch
-  fits_node = subst (λ (k : ℕ). IsBatchFor set n k to batch) (sym of_sender) (subst (IsBatchFor set n from to) same_batch tested.fits)
+  pub fits_node : IsBatchFor family n batch.from to batch
+  fits_node = subst (λ (k : ℕ). IsBatchFor family n k to batch) (sym of_sender) (subst (IsBatchFor family n from to) same_batch tested.fits)
 
 pub unchanged_same : (node : Node) → IsUnchanged node node
 unchanged_same node = record { same = (refl, refl, refl, refl); kept = (refl, refl, refl); outboxes = refl }

@@ -1,8 +1,8 @@
 -- Things that go one by one, each with its answer, and runners whose threads are started and ended so.
-use Rattle.std.proofs.Common.{◌≡◌, ℕ, Bool, true, None, inl, inr, List, [], ◌∷◌, ◌++◌, length, Some, sym, ap, ◌∙◌, subst, append_assoc, arith}
+use Rattle.std.proofs.Common.{◌≡◌, ℕ, Bool, true, None, inl, inr, List, [], ◌∷◌, ◌++◌, length, map, Some, sym, ap, ◌∙◌, subst, append_assoc, arith}
 use Rattle.std.specs.Prelude.{slice_get, IfOk, IfErr, Result, MatchResult, Ok, Err}
 use Rattle.std.proofs.lemmas.List.{append-nil}
-use Rattle.std.specs.List.{AllZip}
+use Rattle.std.specs.List.{AllZip, Contains}
 use Rattle.std.specs.declared.vec.Vec.{Vec}
 use Rattle.dob_pieces.proofs.Elements.{middle}
 use Rattle.std.proofs.lemmas.Bool.{cases_Bool}
@@ -53,6 +53,22 @@ module _ {X Y : Type 0} (R : X → Y → Type 0) where
       (k : ℕ) × (slice_get all k ≡ Some x)
   next_one all left after answers x on is =
       (length on.gone, ap (λ (l : List X). slice_get l (length on.gone)) (on.split ∙ ap (λ (l : List X). on.gone ++ l) is) ∙ middle on.gone after x)
+
+-- answers that are all Ok, in order
+all_ok : {X Y : Type 0} → (E : Type 0) (R : X → Y → Type 0) (xs : List X) (ys : List Y) → AllZip (λ (x : X) (r : Result Y E). IfOk r (R x)) xs (map Ok ys) → AllZip R xs ys
+all_ok E R [] [] are = tt
+all_ok E R [] (y ∷ ys) are = absurd are
+all_ok E R (x ∷ xs) [] are = absurd are
+all_ok E R (x ∷ xs) (y ∷ ys) are = (are.0, all_ok E R xs ys are.1)
+
+-- things that were made side by side, all of them or none
+pub made_all : {X Y E Z : Type 0} → (R : X → Y → Type 0) (xs : List X) (given : List (Result Y E)) (result : Result (Vec Y Z) E) →
+    AllZip (λ (x : X) (r : Result Y E). IfOk r (R x)) xs given →
+    MatchResult result (λ made. (ys : List Y) × (given ≡ map Ok ys) × (made.items ≡ ys)) (λ why. Contains given (Err why)) →
+    IfOk result (λ made. AllZip R xs made.items)
+made_all {X} {Y} {E} R xs given (Ok made) are is = subst (AllZip R xs) (sym is.2)
+    (all_ok E R xs is.0 (subst (λ (l : List (Result Y E)). AllZip (λ (x : X) (r : Result Y E). IfOk r (R x)) xs l) is.1 are))
+made_all R xs given (Err why) are is = tt
 
 -- a runner that has failed is through with its turns, whatever they were
 pub through : (until : Until) (old new : Runner) (why : Cause) → HasFailed old new why → IsThrough until old new

@@ -1,6 +1,6 @@
 -- What a crew leaves whose runners made some turns without the token.
 use Rattle.std.specs.Prelude.{◌≡◌, ◌≢◌, ⊤, ℕ, ◌+◌, ◌-◌, ◌*◌, ◌<◌, ◌≤◌, List, ◌++◌, Option, Some, None, length, map, take, slice_get, slice_index}
-use Rattle.dob_pieces.specs.declared.piece_set.PieceSet.{PieceSet}
+use Rattle.dob_pieces.specs.declared.profile.Family.{Family}
 use Rattle.dob_share.specs.declared.news.Item.{Item}
 use Rattle.dob_update.specs.Batches.{BatchView, items_of_batches}
 use Rattle.dob_board.specs.declared.board.Board.{Board}
@@ -12,7 +12,7 @@ use Rattle.dob_node.specs.declared.cause.Cause.TheVariants.{Held}
 use Rattle.dob_node.specs.declared.node.Node.{Node}
 use Rattle.dob_node.specs.Nodes.{outbox_to}
 use Rattle.dob_run.specs.declared.fault.Fault.{Fault}
-use Rattle.dob_run.specs.declared.fault.Fault.TheVariants.{SetTooLarge, Nodes, Sizes, Stopped, Memory}
+use Rattle.dob_run.specs.declared.fault.Fault.TheVariants.{Nodes, Sizes, Stopped, Memory}
 use Rattle.dob_run.specs.declared.hands.Outlet.{Outlet}
 use Rattle.dob_run.specs.declared.hands.Inlet.{Inlet}
 use Rattle.dob_run.specs.declared.runner.Runner.{Runner}
@@ -29,10 +29,10 @@ use Rattle.dob_run.specs.LawfulRunners.{planned}
 
 -- The worker is that of node i. It has applied what its node planned for itself and isn't left in its own list, and knows just
 -- what the items applied say: its cells are what these make of them.
-pub record IsWorker (set : PieceSet) (n i : ℕ) (applied : ℕ → List Item) (worker : Worker) : Type 0 where
-  pub of : (worker.node.set ≡ set) × (worker.node.id ≡ i) × (worker.node.n ≡ n)
+pub record IsWorker (family : Family) (n i : ℕ) (applied : ℕ → List Item) (worker : Worker) : Type 0 where
+  pub of : (worker.node.family ≡ family) × (worker.node.id ≡ i) × (worker.node.n ≡ n)
   pub own : planned worker.node i ≡ applied i ++ worker.node.own.items
-  pub knows : KnowsRight set n i worker.node.share worker.node.history.settlements applied
+  pub knows : KnowsRight family n i worker.node.share worker.node.history.settlements applied
 
 -- The link from one worker's node to another's: what was sent is what was received and then what waits; the counts are those
 -- of the lists; the posted word counts what was sent and what lies in the sending hand, and the taken word what was received
@@ -55,13 +55,13 @@ pub record IsLink (n size : ℕ) (words : List ℕ) (i j : ℕ) (sender taker : 
   pub small : i ≢ j → (k : ℕ) (batch : BatchView) → slice_get (sent ++ in_hand sending) k ≡ Some batch → length batch.items ≤ size
   pub applied_is : i ≢ j → applied ≡ items_of_batches (take (length received - length (in_hand taking)) received)
 
--- n workers of the piece set, and a link from each to each, by the items of each that each has applied
-pub record IsTurned (set : PieceSet) (n size : ℕ) (turned : Turned) : Type 0 where
+-- n workers of the family, and a link from each to each, by the items of each that each has applied
+pub record IsTurned (family : Family) (n size : ℕ) (turned : Turned) : Type 0 where
   pub applied : ℕ → ℕ → List Item
   pub count : length turned.workers.items ≡ n
   pub words : length turned.closed.words.items ≡ word_count n
   pub links_count : length turned.links.items ≡ n * n
-  pub nodes : (i : ℕ) (worker : Worker) → slice_get turned.workers.items i ≡ Some worker → IsWorker set n i (λ from. applied from i) worker
+  pub nodes : (i : ℕ) (worker : Worker) → slice_get turned.workers.items i ≡ Some worker → IsWorker family n i (λ from. applied from i) worker
   pub links : (i j : ℕ) (sender taker : Worker) → slice_get turned.workers.items i ≡ Some sender → slice_get turned.workers.items j ≡ Some taker →
       (link : Rejoined) × (slice_get turned.links.items (i * n + j) ≡ Some link)
       × IsLink n size turned.closed.words.items i j sender taker (applied i j) link
@@ -81,30 +81,27 @@ AreUnfailed runners = (k : ℕ) (runner : Runner) → slice_get runners k ≡ So
 abbrev pub IsFirstFailed : List Runner → Fault → Type 0
 IsFirstFailed runners (Stopped node why) = (runner : Runner) × (slice_get runners node ≡ Some runner) × (runner.failed ≡ Some why)
     × ((k : ℕ) (other : Runner) → k < node → slice_get runners k ≡ Some other → other.failed ≡ None)
-IsFirstFailed runners SetTooLarge = ⊥
 IsFirstFailed runners Nodes = ⊥
 IsFirstFailed runners Sizes = ⊥
 IsFirstFailed runners Memory = ⊥
 
 -- The crew that was run for so long has stopped, and the fault names which of its runners and why.
-pub record HasStoppedTurns (Names : List Runner → Fault → Type 0) (No : ℕ → Type 0) (until : Until) (set : PieceSet) (n size capacity : ℕ) (fault : Fault) : Type 0 where
+pub record HasStoppedTurns (Names : List Runner → Fault → Type 0) (No : ℕ → Type 0) (until : Until) (family : Family) (n size capacity : ℕ) (fault : Fault) : Type 0 where
   pub board : Board
   pub ended : List Runner
-  pub ran : HasRun No until set n size capacity board ended
+  pub ran : HasRun No until family n size capacity board ended
   pub names : Names ended fault
 
 -- where a node is named the crew has stopped so
-abbrev pub StopsSo : (List Runner → Fault → Type 0) → (ℕ → Type 0) → Until → PieceSet → ℕ → ℕ → ℕ → Fault → Type 0
-StopsSo Names No until set n size capacity (Stopped node why) = HasStoppedTurns Names No until set n size capacity (Stopped node why)
-StopsSo Names No until set n size capacity SetTooLarge = ⊤
-StopsSo Names No until set n size capacity Nodes = ⊤
-StopsSo Names No until set n size capacity Sizes = ⊤
-StopsSo Names No until set n size capacity Memory = ⊤
+abbrev pub StopsSo : (List Runner → Fault → Type 0) → (ℕ → Type 0) → Until → Family → ℕ → ℕ → ℕ → Fault → Type 0
+StopsSo Names No until family n size capacity (Stopped node why) = HasStoppedTurns Names No until family n size capacity (Stopped node why)
+StopsSo Names No until family n size capacity Nodes = ⊤
+StopsSo Names No until family n size capacity Sizes = ⊤
+StopsSo Names No until family n size capacity Memory = ⊤
 
 -- no node of it was held back
 abbrev pub IsUnheld : Fault → Type 0
 IsUnheld (Stopped node why) = why ≢ Held
-IsUnheld SetTooLarge = ⊤
 IsUnheld Nodes = ⊤
 IsUnheld Sizes = ⊤
 IsUnheld Memory = ⊤

@@ -1,9 +1,9 @@
 -- A crew whose runners have all stopped, and what is made of it.
 use Rattle.std.specs.Prelude.{◌≡◌, ◌≢◌, ⊤, ℕ, ◌<◌, ◌⊎◌, List, Option, None, Some, length, slice_get}
-use Rattle.dob_pieces.specs.declared.piece_set.PieceSet.{PieceSet}
-use Rattle.dob_rank.specs.Limits.{IsSmall}
-use Rattle.dob_rank.specs.Marks.{classes_of}
+use Rattle.dob_pieces.specs.declared.profile.Family.{Family}
+use Rattle.dob_rank.specs.Families.{classes_of}
 use Rattle.dob_value.specs.declared.value.Value.{Value}
+use Rattle.dob_value.specs.Codes.{value_of_code}
 use Rattle.dob_value.specs.Follows.{IsEntry, AreGiven}
 use Rattle.dob_share.specs.Owners.{owner_of}
 use Rattle.dob_share.specs.Shares.{IsOwn, HasValueNow}
@@ -12,19 +12,18 @@ use Rattle.dob_board.specs.declared.halt.Halt.TheVariants.{Running, Ended, Faile
 use Rattle.dob_node.specs.declared.cause.Cause.{Cause}
 use Rattle.dob_node.specs.declared.node.Node.{Node}
 use Rattle.dob_run.specs.declared.fault.Fault.{Fault}
-use Rattle.dob_run.specs.declared.fault.Fault.TheVariants.{SetTooLarge, Nodes, Sizes, Stopped, Memory}
+use Rattle.dob_run.specs.declared.fault.Fault.TheVariants.{Nodes, Sizes, Stopped, Memory}
 use Rattle.dob_run.specs.declared.runner.Runner.{Runner}
 
--- The runner works for that piece set with batches of at most that size, and its seat knows that the run ended or failed.
-pub record IsStoppedRunner (set : PieceSet) (size : ℕ) (runner : Runner) : Type 0 where
-  pub set_is : runner.set ≡ set
+-- The runner works for that family with batches of at most that size, and its seat knows that the run ended or failed.
+pub record IsStoppedRunner (family : Family) (size : ℕ) (runner : Runner) : Type 0 where
+  pub family_is : runner.family ≡ family
   pub size_is : runner.size ≡ size
   pub halted : runner.endpoint.seat.halt ≢ Running
 
--- so has each of them, and the piece set is one that has classes
-pub record HaveStopped (set : PieceSet) (size : ℕ) (runners : List Runner) : Type 0 where
-  pub small : IsSmall set
-  pub each : (k : ℕ) (runner : Runner) → slice_get runners k ≡ Some runner → IsStoppedRunner set size runner
+-- so has each of them
+abbrev pub HaveStopped : Family → ℕ → List Runner → Type 0
+HaveStopped family size runners = (k : ℕ) (runner : Runner) → slice_get runners k ≡ Some runner → IsStoppedRunner family size runner
 
 abbrev pub failed_of : Runner → Option Cause
 failed_of runner = runner.failed
@@ -49,23 +48,26 @@ pub record IsFailure (runners : List Runner) (node : ℕ) (why : Cause) : Type 0
 abbrev pub IsFailureOf : List Runner → Fault → Type 0
 IsFailureOf runners (Stopped node why) = IsFailure runners node why
 IsFailureOf runners Memory = ⊤
-IsFailureOf runners SetTooLarge = ⊥
 IsFailureOf runners Nodes = ⊥
 IsFailureOf runners Sizes = ⊥
 
--- Node k, one of n, has each class of the piece set that is its own, and shows for it such a value as a table can have.
-pub record IsOwner (set : PieceSet) (n k : ℕ) (node : Node) : Type 0 where
-  pub own : (class : ℕ) → class < classes_of set → owner_of n class ≡ k → IsOwn node.share class
-  pub entries : (class : ℕ) (value : Value) → class < classes_of set → owner_of n class ≡ k → HasValueNow node.share class value →
+-- Node k, one of n, has each class of the family that is its own, and shows for it such a value as a table can have.
+pub record IsOwner (family : Family) (n k : ℕ) (node : Node) : Type 0 where
+  pub own : (class : ℕ) → class < classes_of family → owner_of n class ≡ k → IsOwn node.share class
+  pub entries : (class : ℕ) (value : Value) → class < classes_of family → owner_of n class ≡ k → HasValueNow node.share class value →
       IsEntry value
 
 -- so do they all
-abbrev pub AreOwners : PieceSet → ℕ → List Node → Type 0
-AreOwners set n nodes = (k : ℕ) (node : Node) → slice_get nodes k ≡ Some node → IsOwner set n k node
+abbrev pub AreOwners : Family → ℕ → List Node → Type 0
+AreOwners family n nodes = (k : ℕ) (node : Node) → slice_get nodes k ≡ Some node → IsOwner family n k node
 
 -- the value is one that the class's owner, of n nodes, shows for it
 abbrev pub IsShown : ℕ → List Node → ℕ → Value → Type 0
 IsShown n nodes class value = (node : Node) → slice_get nodes (owner_of n class) ≡ Some node → HasValueNow node.share class value
+
+-- the code is one of 16 bits, of a value that the class's owner shows
+abbrev pub IsCodeShown : ℕ → List Node → ℕ → ℕ → Type 0
+IsCodeShown n nodes class code = (code < 65536) × IsShown n nodes class (value_of_code code)
 
 -- the values of the classes below a number are those that their owners show
 abbrev pub AreShownBelow : ℕ → ℕ → List Node → List Value → Type 0

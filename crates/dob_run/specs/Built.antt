@@ -1,8 +1,8 @@
 -- What a build by threads leaves.
 use Rattle.std.specs.Prelude.{◌≡◌, ◌≢◌, ℕ, ◌+◌, ◌*◌, ◌<◌, ◌≤◌, ◌==◌, cond, List, [], Some, length, slice_get, slice_index_or, slice_index}
 use Rattle.std.specs.List.{count_by, sum_by, range_with_len}
-use Rattle.dob_pieces.specs.declared.piece_set.PieceSet.{PieceSet}
-use Rattle.dob_rank.specs.Marks.{classes_of}
+use Rattle.dob_pieces.specs.declared.profile.Family.{Family}
+use Rattle.dob_rank.specs.Families.{classes_of}
 use Rattle.dob_value.specs.declared.value.Value.{Value}
 use Rattle.dob_value.specs.declared.value.Value.TheVariants.{Draw}
 use Rattle.dob_value.specs.Entries.{is_draw}
@@ -14,30 +14,30 @@ use Rattle.dob_chan.specs.declared.ends.Rejoined.{Rejoined}
 use Rattle.dob_run.specs.declared.build_end.Built.{Built}
 
 -- how many items tell node j of the value of a class: one for each move into it from a class of node j
-abbrev pub edges_to : PieceSet → ℕ → ℕ → ℕ → ℕ
-edges_to set n j class = count_by (λ from. owner_of n from == j) (predecessors set class)
+abbrev pub edges_to : Family → ℕ → ℕ → ℕ → ℕ
+edges_to family n j class = count_by (λ from. owner_of n from == j) (predecessors family class)
 
 -- how many items node i has to tell node j at least: those of its classes that aren't a draw
-abbrev pub needed : PieceSet → ℕ → List Value → ℕ → ℕ → ℕ
-needed set n values i j = sum_by (λ class. cond (owner_of n class == i) (cond (is_draw (slice_index_or values class Draw)) 0 (edges_to set n j class)) 0)
-    (range_with_len 0 (classes_of set))
+abbrev pub needed : Family → ℕ → List Value → ℕ → ℕ → ℕ
+needed family n values i j = sum_by (λ class. cond (owner_of n class == i) (cond (is_draw (slice_index_or values class Draw)) 0 (edges_to family n j class)) 0)
+    (range_with_len 0 (classes_of family))
 
 -- The link from node i to node j is done: the batches posted, taken, sent and received are one number, nothing waits, and in
 -- so many batches of that size there was room for all that i had to tell j.
-pub record IsDone (set : PieceSet) (n size : ℕ) (words : List ℕ) (values : List Value) (i j : ℕ) (link : Rejoined) : Type 0 where
+pub record IsDone (family : Family) (n size : ℕ) (words : List ℕ) (values : List Value) (i j : ℕ) (link : Rejoined) : Type 0 where
   pub posted : slice_index words (posted_word n i j) ≡ link.sent
   pub taken : slice_index words (taken_word n i j) ≡ link.sent
   pub received : link.received ≡ link.sent
   pub waiting : link.waiting.items ≡ []
-  pub enough : i ≢ j → needed set n values i j ≤ link.sent * size
+  pub enough : i ≢ j → needed family n values i j ≤ link.sent * size
 
--- n nodes with batches of at most that size have built the piece set's table: the end was announced, each link is done, and
+-- n nodes with batches of at most that size have built the family's table: the end was announced, each link is done, and
 -- the table is the value table.
-pub record IsBuilt (set : PieceSet) (n size : ℕ) (built : Built) : Type 0 where
-  pub set_is : built.table.set ≡ set
-  pub values : IsValueTable set built.table.values
+pub record IsBuilt (family : Family) (n size : ℕ) (built : Built) : Type 0 where
+  pub family_is : built.table.family ≡ family
+  pub values : IsValueTable family built.table.values
   pub words : length built.closed.words.items ≡ word_count n
   pub ended : slice_index built.closed.words.items 2 ≡ 1
   pub count : length built.links.items ≡ n * n
   pub links : (i j : ℕ) → i < n → j < n → (link : Rejoined) × (slice_get built.links.items (i * n + j) ≡ Some link)
-      × IsDone set n size built.closed.words.items built.table.values i j link
+      × IsDone family n size built.closed.words.items built.table.values i j link

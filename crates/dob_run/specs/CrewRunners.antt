@@ -1,6 +1,6 @@
 -- The runners of a crew's endpoints.
 use Rattle.std.specs.Prelude.{◌≡◌, ℕ, List, None, Some, map, slice_get}
-use Rattle.dob_pieces.specs.declared.piece_set.PieceSet.{PieceSet}
+use Rattle.dob_pieces.specs.declared.profile.Family.{Family}
 use Rattle.dob_board.specs.declared.board.Board.{Board}
 use Rattle.dob_node.specs.declared.node.Node.{Node}
 use Rattle.dob_run.specs.declared.endpoint.Endpoint.{Endpoint}
@@ -15,24 +15,24 @@ endpoint_of runner = runner.endpoint
 abbrev pub node_of : Runner → Node
 node_of runner = runner.node
 
--- the runner works for that piece set, with batches of at most that size, and hasn't failed
-pub record IsRunnerFor (set : PieceSet) (size : ℕ) (runner : Runner) : Type 0 where
-  pub set_is : runner.set ≡ set
+-- the runner works for that family, with batches of at most that size, and hasn't failed
+pub record IsRunnerFor (family : Family) (size : ℕ) (runner : Runner) : Type 0 where
+  pub family_is : runner.family ≡ family
   pub size_is : runner.size ≡ size
   pub unfailed : runner.failed ≡ None
 
 -- so does each of them
-abbrev pub AreRunnersFor : PieceSet → ℕ → List Runner → Type 0
-AreRunnersFor set size runners = (k : ℕ) (runner : Runner) → slice_get runners k ≡ Some runner → IsRunnerFor set size runner
+abbrev pub AreRunnersFor : Family → ℕ → List Runner → Type 0
+AreRunnersFor family size runners = (k : ℕ) (runner : Runner) → slice_get runners k ≡ Some runner → IsRunnerFor family size runner
 
 -- it does, and has that endpoint; its node was opened and has made no step
-abbrev pub IsRunnerOf : PieceSet → ℕ → Endpoint → Runner → Type 0
-IsRunnerOf set size endpoint runner = (runner.endpoint ≡ endpoint) × IsRunnerFor set size runner × IsNew set runner.node runner.endpoint
+abbrev pub IsRunnerOf : Family → ℕ → Endpoint → Runner → Type 0
+IsRunnerOf family size endpoint runner = (runner.endpoint ≡ endpoint) × IsRunnerFor family size runner × IsNew family runner.node runner.endpoint
 
--- The board and the runners of n nodes of the piece set, in order, before their first turn. They cut batches of at most that
+-- The board and the runners of n nodes of the family, in order, before their first turn. They cut batches of at most that
 -- size, and nothing has gone over their links; their inboxes have that capacity.
-pub record IsNewCrew (set : PieceSet) (n size capacity : ℕ) (board : Board) (runners : List Runner) : Type 0 where
+pub record IsNewCrew (family : Family) (n size capacity : ℕ) (board : Board) (runners : List Runner) : Type 0 where
   pub nodes : board.nodes ≡ n
   pub crew : IsCrew board (map endpoint_of runners)
-  pub each : AreRunnersFor set size runners
-  pub new : (k : ℕ) (runner : Runner) → slice_get runners k ≡ Some runner → IsNew set runner.node runner.endpoint × IsNewEndpoint capacity runner.endpoint
+  pub each : AreRunnersFor family size runners
+  pub new : (k : ℕ) (runner : Runner) → slice_get runners k ≡ Some runner → IsNew family runner.node runner.endpoint × IsNewEndpoint capacity runner.endpoint

@@ -1,21 +1,16 @@
 -- What each fault of a run by threads is called, and why no crew is opened or one leaves nothing.
 use Rattle.std.specs.Prelude.{ℕ, ◌<◌, List}
-use Rattle.dob_pieces.specs.declared.piece_set.PieceSet.{PieceSet}
 use Rattle.dob_pieces.specs.Faults.{memory_text}
-use Rattle.dob_rank.specs.Faults as rank_texts
-use Rattle.dob_rank.specs.Limits.{IsSmall}
 use Rattle.dob_update.specs.Faults.{sizes_text}
 use Rattle.dob_update.specs.Batches.{AreSizes}
 use Rattle.dob_safra.specs.Faults.{nodes_text}
 use Rattle.dob_safra.specs.Laws.{IsSize}
 use Rattle.dob_node.specs.Causes.{stopped_text}
-use Rattle.dob_rank.specs.declared.fault.Fault.TheVariants as rank
 use Rattle.dob_run.specs.declared.fault.Fault.{Fault}
-use Rattle.dob_run.specs.declared.fault.Fault.TheVariants.{SetTooLarge, Nodes, Sizes, Stopped, Memory}
+use Rattle.dob_run.specs.declared.fault.Fault.TheVariants.{Nodes, Sizes, Stopped, Memory}
 
 -- the fault's number and name, and of a stopped node which one and why
 abbrev pub fault_text : Fault → List ℕ
-fault_text SetTooLarge = rank_texts.fault_text rank.SetTooLarge
 fault_text Nodes = nodes_text
 fault_text Sizes = sizes_text
 fault_text (Stopped node why) = stopped_text node why
@@ -29,7 +24,6 @@ AreWithin n batch capacity = IsSize n × AreSizes batch capacity
 abbrev pub HasSizeFault : ℕ → ℕ → ℕ → Fault → Type 0
 HasSizeFault n batch capacity Nodes = ¬ IsSize n
 HasSizeFault n batch capacity Sizes = IsSize n × (¬ AreSizes batch capacity)
-HasSizeFault n batch capacity SetTooLarge = ⊥
 HasSizeFault n batch capacity (Stopped node why) = ⊥
 HasSizeFault n batch capacity Memory = ⊥
 
@@ -37,22 +31,12 @@ HasSizeFault n batch capacity Memory = ⊥
 abbrev pub HasCrewFault : ℕ → ℕ → ℕ → Fault → Type 0
 HasCrewFault n batch capacity Nodes = HasSizeFault n batch capacity Nodes
 HasCrewFault n batch capacity Sizes = HasSizeFault n batch capacity Sizes
-HasCrewFault n batch capacity SetTooLarge = ⊥
 HasCrewFault n batch capacity (Stopped node why) = ⊥
 HasCrewFault n batch capacity Memory = AreWithin n batch capacity
 
--- why no crew of the piece set is run: the set is too large, or where it isn't no crew is opened
-abbrev pub HasStartFault : PieceSet → ℕ → ℕ → ℕ → Fault → Type 0
-HasStartFault set n batch capacity SetTooLarge = ¬ IsSmall set
-HasStartFault set n batch capacity Nodes = IsSmall set × HasCrewFault n batch capacity Nodes
-HasStartFault set n batch capacity Sizes = IsSmall set × HasCrewFault n batch capacity Sizes
-HasStartFault set n batch capacity (Stopped node why) = ⊥
-HasStartFault set n batch capacity Memory = IsSmall set × HasCrewFault n batch capacity Memory
-
--- why a crew leaves nothing: none is run, or one of its nodes has stopped
-abbrev pub HasBuildFault : PieceSet → ℕ → ℕ → ℕ → Fault → Type 0
-HasBuildFault set n batch capacity SetTooLarge = HasStartFault set n batch capacity SetTooLarge
-HasBuildFault set n batch capacity Nodes = HasStartFault set n batch capacity Nodes
-HasBuildFault set n batch capacity Sizes = HasStartFault set n batch capacity Sizes
-HasBuildFault set n batch capacity (Stopped node why) = IsSmall set × AreWithin n batch capacity × (node < n)
-HasBuildFault set n batch capacity Memory = HasStartFault set n batch capacity Memory
+-- why a crew leaves nothing: none is opened, or one of its nodes has stopped
+abbrev pub HasBuildFault : ℕ → ℕ → ℕ → Fault → Type 0
+HasBuildFault n batch capacity Nodes = HasCrewFault n batch capacity Nodes
+HasBuildFault n batch capacity Sizes = HasCrewFault n batch capacity Sizes
+HasBuildFault n batch capacity (Stopped node why) = AreWithin n batch capacity × (node < n)
+HasBuildFault n batch capacity Memory = HasCrewFault n batch capacity Memory

@@ -1,7 +1,7 @@
 -- A crew that has come to its end: nothing is left to do anywhere.
 use Rattle.std.specs.Prelude.{◌≡◌, ℕ, ◌<◌, ◌++◌, List, Some, false, length, slice_get, slice_index}
-use Rattle.dob_pieces.specs.declared.piece_set.PieceSet.{PieceSet}
-use Rattle.dob_rank.specs.Marks.{classes_of}
+use Rattle.dob_pieces.specs.declared.profile.Family.{Family}
+use Rattle.dob_rank.specs.Families.{classes_of}
 use Rattle.dob_value.specs.declared.value.Value.{Value}
 use Rattle.dob_value.specs.Follows.{IsValueTable}
 use Rattle.dob_share.specs.declared.opening.Opening.{Opening}
@@ -15,11 +15,11 @@ use Rattle.dob_run.specs.declared.hands.Inlet.{Inlet}
 use Rattle.dob_run.specs.declared.runner.Runner.{Runner}
 use Rattle.dob_run.specs.LawfulRunners.{IsLawfulRunner}
 
--- the runner is lawful, and stands at that place of a crew of n for the piece set
-pub record IsRunnerOf (set : PieceSet) (n place : ℕ) (runner : Runner) : Type 0 where
+-- the runner is lawful, and stands at that place of a crew of n for the family
+pub record IsRunnerOf (family : Family) (n place : ℕ) (runner : Runner) : Type 0 where
   pub seat : (runner.endpoint.seat.node ≡ place) × (runner.endpoint.seat.nodes ≡ n)
-  pub set_is : runner.set ≡ set
-  pub lawful : IsLawfulRunner runner.set runner.size runner.node runner.endpoint
+  pub family_is : runner.family ≡ family
+  pub lawful : IsLawfulRunner runner.family runner.size runner.node runner.endpoint
 
 -- the outlet of runner i for j and the inlet of j
 pub record AreJoinedBy (runners : List Runner) (i j : ℕ) (sender taker : Runner) (outlet : Outlet) (inlet : Inlet) : Type 0 where
@@ -30,9 +30,9 @@ pub record AreJoinedBy (runners : List Runner) (i j : ℕ) (sender taker : Runne
 
 -- The crew of n has ended: each runner is lawful and white; on each link as many batches were posted as were taken, and what
 -- came out of the inbox of the first is the beginning of what the second sent.
-pub record AreFinished (set : PieceSet) (n : ℕ) (runners : List Runner) : Type 0 where
+pub record AreFinished (family : Family) (n : ℕ) (runners : List Runner) : Type 0 where
   pub count : length runners ≡ n
-  pub each : (i : ℕ) (runner : Runner) → slice_get runners i ≡ Some runner → IsRunnerOf set n i runner
+  pub each : (i : ℕ) (runner : Runner) → slice_get runners i ≡ Some runner → IsRunnerOf family n i runner
   pub white : (i : ℕ) (runner : Runner) → slice_get runners i ≡ Some runner → runner.endpoint.seat.black ≡ false
   pub counts : (i j : ℕ) (sender taker : Runner) (outlet : Outlet) (inlet : Inlet) → AreJoinedBy runners i j sender taker outlet inlet →
       slice_index sender.endpoint.seat.posted.items j ≡ slice_index taker.endpoint.seat.taken.items i
@@ -40,12 +40,12 @@ pub record AreFinished (set : PieceSet) (n : ℕ) (runners : List Runner) : Type
       (waiting : List BatchView) × (sent_by outlet.end ≡ taken_of inlet.end i ++ waiting)
 
 -- each value is what the owner of its class shows
-pub record AreShown (set : PieceSet) (n : ℕ) (runners : List Runner) (values : List Value) : Type 0 where
-  pub whole : length values ≡ classes_of set
+pub record AreShown (family : Family) (n : ℕ) (runners : List Runner) (values : List Value) : Type 0 where
+  pub whole : length values ≡ classes_of family
   pub each : (class : ℕ) (value : Value) (runner : Runner) → slice_get values class ≡ Some value → slice_get runners (owner_of n class) ≡ Some runner →
       HasValueNow runner.node.share class value
 
 -- what such a crew shows is the value table
 abbrev pub FinishedIsRight : Type 0
-FinishedIsRight = (set : PieceSet) (n : ℕ) (runners : List Runner) (openings : List Opening) (values : List Value) → 0 < n →
-    AreOpenings set openings → AreFinished set n runners → AreShown set n runners values → IsValueTable set values
+FinishedIsRight = (family : Family) (n : ℕ) (runners : List Runner) (openings : List Opening) (values : List Value) → 0 < n →
+    AreOpenings family openings → AreFinished family n runners → AreShown family n runners values → IsValueTable family values

@@ -1,12 +1,12 @@
 -- What one of n nodes knows by the items that it has applied, whatever else the other nodes have done.
 use Rattle.std.specs.Prelude.{◌≡◌, ℕ, ◌<◌, List, [], ◌∷◌, ◌++◌, Option, None, Some}
 use Rattle.std.specs.List.{All, count_by}
-use Rattle.dob_pieces.specs.declared.piece_set.PieceSet.{PieceSet}
+use Rattle.dob_pieces.specs.declared.profile.Family.{Family}
 use Rattle.dob_moves.specs.declared.position_status.Status.{Status}
 use Rattle.dob_moves.specs.declared.position_status.Status.TheVariants.{Open}
 use Rattle.dob_moves.specs.Statuses.{HasStatus}
-use Rattle.dob_rank.specs.Marks.{classes_of}
-use Rattle.dob_rank.specs.ClassRows.{class_setup}
+use Rattle.dob_rank.specs.Families.{classes_of}
+use Rattle.dob_rank.specs.Families.{class_setup}
 use Rattle.dob_value.specs.declared.value.Value.{Value}
 use Rattle.dob_value.specs.declared.value.Value.TheVariants.{Win, Loss, Draw}
 use Rattle.dob_value.specs.Entries.{is_draw}
@@ -36,24 +36,24 @@ sum_of known = record { left = count_by is_draw known; wins = λ plies. count_by
 
 -- Such histories of all nodes can have made the items that node `id` has applied from each: each history is chained, and the
 -- items are the first of those that it makes for the node.
-pub record CanHaveMade (set : PieceSet) (n id : ℕ) (histories : ℕ → List Settlement) (applied : ℕ → List Item) : Type 0 where
-  pub chained : (i : ℕ) → i < n → IsChained (classes_of set) n i (histories i)
-  pub begun : (i : ℕ) → i < n → (rest : List Item) × (items_from (predecessors set) n id (histories i) ≡ applied i ++ rest)
+pub record CanHaveMade (family : Family) (n id : ℕ) (histories : ℕ → List Settlement) (applied : ℕ → List Item) : Type 0 where
+  pub chained : (i : ℕ) → i < n → IsChained (classes_of family) n i (histories i)
+  pub begun : (i : ℕ) → i < n → (rest : List Item) × (items_from (predecessors family) n id (histories i) ≡ applied i ++ rest)
 
 -- Whichever histories can have made the items applied, the cell of each own open class is the sum of what the copies of its
 -- moves know by them.
-abbrev pub AreSummed : PieceSet → ℕ → ℕ → Share → (ℕ → List Item) → Type 0
-AreSummed set n id share applied = (histories : ℕ → List Settlement) → CanHaveMade set n id histories applied →
-    (class : ℕ) → class < classes_of set → owner_of n class ≡ id → status_at share class ≡ Open →
-    SameCell (cell_at share class) (sum_of (all_known (predecessors set) (classes_of set) n histories applied class))
+abbrev pub AreSummed : Family → ℕ → ℕ → Share → (ℕ → List Item) → Type 0
+AreSummed family n id share applied = (histories : ℕ → List Settlement) → CanHaveMade family n id histories applied →
+    (class : ℕ) → class < classes_of family → owner_of n class ≡ id → status_at share class ≡ Open →
+    SameCell (cell_at share class) (sum_of (all_known (predecessors family) (classes_of family) n histories applied class))
 
 -- The node's history is chained and tells of values that a table can have; its share has the status of each own class; the
 -- values that the share gives are those of the history; and its cells are what the items applied make of them.
-pub record KnowsRight (set : PieceSet) (n id : ℕ) (share : Share) (history : List Settlement) (applied : ℕ → List Item) : Type 0 where
-  pub chained : IsChained (classes_of set) n id history
+pub record KnowsRight (family : Family) (n id : ℕ) (share : Share) (history : List Settlement) (applied : ℕ → List Item) : Type 0 where
+  pub chained : IsChained (classes_of family) n id history
   pub entries : All (λ (s : Settlement). IsEntry s.now) history
-  pub statuses : (class : ℕ) (status : Status) → class < classes_of set → owner_of n class ≡ id → HasStatus (class_setup set class) status →
+  pub statuses : (class : ℕ) (status : Status) → class < classes_of family → owner_of n class ≡ id → HasStatus family.profile (class_setup family class) status →
       status_at share class ≡ status
-  pub values : (class : ℕ) (value : Value) → class < classes_of set → owner_of n class ≡ id → HasValueNow share class value →
+  pub values : (class : ℕ) (value : Value) → class < classes_of family → owner_of n class ≡ id → HasValueNow share class value →
       value ≡ value_of history class
-  pub sums : AreSummed set n id share applied
+  pub sums : AreSummed family n id share applied

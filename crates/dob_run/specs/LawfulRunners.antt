@@ -1,6 +1,6 @@
 -- A runner's node beside its endpoint, and when the two are lawful together.
 use Rattle.std.specs.Prelude.{◌≡◌, ◌≢◌, ℕ, ◌-◌, ◌≤◌, ◌==◌, cond, List, [], ◌++◌, ⊤, Option, None, Some, false, length, take, drop, slice_get}
-use Rattle.dob_pieces.specs.declared.piece_set.PieceSet.{PieceSet}
+use Rattle.dob_pieces.specs.declared.profile.Family.{Family}
 use Rattle.dob_unmove.specs.Edges.{predecessors}
 use Rattle.dob_share.specs.declared.news.Item.{Item}
 use Rattle.dob_update.specs.Items.{items_from}
@@ -18,7 +18,7 @@ use Rattle.dob_run.specs.Knows.{KnowsRight}
 
 -- the items for a node of the settlements that the runner's node has expanded
 abbrev pub planned : Node → ℕ → List Item
-planned node to = items_from (predecessors node.set) node.n to (take node.expanded node.history.settlements)
+planned node to = items_from (predecessors node.family) node.n to (take node.expanded node.history.settlements)
 
 -- these are the last of a list
 abbrev pub AreLast : List Item → List Item → Type 0
@@ -52,15 +52,15 @@ IsSpared (Some Memory) = ⊤
 IsSpared (Some Held) = ⊤
 IsSpared (Some Counts) = ⊤
 
--- The runner of a node is lawful: its node is that of the seat and of the piece set; what it planned for other nodes is on
+-- The runner of a node is lawful: its node is that of the seat and of the family; what it planned for other nodes is on
 -- its way or left in its outboxes, and what it planned for itself and hasn't applied is in its own list; it knows what the
 -- items that it has applied say; nothing was offered to itself; and where its seat is white it has nothing to expand, to
 -- apply or to send, and no batch in a sending hand.
-pub record IsLawfulRunner (set : PieceSet) (size : ℕ) (node : Node) (endpoint : Endpoint) : Type 0 where
-  pub of : (node.set ≡ set) × (node.id ≡ endpoint.seat.node) × (node.n ≡ endpoint.seat.nodes)
+pub record IsLawfulRunner (family : Family) (size : ℕ) (node : Node) (endpoint : Endpoint) : Type 0 where
+  pub of : (node.family ≡ family) × (node.id ≡ endpoint.seat.node) × (node.n ≡ endpoint.seat.nodes)
   pub sound : IsSound node
   pub sends : (to : ℕ) (outlet : Outlet) → to ≢ endpoint.seat.node → slice_get endpoint.outlets.items to ≡ Some outlet → SendsRight node size to (offered outlet)
   pub unused : (outlet : Outlet) → slice_get endpoint.outlets.items endpoint.seat.node ≡ Some outlet → offered outlet ≡ []
   pub own : AreLast (planned node node.id) node.own.items
-  pub knows : KnowsRight node.set node.n node.id node.share node.history.settlements (applied_from node endpoint.inlet)
+  pub knows : KnowsRight node.family node.n node.id node.share node.history.settlements (applied_from node endpoint.inlet)
   pub white : endpoint.seat.black ≡ false → IsIdle node × AreOut endpoint.outlets.items

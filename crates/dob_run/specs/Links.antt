@@ -1,6 +1,6 @@
 -- The batches of a runner's links, and what a link keeps.
 use Rattle.std.specs.Prelude.{◌≡◌, ◌≢◌, ℕ, List, ◌++◌, Some}
-use Rattle.dob_pieces.specs.declared.piece_set.PieceSet.{PieceSet}
+use Rattle.dob_pieces.specs.declared.profile.Family.{Family}
 use Rattle.dob_pieces.specs.Lists.{IsBeginning}
 use Rattle.dob_update.specs.Batches.{BatchView}
 use Rattle.dob_chan.specs.Inboxes.{batches_of}
@@ -21,13 +21,13 @@ worked inlet = worked_of inlet.end inlet.hand
 abbrev pub worked_from : Inlet → ℕ → List BatchView
 worked_from inlet from = batches_of from (worked inlet)
 
--- In the hand lies a batch of the node `from`, which is for the node `to`, another one, of that piece set and one of n.
-pub record HoldsFor (set : PieceSet) (n from to : ℕ) (inlet : Inlet) : Type 0 where
+-- In the hand lies a batch of the node `from`, which is for the node `to`, another one, of that family and one of n.
+pub record HoldsFor (family : Family) (n from to : ℕ) (inlet : Inlet) : Type 0 where
   pub batch : BatchView
   pub held : inlet.hand ≡ Some batch
   pub sender : batch.from ≡ from
   pub other : from ≢ to
-  pub fits : IsBatchFor set n from to batch
+  pub fits : IsBatchFor family n from to batch
 
 -- the outlet's inbox was full at some moment after the end was told of it
 abbrev pub IsFull : Outlet → Type 0

@@ -4,15 +4,15 @@ use Rattle.std.specs.List.{All}
 use Rattle.std.specs.Coded.{Coded-set, coded_ℕ, coded_list, coded_option, ×_prop, Π_prop, Unit-prop, le_prop}
 use Rattle.dob_moves.specs.contracts.position_status.Status as status_row
 use Rattle.dob_value.specs.contracts.value.Value as value_row
-use Rattle.dob_pieces.specs.contracts.piece_set.PieceSet as set_row
+use Rattle.dob_pieces.specs.contracts.profile.Family as family_row
 use Rattle.dob_share.specs.contracts.news.Item as item_row
 use Rattle.dob_update.specs.contracts.batch.Batch as batch_row
-use Rattle.dob_pieces.specs.declared.piece_set.PieceSet.{PieceSet}
+use Rattle.dob_pieces.specs.declared.profile.Family.{Family}
 use Rattle.dob_value.specs.declared.value.Value.{Value}
 use Rattle.dob_value.specs.declared.value.Value.TheVariants.{Win, Loss, Draw}
 use Rattle.dob_value.specs.Follows.{IsEntry}
 use Rattle.dob_share.specs.declared.news.Item.{Item}
-use Rattle.dob_rank.specs.Marks.{classes_of}
+use Rattle.dob_rank.specs.Families.{classes_of}
 use Rattle.dob_moves.specs.declared.position_status.Status.{Status}
 use Rattle.dob_share.specs.declared.news.Settlement.{Settlement}
 use Rattle.dob_share.specs.declared.share.Share.{Share}
@@ -42,8 +42,8 @@ items_set = Coded-set (coded_list item_row.the_row.coded)
 hand_set : IsSet (Option BatchView)
 hand_set = Coded-set (coded_option batch_row.the_row.coded)
 
-set_set : IsSet PieceSet
-set_set = Coded-set set_row.the_row.coded
+family_set : IsSet Family
+family_set = Coded-set family_row.the_row.coded
 
 All-prop : {X : Type 0} (P : X → Type 0) → ((x : X) → IsProp (P x)) → (xs : List X) → IsProp (All P xs)
 All-prop P each xs = Π_prop (λ k. Π_prop (λ d. Π_prop (λ _. each _)))
@@ -66,31 +66,31 @@ HasParities-prop cell a b = λ i. record {
   least = Π_prop (λ plies. Π_prop (λ _. ℕ-set _ _)) a.least b.least i;
 }
 
-AreKept-prop : (set : PieceSet) (n id : ℕ) (share : Share) (history : HistoryView) → IsProp (AreKept set n id share history)
-AreKept-prop set n id share history a b = λ i. record {
+AreKept-prop : (family : Family) (n id : ℕ) (share : Share) (history : HistoryView) → IsProp (AreKept family n id share history)
+AreKept-prop family n id share history a b = λ i. record {
   share_is = ×_prop (ℕ-set _ _) (ℕ-set _ _) a.share_is b.share_is i;
   history_is = ×_prop (ℕ-set _ _) (ℕ-set _ _) a.history_is b.history_is i;
   one_of_n = le_prop a.one_of_n b.one_of_n i;
   few = le_prop a.few b.few i;
   owned = Π_prop (λ class. ×_prop (Π_prop (λ _. ×_prop (ℕ-set _ _) le_prop)) (Π_prop (λ _. IsOwn-prop share class))) a.owned b.owned i;
   counted = ℕ-set _ _ a.counted b.counted i;
-  classes = All-prop (λ (s : Settlement). s.class < classes_of set) (λ s. le_prop {n = suc s.class} {m = classes_of set}) history.settlements a.classes b.classes i;
+  classes = All-prop (λ (s : Settlement). s.class < classes_of family) (λ s. le_prop {n = suc s.class} {m = classes_of family}) history.settlements a.classes b.classes i;
   parities = Π_prop (λ class. Π_prop (λ _. HasParities-prop (cell_at share class))) a.parities b.parities i;
 }
 
-IsOutboxTo-prop : (set : PieceSet) (n from to : ℕ) (outbox : OutboxView) → IsProp (IsOutboxTo set n from to outbox)
-IsOutboxTo-prop set n from to outbox a b = λ i. record {
-  of = (set_set _ _ a.of.0 b.of.0 i, ℕ-set _ _ a.of.1 b.of.1 i, ℕ-set _ _ a.of.2 b.of.2 i, ℕ-set _ _ a.of.3 b.of.3 i);
+IsOutboxTo-prop : (family : Family) (n from to : ℕ) (outbox : OutboxView) → IsProp (IsOutboxTo family n from to outbox)
+IsOutboxTo-prop family n from to outbox a b = λ i. record {
+  of = (family_set _ _ a.of.0 b.of.0 i, ℕ-set _ _ a.of.1 b.of.1 i, ℕ-set _ _ a.of.2 b.of.2 i, ℕ-set _ _ a.of.3 b.of.3 i);
   entries = All-prop HasEntries HasEntries-prop outbox.items a.entries b.entries i;
 }
 
 pub IsSound-prop : (node : Node) → IsProp (IsSound node)
 IsSound-prop node a b = λ i. record {
-  kept = AreKept-prop node.set node.n node.id node.share node.history a.kept b.kept i;
+  kept = AreKept-prop node.family node.n node.id node.share node.history a.kept b.kept i;
   emitted = le_prop a.emitted b.emitted i;
   entries = All-prop HasEntries HasEntries-prop node.own.items a.entries b.entries i;
   receivers = ℕ-set _ _ a.receivers b.receivers i;
-  addressed = Π_prop (λ to. IsOutboxTo-prop node.set node.n node.id to (outbox_to node to)) a.addressed b.addressed i;
+  addressed = Π_prop (λ to. IsOutboxTo-prop node.family node.n node.id to (outbox_to node to)) a.addressed b.addressed i;
   nothing_to_self = items_set _ _ a.nothing_to_self b.nothing_to_self i;
 }
 
@@ -153,27 +153,27 @@ SameCell-prop x y a b = λ i. record {
   least = least_set _ _ a.least b.least i;
 }
 
-AreSummed-prop : (set : PieceSet) (n id : ℕ) (share : Share) (applied : ℕ → List Item) → IsProp (AreSummed set n id share applied)
-AreSummed-prop set n id share applied =
+AreSummed-prop : (family : Family) (n id : ℕ) (share : Share) (applied : ℕ → List Item) → IsProp (AreSummed family n id share applied)
+AreSummed-prop family n id share applied =
     Π_prop (λ histories. Π_prop (λ _. Π_prop (λ class. Π_prop (λ _. Π_prop (λ _. Π_prop (λ _. SameCell-prop _ _))))))
 
-KnowsRight-prop : (set : PieceSet) (n id : ℕ) (share : Share) (history : List Settlement) (applied : ℕ → List Item) →
-    IsProp (KnowsRight set n id share history applied)
-KnowsRight-prop set n id share history applied a b = λ i. record {
-  chained = IsChained-prop (classes_of set) n id history a.chained b.chained i;
+KnowsRight-prop : (family : Family) (n id : ℕ) (share : Share) (history : List Settlement) (applied : ℕ → List Item) →
+    IsProp (KnowsRight family n id share history applied)
+KnowsRight-prop family n id share history applied a b = λ i. record {
+  chained = IsChained-prop (classes_of family) n id history a.chained b.chained i;
   entries = All-prop (λ (s : Settlement). IsEntry s.now) (λ (s : Settlement). IsEntry-prop s.now) history a.entries b.entries i;
   statuses = Π_prop (λ class. Π_prop (λ status. Π_prop (λ _. Π_prop (λ _. Π_prop (λ _. status_set _ _))))) a.statuses b.statuses i;
   values = Π_prop (λ class. Π_prop (λ value. Π_prop (λ _. Π_prop (λ _. Π_prop (λ _. value_set _ _))))) a.values b.values i;
-  sums = AreSummed-prop set n id share applied a.sums b.sums i;
+  sums = AreSummed-prop family n id share applied a.sums b.sums i;
 }
 
-pub IsLawfulRunner-prop : (set : PieceSet) (size : ℕ) (node : Node) (endpoint : Endpoint) → IsProp (IsLawfulRunner set size node endpoint)
-IsLawfulRunner-prop set size node endpoint a b = λ i. record {
-  of = (set_set _ _ a.of.0 b.of.0 i, ℕ-set _ _ a.of.1 b.of.1 i, ℕ-set _ _ a.of.2 b.of.2 i);
+pub IsLawfulRunner-prop : (family : Family) (size : ℕ) (node : Node) (endpoint : Endpoint) → IsProp (IsLawfulRunner family size node endpoint)
+IsLawfulRunner-prop family size node endpoint a b = λ i. record {
+  of = (family_set _ _ a.of.0 b.of.0 i, ℕ-set _ _ a.of.1 b.of.1 i, ℕ-set _ _ a.of.2 b.of.2 i);
   sound = IsSound-prop node a.sound b.sound i;
   sends = Π_prop (λ to. Π_prop (λ outlet. Π_prop (λ _. Π_prop (λ _. SendsRight-prop node size to (offered outlet))))) a.sends b.sends i;
   unused = Π_prop (λ outlet. Π_prop (λ _. batches_set _ _)) a.unused b.unused i;
   own = items_set _ _ a.own b.own i;
-  knows = KnowsRight-prop node.set node.n node.id node.share node.history.settlements (applied_from node endpoint.inlet) a.knows b.knows i;
+  knows = KnowsRight-prop node.family node.n node.id node.share node.history.settlements (applied_from node endpoint.inlet) a.knows b.knows i;
   white = Π_prop (λ _. ×_prop (IsIdle-prop node) (AreOut-prop endpoint.outlets.items)) a.white b.white i;
 }

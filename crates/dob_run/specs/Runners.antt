@@ -1,6 +1,6 @@
 -- Runners, and what their steps make of them.
 use Rattle.std.specs.Prelude.{◌≡◌, ◌≢◌, ◌↔◌, ◌⊎◌, ⊤, ℕ, ◌^◌, ◌≤◌, ◌++◌, List, [], Bool, Some, None, Err, Result, MatchResult, true, false, slice_get}
-use Rattle.dob_pieces.specs.declared.piece_set.PieceSet.{PieceSet}
+use Rattle.dob_pieces.specs.declared.profile.Family.{Family}
 use Rattle.dob_share.specs.declared.opening.Opening.{Opening}
 use Rattle.dob_board.specs.declared.halt.Halt.{Halt}
 use Rattle.dob_board.specs.declared.halt.Halt.TheVariants.{Running}
@@ -24,7 +24,7 @@ use Rattle.dob_run.specs.Keeps.{KeepsEndpoint, HasSameLinks}
 -- The runner keeps its place in its crew, and nothing that went over its links is taken back.
 pub record KeepsRunner (old new : Runner) : Type 0 where
   pub endpoint : KeepsEndpoint old.endpoint new.endpoint
-  pub set : new.set ≡ old.set
+  pub family : new.family ≡ old.family
   pub size : new.size ≡ old.size
 
 -- it has done something and goes on
@@ -52,7 +52,7 @@ pub record HasRefused (runner : Runner) (why : Cause) : Type 0 where
   pub from : ℕ
   pub other : from ≢ was.endpoint.seat.node
   pub batch : BatchView
-  pub fits : IsBatchFor was.set was.endpoint.seat.nodes from was.endpoint.seat.node batch
+  pub fits : IsBatchFor was.family was.endpoint.seat.nodes from was.endpoint.seat.node batch
   pub came : items_worked runner.endpoint.inlet from ≡ items_worked was.endpoint.inlet from ++ batch.items
   pub before : HasTakenBefore batch.items was.node runner.node why
 
@@ -124,11 +124,11 @@ pub record IsAtRest (runner : Runner) : Type 0 where
   pub sent : AreOut runner.endpoint.outlets.items
   pub worked : runner.endpoint.inlet.hand ≡ None
 
--- The node was opened for the piece set and has made no step, and nothing has gone over the endpoint of its seat.
-pub record IsNew (set : PieceSet) (node : Node) (endpoint : Endpoint) : Type 0 where
+-- The node was opened for the family and has made no step, and nothing has gone over the endpoint of its seat.
+pub record IsNew (family : Family) (node : Node) (endpoint : Endpoint) : Type 0 where
   pub openings : List Opening
-  pub are_openings : AreOpenings set openings
-  pub opened : IsOpened openings set endpoint.seat.node endpoint.seat.nodes node
+  pub are_openings : AreOpenings family openings
+  pub opened : IsOpened openings family endpoint.seat.node endpoint.seat.nodes node
   pub sound : IsSound node
   pub black : endpoint.seat.black ≡ true
   pub running : endpoint.seat.halt ≡ Running

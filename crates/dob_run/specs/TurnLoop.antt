@@ -1,8 +1,7 @@
 -- What runners need to make turns, and what they are afterwards.
 use Rattle.std.specs.Prelude.{◌≡◌, ◌≢◌, ⊤, ℕ, Bool, true, List, None, Some, slice_get}
 use Rattle.std.specs.List.{AllZip}
-use Rattle.dob_pieces.specs.declared.piece_set.PieceSet.{PieceSet}
-use Rattle.dob_rank.specs.Limits.{IsSmall}
+use Rattle.dob_pieces.specs.declared.profile.Family.{Family}
 use Rattle.dob_board.specs.declared.board.Board.{Board}
 use Rattle.dob_board.specs.declared.halt.Halt.TheVariants.{Running}
 use Rattle.dob_run.specs.declared.runner.Runner.{Runner}
@@ -13,14 +12,14 @@ use Rattle.dob_run.specs.Faults.{AreWithin}
 use Rattle.dob_run.specs.TurnRounds.{AddsFew}
 use Rattle.dob_run.specs.Runners.{KeepsRunner, IsReasoned, says_no}
 
--- the runner can work with the classes of that piece set
-pub record Suits (set : PieceSet) (runner : Runner) : Type 0 where
-  pub set_is : set ≡ runner.set
+-- the runner can work with the classes of that family
+pub record Suits (family : Family) (runner : Runner) : Type 0 where
+  pub family_is : family ≡ runner.family
   pub unfailed : runner.failed ≡ None
 
 -- so can each of them
-abbrev pub AllSuit : PieceSet → List Runner → Type 0
-AllSuit set runners = (k : ℕ) (runner : Runner) → slice_get runners k ≡ Some runner → Suits set runner
+abbrev pub AllSuit : Family → List Runner → Type 0
+AllSuit family runners = (k : ℕ) (runner : Runner) → slice_get runners k ≡ Some runner → Suits family runner
 
 -- until each seat knows that the run ended or failed
 abbrev pub until_halted : Until
@@ -53,11 +52,10 @@ abbrev pub AreLetOn : (ℕ → Bool → Type 0) → Until → List Runner → Ty
 AreLetOn Says (Turns count) ended = ⊤
 AreLetOn Says Halted ended = (k : ℕ) (runner : Runner) → slice_get ended k ≡ Some runner → runner.failed ≡ None → Says k true
 
--- The runners of a new crew of the piece set, of sizes within their limits, were to make turns for so long, and have, with a
+-- The runners of a new crew of the family, of sizes within their limits, were to make turns for so long, and have, with a
 -- gate that may say no to some nodes.
-pub record HasRun (No : ℕ → Type 0) (until : Until) (set : PieceSet) (n size capacity : ℕ) (board : Board) (ended : List Runner) : Type 0 where
-  pub small : IsSmall set
+pub record HasRun (No : ℕ → Type 0) (until : Until) (family : Family) (n size capacity : ℕ) (board : Board) (ended : List Runner) : Type 0 where
   pub within : AreWithin n size capacity
   pub old : List Runner
-  pub opened : IsNewCrew set n size capacity board old
+  pub opened : IsNewCrew family n size capacity board old
   pub ends : AllZip (Ends No until) old ended

@@ -78,7 +78,7 @@ pub record TakesBatch (old new : Runner) (did : Bool) : Type 0 where
 -- what it sends, and its node is as it was.
 pub record LeavesBatch (old new : Runner) : Type 0 where
   pub from : ℕ
-  pub holds : HoldsFor old.set old.endpoint.seat.nodes from old.endpoint.seat.node new.endpoint.inlet
+  pub holds : HoldsFor old.family old.endpoint.seat.nodes from old.endpoint.seat.node new.endpoint.inlet
   pub uncounted : worked new.endpoint.inlet ≡ worked old.endpoint.inlet
   pub outlets : new.endpoint.outlets.items ≡ old.endpoint.outlets.items
   pub node : IsUnchanged old.node new.node

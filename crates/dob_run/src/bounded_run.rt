@@ -1,6 +1,5 @@
 // A crew whose runners make a number of turns each, and what they leave.
 ghost use Rattle.std.specs.Prelude.{◌≡◌, ◌<◌, ◌≤◌, IfOk, IfErr, OnOk, map, length, Some, slice_get};
-ghost use Rattle.dob_rank.specs.Limits.{IsSmall};
 ghost use Rattle.dob_run.specs.CrewClose.{IsCrew, row_of};
 ghost use Rattle.dob_run.specs.CrewRunners.{endpoint_of, node_of};
 ghost use Rattle.dob_run.specs.Faults.{AreWithin, HasBuildFault};
@@ -18,7 +17,7 @@ use crate::turn_loop::Until;
 use dob_board::{Board, Closed};
 use dob_chan::Rejoined;
 use dob_node::{Cause, Node};
-use dob_pieces::{Memory, PieceSet};
+use dob_pieces::{Family, Memory};
 use dob_update::Batch;
 use std::alloc::Global;
 use std::sync::Wait;
@@ -41,7 +40,7 @@ pub struct Turned {
     pub links: Vec<Rejoined>,
 }
 
-/// Lets each of `n` nodes of the piece set make `turns` turns, in a thread of its own, with batches of at most `batch` items
+/// Lets each of `n` nodes of the family make `turns` turns, in a thread of its own, with batches of at most `batch` items
 /// and inboxes that hold at most `capacity` batches, and without the halt word and the token: each asks the gate at the
 /// start of each turn. At most one batch a turn goes over each link. One that fails ends, and the others make their turns. Its
 /// promises hold if it returns.
@@ -50,21 +49,21 @@ pub struct Turned {
 pub fn run_turns<R: Threads + Wait + Sync, G: Gate + Sync>(
     rt: &R,
     alloc: Global,
-    set: PieceSet,
+    family: Family,
     n: usize,
     batch: usize,
     capacity: usize,
     turns: u64,
     gate: &G,
 ) -> Result<Turned, Fault>
-    ensures turned { IfOk result (IsTurned set n batch) }
+    ensures turned { IfOk result (IsTurned family n batch) }
     ensures few { IfOk result (CarriesFew n turns) }
-    ensures within { OnOk result (IsSmall set × AreWithin n batch capacity) }
-    ensures fault { IfErr result (HasBuildFault set n batch capacity) }
-    ensures stopped { IfErr result (StopsSo IsFirstFailed (says_no (G.says gate.now)) (until_turns turns) set n batch capacity) }
+    ensures within { OnOk result (AreWithin n batch capacity) }
+    ensures fault { IfErr result (HasBuildFault n batch capacity) }
+    ensures stopped { IfErr result (StopsSo IsFirstFailed (says_no (G.says gate.now)) (until_turns turns) family n batch capacity) }
 {
     let until = Until::Turns(turns);
-    let (_, board, ended) = run_crew(rt, alloc, set, n, batch, capacity, gate, &until)?;
+    let (_, board, ended) = run_crew(rt, alloc, family, n, batch, capacity, gate, &until)?;
     find_failed(&ended)?;
     let turned = close_crew(rt, alloc, board, ended)?;
     Ok(turned)

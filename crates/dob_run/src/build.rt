@@ -1,6 +1,5 @@
-// A build by threads, from a piece set to its table.
+// A build by threads, from a family to its table.
 ghost use Rattle.std.specs.Prelude.{ℕ, ◌<◌, true, false, IfOk, IfErr, OnOk};
-ghost use Rattle.dob_rank.specs.Limits.{IsSmall};
 ghost use Rattle.dob_run.specs.Built.{IsBuilt};
 ghost use Rattle.dob_run.specs.BuildEnd.{IsFailureOf};
 ghost use Rattle.dob_run.specs.Faults.{AreWithin, HasBuildFault};
@@ -13,39 +12,38 @@ use crate::fault::Fault;
 use crate::gate::Gate;
 use crate::threads::run_crew;
 use crate::turn_loop::Until;
-use dob_pieces::PieceSet;
+use dob_pieces::Family;
 use std::alloc::Global;
 use std::sync::Wait;
 use std::thread::Threads;
 
-/// Builds the value table of the piece set by `n` nodes, each in a thread of its own, with batches of at most `batch` items
+/// Builds the value table of the family by `n` nodes, each in a thread of its own, with batches of at most `batch` items
 /// and inboxes that hold at most `capacity` batches: each asks the gate at the start of each turn, and the gate let each go on
 /// at least once. Its promises hold if it returns.
 ///
-/// Errors, tested in this order: `SetTooLarge` where the set has more than `MOST_PIECES` besides the lions; `Nodes` where `n`
-/// isn't 1 to 16; `Sizes` where `batch` isn't 1 to 4096 or `capacity` not 1 to 1024; `Stopped` with the node that failed
-/// first and its cause, which is `Held` only where the gate said no to it, and `Memory` where no thread could be made for it;
-/// `Memory`.
+/// Errors, tested in this order: `Nodes` where `n` isn't 1 to 16; `Sizes` where `batch` isn't 1 to 4096 or `capacity` not 1 to
+/// 1024; `Stopped` with the node that failed first and its cause, which is `Held` only where the gate said no to it, and
+/// `Memory` where no thread could be made for it; `Memory`.
 pub fn run_nodes<R: Threads + Wait + Sync, G: Gate + Sync>(
     rt: &R,
     alloc: Global,
-    set: PieceSet,
+    family: Family,
     n: usize,
     batch: usize,
     capacity: usize,
     gate: &G,
 ) -> Result<Built, Fault>
-    ensures built { IfOk result (IsBuilt set n batch) }
+    ensures built { IfOk result (IsBuilt family n batch) }
     ensures let_on { OnOk result ((node : ℕ) → node < n → G.says gate.now node true) }
     ensures unheld { ((node : ℕ) → ¬ G.says gate.now node false) → IfErr result IsUnheld }
-    ensures within { OnOk result (IsSmall set × AreWithin n batch capacity) }
-    ensures fault { IfErr result (HasBuildFault set n batch capacity) }
-    ensures stopped { IfErr result (StopsSo IsFailureOf (says_no (G.says gate.now)) until_halted set n batch capacity) }
+    ensures within { OnOk result (AreWithin n batch capacity) }
+    ensures fault { IfErr result (HasBuildFault n batch capacity) }
+    ensures stopped { IfErr result (StopsSo IsFailureOf (says_no (G.says gate.now)) until_halted family n batch capacity) }
 {
     let (classes, board, ended) = run_crew(
         rt,
         alloc,
-        set,
+        family,
         n,
         batch,
         capacity,

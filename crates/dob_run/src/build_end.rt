@@ -1,8 +1,7 @@
 // What a build by threads leaves, when its crew has come to its end.
-ghost use Rattle.std.specs.Prelude.{◌≡◌, ◌≢◌, ◌+◌, ◌<◌, ℕ, Some, IfOk, IfErr, OnOk, MatchOption, map, length, slice_get, slice_index};
-ghost use Rattle.dob_pieces.specs.declared.piece_set.PieceSet.{PieceSet};
-ghost use Rattle.dob_rank.specs.Limits.{IsSmall};
-ghost use Rattle.dob_rank.specs.Marks.{classes_of};
+ghost use Rattle.std.specs.Prelude.{◌≡◌, ◌≢◌, ◌+◌, ◌<◌, ◌≤◌, ℕ, Some, IfOk, IfErr, OnOk, MatchOption, map, length, slice_get, slice_index};
+ghost use Rattle.dob_pieces.specs.declared.profile.Family.{Family};
+ghost use Rattle.dob_rank.specs.Families.{classes_of};
 ghost use Rattle.dob_share.specs.Owners.{owner_of};
 ghost use Rattle.dob_share.specs.Shares.{IsOwn};
 ghost use Rattle.dob_node.specs.declared.cause.Cause.{Cause};
@@ -12,21 +11,25 @@ ghost use Rattle.dob_run.specs.CrewRunners.{endpoint_of, node_of};
 ghost use Rattle.dob_run.specs.CrewClose.{IsCrew, AreClosed};
 ghost use Rattle.dob_run.specs.Built.{IsBuilt};
 ghost use Rattle.dob_run.specs.BoundedRun.{AreUnfailed};
-ghost use Rattle.dob_run.specs.BuildEnd.{HaveStopped, IsFailureOf, AreOwners, IsShown, AreShownBelow, failed_of};
+ghost use Rattle.dob_run.specs.BuildEnd.{HaveStopped, IsFailureOf, AreOwners, IsShown, IsCodeShown, AreShownBelow, failed_of};
+ghost use Rattle.dob_run.specs.Scans.{AreFrom};
 
 use crate::bounded_run::{find_failed, part_runners};
 use crate::crew_close::{ClosedCrew, close_endpoints};
 use crate::fault::Fault;
 use crate::runner::Runner;
+use crate::scans::AT_A_TIME;
 use dob_board::{Board, Closed, Halt};
 use dob_chan::Rejoined;
 use dob_node::{Cause, Node};
-use dob_pieces::{Memory, PieceSet};
-use dob_rank::Classes;
+use dob_pieces::{Family, Memory};
+use dob_rank::{Classes, SegmentLength, Segments};
 use dob_share::owner;
-use dob_value::{Table, Value};
+use dob_value::{Table, Value, code_of_value};
+use rayon::prelude::*;
 use std::alloc::Global;
 use std::sync::Wait;
+use std::thread::Threads;
 
 /// What a build by threads leaves: the table of the values, the words of its board, and what went over each link, by sender
 /// and then by receiver.
@@ -43,7 +46,7 @@ pub struct Built {
 ///
 /// Errors: `Stopped` where the run failed, with the node that failed it and that node's cause, and where a runner failed only
 /// after the end was announced, with the least such node and its cause; `Memory`, which gives the crew up.
-pub fn finish<R: Wait>(
+pub fn finish<R: Threads + Wait + Sync>(
     rt: &R,
     alloc: Global,
     classes: Classes,
@@ -51,9 +54,9 @@ pub fn finish<R: Wait>(
     runners: Vec<Runner>,
 ) -> Result<Built, Fault>
     requires crew { IsCrew board (map endpoint_of runners.items) }
-    requires stopped { (size : ℕ) × HaveStopped classes.set size runners.items }
-    ensures built { IfOk result (λ built. (size : ℕ) → HaveStopped classes.set size runners.items →
-        IsBuilt classes.set board.nodes size built) }
+    requires stopped { (size : ℕ) × HaveStopped classes.family size runners.items }
+    ensures built { IfOk result (λ built. (size : ℕ) → HaveStopped classes.family size runners.items →
+        IsBuilt classes.family board.nodes size built) }
     ensures unfailed { OnOk result (AreUnfailed runners.items) }
     ensures failed { IfErr result (IsFailureOf runners.items) }
 {
@@ -67,7 +70,7 @@ pub fn finish<R: Wait>(
     if let Err(fault) = late {
         return Err(fault);
     }
-    let table = table_of(alloc, classes, &nodes)?;
+    let table = table_of(rt, alloc, classes, &nodes)?;
     let ClosedCrew { closed, links, .. } = ended;
     Ok(Built {
         table,
@@ -126,19 +129,63 @@ fn cause_at(causes: &[Option<Cause>], place: usize) -> Cause
     cause
 }
 
-// The table of the values that the nodes show.
-fn table_of(alloc: Global, classes: Classes, nodes: &[Node]) -> Result<Table, Memory>
+// The table of the values that the nodes show, which threads gather part after part.
+fn table_of(
+    rt: &(impl Threads + Sync),
+    alloc: Global,
+    classes: Classes,
+    nodes: &[Node],
+) -> Result<Table, Memory>
     requires some { 0 < length nodes.now }
-    requires owners { AreOwners classes.set (length nodes.now) nodes.now }
-    ensures set { IfOk result (λ table. table.set ≡ classes.set) }
-    ensures values { IfOk result (λ table. AreShownBelow (length nodes.now) (classes_of classes.set) nodes.now table.values) }
+    requires owners { AreOwners classes.family (length nodes.now) nodes.now }
+    ensures family { IfOk result (λ table. table.family ≡ classes.family) }
+    ensures values { IfOk result (λ table. AreShownBelow (length nodes.now) (classes_of classes.family) nodes.now table.values) }
 {
-    let value_at = |class: u64| -> Value
-        requires some { 0 < length nodes.now }
-        requires own { (node : Shower) → slice_get nodes.now (owner_of (length nodes.now) class) ≡ Some node → IsOwn node.share class }
-        ensures { IsShown (length nodes.entry.now) nodes.entry.now class result }
-    { value_of(nodes, class) };
-    Table::from_fn(alloc, classes, value_at)
+    let count = classes.class_count();
+    let mut codes = Segments::new(alloc, SegmentLength::longest());
+    let mut class = 0;
+    'parts: while class < count {
+        let end = count.min(class + AT_A_TIME);
+        let part = codes_of(rt, alloc, nodes, class, end)?;
+        codes.append(&part)?;
+        class = end;
+    }
+    Ok(Table::new(classes, codes))
+}
+
+// The codes of the values that the nodes show for the classes from `first` on, before `end`.
+fn codes_of(
+    rt: &(impl Threads + Sync),
+    alloc: Global,
+    nodes: &[Node],
+    first: u64,
+    end: u64,
+) -> Result<Vec<u16>, Memory>
+    requires order { first ≤ end }
+    requires some { 0 < length nodes.now }
+    requires owned { (family : Family) × (end ≤ classes_of family) × AreOwners family (length nodes.now) nodes.now }
+    ensures { IfOk result (λ codes. AreFrom (IsCodeShown (length nodes.now) nodes.now) first end codes.items) }
+{
+    let codes = (first..end)
+        .into_par_iter()
+        .map(
+            |class: u64| -> u16
+                requires some { 0 < length nodes.now }
+                requires owned { (family : Family) × (class < classes_of family) × AreOwners family (length nodes.now) nodes.now }
+                ensures { IsCodeShown (length nodes.entry.now) nodes.entry.now class result }
+            { code_of(nodes, class) },
+        )
+        .collect::<Vec<_>>(rt, alloc)?;
+    Ok(codes)
+}
+
+// The code of the value that the class's owner shows.
+fn code_of(nodes: &[Node], class: u64) -> u16
+    requires some { 0 < length nodes.now }
+    requires owned { (family : Family) × (class < classes_of family) × AreOwners family (length nodes.now) nodes.now }
+    ensures { IsCodeShown (length nodes.now) nodes.now class result }
+{
+    code_of_value(value_of(nodes, class))
 }
 
 // The value that the class's owner shows.

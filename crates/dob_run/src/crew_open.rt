@@ -11,6 +11,7 @@ ghost use Rattle.dob_run.specs.CrewOpen.{IsNewEndpoint, AreNewEndpoints};
 ghost use Rattle.dob_run.specs.CrewRunners.{IsRunnerOf, IsNewCrew};
 ghost use Rattle.dob_run.specs.Faults.{AreWithin, HasCrewFault};
 ghost use Rattle.dob_run.specs.Seating.{AreSeated, CanSeat, CanSeatAll};
+ghost use Rattle.dob_update.specs.Batches.{most_items};
 
 use crate::endpoint::Endpoint;
 use crate::fault::Fault;
@@ -20,30 +21,33 @@ use crate::limits::size_passed;
 use crate::runner::Runner;
 use dob_board::{Board, NodeSeat};
 use dob_node::{Node, Opening, opening};
-use dob_pieces::{Memory, PieceSet};
+use dob_pieces::{Family, Memory};
 use dob_rank::{Classes, SegmentLength, Segments};
+use rayon::prelude::*;
 use std::alloc::Global;
+use std::thread::Threads;
 
 /// A board, and the runner of each of `n` nodes that own the classes, in order, before their first turn. They cut batches of
-/// at most `batch` items, and each one's inbox holds at most `capacity` batches.
+/// at most `batch` items, and each one's inbox holds at most `capacity` batches. The nodes are opened by threads, side by side.
 ///
 /// Errors, tested in this order: `Nodes` where `n` isn't 1 to 16; `Sizes` where `batch` isn't 1 to 4096 or `capacity` not 1
 /// to 1024; `Memory`.
 pub fn crew(
+    rt: &(impl Threads + Sync),
     alloc: Global,
     classes: &Classes,
     n: usize,
     batch: usize,
     capacity: usize,
 ) -> Result<(Board, Vec<Runner>), Fault>
-    ensures opened { IfOk result (λ opened. IsNewCrew classes.now.set n batch capacity opened.0 opened.1.items) }
+    ensures opened { IfOk result (λ opened. IsNewCrew classes.now.family n batch capacity opened.0 opened.1.items) }
     ensures within { OnOk result (AreWithin n batch capacity) }
     ensures fault { IfErr result (HasCrewFault n batch capacity) }
 {
     if let Some(fault) = size_passed(n, batch, capacity) {
         return Err(fault);
     }
-    match open_crew(alloc, classes, n, batch, capacity) {
+    match open_crew(rt, alloc, classes, n, batch, capacity) {
         Ok(opened) => Ok(opened),
         Err(_) => Err(Fault::Memory),
     }
@@ -51,6 +55,7 @@ pub fn crew(
 
 // A crew as above, of sizes within their limits.
 fn open_crew(
+    rt: &(impl Threads + Sync),
     alloc: Global,
     classes: &Classes,
     n: usize,
@@ -58,76 +63,85 @@ fn open_crew(
     capacity: usize,
 ) -> Result<(Board, Vec<Runner>), Memory>
     requires { AreWithin n batch capacity }
-    ensures { IfOk result (λ opened. IsNewCrew classes.now.set n batch capacity opened.0 opened.1.items) }
+    ensures { IfOk result (λ opened. IsNewCrew classes.now.family n batch capacity opened.0 opened.1.items) }
 {
     let openings = opening(alloc, classes, SegmentLength::longest())?;
-    crew_of(alloc, classes.set, openings, n, batch, capacity)
+    crew_of(rt, alloc, classes.family, openings, n, batch, capacity)
 }
 
-/// A crew as above, by what was found of each class of the piece set, which is given up.
+/// A crew as above, by what was found of each class of the family, which is given up.
 ///
 /// Error: `Memory`.
 pub(crate) fn crew_of(
+    rt: &(impl Threads + Sync),
     alloc: Global,
-    set: PieceSet,
+    family: Family,
     openings: Segments<Opening>,
     n: usize,
     batch: usize,
     capacity: usize,
 ) -> Result<(Board, Vec<Runner>), Memory>
-    requires openings { AreOpenings set openings }
+    requires openings { AreOpenings family openings }
     requires within { AreWithin n batch capacity }
-    ensures { IfOk result (λ opened. IsNewCrew set n batch capacity opened.0 opened.1.items) }
+    ensures { IfOk result (λ opened. IsNewCrew family n batch capacity opened.0 opened.1.items) }
 {
     let (board, endpoints) = open_endpoints(alloc, n, capacity)?;
-    let runners = runners_of(alloc, set, &openings, endpoints, batch)?;
+    let runners = runners_of(rt, alloc, family, &openings, endpoints, batch)?;
     Ok((board, runners))
 }
 
-// The runner of each endpoint.
+// The runner of each endpoint. As many nodes are opened side by side as there are processors.
 fn runners_of(
+    rt: &(impl Threads + Sync),
     alloc: Global,
-    set: PieceSet,
+    family: Family,
     openings: &Segments<Opening>,
     endpoints: Vec<Endpoint>,
     size: usize,
 ) -> Result<Vec<Runner>, Memory>
-    requires openings { AreOpenings set openings.now }
+    requires openings { AreOpenings family openings.now }
     requires some { 0 < size }
-    requires at_most { size ≤ 4096 }
+    requires at_most { size ≤ most_items }
     requires new { (capacity : ℕ) × AreNewEndpoints capacity endpoints.items }
-    ensures { IfOk result (λ runners. AllZip (IsRunnerOf set size) endpoints.items runners.items) }
+    ensures { IfOk result (λ runners. AllZip (IsRunnerOf family size) endpoints.items runners.items) }
 {
-    let mut runners = Vec::with_capacity(alloc, endpoints.len())?;
-    for endpoint in endpoints {
-        let runner = open_runner(alloc, set, openings, endpoint, size)?;
-        runners.push(runner)?;
-    }
-    Ok(runners)
+    endpoints
+        .into_par_iter()
+        .with_min_len(1)
+        .map(
+            |endpoint: Endpoint| -> Result<Runner, Memory>
+                requires openings { AreOpenings family openings.now }
+                requires some { 0 < size }
+                requires at_most { size ≤ 4096 }
+                requires new { (capacity : ℕ) × IsNewEndpoint capacity endpoint }
+                ensures { IfOk result (IsRunnerOf family size endpoint) }
+            { open_runner(alloc, family, openings, endpoint, size) },
+        )
+        .collect::<Result<Vec<Runner>, Memory>>(rt, alloc)?
 }
 
 // The runner of an endpoint, with a node that is opened for its seat.
 fn open_runner(
     alloc: Global,
-    set: PieceSet,
+    family: Family,
     openings: &Segments<Opening>,
     endpoint: Endpoint,
     size: usize,
 ) -> Result<Runner, Memory>
-    requires openings { AreOpenings set openings.now }
+    requires openings { AreOpenings family openings.now }
     requires some { 0 < size }
-    requires at_most { size ≤ 4096 }
+    requires at_most { size ≤ most_items }
     requires new { (capacity : ℕ) × IsNewEndpoint capacity endpoint }
-    ensures { IfOk result (IsRunnerOf set size endpoint) }
+    ensures { IfOk result (IsRunnerOf family size endpoint) }
 {
     let node = Node::open(
         alloc,
         openings,
-        set,
+        family,
         endpoint.seat.node,
         endpoint.seat.nodes,
     )?;
-    Ok(Runner::new(node, endpoint, set, size))
+    Ok(Runner::new(node, endpoint, family, size))
 }
 
 /// A board of `n` nodes, 1 to 16, and the endpoint of each of them, in order, with inboxes that hold at most `capacity`

@@ -12,7 +12,7 @@ ghost use Rattle.dob_run.specs.Endpoints.{AreCounts, AreTaken, AreOwn, HasChange
 
 use crate::hands::{Inlet, Outlet};
 use dob_board::NodeSeat;
-use dob_pieces::PieceSet;
+use dob_pieces::Family;
 use dob_update::Batch;
 use std::sync::Wait;
 
@@ -118,13 +118,14 @@ impl Endpoint {
         self.inlet.held_items()
     }
 
-    /// The sender of the batch in the taking hand, if that is one of the piece set from another node to this one. Any other
+    /// The sender of the batch in the taking hand, if that is one of the family from another node to this one. Any other
     /// batch is none of the node's.
-    pub(crate) fn sender(&self, set: PieceSet) -> Option<usize>
-        ensures { MatchOption result ((from : ℕ) → ¬ HoldsFor set self.now.seat.nodes from self.now.seat.node self.now.inlet)
-            (λ from. HoldsFor set self.now.seat.nodes from self.now.seat.node self.now.inlet) }
+    pub(crate) fn sender(&self, family: Family) -> Option<usize>
+        ensures { MatchOption result ((from : ℕ) → ¬ HoldsFor family self.now.seat.nodes from self.now.seat.node self.now.inlet)
+            (λ from. HoldsFor family self.now.seat.nodes from self.now.seat.node self.now.inlet) }
     {
-        self.inlet.sender_for(set, self.seat.nodes, self.seat.node)
+        self.inlet
+            .sender_for(family, self.seat.nodes, self.seat.node)
     }
 
     /// The batch in the taking hand, which is one of the node `from`, another one, if the board says that it was posted: it is

@@ -10,8 +10,6 @@ use std::fmt;
 /// Why a build by threads isn't begun, or gives nothing.
 #[derive(Clone, Copy, Debug, PartialEq, Eq)]
 pub enum Fault {
-    /// E8: the piece set is larger than those that have classes.
-    SetTooLarge,
     /// E9: the number of nodes isn't 1 to 16.
     Nodes,
     /// E10: the greatest size of a batch isn't 1 to 4096, or the capacity of an inbox isn't 1 to 1024.
@@ -29,7 +27,6 @@ impl fmt::Display for Fault {
 
     fn fmt<W: fmt::Write>(&self, f: &mut fmt::Formatter<W>) -> fmt::Result {
         match self {
-            Fault::SetTooLarge => write!(f, "{}", dob_rank::Fault::SetTooLarge),
             Fault::Nodes => write!(f, "{}", dob_safra::Nodes),
             Fault::Sizes => write!(f, "{}", dob_update::Sizes),
             Fault::Stopped { node, cause } => write!(f, "{}", Stopped(*node, *cause)),

@@ -9,7 +9,7 @@ ghost use Rattle.dob_run.specs.Links.{offered, worked, HoldsFor, IsFull, KeepsOu
 use crate::batches::is_for;
 use crate::hands::{Inlet, Outlet};
 use dob_chan::{SendEnd, TakeEnd};
-use dob_pieces::PieceSet;
+use dob_pieces::Family;
 use dob_update::Batch;
 use std::sync::Wait;
 
@@ -87,10 +87,10 @@ impl Inlet {
         batch.items().len()
     }
 
-    /// The sender of the batch in the hand, if that is one that another node cut for the node `to` of that piece set, one of `n`,
+    /// The sender of the batch in the hand, if that is one that another node cut for the node `to` of that family, one of `n`,
     /// with items that such a node can work in. Any other batch is none of the node's.
-    pub(crate) fn sender_for(&self, set: PieceSet, n: usize, to: usize) -> Option<usize>
-        ensures { MatchOption result ((from : ℕ) → ¬ HoldsFor set n from to self.now) (λ from. HoldsFor set n from to self.now) }
+    pub(crate) fn sender_for(&self, family: Family, n: usize, to: usize) -> Option<usize>
+        ensures { MatchOption result ((from : ℕ) → ¬ HoldsFor family n from to self.now) (λ from. HoldsFor family n from to self.now) }
     {
         let Some(batch) = &self.hand else {
             return None;
@@ -99,7 +99,7 @@ impl Inlet {
         if from == to {
             return None;
         }
-        if !is_for(batch, set, n, from, to) {
+        if !is_for(batch, family, n, from, to) {
             return None;
         }
         Some(from)

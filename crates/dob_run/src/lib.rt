@@ -1,4 +1,4 @@
-// Builds by threads, from a piece set to its table. A crew is a board of words with a runner for each node: the node beside
+// Builds by threads, from a family to its table. A crew is a board of words with a runner for each node: the node beside
 // its endpoint, which is its seat on the board, its outlets to the inboxes of all nodes and the inlet of its own. A thread
 // turns each runner, until the board says that the run has ended or that a node failed it; then the crew is closed, and
 // what its nodes show is the table.

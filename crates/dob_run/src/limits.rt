@@ -1,11 +1,10 @@
 // The limits of what a crew is opened for.
 ghost use Rattle.std.specs.Prelude.{◌≡◌, IfSome, IfNone, IfOk, IfErr, OnOk};
-ghost use Rattle.dob_rank.specs.Limits.{IsSmall};
-ghost use Rattle.dob_run.specs.Faults.{AreWithin, HasSizeFault, HasStartFault};
+ghost use Rattle.dob_run.specs.Faults.{AreWithin, HasSizeFault, HasCrewFault};
 
 use crate::fault::Fault;
-use dob_pieces::PieceSet;
-use dob_rank::{Classes, is_too_large};
+use dob_pieces::Family;
+use dob_rank::Classes;
 use dob_safra::is_size;
 use dob_update::are_sizes;
 use std::alloc::Global;
@@ -33,28 +32,24 @@ pub(crate) fn size_passed(n: usize, batch: usize, capacity: usize) -> Option<Fau
     None
 }
 
-/// The classes of the piece set, where a crew of these sizes may own them.
+/// The classes of the family, where a crew of these sizes may own them.
 ///
-/// Errors, tested in this order: `SetTooLarge` where the set has more than `MOST_PIECES` besides the lions; the limit that the
-/// sizes pass; `Memory`.
+/// Errors, tested in this order: the limit that the sizes pass; `Memory`.
 pub(crate) fn classes_within(
     alloc: Global,
-    set: PieceSet,
+    family: Family,
     n: usize,
     batch: usize,
     capacity: usize,
 ) -> Result<Classes, Fault>
-    ensures set { IfOk result (λ classes. classes.set ≡ set) }
-    ensures within { OnOk result (IsSmall set × AreWithin n batch capacity) }
-    ensures fault { IfErr result (HasStartFault set n batch capacity) }
+    ensures family { IfOk result (λ classes. classes.family ≡ family) }
+    ensures within { OnOk result (AreWithin n batch capacity) }
+    ensures fault { IfErr result (HasCrewFault n batch capacity) }
 {
-    if is_too_large(set) {
-        return Err(Fault::SetTooLarge);
-    }
     if let Some(fault) = size_passed(n, batch, capacity) {
         return Err(fault);
     }
-    match Classes::open(alloc, set) {
+    match Classes::open(alloc, family) {
         Ok(classes) => Ok(classes),
         Err(_) => Err(Fault::Memory),
     }

@@ -5,13 +5,14 @@ ghost use Rattle.dob_board.specs.declared.halt.Halt.TheVariants.{Running, Ended,
 ghost use Rattle.dob_node.specs.declared.cause.Cause.{Cause};
 ghost use Rattle.dob_run.specs.LawfulRunners.{IsLawfulRunner, IsSpared};
 ghost use Rattle.dob_run.specs.Props.{IsLawfulRunner-prop};
+ghost use Rattle.dob_update.specs.Batches.{most_items};
 
 use crate::endpoint::Endpoint;
 use crossbeam_utils::Backoff;
 use dob_node::{Cause, Node};
-use dob_pieces::PieceSet;
+use dob_pieces::Family;
 
-/// A runner of a build by nodes that own the classes of a piece set: its node, its seat with its ends of the inboxes, and
+/// A runner of a build by nodes that own the classes of a family: its node, its seat with its ends of the inboxes, and
 /// the greatest size of a batch. It is lawful at every moment, unless an item of another node's batch made it fail before the end
 /// was announced: where it failed for another cause, as for lack of memory, it has changed nothing. The board says that its
 /// node failed only where it has, and where its node has failed it has failed for the same cause.
@@ -19,14 +20,14 @@ use dob_pieces::PieceSet;
 pub struct Runner {
     pub(crate) node: Node,
     pub(crate) endpoint: Endpoint,
-    pub(crate) set: PieceSet,
+    pub(crate) family: Family,
     pub(crate) size: usize,
     pub(crate) failed: Option<Cause>,
     pub(crate) backoff: Backoff,
     ghost some: { 0 < size },
-    ghost at_most: { size ≤ 4096 },
+    ghost at_most: { size ≤ most_items },
     ghost going: { endpoint.seat.halt ≡ Running → failed ≡ None },
     ghost own: { endpoint.seat.halt ≡ Failed endpoint.seat.node → failed ≢ None },
     ghost agrees: { (why : Cause) → node.failed ≡ Some why → failed ≡ Some why },
-    ghost lawful: { (failed ≡ None) ⊎ (endpoint.seat.halt ≡ Ended) ⊎ IsSpared failed → IsLawfulRunner set size node endpoint } by { Π_prop (λ _. IsLawfulRunner-prop set size node endpoint) },
+    ghost lawful: { (failed ≡ None) ⊎ (endpoint.seat.halt ≡ Ended) ⊎ IsSpared failed → IsLawfulRunner family size node endpoint } by { Π_prop (λ _. IsLawfulRunner-prop family size node endpoint) },
 }

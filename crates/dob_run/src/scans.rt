@@ -1,7 +1,7 @@
 // What is known of each class before anything is settled, by several threads.
 ghost use Rattle.std.specs.Prelude.{◌<◌, ◌≤◌, IfOk};
-ghost use Rattle.dob_rank.specs.Marks.{classes_of};
-ghost use Rattle.dob_rank.specs.ClassRows.{class_setup};
+ghost use Rattle.dob_rank.specs.Families.{classes_of};
+ghost use Rattle.dob_rank.specs.Families.{class_setup};
 ghost use Rattle.dob_node.specs.Openings.{IsOpening, AreOpenings};
 ghost use Rattle.dob_run.specs.Scans.{AreOpeningsFrom};
 
@@ -14,7 +14,7 @@ use std::thread::Threads;
 
 // How many classes are gone over before their openings join the list: enough that the threads have work, and so few that what
 // stands beside the list is small.
-const AT_A_TIME: u64 = 1 << 20;
+pub(crate) const AT_A_TIME: u64 = 1 << 20;
 
 /// The status and the number of moves of each class, in the order of the classes: the list that `opening` gives, made by as
 /// many threads as there are processors.
@@ -26,7 +26,7 @@ pub fn scan(
     classes: &Classes,
     segment_length: SegmentLength,
 ) -> Result<Segments<Opening>, Memory>
-    ensures { IfOk result (λ openings. AreOpenings classes.now.set openings) }
+    ensures { IfOk result (λ openings. AreOpenings classes.now.family openings) }
 {
     let count = classes.class_count();
     let mut openings = Segments::new(alloc, segment_length);
@@ -49,15 +49,15 @@ fn scan_part(
     end: u64,
 ) -> Result<Vec<Opening>, Memory>
     requires order { first ≤ end }
-    requires within { end ≤ classes_of classes.now.set }
-    ensures { IfOk result (λ openings. AreOpeningsFrom classes.now.set first end openings.items) }
+    requires within { end ≤ classes_of classes.now.family }
+    ensures { IfOk result (λ openings. AreOpeningsFrom classes.now.family first end openings.items) }
 {
     let openings = (first..end)
         .into_par_iter()
         .map(
             |class: u64| -> Opening
-                requires { class < classes_of classes.now.set }
-                ensures { IsOpening (class_setup classes.entry.now.set class) result }
+                requires { class < classes_of classes.now.family }
+                ensures { IsOpening classes.entry.now.family.profile (class_setup classes.entry.now.family class) result }
             { opening_in(classes, class) },
         )
         .collect::<Vec<_>>(rt, alloc)?;

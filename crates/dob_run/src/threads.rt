@@ -1,7 +1,7 @@
 // A thread for each runner of a crew.
 ghost use Rattle.std.specs.Prelude.{◌≡◌, IfOk, IfErr};
 ghost use Rattle.std.specs.List.{AllZip};
-ghost use Rattle.dob_run.specs.Faults.{HasStartFault};
+ghost use Rattle.dob_run.specs.Faults.{HasCrewFault};
 ghost use Rattle.dob_run.specs.TurnLoop.{Suits, AllSuit, EndsBy, AreLetOn, HasRun};
 ghost use Rattle.dob_run.specs.Runners.{says_no};
 ghost use Rattle.dob_run.specs.Started.{IsStartOf, IsEndOf};
@@ -15,7 +15,7 @@ use crate::scans::scan;
 use crate::turn_loop::Until;
 use dob_board::Board;
 use dob_node::Cause;
-use dob_pieces::{Memory, PieceSet};
+use dob_pieces::{Family, Memory};
 use dob_rank::{Classes, SegmentLength};
 use std::alloc::Global;
 use std::snapshot::Snapshot;
@@ -43,7 +43,7 @@ pub(crate) enum Started<G: Gate> {
     GaveUp(Runner),
 }
 
-/// Opens a crew of `n` nodes of the piece set, with batches of at most `batch` items and inboxes that hold at most `capacity`
+/// Opens a crew of `n` nodes of the family, with batches of at most `batch` items and inboxes that hold at most `capacity`
 /// batches, and lets its runners make their turns as below. Threads find what is known of each class; that is given up before
 /// the first turn. The board, and what became of each runner. Its promises hold if it returns.
 ///
@@ -51,21 +51,21 @@ pub(crate) enum Started<G: Gate> {
 pub(crate) fn run_crew<R: Threads + Wait + Sync, G: Gate + Sync>(
     rt: &R,
     alloc: Global,
-    set: PieceSet,
+    family: Family,
     n: usize,
     batch: usize,
     capacity: usize,
     gate: &G,
     until: &Until,
 ) -> Result<(Classes, Board, Vec<Runner>), Fault>
-    ensures set { IfOk result (λ ran. ran.0.set ≡ set) }
-    ensures ran { IfOk result (λ ran. HasRun (says_no (G.says gate.now)) until.now set n batch capacity ran.1 ran.2.items) }
+    ensures family { IfOk result (λ ran. ran.0.family ≡ family) }
+    ensures ran { IfOk result (λ ran. HasRun (says_no (G.says gate.now)) until.now family n batch capacity ran.1 ran.2.items) }
     ensures let_on { IfOk result (λ ran. AreLetOn (G.says gate.now) until.now ran.2.items) }
-    ensures fault { IfErr result (HasStartFault set n batch capacity) }
+    ensures fault { IfErr result (HasCrewFault n batch capacity) }
 {
-    let classes = classes_within(alloc, set, n, batch, capacity)?;
+    let classes = classes_within(alloc, family, n, batch, capacity)?;
     let openings = scan(rt, alloc, &classes, SegmentLength::longest())?;
-    let (board, runners) = crew_of(alloc, set, openings, n, batch, capacity)?;
+    let (board, runners) = crew_of(rt, alloc, family, openings, n, batch, capacity)?;
     let ended = run_each(rt, alloc, runners, &classes, gate, until)?;
     Ok((classes, board, ended))
 }
@@ -80,7 +80,7 @@ fn run_each<R: Threads + Wait + Sync, G: Gate + Sync>(
     gate: &G,
     until: &Until,
 ) -> Result<Vec<Runner>, Memory>
-    requires { AllSuit classes.now.set runners.items }
+    requires { AllSuit classes.now.family runners.items }
     ensures { IfOk result (λ ended. AllZip (EndsBy (G.says gate.now) until.now) runners.items ended.items) }
 {
     let unstarted = AtomicUsize::new(usize::MAX);
@@ -89,7 +89,7 @@ fn run_each<R: Threads + Wait + Sync, G: Gate + Sync>(
         thread::scope_env(),
         rt,
         |scope| -> Result<Vec<Runner>, Memory>
-            requires { AllSuit classes.now.set runners.items }
+            requires { AllSuit classes.now.family runners.items }
             ensures { IfOk result (λ ended. AllZip (EndsBy (G.says gate.entry.now) until.entry.now) runners.items ended.items) }
         {
             let started = start_all(rt, alloc, scope, runners, classes, gate, until, unstarted)?;
@@ -109,7 +109,7 @@ fn start_all<'s, E, R: Threads + Wait + Sync, G: Gate + Sync>(
     until: &'s Until,
     unstarted: &'s AtomicUsize,
 ) -> Result<Vec<Started<G>>, Memory>
-    requires { AllSuit classes.now.set runners.items }
+    requires { AllSuit classes.now.family runners.items }
     ensures { IfOk result (λ started. AllZip (IsStartOf G.says gate.now until.now) runners.items started.items) }
 {
     let mut started = Vec::with_capacity(alloc, runners.len())?;
@@ -130,7 +130,7 @@ fn start<'s, E, R: Threads + Wait + Sync, G: Gate + Sync>(
     until: &'s Until,
     unstarted: &'s AtomicUsize,
 ) -> Started<G>
-    requires { Suits classes.now.set runner }
+    requires { Suits classes.now.family runner }
     ensures { IsStartOf G.says gate.now until.now runner result }
 {
     let node = runner.endpoint.seat.node;
@@ -140,7 +140,7 @@ fn start<'s, E, R: Threads + Wait + Sync, G: Gate + Sync>(
         gate: Snapshot::of(gate),
     };
     let run = move || -> Runner
-        requires { Suits classes.now.set runner }
+        requires { Suits classes.now.family runner }
         ensures { EndsBy (G.says gate.entry.now) until.entry.now runner result }
     { go_unless(unstarted, rt, runner, classes, gate, until) };
     match scope.spawn_with(promise, run) {
@@ -166,7 +166,7 @@ fn go_unless<R: Wait, G: Gate>(
     gate: &G,
     until: &Until,
 ) -> Runner
-    requires { Suits classes.now.set runner }
+    requires { Suits classes.now.family runner }
     ensures { EndsBy (G.says gate.now) until.now runner result }
 {
     if unstarted.load(Ordering::SeqCst) == runner.endpoint.seat.node {

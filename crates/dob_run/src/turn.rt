@@ -5,6 +5,7 @@ ghost use Rattle.dob_node.specs.declared.cause.Cause.TheVariants.{Held};
 ghost use Rattle.dob_board.specs.Seats.{ObservesHalt};
 ghost use Rattle.dob_run.specs.Runners.{StepsBy, GoesRound, HasFailed, HasTurned, IsHeldBack, IsNew, IsAsked, IsReasonFor, says_no};
 ghost use Rattle.dob_run.specs.TurnRounds.{Works};
+ghost use Rattle.dob_update.specs.Batches.{most_items};
 
 use crate::endpoint::Endpoint;
 use crate::gate::Gate;
@@ -12,27 +13,27 @@ use crate::runner::Runner;
 use crossbeam_utils::Backoff;
 use dob_board::Halt;
 use dob_node::{Cause, Node};
-use dob_pieces::PieceSet;
+use dob_pieces::Family;
 use dob_rank::Classes;
 use std::sync::Wait;
 
 impl Runner {
-    /// The runner of a node that was opened for the piece set and has made no step, and of the endpoint of its seat, over which
+    /// The runner of a node that was opened for the family and has made no step, and of the endpoint of its seat, over which
     /// nothing has gone. It cuts batches of at most `size` items, 1 to 4096.
-    pub(crate) fn new(node: Node, endpoint: Endpoint, set: PieceSet, size: usize) -> Runner
+    pub(crate) fn new(node: Node, endpoint: Endpoint, family: Family, size: usize) -> Runner
         requires some { 0 < size }
-        requires at_most { size ≤ 4096 }
-        requires fresh { IsNew set node endpoint }
+        requires at_most { size ≤ most_items }
+        requires fresh { IsNew family node endpoint }
         ensures node { result.node ≡ node }
         ensures endpoint { result.endpoint ≡ endpoint }
-        ensures set { result.set ≡ set }
+        ensures family { result.family ≡ family }
         ensures size { result.size ≡ size }
         ensures unfailed { result.failed ≡ None }
     {
         Runner {
             node,
             endpoint,
-            set,
+            family,
             size,
             failed: None,
             backoff: Backoff::new(),
@@ -70,7 +71,7 @@ impl Runner {
         gate: &G,
     ) -> Result<Halt, Cause>
         requires running { self.old.endpoint.seat.halt ≡ Running }
-        requires set { classes.now.set ≡ self.old.set }
+        requires family { classes.now.family ≡ self.old.family }
         ensures turned { MatchResult result (HasTurned self.old self.new) (HasFailed self.old self.new) }
         ensures asked { IsAsked (G.says gate.now) self.old.endpoint.seat.node result }
         ensures reason { IfErr result (IsReasonFor (says_no (G.says gate.now)) self.new) }
@@ -115,7 +116,7 @@ impl Runner {
     /// a batch holds, and the own items are applied; and at most one batch is sent to each node. Whether anything was done.
     pub(crate) fn work<R: Wait>(&mut self, rt: &R, classes: &Classes) -> Result<bool, Cause>
         requires unfailed { self.old.failed ≡ None }
-        requires set { classes.now.set ≡ self.old.set }
+        requires family { classes.now.family ≡ self.old.family }
         ensures { StepsBy Works self.old self.new result }
     {
         let took = self.take_one(rt)?;

@@ -29,7 +29,7 @@ impl Runner {
         gate: &G,
         until: &Until,
     )
-        requires { Suits classes.now.set self.old }
+        requires { Suits classes.now.family self.old }
         ensures { EndsBy (G.says gate.now) until.now self.old self.new }
     {
         match until {
@@ -42,7 +42,7 @@ impl Runner {
     // went on and it didn't fail. Its promises hold if it returns.
     fn make_turns<R: Wait, G: Gate>(&mut self, rt: &R, classes: &Classes, gate: &G)
         requires unfailed { self.old.failed ≡ None }
-        requires set { classes.now.set ≡ self.old.set }
+        requires family { classes.now.family ≡ self.old.family }
         ensures keeps { KeepsRunner self.old self.new }
         ensures stopped { self.new.endpoint.seat.halt ≢ Running }
         ensures let_on { self.old.endpoint.seat.halt ≡ Running → self.new.failed ≡ None → G.says gate.now self.new.endpoint.seat.node true }
@@ -61,7 +61,7 @@ impl Runner {
     // each link. Its promises hold if it returns.
     fn go<R: Wait, G: Gate>(&mut self, rt: &R, classes: &Classes, gate: &G, turns: u64)
         requires unfailed { self.old.failed ≡ None }
-        requires set { classes.now.set ≡ self.old.set }
+        requires family { classes.now.family ≡ self.old.family }
         ensures keeps { KeepsRunner self.old self.new }
         ensures few { self.new.failed ≡ None → AddsFew turns self.old.endpoint self.new.endpoint }
         ensures reasoned { IsReasoned (says_no (G.says gate.now)) self.new }
@@ -82,7 +82,7 @@ impl Runner {
         gate: &G,
     ) -> Result<bool, Cause>
         requires unfailed { self.old.failed ≡ None }
-        requires set { classes.now.set ≡ self.old.set }
+        requires family { classes.now.family ≡ self.old.family }
         ensures goes { MatchResult result (λ _. GoesOn self.old self.new) (HasFailed self.old self.new) }
         ensures few { OnOk result (AddsFew 1 self.old.endpoint self.new.endpoint) }
         ensures asked { IsAsked (G.says gate.now) self.old.endpoint.seat.node result }

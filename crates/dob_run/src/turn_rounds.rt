@@ -13,7 +13,7 @@ impl Runner {
     /// can't be sent and another whole one is left for the same node. Whether any was expanded.
     pub(crate) fn expand_all(&mut self, classes: &Classes) -> Result<bool, Cause>
         requires unfailed { self.old.failed ≡ None }
-        requires set { classes.now.set ≡ self.old.set }
+        requires family { classes.now.family ≡ self.old.family }
         ensures { StepsBy ExpandsSome self.old self.new result }
     {
         if self.is_held_up() {

@@ -23,7 +23,7 @@ impl Runner {
         ensures refused { result ≡ Err Memory → LeavesBatch self.old self.new }
     {
         self.endpoint.receive(rt);
-        let Some(from) = self.endpoint.sender(self.set) else {
+        let Some(from) = self.endpoint.sender(self.family) else {
             return Ok(false);
         };
         match self.node.reserve(self.endpoint.held_items()) {
@@ -50,7 +50,7 @@ impl Runner {
     /// Expands the next settlement of the node's history. False where there is none.
     pub(crate) fn expand_one(&mut self, classes: &Classes) -> Result<bool, Cause>
         requires unfailed { self.old.failed ≡ None }
-        requires set { classes.now.set ≡ self.old.set }
+        requires family { classes.now.family ≡ self.old.family }
         ensures { StepsBy ExpandsOne self.old self.new result }
     {
         match self.node.expand(classes) {

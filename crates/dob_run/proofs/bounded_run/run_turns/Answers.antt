@@ -13,44 +13,44 @@ use Rattle.dob_run.proofs.bounded_run.run_turns.Goals as goal
 pub returns-in_err-board-clause-fault : goal.returns-in_err-board-clause-fault
 returns-in_err-board-clause-fault g c =
     let fault = c.in_err-board.field-0.0 in
-    carried (HasBuildFault c.args.set c.args.n c.args.batch c.args.capacity) c.from_residual.result fault c.from_residual.ensures.1
-    (unbegun_fault c.args.set c.args.n c.args.batch c.args.capacity fault c.in_err-board.ensures.fault)
+    carried (HasBuildFault c.args.n c.args.batch c.args.capacity) c.from_residual.result fault c.from_residual.ensures.1
+    (unbegun_fault c.args.n c.args.batch c.args.capacity fault c.in_err-board.ensures.fault)
 
 pub returns-in_err-board-clause-stopped : goal.returns-in_err-board-clause-stopped
 returns-in_err-board-clause-stopped g c =
     let fault = c.in_err-board.field-0.0 in
-    carried (StopsSo IsFirstFailed (says_no (g.G.Gate.says c.args.gate.now)) (Turns c.args.turns) c.args.set c.args.n c.args.batch c.args.capacity) c.from_residual.result fault c.from_residual.ensures.1
-    (unbegun_stops IsFirstFailed (says_no (g.G.Gate.says c.args.gate.now)) (Turns c.args.turns) c.args.set c.args.n c.args.batch c.args.capacity fault c.in_err-board.ensures.fault)
+    carried (StopsSo IsFirstFailed (says_no (g.G.Gate.says c.args.gate.now)) (Turns c.args.turns) c.args.family c.args.n c.args.batch c.args.capacity) c.from_residual.result fault c.from_residual.ensures.1
+    (unbegun_stops IsFirstFailed (says_no (g.G.Gate.says c.args.gate.now)) (Turns c.args.turns) c.args.family c.args.n c.args.batch c.args.capacity fault c.in_err-board.ensures.fault)
 
 pub returns-in_err-find_failed-clause-fault : goal.returns-in_err-find_failed-clause-fault
 returns-in_err-find_failed-clause-fault g c =
     let fault = c.in_err-find_failed.field-0.0 in
-    carried (HasBuildFault c.args.set c.args.n c.args.batch c.args.capacity) c.from_residual-in_err-find_failed.result fault
+    carried (HasBuildFault c.args.n c.args.batch c.args.capacity) c.from_residual-in_err-find_failed.result fault
     c.from_residual-in_err-find_failed.ensures.1
-    (first_fault (says_no (g.G.Gate.says c.args.gate.now)) (Turns c.args.turns) c.args.set c.args.n c.args.batch c.args.capacity c.in_ok-board.board c.in_ok-board.ended.items c.in_ok-board.ensures.ran
+    (first_fault (says_no (g.G.Gate.says c.args.gate.now)) (Turns c.args.turns) c.args.family c.args.n c.args.batch c.args.capacity c.in_ok-board.board c.in_ok-board.ended.items c.in_ok-board.ensures.ran
     fault (subst (λ (l : List Runner). IsFirstFailed l fault) c.deref.ensures.value c.in_err-find_failed.ensures.first))
 
 pub returns-in_err-find_failed-clause-stopped : goal.returns-in_err-find_failed-clause-stopped
 returns-in_err-find_failed-clause-stopped g c =
     let fault = c.in_err-find_failed.field-0.0 in
-    carried (StopsSo IsFirstFailed (says_no (g.G.Gate.says c.args.gate.now)) (Turns c.args.turns) c.args.set c.args.n c.args.batch c.args.capacity) c.from_residual-in_err-find_failed.result fault
+    carried (StopsSo IsFirstFailed (says_no (g.G.Gate.says c.args.gate.now)) (Turns c.args.turns) c.args.family c.args.n c.args.batch c.args.capacity) c.from_residual-in_err-find_failed.result fault
     c.from_residual-in_err-find_failed.ensures.1
-    (first_stops (says_no (g.G.Gate.says c.args.gate.now)) (Turns c.args.turns) c.args.set c.args.n c.args.batch c.args.capacity c.in_ok-board.board c.in_ok-board.ended.items c.in_ok-board.ensures.ran
+    (first_stops (says_no (g.G.Gate.says c.args.gate.now)) (Turns c.args.turns) c.args.family c.args.n c.args.batch c.args.capacity c.in_ok-board.board c.in_ok-board.ended.items c.in_ok-board.ensures.ran
     fault (subst (λ (l : List Runner). IsFirstFailed l fault) c.deref.ensures.value c.in_err-find_failed.ensures.first))
 
 pub close_crew-requires : goal.close_crew-requires
-close_crew-requires g c = still_crew (says_no (g.G.Gate.says c.args.gate.now)) (Turns c.args.turns) c.args.set c.args.n c.args.batch c.args.capacity c.in_ok-board.board c.in_ok-board.ended.items
+close_crew-requires g c = still_crew (says_no (g.G.Gate.says c.args.gate.now)) (Turns c.args.turns) c.args.family c.args.n c.args.batch c.args.capacity c.in_ok-board.board c.in_ok-board.ended.items
     c.in_ok-board.ensures.ran
 
 pub returns-clause-turned : goal.returns-clause-turned
 returns-clause-turned g c =
-    has_turned (says_no (g.G.Gate.says c.args.gate.now)) (Turns c.args.turns) c.args.set c.args.n c.args.batch c.args.capacity c.in_ok-board.board c.in_ok-board.ended.items c.in_ok-board.ensures.ran
+    has_turned (says_no (g.G.Gate.says c.args.gate.now)) (Turns c.args.turns) c.args.family c.args.n c.args.batch c.args.capacity c.in_ok-board.board c.in_ok-board.ended.items c.in_ok-board.ensures.ran
     c.in_ok-turned.turned (subst (λ (l : List Runner). AreUnfailed l) c.deref.ensures.value c.in_ok-find_failed.ensures.going) c.in_ok-turned.ensures
 
 pub returns-clause-within : goal.returns-clause-within
-returns-clause-within g c = (c.in_ok-board.ensures.ran.small, c.in_ok-board.ensures.ran.within)
+returns-clause-within g c = c.in_ok-board.ensures.ran.within
 
 pub returns-clause-few : goal.returns-clause-few
 returns-clause-few g c =
-    carries_few (says_no (g.G.Gate.says c.args.gate.now)) c.args.turns c.args.set c.args.n c.args.batch c.args.capacity c.in_ok-board.board c.in_ok-board.ended.items c.in_ok-board.ensures.ran
+    carries_few (says_no (g.G.Gate.says c.args.gate.now)) c.args.turns c.args.family c.args.n c.args.batch c.args.capacity c.in_ok-board.board c.in_ok-board.ended.items c.in_ok-board.ensures.ran
     (subst (λ (l : List Runner). AreUnfailed l) c.deref.ensures.value c.in_ok-find_failed.ensures.going) c.in_ok-turned.turned c.in_ok-turned.ensures

@@ -3,7 +3,7 @@ use Rattle.dob_node.proofs.TakenLists.{carried}
 use Rattle.dob_run.specs.declared.turn_loop.Until.TheVariants.{Halted}
 use Rattle.std.proofs.Common.{ℕ, sym, subst}
 use Rattle.std.specs.Prelude.{IfOk}
-use Rattle.dob_pieces.specs.declared.piece_set.PieceSet.{PieceSet}
+use Rattle.dob_pieces.specs.declared.profile.Family.{Family}
 use Rattle.dob_run.specs.Built.{IsBuilt}
 use Rattle.dob_run.specs.BuildEnd.{IsFailureOf, HaveStopped}
 use Rattle.dob_run.specs.Faults.{HasBuildFault}
@@ -16,59 +16,59 @@ use Rattle.dob_run.proofs.build.run_nodes.Goals as goal
 pub returns-in_err-classes-clause-fault : goal.returns-in_err-classes-clause-fault
 returns-in_err-classes-clause-fault g c =
     let fault = c.in_err-classes.field-0.0 in
-    carried (HasBuildFault c.args.set c.args.n c.args.batch c.args.capacity) c.from_residual.result fault c.from_residual.ensures.1
-    (unbegun_fault c.args.set c.args.n c.args.batch c.args.capacity fault c.in_err-classes.ensures.fault)
+    carried (HasBuildFault c.args.n c.args.batch c.args.capacity) c.from_residual.result fault c.from_residual.ensures.1
+    (unbegun_fault c.args.n c.args.batch c.args.capacity fault c.in_err-classes.ensures.fault)
 
 pub returns-in_err-classes-clause-stopped : goal.returns-in_err-classes-clause-stopped
 returns-in_err-classes-clause-stopped g c =
     let fault = c.in_err-classes.field-0.0 in
-    carried (StopsSo IsFailureOf (says_no (g.G.Gate.says c.args.gate.now)) Halted c.args.set c.args.n c.args.batch c.args.capacity) c.from_residual.result fault c.from_residual.ensures.1
-    (unbegun_stops IsFailureOf (says_no (g.G.Gate.says c.args.gate.now)) Halted c.args.set c.args.n c.args.batch c.args.capacity fault c.in_err-classes.ensures.fault)
+    carried (StopsSo IsFailureOf (says_no (g.G.Gate.says c.args.gate.now)) Halted c.args.family c.args.n c.args.batch c.args.capacity) c.from_residual.result fault c.from_residual.ensures.1
+    (unbegun_stops IsFailureOf (says_no (g.G.Gate.says c.args.gate.now)) Halted c.args.family c.args.n c.args.batch c.args.capacity fault c.in_err-classes.ensures.fault)
 
 pub finish-requires-clause-crew : goal.finish-requires-clause-crew
-finish-requires-clause-crew g c =
-    still_crew (says_no (g.G.Gate.says c.args.gate.now)) Halted c.args.set c.args.n c.args.batch c.args.capacity c.in_ok-classes.board c.in_ok-classes.ended.items c.in_ok-classes.ensures.ran
+finish-requires-clause-crew g c = λ κs lives.
+    still_crew (says_no (g.G.Gate.says c.args.gate.now)) Halted c.args.family c.args.n c.args.batch c.args.capacity c.in_ok-classes.board c.in_ok-classes.ended.items c.in_ok-classes.ensures.ran
 
 pub finish-requires-clause-stopped : goal.finish-requires-clause-stopped
-finish-requires-clause-stopped g c = (
+finish-requires-clause-stopped g c = λ κs lives. (
   c.args.batch,
-  subst (λ (s : PieceSet). HaveStopped s c.args.batch c.in_ok-classes.ended.items) (sym c.in_ok-classes.ensures.set)
-      (have_stopped (says_no (g.G.Gate.says c.args.gate.now)) c.args.set c.args.n c.args.batch c.args.capacity c.in_ok-classes.board c.in_ok-classes.ended.items c.in_ok-classes.ensures.ran),
+  subst (λ (s : Family). HaveStopped s c.args.batch c.in_ok-classes.ended.items) (sym c.in_ok-classes.ensures.family)
+      (have_stopped (says_no (g.G.Gate.says c.args.gate.now)) c.args.family c.args.n c.args.batch c.args.capacity c.in_ok-classes.board c.in_ok-classes.ended.items c.in_ok-classes.ensures.ran),
 )
 
 pub returns-clause-built : goal.returns-clause-built
 returns-clause-built g c =
-    is_built (says_no (g.G.Gate.says c.args.gate.now)) c.args.set c.args.n c.args.batch c.args.capacity c.in_ok-classes.board c.in_ok-classes.ended.items c.in_ok-classes.ensures.ran
-    c.finish.result (subst (λ (s : PieceSet). IfOk c.finish.result (λ built. (m : ℕ) → HaveStopped s m c.in_ok-classes.ended.items → IsBuilt s c.in_ok-classes.board.nodes m built))
-    c.in_ok-classes.ensures.set c.finish.ensures.built)
+    is_built (says_no (g.G.Gate.says c.args.gate.now)) c.args.family c.args.n c.args.batch c.args.capacity c.in_ok-classes.board c.in_ok-classes.ended.items c.in_ok-classes.ensures.ran
+    c.finish.result (subst (λ (s : Family). IfOk c.finish.result (λ built. (m : ℕ) → HaveStopped s m c.in_ok-classes.ended.items → IsBuilt s c.in_ok-classes.board.nodes m built))
+    c.in_ok-classes.ensures.family c.finish.ensures.built)
 
 pub returns-clause-within : goal.returns-clause-within
 returns-clause-within g c =
-    is_within (says_no (g.G.Gate.says c.args.gate.now)) Halted c.args.set c.args.n c.args.batch c.args.capacity c.in_ok-classes.board c.in_ok-classes.ended.items c.in_ok-classes.ensures.ran c.finish.result
+    is_within (says_no (g.G.Gate.says c.args.gate.now)) Halted c.args.family c.args.n c.args.batch c.args.capacity c.in_ok-classes.board c.in_ok-classes.ended.items c.in_ok-classes.ensures.ran c.finish.result
 
 pub returns-clause-fault : goal.returns-clause-fault
 returns-clause-fault g c =
-    has_fault (says_no (g.G.Gate.says c.args.gate.now)) c.args.set c.args.n c.args.batch c.args.capacity c.in_ok-classes.board c.in_ok-classes.ended.items c.in_ok-classes.ensures.ran
+    has_fault (says_no (g.G.Gate.says c.args.gate.now)) c.args.family c.args.n c.args.batch c.args.capacity c.in_ok-classes.board c.in_ok-classes.ended.items c.in_ok-classes.ensures.ran
     c.finish.result c.finish.ensures.failed
 
 pub returns-clause-stopped : goal.returns-clause-stopped
 returns-clause-stopped g c =
-    is_stopped (says_no (g.G.Gate.says c.args.gate.now)) c.args.set c.args.n c.args.batch c.args.capacity c.in_ok-classes.board c.in_ok-classes.ended.items c.in_ok-classes.ensures.ran
+    is_stopped (says_no (g.G.Gate.says c.args.gate.now)) c.args.family c.args.n c.args.batch c.args.capacity c.in_ok-classes.board c.in_ok-classes.ended.items c.in_ok-classes.ensures.ran
     c.finish.result c.finish.ensures.failed
 
 pub returns-in_err-classes-clause-unheld : goal.returns-in_err-classes-clause-unheld
 returns-in_err-classes-clause-unheld g c = λ never.
     let fault = c.in_err-classes.field-0.0 in
-    carried IsUnheld c.from_residual.result fault c.from_residual.ensures.1 (unbegun_unheld c.args.set c.args.n c.args.batch c.args.capacity fault c.in_err-classes.ensures.fault)
+    carried IsUnheld c.from_residual.result fault c.from_residual.ensures.1 (unbegun_unheld c.args.n c.args.batch c.args.capacity fault c.in_err-classes.ensures.fault)
 
 pub returns-clause-let_on : goal.returns-clause-let_on
 returns-clause-let_on g c =
     let ran = c.in_ok-classes.ensures.ran in
     all_let_on (g.G.Gate.says c.args.gate.now) c.args.n c.in_ok-classes.board c.in_ok-classes.ended.items ran.opened.nodes
-    (still_crew (says_no (g.G.Gate.says c.args.gate.now)) Halted c.args.set c.args.n c.args.batch c.args.capacity c.in_ok-classes.board c.in_ok-classes.ended.items ran)
+    (still_crew (says_no (g.G.Gate.says c.args.gate.now)) Halted c.args.family c.args.n c.args.batch c.args.capacity c.in_ok-classes.board c.in_ok-classes.ended.items ran)
     c.in_ok-classes.ensures.let_on c.finish.result c.finish.ensures.unfailed
 
 pub returns-clause-unheld : goal.returns-clause-unheld
-returns-clause-unheld g c = if_unheld (says_no (g.G.Gate.says c.args.gate.now)) c.args.set c.args.n c.args.batch c.args.capacity c.finish.result
-    (is_stopped (says_no (g.G.Gate.says c.args.gate.now)) c.args.set c.args.n c.args.batch c.args.capacity c.in_ok-classes.board c.in_ok-classes.ended.items c.in_ok-classes.ensures.ran
+returns-clause-unheld g c = if_unheld (says_no (g.G.Gate.says c.args.gate.now)) c.args.family c.args.n c.args.batch c.args.capacity c.finish.result
+    (is_stopped (says_no (g.G.Gate.says c.args.gate.now)) c.args.family c.args.n c.args.batch c.args.capacity c.in_ok-classes.board c.in_ok-classes.ended.items c.in_ok-classes.ensures.ran
     c.finish.result c.finish.ensures.failed)

@@ -3,4 +3,4 @@ use Rattle.dob_run.proofs.RunFaults.{outside_none}
 use Rattle.dob_run.proofs.crew_open.crew.Goals as goal
 
 pub returns-in-Some-clause-fault : goal.returns-in-Some-clause-fault
-returns-in-Some-clause-fault c = outside_none c.args.n c.args.batch c.args.capacity c.in-Some.fault c.in-Some.ensures.passed
+returns-in-Some-clause-fault g c = outside_none c.args.n c.args.batch c.args.capacity c.in-Some.fault c.in-Some.ensures.passed

@@ -6,7 +6,7 @@ use Rattle.dob_run.specs.Runners.{IsNew}
 use Rattle.dob_run.proofs.crew_open.open_runner.Goals as goal
 use Rattle.dob_run.proofs.crew_open.open_runner.Goals.{In_ok-node}
 
-is_new : (c : In_ok-node) → IsNew c.args.set c.in_ok-node.node c.args.endpoint
+is_new : (c : In_ok-node) → IsNew c.args.family c.in_ok-node.node c.args.endpoint
 is_new c =
     let new = c.requires.new.1 in record {
       openings = c.args.openings.now;
@@ -26,6 +26,6 @@ pub returns : goal.returns
 returns c =
     let made = c.new.ensures in (
       made.endpoint,
-      record { set_is = made.set; size_is = made.size; unfailed = made.unfailed },
-      subst (λ (p : Node × Endpoint). IsNew c.args.set p.0 p.1) (λ i. ((sym made.node) i, (sym made.endpoint) i)) (is_new (goal.at.returns c).In_ok-node),
+      record { family_is = made.family; size_is = made.size; unfailed = made.unfailed },
+      subst (λ (p : Node × Endpoint). IsNew c.args.family p.0 p.1) (λ i. ((sym made.node) i, (sym made.endpoint) i)) (is_new (goal.at.returns c).In_ok-node),
     )

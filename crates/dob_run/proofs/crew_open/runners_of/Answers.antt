@@ -1,21 +1,31 @@
--- Each endpoint gets its runner, in order, and when no endpoint is left each has one.
-use Rattle.std.proofs.Common.{rules}
+-- Each endpoint gets its runner, in order.
+use Rattle.std.proofs.Common.{◌∙◌, List, subst}
+use Rattle.std.specs.Prelude.{IfOk, Result, slice_index_or}
+use Rattle.std.specs.List.{AllZip}
+use Rattle.std.proofs.lemmas.Option.{slice_get-get_or}
+use Rattle.dob_pieces.specs.declared.memory.Memory.{Memory}
+use Rattle.dob_run.specs.declared.endpoint.Endpoint.{Endpoint}
+use Rattle.dob_run.specs.declared.runner.Runner.{Runner}
 use Rattle.dob_run.specs.CrewRunners.{IsRunnerOf}
-use Rattle.dob_run.proofs.Threaded.{going_begins, goes_on, all_went, next_one}
+use Rattle.dob_run.proofs.Threaded.{made_all}
 use Rattle.dob_run.proofs.crew_open.runners_of.Goals as goal
 
-pub loop-endpoint-init : goal.loop-endpoint-init
-loop-endpoint-init c = going_begins (IsRunnerOf c.args.set c.args.size) c.args.endpoints.items _ _ c.into_iter-endpoint-iterator.ensures.into_iter_gives.0 (search rules)
-
-pub open_runner-requires-clause-new : goal.open_runner-requires-clause-new
-open_runner-requires-clause-new c =
-    let at = next_one (IsRunnerOf c.args.set c.args.size) c.args.endpoints.items _ _ _ c.in-Some.endpoint c.loop-endpoint.invariant c.in-Some.ensures.steps.0 in
-    (c.requires.new.0, c.requires.new.1 at.0 c.in-Some.endpoint at.1)
-
-pub loop-endpoint-preserved : goal.loop-endpoint-preserved
-loop-endpoint-preserved c =
-    goes_on (IsRunnerOf c.args.set c.args.size) c.args.endpoints.items _ _ _ _ c.in-Some.endpoint c.in_ok-runner.runner c.loop-endpoint.invariant c.in-Some.ensures.steps.0
-    c.in_ok-runner.ensures c.in_ok-push.ensures.items
+pub collect-requires-clause-ready : goal.collect-requires-clause-ready
+collect-requires-clause-ready g c κs within =
+    let endpoints = c.args.endpoints.items in
+    rw (c.map.ensures.base, c.map.ensures.f, c.with_min_len.ensures.base, c.into_par_iter.ensures)
+    (λ k d low. (
+      (
+        c.requires.openings,
+        (c.requires.some, (c.requires.at_most, (c.requires.new.0, c.requires.new.1 k (slice_index_or endpoints k d) (slice_get-get_or endpoints k d low)))),
+      ),
+      λ given made. tt,
+    ))
 
 pub returns : goal.returns
-returns c = all_went (IsRunnerOf c.args.set c.args.size) c.args.endpoints.items _ c.loop-endpoint.runners.items c.loop-endpoint.invariant (search rules)
+returns g c =
+    let done = c.in_ok-collect.ensures in
+    let chain = rw (c.map.ensures.base, c.map.ensures.f, c.with_min_len.ensures.base) at done.1 in
+    let are = subst (λ (l : List Endpoint). AllZip (λ (endpoint : Endpoint) (given : Result Runner Memory). IfOk given (IsRunnerOf c.args.family c.args.size endpoint)) l done.0)
+    (chain.1 ∙ c.into_par_iter.ensures) chain.2 in
+    made_all (IsRunnerOf c.args.family c.args.size) c.args.endpoints.items done.0 c.in_ok-collect.field-0 are done.2

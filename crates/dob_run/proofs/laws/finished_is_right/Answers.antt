@@ -3,4 +3,4 @@ use Rattle.dob_run.proofs.CrewFinished.{finished_right}
 use Rattle.dob_run.proofs.laws.finished_is_right.Goals as goal
 
 pub returns : goal.returns
-returns c = λ set n runners openings values some openings_are finished shown. finished_right set n some runners finished openings values openings_are shown
+returns c = λ family n runners openings values some openings_are finished shown. finished_right family n some runners finished openings values openings_are shown

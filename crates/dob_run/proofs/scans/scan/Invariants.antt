@@ -4,7 +4,7 @@ use Rattle.dob_node.specs.Openings.{AreOpeningsBelow}
 use Rattle.dob_run.proofs.scans.scan.Given as goal
 
 abbrev pub invariant-parts : goal.invariant-parts
-invariant-parts g l = (l.class ≤ l.count) × AreOpeningsBelow l.classes.set l.class l.openings
+invariant-parts g l = (l.class ≤ l.count) × AreOpeningsBelow l.classes.family l.class l.openings
 
 abbrev pub decreases-parts : goal.decreases-parts
 decreases-parts g l = l.count - l.class

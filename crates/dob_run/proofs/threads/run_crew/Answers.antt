@@ -1,4 +1,4 @@
--- The runners of a new crew suit the classes of its piece set, so they have run, of sizes within the limits.
+-- The runners of a new crew suit the classes of its family, so they have run, of sizes within the limits.
 use Rattle.std.proofs.Common.{rules}
 use Rattle.dob_run.specs.TurnLoop.{AllSuit}
 use Rattle.dob_run.specs.Runners.{says_no}
@@ -9,13 +9,12 @@ use Rattle.dob_run.proofs.threads.run_crew.Goals as goal
 
 pub run_each-requires : goal.run_each-requires
 run_each-requires g c =
-    let suit : AllSuit c.args.set c.in_ok-board.runners.items = all_suit c.args.set c.args.batch c.in_ok-board.runners.items c.in_ok-board.ensures.each in
+    let suit : AllSuit c.args.family c.in_ok-board.runners.items = all_suit c.args.family c.args.batch c.in_ok-board.runners.items c.in_ok-board.ensures.each in
     search rules
 
 pub returns-clause-ran : goal.returns-clause-ran
 returns-clause-ran g c = record {
-  small = c.in_ok-classes.ensures.within.0;
-  within = c.in_ok-classes.ensures.within.1;
+  within = c.in_ok-classes.ensures.within;
   old = c.in_ok-board.runners.items;
   opened = c.in_ok-board.ensures;
   ends = all_by (g.G.Gate.says c.args.gate.now) c.args.until.now c.in_ok-board.runners.items c.in_ok-ended.ended.items c.in_ok-ended.ensures;
@@ -26,6 +25,6 @@ returns-clause-let_on g c =
     let Says = g.G.Gate.says c.args.gate.now in
     let old = c.in_ok-board.runners.items in
     let ended = c.in_ok-ended.ended.items in
-    are_let_on Says c.args.until.now c.args.set c.args.n c.args.batch c.args.capacity c.in_ok-board.board old ended c.in_ok-board.ensures c.in_ok-ended.ensures
+    are_let_on Says c.args.until.now c.args.family c.args.n c.args.batch c.args.capacity c.in_ok-board.board old ended c.in_ok-board.ensures c.in_ok-ended.ensures
     (crew_kept c.in_ok-board.board old ended c.in_ok-board.ensures.crew
     (all_kept (says_no Says) c.args.until.now old ended (all_by Says c.args.until.now old ended c.in_ok-ended.ensures)))

@@ -11,7 +11,7 @@ loop-runner-init g c = going_begins (IsStartOf g.G.Gate.says c.args.gate.now c.a
 pub start-requires : goal.start-requires
 start-requires g c =
     let at = next_one (IsStartOf g.G.Gate.says c.args.gate.now c.args.until.now) c.args.runners.items _ _ _ c.in-Some.runner c.loop-runner.invariant c.in-Some.ensures.steps.0 in
-    let suits : Suits c.args.classes.now.set c.in-Some.runner = c.requires at.0 c.in-Some.runner at.1 in
+    let suits : Suits c.args.classes.now.family c.in-Some.runner = c.requires at.0 c.in-Some.runner at.1 in
     search rules
 
 pub loop-runner-preserved : goal.loop-runner-preserved

@@ -1,4 +1,4 @@
--- The sender is that of the batch in the hand, which is one of the set from it to the other node; and no other batch is.
+-- The sender is that of the batch in the hand, which is one of the family from it to the other node; and no other batch is.
 use Rattle.std.proofs.Common.{rules, sym}
 use Rattle.dob_run.proofs.hands.Inlet.sender_for.Goals as goal
 

@@ -14,7 +14,7 @@ invariant_of-self c =
       going = λ running. absurd (c.fail.ensures.stopped running);
       own = λ _ none. some_cause c.args.why none;
       agrees = agrees_going r.node.failed _ (node_goes r.node.failed r.failed r.agrees c.requires);
-      lawful = λ _. recoloured r.set r.size r.node r.endpoint c.fail.new.self law
+      lawful = λ _. recoloured r.family r.size r.node r.endpoint c.fail.new.self law
           c.fail.ensures.links.seat.node c.fail.ensures.links.seat.nodes (ap (λ v. v.items) c.fail.ensures.links.outlets)
           (same_inlet r.endpoint c.fail.new.self c.fail.ensures.links.inlet)
           (λ is. law.white (sym c.fail.ensures.colour ∙ is));

@@ -20,7 +20,7 @@ invariant_of-self-in-Err c =
       going = λ running. absurd (c.fail.ensures.stopped running);
       own = λ _ none. some_cause c.in-Err.why none;
       agrees = agrees_failed c.apply_own.new.self.failed c.in-Err.why c.in-Err.ensures.failed;
-      lawful = λ _. unchanged_failed r.set r.size r.node c.apply_own.new.self r.endpoint c.fail.new.self (r.lawful (inl c.requires))
+      lawful = λ _. unchanged_failed r.family r.size r.node c.apply_own.new.self r.endpoint c.fail.new.self (r.lawful (inl c.requires))
           c.in-Err.ensures.unchanged c.in-Err.ensures.sound c.fail.ensures.links c.fail.ensures.colour;
     }
 
@@ -34,15 +34,15 @@ invariant_of-self c =
       own = r.own;
       agrees = agrees_going c.apply_own.new.self.failed _ c.in-Ok.ensures.going;
       lawful = λ _. (let law = r.lawful (inl c.requires) in elim (cases_Bool c.in-Ok.applied) [
-        | inl did ↦ applied_own r.set r.size r.node c.apply_own.new.self r.endpoint law (c.in-Ok.ensures.applied (ap Ok did)) c.in-Ok.ensures.sound
-        | inr none_left ↦ subst (λ (n : Node). IsLawfulRunner r.set r.size n r.endpoint) (sym (c.in-Ok.ensures.nothing (ap Ok none_left))) law
+        | inl did ↦ applied_own r.family r.size r.node c.apply_own.new.self r.endpoint law (c.in-Ok.ensures.applied (ap Ok did)) c.in-Ok.ensures.sound
+        | inr none_left ↦ subst (λ (n : Node). IsLawfulRunner r.family r.size n r.endpoint) (sym (c.in-Ok.ensures.nothing (ap Ok none_left))) law
       ]);
     }
 
 pub returns-in-Err : goal.returns-in-Err
 returns-in-Err c = record {
   failed = record {
-    keeps = record { endpoint = links_kept c.args.self.now.endpoint c.fail.new.self c.fail.ensures.links; set = refl; size = refl };
+    keeps = record { endpoint = links_kept c.args.self.now.endpoint c.fail.new.self c.fail.ensures.links; family = refl; size = refl };
     cause = refl;
     stopped = c.fail.ensures.stopped;
   };
@@ -51,7 +51,7 @@ returns-in-Err c = record {
 
 pub returns-in-Ok : goal.returns-in-Ok
 returns-in-Ok c = record {
-  goes = record { keeps = record { endpoint = endpoint_same c.args.self.now.endpoint; set = refl; size = refl }; unfailed = c.requires; halt = refl };
+  goes = record { keeps = record { endpoint = endpoint_same c.args.self.now.endpoint; family = refl; size = refl }; unfailed = c.requires; halt = refl };
   endpoint = refl;
   done = (λ none. c.in-Ok.ensures.done.0 (ap Ok none), λ none. same_answer _ _ (c.in-Ok.ensures.done.1 none));
   applied = λ did. c.in-Ok.ensures.applied (ap Ok did);

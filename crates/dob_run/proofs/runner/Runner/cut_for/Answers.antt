@@ -33,14 +33,14 @@ invariant_of-self c =
       going = λ running. absurd (c.fail.ensures.stopped running);
       own = λ _ none. some_cause c.in-Err.why none;
       agrees = agrees_failed c.cut_for.new.self.failed c.in-Err.why c.in-Err.ensures.failed;
-      lawful = λ _. unchanged_failed r.set r.size r.node c.cut_for.new.self r.endpoint c.fail.new.self (r.lawful (inl c.requires.unfailed))
+      lawful = λ _. unchanged_failed r.family r.size r.node c.cut_for.new.self r.endpoint c.fail.new.self (r.lawful (inl c.requires.unfailed))
           c.in-Err.ensures.unchanged c.in-Err.ensures.sound c.fail.ensures.links c.fail.ensures.colour;
     }
 
 pub returns-in-Err : goal.returns-in-Err
 returns-in-Err c = record {
   failed = record {
-    keeps = record { endpoint = links_kept c.args.self.now.endpoint c.fail.new.self c.fail.ensures.links; set = refl; size = refl };
+    keeps = record { endpoint = links_kept c.args.self.now.endpoint c.fail.new.self c.fail.ensures.links; family = refl; size = refl };
     cause = refl;
     stopped = c.fail.ensures.stopped;
   };
@@ -89,7 +89,7 @@ invariant_of-self-2 c =
       own = λ found. r.own (own_still r.endpoint.seat c.post.new.self.seat
           (same_halt c.post.new.self.seat.halt r.endpoint.seat.halt (ap (λ (s : Stand). s.halt) c.post.ensures.counted)) c.post.ensures.same.node found);
       agrees = agrees_going c.cut_for.new.self.failed _ c.in-Ok.ensures.going;
-      lawful = λ _. cut_one r.set r.size c.args.to c.in-Some.batch r.node c.cut_for.new.self r.endpoint c.post.new.self law c.requires.other cut c.in-Ok.ensures.sound
+      lawful = λ _. cut_one r.family r.size c.args.to c.in-Some.batch r.node c.cut_for.new.self r.endpoint c.post.new.self law c.requires.other cut c.in-Ok.ensures.sound
           c.post.ensures.same.node c.post.ensures.same.nodes (ap (λ (s : Stand). s.black) c.post.ensures.counted ∙ was_black) c.post.ensures.offered
           c.post.ensures.inlet;
     }
@@ -105,7 +105,7 @@ returns c =
     subst (λ given. IfSome given (λ (b : BatchView). HasCut c.args.to r.size b r.node c.cut_for.new.self)) c.in-Some.is c.in-Ok.ensures.cut in
     cut_more c.args.to r.size c.in-Some.batch r _
     (record {
-      keeps = record { endpoint = c.post.ensures.keeps; set = refl; size = refl };
+      keeps = record { endpoint = c.post.ensures.keeps; family = refl; size = refl };
       unfailed = c.requires.unfailed;
       halt = same_halt c.post.new.self.seat.halt r.endpoint.seat.halt (ap (λ (s : Stand). s.halt) c.post.ensures.counted);
     })

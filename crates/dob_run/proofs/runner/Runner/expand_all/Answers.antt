@@ -1,4 +1,4 @@
--- The settlements expanded so far and the next make one step, over classes of the same piece set, or a failed one.
+-- The settlements expanded so far and the next make one step, over classes of the same family, or a failed one.
 use Rattle.std.proofs.Common.{◌∙◌}
 use Rattle.dob_run.specs.TurnRounds.{ExpandsSome}
 use Rattle.dob_run.proofs.Keeping.{runner_same, goes_trans, broken_on}

@@ -1,4 +1,4 @@
--- The runner keeps its place and its piece set through the turns so far and the next, also where the next fails, for a reason.
+-- The runner keeps its place and its family through the turns so far and the next, also where the next fails, for a reason.
 use Rattle.std.proofs.Common.{sym, ◌∙◌}
 use Rattle.dob_run.specs.Runners.{says_no}
 use Rattle.dob_run.proofs.Keeping.{goes_trans, runner_trans, reasoned_unfailed}
@@ -6,8 +6,8 @@ use Rattle.dob_run.proofs.Threaded.{steps_keep, steps_reasoned}
 use Rattle.dob_run.proofs.Pacing.{adds_more}
 use Rattle.dob_run.proofs.runner.Runner.go.Goals as goal
 
-pub turn_alone-requires-clause-set : goal.turn_alone-requires-clause-set
-turn_alone-requires-clause-set g c = c.requires.set ∙ sym c.loop.invariant.0.keeps.set
+pub turn_alone-requires-clause-family : goal.turn_alone-requires-clause-family
+turn_alone-requires-clause-family g c = c.requires.family ∙ sym c.loop.invariant.0.keeps.family
 
 pub loop-preserved : goal.loop-preserved
 loop-preserved g c = (

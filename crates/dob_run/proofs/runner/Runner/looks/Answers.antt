@@ -13,7 +13,7 @@ invariant_of-self c =
       going = λ _. c.requires;
       own = λ found. r.own (own_before r.endpoint.seat c.halted.new.self.seat c.halted.ensures.own c.halted.ensures.links.seat.node found);
       agrees = r.agrees;
-      lawful = λ _. recoloured r.set r.size r.node r.endpoint c.halted.new.self (r.lawful (inl c.requires))
+      lawful = λ _. recoloured r.family r.size r.node r.endpoint c.halted.new.self (r.lawful (inl c.requires))
           c.halted.ensures.links.seat.node c.halted.ensures.links.seat.nodes (ap (λ v. v.items) c.halted.ensures.links.outlets)
           (same_inlet r.endpoint c.halted.new.self c.halted.ensures.links.inlet)
           (λ is. (r.lawful (inl c.requires)).white (sym c.halted.ensures.colour ∙ is));

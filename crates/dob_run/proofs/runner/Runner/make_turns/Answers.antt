@@ -1,12 +1,12 @@
--- Each turn finds the classes of the runner's piece set, and keeps the runner's place whatever its answer; one that fails has a reason.
+-- Each turn finds the classes of the runner's family, and keeps the runner's place whatever its answer; one that fails has a reason.
 use Rattle.std.proofs.Common.{refl, sym, ◌∙◌, inl, inr}
 use Rattle.dob_run.specs.Runners.{says_no}
 use Rattle.dob_run.proofs.Keeping.{runner_trans, runner_same, turn_keeps, turn_reasoned, reasoned_unfailed}
 use Rattle.dob_run.proofs.Threaded.{let_by_turn}
 use Rattle.dob_run.proofs.runner.Runner.make_turns.Goals as goal
 
-pub turn-requires-clause-set : goal.turn-requires-clause-set
-turn-requires-clause-set g c = c.requires.set ∙ sym c.loop.invariant.keeps.set
+pub turn-requires-clause-family : goal.turn-requires-clause-family
+turn-requires-clause-family g c = c.requires.family ∙ sym c.loop.invariant.keeps.family
 
 pub loop-init : goal.loop-init
 loop-init g c = record {

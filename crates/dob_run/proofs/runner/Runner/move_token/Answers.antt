@@ -16,7 +16,7 @@ invariant_of-self c =
       going = λ _. c.requires.unfailed;
       own = λ found. r.own (own_still r.endpoint.seat c.finds_token.new.self.seat c.finds_token.ensures.halt c.finds_token.ensures.links.seat.node found);
       agrees = r.agrees;
-      lawful = λ _. recoloured r.set r.size r.node r.endpoint c.finds_token.new.self (r.lawful (inl c.requires.unfailed))
+      lawful = λ _. recoloured r.family r.size r.node r.endpoint c.finds_token.new.self (r.lawful (inl c.requires.unfailed))
           c.finds_token.ensures.links.seat.node c.finds_token.ensures.links.seat.nodes (ap (λ v. v.items) c.finds_token.ensures.links.outlets)
           (same_inlet r.endpoint c.finds_token.new.self c.finds_token.ensures.links.inlet)
           (λ is. (r.lawful (inl c.requires.unfailed)).white (sym c.finds_token.ensures.colour ∙ is));
@@ -32,7 +32,7 @@ invariant_of-self-then-may_announce c =
       own = λ found. r.own (own_still r.endpoint.seat c.finds_token.new.self.seat c.finds_token.ensures.halt c.finds_token.ensures.links.seat.node
           (own_before c.finds_token.new.self.seat c.announce.new.self.seat c.announce.ensures.own c.announce.ensures.links.seat.node found));
       agrees = r.agrees;
-      lawful = λ _. recoloured r.set r.size r.node r.endpoint c.announce.new.self (r.lawful (inl c.requires.unfailed))
+      lawful = λ _. recoloured r.family r.size r.node r.endpoint c.announce.new.self (r.lawful (inl c.requires.unfailed))
           (c.announce.ensures.links.seat.node ∙ c.finds_token.ensures.links.seat.node)
           (c.announce.ensures.links.seat.nodes ∙ c.finds_token.ensures.links.seat.nodes)
           (ap (λ v. v.items) (c.announce.ensures.links.outlets ∙ c.finds_token.ensures.links.outlets))
@@ -50,7 +50,7 @@ invariant_of-self-else-may_announce c =
       own = λ found. r.own (own_still r.endpoint.seat c.pass.new.self.seat (c.pass.ensures.halt ∙ c.finds_token.ensures.halt)
           (c.pass.ensures.links.seat.node ∙ c.finds_token.ensures.links.seat.node) found);
       agrees = r.agrees;
-      lawful = λ _. recoloured r.set r.size r.node r.endpoint c.pass.new.self (r.lawful (inl c.requires.unfailed))
+      lawful = λ _. recoloured r.family r.size r.node r.endpoint c.pass.new.self (r.lawful (inl c.requires.unfailed))
           (c.pass.ensures.links.seat.node ∙ c.finds_token.ensures.links.seat.node)
           (c.pass.ensures.links.seat.nodes ∙ c.finds_token.ensures.links.seat.nodes)
           (ap (λ v. v.items) (c.pass.ensures.links.outlets ∙ c.finds_token.ensures.links.outlets))

@@ -11,5 +11,5 @@ invariant_of-result c = record {
   going = λ _. refl;
   own = λ found. absurd (let was = c.requires.fresh.running in cc);
   agrees = agrees_going c.args.node.failed _ c.requires.fresh.opened.going;
-  lawful = λ _. begun c.args.set c.args.size c.args.node c.args.endpoint c.requires.fresh;
+  lawful = λ _. begun c.args.family c.args.size c.args.node c.args.endpoint c.requires.fresh;
 }

@@ -17,7 +17,7 @@ invariant_of-self g c =
       going = λ _. went.unfailed;
       own = λ found. f.own (own_still f.endpoint.seat c.offer.new.self.seat (ap (λ s. s.halt) c.offer.ensures.seat) (ap (λ s. s.node) c.offer.ensures.seat) found);
       agrees = f.agrees;
-      lawful = λ _. offered_again f.set f.size c.args.to f.node f.endpoint c.offer.new.self (f.lawful (inl went.unfailed)) c.offer.ensures.seat c.offer.ensures.offered c.offer.ensures.inlet
+      lawful = λ _. offered_again f.family f.size c.args.to f.node f.endpoint c.offer.new.self (f.lawful (inl went.unfailed)) c.offer.ensures.seat c.offer.ensures.offered c.offer.ensures.inlet
           (out_still f.endpoint c.offer.new.self (ap (λ s. s.nodes) c.offer.ensures.seat) c.offer.ensures.hands);
     }
 
@@ -42,7 +42,7 @@ returns g c =
     (record {
       keeps = record {
         endpoint = endpoint_trans r.endpoint f.endpoint c.offer.new.self fills.0.goes.keeps.endpoint c.offer.ensures.keeps;
-        set = fills.0.goes.keeps.set;
+        family = fills.0.goes.keeps.family;
         size = fills.0.goes.keeps.size;
       };
       unfailed = fills.0.goes.unfailed;

@@ -23,9 +23,9 @@ use Rattle.dob_run.proofs.runner.Runner.take_one.Goals as goal
 
 -- the runner is lawful with what came into the hand
 received : (r : Runner) (mid : Endpoint) → r.failed ≡ None → mid.seat ≡ r.endpoint.seat → mid.outlets ≡ r.endpoint.outlets → worked mid.inlet ≡ worked r.endpoint.inlet →
-    IsLawfulRunner r.set r.size r.node mid
+    IsLawfulRunner r.family r.size r.node mid
 received r mid going seat outlets again = (let law = r.lawful (inl going) in
-    recoloured r.set r.size r.node r.endpoint mid law (ap (λ (s : NodeSeat). s.node) seat) (ap (λ (s : NodeSeat). s.nodes) seat) (ap (λ v. v.items) outlets)
+    recoloured r.family r.size r.node r.endpoint mid law (ap (λ (s : NodeSeat). s.node) seat) (ap (λ (s : NodeSeat). s.nodes) seat) (ap (λ v. v.items) outlets)
     (worked_again r.endpoint.inlet mid.inlet again) (λ is. law.white (sym (ap (λ (s : NodeSeat). s.black) seat) ∙ is)))
 
 pub reserve-requires-clause-going : goal.reserve-requires-clause-going
@@ -56,7 +56,7 @@ invariant_of-self-in-Err g c =
       going = λ running. absurd (c.fail.ensures.stopped running);
       own = λ _ none. some_cause c.in-Err.refused none;
       agrees = agrees_failed c.reserve.new.self.failed c.in-Err.refused c.in-Err.ensures.failed;
-      lawful = λ _. unchanged_failed r.set r.size r.node c.reserve.new.self c.receive.new.self c.fail.new.self
+      lawful = λ _. unchanged_failed r.family r.size r.node c.reserve.new.self c.receive.new.self c.fail.new.self
           (received r c.receive.new.self c.requires c.receive.ensures.seat c.receive.ensures.outlets c.receive.ensures.worked)
           c.reserve.ensures.unchanged c.reserve.ensures.sound c.fail.ensures.links c.fail.ensures.colour;
     }
@@ -66,7 +66,7 @@ invariant_of-self-in_default-accept g c =
     let r = c.args.self.now in
     let n = c.reserve.new.self in
     let mid = c.receive.new.self in
-    let law = unchanged_node r.set r.size r.node n mid (received r mid c.requires c.receive.ensures.seat c.receive.ensures.outlets c.receive.ensures.worked)
+    let law = unchanged_node r.family r.size r.node n mid (received r mid c.requires c.receive.ensures.seat c.receive.ensures.outlets c.receive.ensures.worked)
     c.reserve.ensures.unchanged c.reserve.ensures.sound in
     record {
       some = r.some;
@@ -75,7 +75,7 @@ invariant_of-self-in_default-accept g c =
       own = λ found. r.own (own_still r.endpoint.seat c.accept.new.self.seat (c.accept.ensures.halt ∙ ap (λ s. s.halt) c.receive.ensures.seat)
           (c.accept.ensures.same.node ∙ ap (λ s. s.node) c.receive.ensures.seat) found);
       agrees = agrees_going n.failed _ c.in-Ok.ensures.going;
-      lawful = λ _. recoloured r.set r.size n mid c.accept.new.self law c.accept.ensures.same.node c.accept.ensures.same.nodes
+      lawful = λ _. recoloured r.family r.size n mid c.accept.new.self law c.accept.ensures.same.node c.accept.ensures.same.nodes
           (ap (λ v. v.items) c.accept.ensures.outlets) (same_inlet mid c.accept.new.self c.in_default-accept.ensures.kept)
           (λ is. law.white (sym c.in_default-accept.ensures.uncounted.1 ∙ is));
     }
@@ -102,12 +102,12 @@ invariant_of-self-in-Ok-apply_batch g c =
     let n = c.reserve.new.self in
     let mid = c.receive.new.self in
     let batch = c.in-Some-accept.batch in
-    let law = unchanged_node r.set r.size r.node n mid (received r mid c.requires c.receive.ensures.seat c.receive.ensures.outlets c.receive.ensures.worked)
+    let law = unchanged_node r.family r.size r.node n mid (received r mid c.requires c.receive.ensures.seat c.receive.ensures.outlets c.receive.ensures.worked)
     c.reserve.ensures.unchanged c.reserve.ensures.sound in
     let taken : TakesOne mid.seat c.accept.new.self.seat batch.from = c.in-Some-accept.ensures.taken in
     let more = c.in-Some-accept.ensures.worked.1 in
-    let fits : IsBatchFor r.set mid.seat.nodes batch.from mid.seat.node batch =
-    fits_node r.set mid.seat.nodes c.in-Some.from mid.seat.node mid.inlet batch c.in-Some.ensures c.in-Some-accept.ensures.held in
+    let fits : IsBatchFor r.family mid.seat.nodes batch.from mid.seat.node batch =
+    fits_node r.family mid.seat.nodes c.in-Some.from mid.seat.node mid.inlet batch c.in-Some.ensures c.in-Some-accept.ensures.held in
     record {
       some = r.some;
       at_most = r.at_most;
@@ -115,8 +115,8 @@ invariant_of-self-in-Ok-apply_batch g c =
       own = λ found. r.own (own_still r.endpoint.seat c.accept.new.self.seat (c.accept.ensures.halt ∙ ap (λ s. s.halt) c.receive.ensures.seat)
           (c.accept.ensures.same.node ∙ ap (λ s. s.node) c.receive.ensures.seat) found);
       agrees = agrees_going c.apply_batch.new.self.failed _ c.in-Ok-apply_batch.ensures.going;
-      lawful = λ _. applied_batch r.set r.size batch.from batch n c.apply_batch.new.self mid c.accept.new.self law c.in-Some-accept.ensures.within
-          (of_other r.set mid.seat.nodes c.in-Some.from mid.seat.node mid.inlet batch c.in-Some.ensures c.in-Some-accept.ensures.held)
+      lawful = λ _. applied_batch r.family r.size batch.from batch n c.apply_batch.new.self mid c.accept.new.self law c.in-Some-accept.ensures.within
+          (of_other r.family mid.seat.nodes c.in-Some.from mid.seat.node mid.inlet batch c.in-Some.ensures c.in-Some-accept.ensures.held)
           fits.entries c.in-Ok-apply_batch.ensures.taken c.in-Ok-apply_batch.ensures.sound c.accept.ensures.same.node c.accept.ensures.same.nodes
           (ap (λ (s : Stand). s.black) taken.counted) (ap (λ v. v.items) c.accept.ensures.outlets)
           (λ k other. worked_else mid.inlet c.accept.new.self.inlet batch more k other) (worked_more mid.inlet c.accept.new.self.inlet batch more);
@@ -127,7 +127,7 @@ returns-in_default-clause-step g c =
     let r = c.args.self.now in
     takes_none r _ c.receive.new.self
     (record {
-      keeps = record { endpoint = c.receive.ensures.keeps; set = refl; size = refl };
+      keeps = record { endpoint = c.receive.ensures.keeps; family = refl; size = refl };
       unfailed = c.requires;
       halt = ap (λ (s : NodeSeat). s.halt) c.receive.ensures.seat;
     })
@@ -139,7 +139,7 @@ returns-in-Err-clause-step g c = record {
     keeps = record {
       endpoint = endpoint_trans c.args.self.now.endpoint c.receive.new.self c.fail.new.self c.receive.ensures.keeps
           (links_kept c.receive.new.self c.fail.new.self c.fail.ensures.links);
-      set = refl;
+      family = refl;
       size = refl;
     };
     cause = refl;
@@ -155,8 +155,8 @@ returns-in-Err-clause-refused g c =
     let links = c.fail.ensures.links in
     λ _. record {
       from = c.in-Some.from;
-      holds = subst (λ (s : NodeSeat). HoldsFor r.set s.nodes c.in-Some.from s.node c.fail.new.self.inlet) c.receive.ensures.seat
-          (subst (λ (i : Inlet). HoldsFor r.set mid.seat.nodes c.in-Some.from mid.seat.node i) (sym links.inlet) c.in-Some.ensures);
+      holds = subst (λ (s : NodeSeat). HoldsFor r.family s.nodes c.in-Some.from s.node c.fail.new.self.inlet) c.receive.ensures.seat
+          (subst (λ (i : Inlet). HoldsFor r.family mid.seat.nodes c.in-Some.from mid.seat.node i) (sym links.inlet) c.in-Some.ensures);
       uncounted = ap (λ (i : Inlet). worked i) links.inlet ∙ c.receive.ensures.worked;
       outlets = ap (λ v. v.items) (links.outlets ∙ c.receive.ensures.outlets);
       node = c.reserve.ensures.unchanged;
@@ -167,7 +167,7 @@ returns-in_default-accept-clause-step g c =
     let r = c.args.self.now in
     takes_none r _ c.receive.new.self
     (record {
-      keeps = record { endpoint = endpoint_trans r.endpoint c.receive.new.self c.accept.new.self c.receive.ensures.keeps c.accept.ensures.keeps; set = refl; size = refl };
+      keeps = record { endpoint = endpoint_trans r.endpoint c.receive.new.self c.accept.new.self c.receive.ensures.keeps c.accept.ensures.keeps; family = refl; size = refl };
       unfailed = c.requires;
       halt = c.accept.ensures.halt ∙ ap (λ s. s.halt) c.receive.ensures.seat;
     })
@@ -179,7 +179,7 @@ returns-in-Ok-apply_batch-clause-step g c =
     let r = c.args.self.now in
     takes_one r _ c.receive.new.self
     (record {
-      keeps = record { endpoint = endpoint_trans r.endpoint c.receive.new.self c.accept.new.self c.receive.ensures.keeps c.accept.ensures.keeps; set = refl; size = refl };
+      keeps = record { endpoint = endpoint_trans r.endpoint c.receive.new.self c.accept.new.self c.receive.ensures.keeps c.accept.ensures.keeps; family = refl; size = refl };
       unfailed = c.requires;
       halt = c.accept.ensures.halt ∙ ap (λ s. s.halt) c.receive.ensures.seat;
     })
@@ -195,20 +195,20 @@ returns-clause-step g c =
     (links_kept c.accept.new.self c.fail-in-Err-apply_batch.new.self c.fail-in-Err-apply_batch.ensures.links) in
     record {
       failed = record {
-        keeps = record { endpoint = kept; set = refl; size = refl };
+        keeps = record { endpoint = kept; family = refl; size = refl };
         cause = refl;
         stopped = c.fail-in-Err-apply_batch.ensures.stopped;
       };
       reason = refused_reason _ c.in-Err-apply_batch.why (record {
         was = r;
         going = c.requires;
-        kept = record { endpoint = kept; set = refl; size = refl };
+        kept = record { endpoint = kept; family = refl; size = refl };
         from = batch.from;
         other = subst (λ (s : NodeSeat). batch.from ≢ s.node) c.receive.ensures.seat
-            (of_other r.set mid.seat.nodes c.in-Some.from mid.seat.node mid.inlet batch c.in-Some.ensures c.in-Some-accept.ensures.held);
+            (of_other r.family mid.seat.nodes c.in-Some.from mid.seat.node mid.inlet batch c.in-Some.ensures c.in-Some-accept.ensures.held);
         batch = batch;
-        fits = subst (λ (s : NodeSeat). IsBatchFor r.set s.nodes batch.from s.node batch) c.receive.ensures.seat
-            (fits_node r.set mid.seat.nodes c.in-Some.from mid.seat.node mid.inlet batch c.in-Some.ensures c.in-Some-accept.ensures.held);
+        fits = subst (λ (s : NodeSeat). IsBatchFor r.family s.nodes batch.from s.node batch) c.receive.ensures.seat
+            (fits_node r.family mid.seat.nodes c.in-Some.from mid.seat.node mid.inlet batch c.in-Some.ensures c.in-Some-accept.ensures.held);
         came = same_inlet c.accept.new.self c.fail-in-Err-apply_batch.new.self c.fail-in-Err-apply_batch.ensures.links.inlet batch.from
             ∙ worked_more mid.inlet c.accept.new.self.inlet batch c.in-Some-accept.ensures.worked.1
             ∙ ap (λ xs. xs ++ batch.items) (worked_again r.endpoint.inlet mid.inlet c.receive.ensures.worked batch.from);

@@ -10,10 +10,10 @@ pub returns-in_err-took : goal.returns-in_err-took
 returns-in_err-took g c = broken_on Works c.args.self.now c.args.self.now c.take_one.new.self c.from_residual.result c.in_err-took.field-0.0 c.from_residual.ensures.1
     (runner_same c.args.self.now) c.in_err-took.ensures.step
 
-pub expand_all-requires-clause-set : goal.expand_all-requires-clause-set
-expand_all-requires-clause-set g c =
+pub expand_all-requires-clause-family : goal.expand_all-requires-clause-family
+expand_all-requires-clause-family g c =
     let took : GoesOn c.args.self.now c.take_one.new.self = c.in_ok-took.ensures.step.goes in
-    c.requires.set ∙ sym took.keeps.set
+    c.requires.family ∙ sym took.keeps.family
 
 pub returns-in_err-expanded : goal.returns-in_err-expanded
 returns-in_err-expanded g c =
