@@ -2,7 +2,7 @@
 use Rattle.std.proofs.Common.{◌≡◌, ℕ, ◌*◌, ◌-◌, ◌≤◌, false, List, [], ◌++◌, take, drop, length, arith, sym, subst, ap, ◌∙◌, length-drop, take_all}
 use Rattle.sha2.specs.Sha256.{sha256}
 use Rattle.dob_dbfile.specs.declared.fault.Fault.{Fault}
-use Rattle.dob_dbfile.specs.declared.fault.Fault.TheVariants.{SetTooLarge, Truncated, Magic, SetByte, ClassCount, Trailing, Digest, Memory, Io}
+use Rattle.dob_dbfile.specs.declared.fault.Fault.TheVariants.{Truncated, Magic, SetByte, ClassCount, Trailing, Digest, Memory, Io, ProfileByte}
 use Rattle.dob_dbfile.specs.Devices.{Stream, after, whole}
 use Rattle.dob_dbfile.specs.Format.{code_bytes}
 use Rattle.dob_dbfile.specs.Reading.{TakesBytes, IsCut, ReadsCodes, IsDigest, EndsWith, HasDigestFault}
@@ -12,12 +12,12 @@ pub digest_cut : (message : List ℕ) (before : ℕ) (stream : Stream) (fault : 
 digest_cut message before stream Truncated cut = cut
 digest_cut message before stream (Io count) cut = (omega (arith, cut.0), cut.1, cut.2)
 digest_cut message before stream Memory cut = tt
-digest_cut message before stream SetTooLarge cut = cut
 digest_cut message before stream Magic cut = cut
 digest_cut message before stream SetByte cut = cut
 digest_cut message before stream ClassCount cut = cut
 digest_cut message before stream Trailing cut = absurd cut
 digest_cut message before stream Digest cut = absurd cut
+digest_cut message before stream ProfileByte cut = cut
 
 -- the room holds all of a stream that ends after as many bytes
 pub record IsAll (stream : Stream) (room : List ℕ) : Type 0 where

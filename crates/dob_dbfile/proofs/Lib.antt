@@ -8,8 +8,9 @@ mod Pieces  -- what is read piece after piece
 mod Filled  -- a room that fills
 mod Cuts  -- a stream that is cut
 mod Endings  -- what the end of a file shows
-mod HeaderFaults  -- that a header names no set too large
-mod Places  -- at most one fault holds
+mod Headers  -- what the tests say of the first bytes
+pub mod Places  -- at most one fault holds
+mod HeldBytes  -- what the bytes of a file show
 mod Verdicts  -- what the steps say of the whole stream
 pub mod Written  -- the file of a table passes
 pub mod Looked  -- what was read by place, and the records in a table's file

@@ -8,7 +8,7 @@ use Rattle.byteorder.specs.Endian.{little_bytes}
 use Rattle.sha2.specs.Hashers.{Holds256}
 use Rattle.sha2.specs.declared.Sha256.{Sha256}
 use Rattle.dob_dbfile.specs.declared.fault.Fault.{Fault}
-use Rattle.dob_dbfile.specs.declared.fault.Fault.TheVariants.{SetTooLarge, Truncated, Magic, SetByte, ClassCount, Trailing, Digest, Memory, Io}
+use Rattle.dob_dbfile.specs.declared.fault.Fault.TheVariants.{Truncated, Magic, SetByte, ClassCount, Trailing, Digest, Memory, Io, ProfileByte}
 use Rattle.dob_dbfile.specs.Devices.{Stream, after}
 use Rattle.dob_dbfile.specs.Format.{code_bytes}
 use Rattle.dob_dbfile.specs.Reading.{IsCut, ReadsCodes, HashesNext}
@@ -57,12 +57,12 @@ cut_later stream done wanted more before Truncated there upto cut = (omega (arit
 cut_later stream done wanted more before (Io count) there upto cut =
     (omega (arith, cut.0, length-drop done stream.bytes), cut.1, omega (arith, cut.2, length-drop done stream.bytes))
 cut_later stream done wanted more before Memory there upto cut = tt
-cut_later stream done wanted more before SetTooLarge there upto cut = cut
 cut_later stream done wanted more before Magic there upto cut = cut
 cut_later stream done wanted more before SetByte there upto cut = cut
 cut_later stream done wanted more before ClassCount there upto cut = cut
 cut_later stream done wanted more before Trailing there upto cut = cut
 cut_later stream done wanted more before Digest there upto cut = cut
+cut_later stream done wanted more before ProfileByte there upto cut = cut
 
 -- a piece has no more records than are left
 pub few_more : (count done records longest : ℕ) (room : List ℕ) → done ≤ count → records ≡ min (count - done) longest

@@ -9,7 +9,7 @@ use Rattle.std.proofs.Math.Bool.{or-false}
 use Rattle.std.proofs.lemmas.List.{length-append, take-append-le, take_at, drop_at}
 use Rattle.dob_dbfile.specs.declared.device.FailedAfter.{FailedAfter}
 use Rattle.dob_dbfile.specs.Writing.{StopsBehind}
-use Rattle.dob_dbfile.specs.Sinks.{AddsFlush, IsNotFlushed, IsSame, Puts, State, StopsAfter, TakesPiece, Works, Writes, change}
+use Rattle.dob_dbfile.specs.Sinks.{AddsFlush, IsNotFlushed, IsSame, Puts, SinkState, StopsAfter, TakesPiece, Works, Writes, change}
 
 -- bytes after bytes
 pub Appends-append : (a b c : Option (List ℕ)) (xs ys : List ℕ) → Appends a b xs → Appends b c ys → Appends a c (xs ++ ys)
@@ -62,11 +62,11 @@ Appends-keep (Some a) (Some b) None xs p q = absurd q
 Appends-keep (Some a) (Some b) (Some c) xs p q = q ∙ p
 
 -- a call that doesn't fail after others that didn't
-pub works_on : (a b c : State) → Works (change a b) → c.has_failed ≡ (b.has_failed || false) → Works (change a c)
+pub works_on : (a b c : SinkState) → Works (change a b) → c.has_failed ≡ (b.has_failed || false) → Works (change a c)
 works_on a b c works notes = notes ∙ or-false b.has_failed ∙ works
 
 -- a part of the bytes, and then a call that fails
-pub stops_after : (a b c : State) (bytes : List ℕ) (count : ℕ) → count ≤ length bytes → TakesPiece (change a b) (take count bytes) → IsNotFlushed (change a b)
+pub stops_after : (a b c : SinkState) (bytes : List ℕ) (count : ℕ) → count ≤ length bytes → TakesPiece (change a b) (take count bytes) → IsNotFlushed (change a b)
     → IsSame (change a b) → Keeps b.received c.received → Keeps b.flushes c.flushes → c.writer ≡ b.writer → c.has_failed ≡ (b.has_failed || true)
     → StopsAfter (change a c) bytes count
 stops_after a b c bytes count within part unflushed same kept flushes again notes = record {
@@ -78,7 +78,7 @@ stops_after a b c bytes count within part unflushed same kept flushes again note
 }
 
 -- all of it, and then a flush
-pub put_whole : (a b c : State) (bytes : List ℕ) → Writes (change a b) bytes → Keeps b.received c.received → AddsFlush b.received b.flushes c.flushes
+pub put_whole : (a b c : SinkState) (bytes : List ℕ) → Writes (change a b) bytes → Keeps b.received c.received → AddsFlush b.received b.flushes c.flushes
     → c.writer ≡ b.writer → c.has_failed ≡ (b.has_failed || false) → Puts (change a c) bytes
 put_whole a b c bytes wrote kept flushed again notes = record {
   all = Appends-keep a.received b.received c.received bytes wrote.all kept;
@@ -88,7 +88,7 @@ put_whole a b c bytes wrote kept flushed again notes = record {
 }
 
 -- all of it, and then a flush that failed
-pub put_unflushed : (a b c : State) (bytes : List ℕ) → Writes (change a b) bytes → Keeps b.received c.received → Keeps b.flushes c.flushes
+pub put_unflushed : (a b c : SinkState) (bytes : List ℕ) → Writes (change a b) bytes → Keeps b.received c.received → Keeps b.flushes c.flushes
     → c.writer ≡ b.writer → c.has_failed ≡ (b.has_failed || true) → StopsAfter (change a c) bytes (length bytes)
 put_unflushed a b c bytes wrote kept flushes again notes =
     stops_after a b c bytes (length bytes) (omega arith) (rw (take-length bytes) wrote.all) wrote.unflushed wrote.same kept flushes again notes
@@ -96,11 +96,11 @@ put_unflushed a b c bytes wrote kept flushes again notes =
 -- ---- pieces, one after the other
 
 -- nothing was written
-pub writes_none : (a : State) → Writes (change a a) []
+pub writes_none : (a : SinkState) → Writes (change a a) []
 writes_none a = record { all = Appends-nil a.received; unflushed = Keeps-self a.flushes; works = refl; same = refl }
 
 -- one piece, and then another one
-pub writes_more : (a b c : State) (xs ys : List ℕ) → Writes (change a b) xs → Writes (change b c) ys → Writes (change a c) (xs ++ ys)
+pub writes_more : (a b c : SinkState) (xs ys : List ℕ) → Writes (change a b) xs → Writes (change b c) ys → Writes (change a c) (xs ++ ys)
 writes_more a b c xs ys first second = record {
   all = Appends-append a.received b.received c.received xs ys first.all second.all;
   unflushed = Keeps-trans a.flushes b.flushes c.flushes first.unflushed second.unflushed;
@@ -117,7 +117,7 @@ flushed_later (Some a) (Some b) f g h xs ys p kept adds = λ bytes is.
     Keeps-Appends f g h (length bytes ∷ []) kept (adds bytes (ap (λ l. Some (l ++ ys)) p ∙ ap Some (append_assoc a xs ys) ∙ is))
 
 -- one piece, and then the last one with a flush
-pub puts_more : (a b c : State) (xs ys : List ℕ) → Writes (change a b) xs → Puts (change b c) ys → Puts (change a c) (xs ++ ys)
+pub puts_more : (a b c : SinkState) (xs ys : List ℕ) → Writes (change a b) xs → Puts (change b c) ys → Puts (change a c) (xs ++ ys)
 puts_more a b c xs ys first second = record {
   all = Appends-append a.received b.received c.received xs ys first.all second.all;
   flushed = flushed_later a.received b.received a.flushes b.flushes c.flushes xs ys first.all first.unflushed second.flushed;
@@ -136,7 +136,7 @@ front_is xs ys rest whole count is within =
     ∙ ap (λ (back : List ℕ). xs ++ back) (take-append-le count ys rest within)
 
 -- one piece, and then a part of another one: a part of the whole
-pub stops_behind : (a b c : State) (base before : ℕ) (xs ys rest whole : List ℕ) (failed : FailedAfter) → Writes (change a b) xs → length xs ≡ before
+pub stops_behind : (a b c : SinkState) (base before : ℕ) (xs ys rest whole : List ℕ) (failed : FailedAfter) → Writes (change a b) xs → length xs ≡ before
     → whole ≡ xs ++ (ys ++ rest) → StopsBehind (change b c) (base + before) ys failed → StopsBehind (change a c) base whole failed
 stops_behind a b c base before xs ys rest whole failed first long is stops =
     let count : ℕ = stops.0 in
@@ -157,7 +157,7 @@ stops_behind a b c base before xs ys rest whole failed first long is stops =
     )
 
 -- the same of the last piece
-pub stops_last : (a b c : State) (before : ℕ) (xs ys whole : List ℕ) (failed : FailedAfter) → Writes (change a b) xs → length xs ≡ before
+pub stops_last : (a b c : SinkState) (before : ℕ) (xs ys whole : List ℕ) (failed : FailedAfter) → Writes (change a b) xs → length xs ≡ before
     → whole ≡ xs ++ ys → StopsBehind (change b c) before ys failed → StopsBehind (change a c) 0 whole failed
 stops_last a b c before xs ys whole failed first long is stops =
     stops_behind a b c 0 before xs ys [] whole failed first long (is ∙ ap (λ (last : List ℕ). xs ++ last) (sym (append-nil ys)))

@@ -1,14 +1,15 @@
--- The file of a table passes all tests, and is that of no other table.
-use Rattle.std.proofs.Common.{◌≡◌, ℕ, ◌+◌, ◌*◌, ◌<◌, ◌⊎◌, List, ◌++◌, take, drop, length, arith, inl, inr, refl, sym, subst, ap, ◌∙◌, Result, Ok, Err}
+-- A file of a table passes all tests, and is that of no other table.
+use Rattle.std.proofs.Common.{◌≡◌, ℕ, ◌+◌, ◌*◌, ◌<◌, ◌≤◌, ◌⊎◌, false, List, take, drop, length, arith, inl, inr, refl, sym, subst, ap, ◌∙◌, Result, Ok, Err}
+use Rattle.std.proofs.Common.{length-take, min}
+use Rattle.std.proofs.Math.Nat.{min-le_right}
 use Rattle.std.specs.Result.{IfOk, IfErr, MatchResult}
 use Rattle.std.specs.List.{All}
 use Rattle.std.proofs.lemmas.List.{length-append, length-map, take_at, drop_at}
 use Rattle.sha2.specs.Sha256.{sha256}
 use Rattle.sha2.proofs.Facts256.{length-sha256}
-use Rattle.dob_pieces.specs.declared.piece_set.PieceSet.{PieceSet}
-use Rattle.dob_rank.specs.Order.{IsRepresentative, HasClasses}
-use Rattle.dob_rank.specs.Marks.{classes_of}
-use Rattle.dob_rank.proofs.Marks.{HasClasses-classes_of}
+use Rattle.dob_pieces.specs.declared.profile.Family.{Family}
+use Rattle.dob_rank.specs.Families.{IsRepresentative, HasClasses, classes_of}
+use Rattle.dob_rank.proofs.Present.{HasClasses-classes_of}
 use Rattle.dob_value.specs.declared.value.Value.{Value}
 use Rattle.dob_value.specs.Codes.{value_of_code, values_of_codes}
 use Rattle.dob_value.specs.Follows.{ClassTable, IsTable, class_table}
@@ -16,105 +17,123 @@ use Rattle.dob_value.proofs.ClassNumbers.{one_count}
 use Rattle.dob_value.proofs.Parity.{entries_of_codes}
 use Rattle.dob_dbfile.specs.declared.fault.Fault.{Fault}
 use Rattle.dob_dbfile.specs.declared.fault.Fault.TheVariants as fault
-use Rattle.dob_dbfile.specs.Devices.{Stream, whole}
-use Rattle.dob_dbfile.specs.Format.{title, set_bytes, count_bytes, header_of, records, contents, bytes_of}
-use Rattle.dob_rank.specs.Limits.{IsSmall}
-use Rattle.dob_dbfile.specs.Faults.{CountsClasses, NamesSet, contents_len, HasDigest, HasReadFault}
-use Rattle.dob_dbfile.proofs.Decoded.{same_records, length-records}
-use Rattle.dob_dbfile.proofs.Places.{same_set, no_fault}
+use Rattle.dob_dbfile.specs.declared.header.Format.{Format}
+use Rattle.dob_dbfile.specs.declared.header.Format.TheVariants.{First, Second}
+use Rattle.dob_dbfile.specs.Devices.{whole}
+use Rattle.dob_dbfile.specs.Format.{count_bytes, header_in, records, contents_in, bytes_in, IsFile}
+use Rattle.dob_dbfile.specs.Faults.{count_place, header_len, SaysProfile, NamesFamily, CountsClasses, contents_len, HasDigest, PassesAll, HasReadFault}
+use Rattle.dob_dbfile.proofs.Decoded.{same_records}
+use Rattle.dob_dbfile.proofs.FileBytes.{Tells, IsFileIn, contents-rest, format_of, header-front, length-contents, length-header}
+use Rattle.dob_dbfile.proofs.Headers.{counts_lifts, header_long}
+use Rattle.dob_dbfile.proofs.Places.{same_head, no_fault}
 
 -- a code for each class makes a table
-pub table_of_codes : (set : PieceSet) (codes : List ℕ) → length codes ≡ classes_of set → All (λ code. code < 65536) codes → IsTable set (values_of_codes codes)
-table_of_codes set codes counted fit = record {
-  classes = subst (HasClasses set) (sym (length-map codes value_of_code ∙ counted)) (HasClasses-classes_of set);
+pub table_of_codes : (family : Family) (codes : List ℕ) → length codes ≡ classes_of family → All (λ code. code < 65536) codes
+    → IsTable family (values_of_codes codes)
+table_of_codes family codes counted fit = record {
+  classes = subst (HasClasses family) (sym (length-map codes value_of_code ∙ counted)) (HasClasses-classes_of family);
   entries = entries_of_codes codes fit;
 }
 
 -- how many classes a table has
-pub table_classes : (table : ClassTable) → IsTable table.set table.values → length table.values ≡ classes_of table.set
-table_classes table is = one_count (IsRepresentative table.set) (length table.values) (classes_of table.set) is.classes (HasClasses-classes_of table.set)
+pub table_classes : (table : ClassTable) → IsTable table.family table.values → length table.values ≡ classes_of table.family
+table_classes table is =
+    one_count (IsRepresentative table.family) (length table.values) (classes_of table.family) is.classes (HasClasses-classes_of table.family)
 
-contents-front : (table : ClassTable) → take 20 (bytes_of table) ≡ header_of table
-unfolding contents
-contents-front table = refl
+-- its header says its profile
+says : (format : Format) (table : ClassTable) → Tells format table.family.profile → SaysProfile format table.family.profile (header_in format table)
+says First table tells = tells
+says Second table tells = refl
 
-pub contents-rest : (table : ClassTable) → drop 20 (contents table) ≡ records table.values
-unfolding contents
-contents-rest table = refl
+-- and names its family
+names_front : (format : Format) (table : ClassTable) → Tells format table.family.profile → NamesFamily format table.family (header_in format table)
+names_front First table tells = ((((omega (arith, length-header First table), refl), refl), omega (arith, length-header First table)), says First table tells)
+names_front Second table tells = ((((omega (arith, length-header Second table), refl), refl), omega (arith, length-header Second table)), says Second table tells)
 
-pub length-contents : (table : ClassTable) → length (contents table) ≡ 20 + 2 * length table.values
-unfolding contents
-length-contents table = let body = length-records table.values in omega (arith, body)
+count_front : (format : Format) (table : ClassTable) → take 8 (drop (count_place format) (header_in format table)) ≡ count_bytes (length table.values)
+count_front First table = refl
+count_front Second table = refl
 
--- it names the set and counts its classes
-counts_front : (set : PieceSet) (count : ℕ) → IsSmall set → count ≡ classes_of set → CountsClasses set (title ++ set_bytes set ++ count_bytes count)
-counts_front set count few counted = (((refl, refl), few), ap count_bytes counted)
+-- a file of a table names its family, and counts its classes
+pub counts_file : (format : Format) (bytes : List ℕ) (table : ClassTable) → IsFileIn format bytes table → IsTable table.family table.values
+    → CountsClasses format table.family bytes
+counts_file format bytes table file is =
+    let family : Family = table.family in
+    let counts : CountsClasses format family (header_in format table) = (
+      names_front format table file.tells,
+      count_front format table ∙ ap count_bytes (table_classes table is),
+    ) in
+    let front : take (header_len format) bytes ≡ header_in format table = ap (take (header_len format)) file.same ∙ header-front format table in
+    let long : length (take (header_len format) bytes) ≡ header_len format = ap length front ∙ length-header format table in
+    let there : header_len format ≤ length bytes =
+    let cut : length (take (header_len format) bytes) ≡ min (header_len format) (length bytes) = length-take (header_len format) bytes in
+    let least : min (header_len format) (length bytes) ≤ length bytes = min-le_right (header_len format) (length bytes) in
+    omega (arith, cut, least, long) in
+    counts_lifts (header_len format) bytes (header_long format) there format family (subst (CountsClasses format family) (sym front) counts)
 
--- the file of a table of a small set passes all tests
-pub file_passes : (table : ClassTable) → IsSmall table.set → IsTable table.set table.values → HasDigest table.set (whole (bytes_of table))
-file_passes table few is =
-    let counted : length table.values ≡ classes_of table.set = table_classes table is in
-    let digest : List ℕ = sha256 (contents table) in
-    let body : length (contents table) ≡ contents_len table.set = length-contents table ∙ ap (λ (n : ℕ). 20 + 2 * n) counted in
-    let last : length digest ≡ 32 = length-sha256 (contents table) in
-    let all : length (contents table ++ digest) ≡ length (contents table) + length digest = length-append (contents table) digest in
-    let counts : CountsClasses table.set (take 20 (bytes_of table)) =
-    subst (CountsClasses table.set) (sym (contents-front table)) (counts_front table.set (length table.values) few counted) in (
-      (
-        (((omega (arith, all, body, last), counts), omega (arith, all, body, last)), omega (arith, all, body, last)),
-        refl,
-      ),
-      drop_at (contents table) digest (contents_len table.set) body
-          ∙ ap sha256 (sym (take_at (contents table) digest (contents_len table.set) body)),
+-- a file of a table passes all tests
+pub file_passes : (format : Format) (bytes : List ℕ) (table : ClassTable) → IsFileIn format bytes table → IsTable table.family table.values
+    → HasDigest format table.family (whole bytes)
+file_passes format bytes table file is =
+    let counted : length table.values ≡ classes_of table.family = table_classes table is in
+    let contents : List ℕ = contents_in format table in
+    let digest : List ℕ = sha256 contents in
+    let body : length contents ≡ contents_len format table.family = length-contents format table ∙ ap (λ (n : ℕ). header_len format + 2 * n) counted in
+    let last : length digest ≡ 32 = length-sha256 contents in
+    let all : length bytes ≡ length contents + length digest = ap length file.same ∙ length-append contents digest in
+    let counts = counts_file format bytes table file is in (
+      (((counts, omega (arith, all, body, last)), omega (arith, all, body, last)), refl),
+      ap (drop (contents_len format table.family)) file.same
+          ∙ drop_at contents digest (contents_len format table.family) body
+          ∙ ap sha256 (sym (ap (take (contents_len format table.family)) file.same ∙ take_at contents digest (contents_len format table.family) body)),
     )
 
--- tables of one set with the same files are the same
-same_values : (set : PieceSet) (xs ys : List Value) → IsTable set xs → IsTable set ys
-    → bytes_of (class_table set xs) ≡ bytes_of (class_table set ys) → class_table set xs ≡ class_table set ys
-same_values set xs ys is_xs is_ys same =
-    let a : ClassTable = class_table set xs in
-    let b : ClassTable = class_table set ys in
-    let len_a : length (contents a) ≡ contents_len set = length-contents a ∙ ap (λ (n : ℕ). 20 + 2 * n) (table_classes a is_xs) in
-    let len_b : length (contents b) ≡ contents_len set = length-contents b ∙ ap (λ (n : ℕ). 20 + 2 * n) (table_classes b is_ys) in
-    let body : contents a ≡ contents b =
-    sym (take_at (contents a) (sha256 (contents a)) (contents_len set) len_a)
-    ∙ ap (λ (bytes : List ℕ). take (contents_len set) bytes) same
-    ∙ take_at (contents b) (sha256 (contents b)) (contents_len set) len_b in
-    let found : records xs ≡ records ys = sym (contents-rest a) ∙ ap (λ (bytes : List ℕ). drop 20 bytes) body ∙ contents-rest b in
-    ap (class_table set) (same_records xs ys is_xs.entries is_ys.entries found)
+pub passes_all : (bytes : List ℕ) (table : ClassTable) → IsFile bytes table → IsTable table.family table.values → PassesAll (whole bytes)
+passes_all bytes table file is =
+    let found = format_of bytes table file in (found.0, table.family, file_passes found.0 bytes table found.1 is)
 
--- tables with the same files are the same, where those name one set
-same_tables : (p q : PieceSet) (xs ys : List Value) → p ≡ q → IsTable p xs → IsTable q ys
-    → bytes_of (class_table p xs) ≡ bytes_of (class_table q ys) → class_table p xs ≡ class_table q ys
-same_tables p q xs ys one is_xs is_ys same =
+-- tables of one family with the same files in one format are the same
+same_values : (format : Format) (family : Family) (xs ys : List Value) → IsTable family xs → IsTable family ys
+    → bytes_in format (class_table family xs) ≡ bytes_in format (class_table family ys) → class_table family xs ≡ class_table family ys
+same_values format family xs ys is_xs is_ys same =
+    let a : ClassTable = class_table family xs in
+    let b : ClassTable = class_table family ys in
+    let len : ℕ = contents_len format family in
+    let len_a : length (contents_in format a) ≡ len = length-contents format a ∙ ap (λ (n : ℕ). header_len format + 2 * n) (table_classes a is_xs) in
+    let len_b : length (contents_in format b) ≡ len = length-contents format b ∙ ap (λ (n : ℕ). header_len format + 2 * n) (table_classes b is_ys) in
+    let body : contents_in format a ≡ contents_in format b =
+    sym (take_at (contents_in format a) (sha256 (contents_in format a)) len len_a)
+    ∙ ap (take len) same
+    ∙ take_at (contents_in format b) (sha256 (contents_in format b)) len len_b in
+    let found : records xs ≡ records ys = sym (contents-rest format a) ∙ ap (drop (header_len format)) body ∙ contents-rest format b in
+    ap (class_table family) (same_records xs ys is_xs.entries is_ys.entries found)
+
+-- tables with the same files are the same, where those name one family in one format
+same_tables : (f g : Format) (p q : Family) (xs ys : List Value) → f ≡ g → p ≡ q → IsTable p xs → IsTable q ys
+    → bytes_in f (class_table p xs) ≡ bytes_in g (class_table q ys) → class_table p xs ≡ class_table q ys
+same_tables f g p q xs ys one_format one is_xs is_ys same =
     subst
-    (λ (set : PieceSet). IsTable set ys → bytes_of (class_table p xs) ≡ bytes_of (class_table set ys) → class_table p xs ≡ class_table set ys)
+    (λ (family : Family). IsTable family ys → bytes_in f (class_table p xs) ≡ bytes_in f (class_table family ys) → class_table p xs ≡ class_table family ys)
     one
-    (λ is found. same_values p xs ys is_xs is found)
-    is_ys same
-
--- the header of a table's file names its set
-pub names_set : (table : ClassTable) → NamesSet table.set (take 20 (bytes_of table))
-names_set table = subst (NamesSet table.set) (sym (contents-front table)) (refl, refl)
+    (λ is found. same_values f p xs ys is_xs is found)
+    is_ys (same ∙ ap (λ (format : Format). bytes_in format (class_table q ys)) (sym one_format))
 
 -- no two tables have one file
-pub same_files : (a b : ClassTable) → IsTable a.set a.values → IsTable b.set b.values → bytes_of a ≡ bytes_of b → a ≡ b
-same_files a b is_a is_b same =
-    let one : a.set ≡ b.set =
-    same_set a.set b.set (take 20 (bytes_of b)) (subst (λ (bytes : List ℕ). NamesSet a.set (take 20 bytes)) same (names_set a)) (names_set b) in
-    same_tables a.set b.set a.values b.values one is_a is_b same
+pub same_files : (bytes : List ℕ) (a b : ClassTable) → IsTable a.family a.values → IsTable b.family b.values → IsFile bytes a → IsFile bytes b → a ≡ b
+same_files bytes a b is_a is_b file_a file_b =
+    let at_a = format_of bytes a file_a in
+    let at_b = format_of bytes b file_b in
+    let counts_a = counts_file at_a.0 bytes a at_a.1 is_a in
+    let counts_b = counts_file at_b.0 bytes b at_b.1 is_b in
+    let one = same_head at_a.0 at_b.0 a.family b.family bytes counts_a.0 counts_b.0 in
+    same_tables at_a.0 at_b.0 a.family b.family a.values b.values one.0 one.1 is_a is_b (sym at_a.1.same ∙ at_b.1.same)
 
--- what reading the file of a table gives
-pub read_back : (table : ClassTable) (result : Result ClassTable Fault) → IsSmall table.set → IsTable table.set table.values
-    → IfOk result (λ found. (whole (bytes_of table) ≡ whole (bytes_of found)) × HasDigest found.set (whole (bytes_of table)))
-    → IfOk result (λ found. IsTable found.set found.values)
-    → IfErr result (λ given. (given ≡ fault.Memory) ⊎ HasReadFault (whole (bytes_of table)) given)
+-- what reading a file of a table gives
+pub read_back : (table : ClassTable) (bytes : List ℕ) (result : Result ClassTable Fault) → IsTable table.family table.values → IsFile bytes table
+    → IfOk result (λ found. (false ≡ false) × IsFile bytes found × PassesAll (whole bytes))
+    → IfOk result (λ found. IsTable found.family found.values)
+    → IfErr result (λ given. (given ≡ fault.Memory) ⊎ HasReadFault (whole bytes) given)
     → MatchResult result (λ found. found ≡ table) (λ given. given ≡ fault.Memory)
-read_back table (Ok found) few is right good wrong =
-    let stream : Stream = whole (bytes_of table) in
-    let passes : HasDigest table.set stream = file_passes table few is in
-    let one : found.set ≡ table.set =
-    same_set found.set table.set (take 20 (bytes_of table)) right.1.0.0.0.0.1.0.0 passes.0.0.0.0.1.0.0 in
-    same_tables found.set table.set found.values table.values one good is (sym (ap (λ (s : Stream). s.bytes) right.0))
-read_back table (Err given) few is right good (inl none) = none
-read_back table (Err given) few is right good (inr at_given) = absurd (no_fault (whole (bytes_of table)) table.set given (file_passes table few is) at_given)
+read_back table bytes (Ok found) is file right good wrong = same_files bytes found table good is right.1 file
+read_back table bytes (Err given) is file right good (inl none) = none
+read_back table bytes (Err given) is file right good (inr at_given) = absurd (no_fault (whole bytes) given (passes_all bytes table file is) at_given)

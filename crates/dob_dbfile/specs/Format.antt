@@ -1,20 +1,35 @@
--- The bytes of a table's file.
-use Rattle.std.specs.Prelude.{ℕ, List, [], ◌∷◌, ◌++◌, length, codes}
+-- The bytes of a table's file, in its two formats.
+use Rattle.std.specs.Prelude.{◌≡◌, ◌⊎◌, ℕ, List, [], ◌∷◌, ◌++◌, length, codes}
 use Rattle.std.specs.List.{flat_map}
 use Rattle.byteorder.specs.Endian.{little_bytes}
 use Rattle.sha2.specs.Sha256.{sha256}
 use Rattle.dob_pieces.specs.declared.piece_set.PieceSet.{PieceSet}
+use Rattle.dob_pieces.specs.declared.profile.Profile.{Profile}
+use Rattle.dob_pieces.specs.declared.profile.Profile.TheVariants.{A, B}
 use Rattle.dob_value.specs.declared.value.Value.{Value}
 use Rattle.dob_value.specs.Codes.{code_of_value}
 use Rattle.dob_value.specs.Follows.{ClassTable}
+use Rattle.dob_dbfile.specs.declared.header.Format.{Format}
+use Rattle.dob_dbfile.specs.declared.header.Format.TheVariants.{First, Second}
 
--- what each file begins with
-abbrev pub title : List ℕ
-title = codes "DOBUTSU1"
+-- what a file of each format begins with
+abbrev pub title : Format → List ℕ
+title First = codes "DOBUTSU1"
+title Second = codes "DOBUTSU2"
 
 -- the numbers of chicks, elephants and giraffes, and a 2
 abbrev pub set_bytes : PieceSet → List ℕ
 set_bytes set = set.chicks ∷ set.elephants ∷ set.giraffes ∷ 2 ∷ []
+
+-- the number of a profile
+abbrev pub profile_byte : Profile → ℕ
+profile_byte A = 0
+profile_byte B = 1
+
+-- the profile, of which the first format says nothing
+abbrev pub profile_bytes : Format → Profile → List ℕ
+profile_bytes First profile = []
+profile_bytes Second profile = profile_byte profile ∷ []
 
 -- the number of classes in eight bytes, the lowest first
 abbrev pub count_bytes : ℕ → List ℕ
@@ -29,13 +44,26 @@ abbrev pub records : List Value → List ℕ
 records values = flat_map (λ value. little_bytes 2 (code_of_value value)) values
 
 -- what stands before the records
-abbrev pub header_of : ClassTable → List ℕ
-header_of table = title ++ set_bytes table.set ++ count_bytes (length table.values)
+abbrev pub header_in : Format → ClassTable → List ℕ
+header_in format table =
+    title format ++ set_bytes table.family.set ++ profile_bytes format table.family.profile ++ count_bytes (length table.values)
 
 -- all that stands before the digest
-unfoldable pub contents : ClassTable → List ℕ
-contents table = title ++ set_bytes table.set ++ count_bytes (length table.values) ++ records table.values
+unfoldable pub contents_in : Format → ClassTable → List ℕ
+contents_in format table = header_in format table ++ records table.values
 
--- the file of a table: its contents, and their digest
+-- the contents and their digest
+abbrev pub bytes_in : Format → ClassTable → List ℕ
+bytes_in format table = contents_in format table ++ sha256 (contents_in format table)
+
+-- the file of a table, in the second format: the one that is written
 abbrev pub bytes_of : ClassTable → List ℕ
-bytes_of table = contents table ++ sha256 (contents table)
+bytes_of table = bytes_in Second table
+
+-- and in the first, for tables of profile A
+abbrev pub bytes1 : ClassTable → List ℕ
+bytes1 table = bytes_in First table
+
+-- the bytes are a file of the table, in one of the two
+abbrev pub IsFile : List ℕ → ClassTable → Type 0
+IsFile bytes table = (bytes ≡ bytes_of table) ⊎ ((table.family.profile ≡ A) × (bytes ≡ bytes1 table))

@@ -44,7 +44,7 @@ abbrev pub HasRestFault : List ℕ → ℕ → Stream → Fault → Type 0
 HasRestFault front count stream Trailing = 2 * count + 32 < length stream.bytes
 HasRestFault front count stream Digest = (length stream.bytes ≡ 2 * count + 32) × (stream.fails ≡ false)
     × (drop (2 * count) stream.bytes ≢ sha256 (front ++ take (2 * count) stream.bytes))
-HasRestFault front count stream (Io bytes) = (length stream.bytes ≤ 2 * count + 32) × (stream.fails ≡ true) × (bytes ≡ 20 + length stream.bytes)
+HasRestFault front count stream (Io bytes) = (length stream.bytes ≤ 2 * count + 32) × (stream.fails ≡ true) × (bytes ≡ length front + length stream.bytes)
 HasRestFault front count stream Truncated = (length stream.bytes < 2 * count + 32) × (stream.fails ≡ false)
 HasRestFault front count stream Memory = Unit {0}
 HasRestFault front count stream _ = ⊥

@@ -3,7 +3,7 @@ use Rattle.std.specs.Prelude.{◌≡◌, ◌≤◌, ◌⊎◌, ℕ, Bool, true, 
 use Rattle.std.specs.Io.KnownBytes.{Appends, Keeps, append_known}
 
 -- what is known of a sink
-pub record State : Type 0 where
+pub record SinkState : Type 0 where
   -- the bytes that it has received, where they are known
   pub received : Option (List ℕ)
   -- after how many bytes it was flushed, each time, where that is known
@@ -15,10 +15,10 @@ pub record State : Type 0 where
 
 -- what was there, and what is there after
 pub record Change : Type 0 where
-  pub before : State
-  pub after : State
+  pub before : SinkState
+  pub after : SinkState
 
-abbrev pub change : State → State → Change
+abbrev pub change : SinkState → SinkState → Change
 change before after = record { before = before; after = after }
 
 -- nothing happened to it

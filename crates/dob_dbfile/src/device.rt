@@ -2,7 +2,7 @@
 ghost use Rattle.std.specs.Prelude.{◌≡◌, ℕ, ◌<◌, ◌≤◌, ◌||◌, [], Bool, length, is_err, IfOk, MatchResult, OnOk, OnErr};
 ghost use Rattle.std.specs.Io.KnownBytes.{Keeps, WriteAppends};
 ghost use Rattle.dob_dbfile.specs.Devices.{Stream, after, broken, GivesFirst};
-ghost use Rattle.dob_dbfile.specs.Sinks.{State, AddsFlush};
+ghost use Rattle.dob_dbfile.specs.Sinks.{SinkState, AddsFlush};
 
 /// A device didn't do what it was asked, and no byte was moved by that call.
 #[derive(Clone, Copy, Debug, PartialEq, Eq)]
@@ -56,7 +56,7 @@ pub trait PlacedSource: Source {
 /// A place for bytes, which are taken one after the other.
 pub trait Sink {
     // What is known of it: its bytes, where it was flushed, whether some call of it has failed, and the writer that it was lent.
-    ghost state: { Self → State };
+    ghost state: { Self → SinkState };
 
     /// Takes the first bytes of the piece and answers how many: at least one, where there is one.
     fn write(&mut self, piece: &[u8]) -> Result<usize, Failed>

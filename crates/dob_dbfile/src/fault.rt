@@ -10,15 +10,13 @@ use std::fmt;
 /// Why a file isn't read or written.
 #[derive(Clone, Copy, Debug, PartialEq, Eq)]
 pub enum Fault {
-    /// E8: the file's piece set has more than `MOST_PIECES` pieces besides the lions.
-    SetTooLarge,
-    /// E15: the bytes end before the header, or before the records and the digest of the set that it names.
+    /// E15: the bytes end before the header, or before the records and the digest of the family that it names.
     Truncated,
     /// E16: the file doesn't begin as such files do.
     Magic,
     /// E17: the bytes after that name no piece set.
     SetByte,
-    /// E18: the set hasn't that number of classes.
+    /// E18: the family hasn't that number of classes.
     ClassCount,
     /// E19: a byte stands after the digest.
     Trailing,
@@ -28,6 +26,8 @@ pub enum Fault {
     Memory,
     /// E24: what is read from or written to failed after that many bytes.
     Io(u64),
+    /// E27: byte 12 of a file in the second format is no profile's.
+    ProfileByte,
 }
 
 impl fmt::Display for Fault {
@@ -37,7 +37,6 @@ impl fmt::Display for Fault {
 
     fn fmt<W: fmt::Write>(&self, f: &mut fmt::Formatter<W>) -> fmt::Result {
         match self {
-            Fault::SetTooLarge => write!(f, "{}", dob_rank::Fault::SetTooLarge),
             Fault::Truncated => write!(f, "E15 Truncated"),
             Fault::Magic => write!(f, "E16 Magic"),
             Fault::SetByte => write!(f, "E17 SetByte"),
@@ -46,6 +45,7 @@ impl fmt::Display for Fault {
             Fault::Digest => write!(f, "E20 Digest"),
             Fault::Memory => write!(f, "{Memory}"),
             Fault::Io(_) => write!(f, "E24 Io"),
+            Fault::ProfileByte => write!(f, "E27 ProfileByte"),
         }
     }
 }
@@ -73,18 +73,5 @@ impl<T: Drop> From<AllocFailed<T>> for Fault {
 
     fn from(_lower: AllocFailed<T>) -> Fault {
         Fault::Memory
-    }
-}
-
-impl From<dob_rank::Fault> for Fault {
-    ghost use Rattle.dob_dbfile.specs.FaultTexts.{fault_of_rank};
-
-    ghost from_gives = { λ lower given. given ≡ fault_of_rank lower };
-
-    fn from(lower: dob_rank::Fault) -> Fault {
-        match lower {
-            dob_rank::Fault::SetTooLarge => Fault::SetTooLarge,
-            dob_rank::Fault::Memory => Fault::Memory,
-        }
     }
 }

@@ -1,37 +1,126 @@
-// The first twenty bytes of a file: what it is, its piece set, and how many classes there are.
-ghost use Rattle.std.specs.Prelude.{◌≡◌, ◌≢◌, ◌+◌, ◌<◌, ◌≤◌, ◌++◌, ◌↔◌, ◌^◌, length, take, drop, IsTrue, OnOk, MatchOption, IfOk, IfErr, vec_capacity};
+// What stands before the records of a file: its format, its family, and how many classes there are.
+ghost use Rattle.std.specs.Prelude.{◌≡◌, ◌≢◌, ◌++◌, ◌≤◌, ◌↔◌, ◌∷◌, [], length, IsTrue, OnOk, IfOk, IfErr, MatchOption, vec_capacity};
 ghost use Rattle.dob_pieces.specs.declared.piece_set.PieceSet.{PieceSet as AnySet};
-ghost use Rattle.dob_rank.specs.Marks.{classes_of};
-ghost use Rattle.dob_dbfile.specs.Format.{title, set_bytes, count_bytes};
+ghost use Rattle.dob_pieces.specs.declared.profile.Profile.{Profile as AnyProfile};
+ghost use Rattle.dob_dbfile.specs.declared.header.Format.{Format as AnyFormat};
+ghost use Rattle.dob_dbfile.specs.declared.header.Format.TheVariants.{Second};
+ghost use Rattle.dob_dbfile.specs.Format.{title, set_bytes, profile_byte, profile_bytes, count_bytes};
+ghost use Rattle.dob_dbfile.specs.Faults.{SaysProfile, NamesSet, HasHeader, CountsClasses, HasHeaderFault, header_len};
 
+use crate::fault::Fault;
 use byteorder::{ByteOrder, LittleEndian};
-use dob_pieces::{Memory, PieceSet};
+use dob_pieces::{Family, Memory, PieceSet, Profile};
+use dob_rank::count_classes;
 
-/// How many bytes stand before the records.
-pub(crate) const HEADER_LEN: usize = 20;
+/// How many bytes are read before anything is tested: the whole header of the first format.
+pub(crate) const FRONT_LEN: usize = 20;
 
-/// Appends the header of a file of that set and so many classes.
-pub(crate) fn push_header(bytes: &mut Vec<u8>, set: PieceSet, count: u64) -> Result<(), Memory>
-    ensures items { OnOk result (bytes.new.items ≡ bytes.old.items ++ (title ++ set_bytes set ++ count_bytes count)) }
+/// How many bytes the header of the second format has.
+pub(crate) const HEADER_LEN: usize = 21;
+
+/// How many bytes of a header are the number of classes, its last ones.
+const COUNT_LEN: usize = 8;
+
+/// The formats of a file.
+#[derive(Clone, Copy, Debug, PartialEq, Eq)]
+pub enum Format {
+    /// It begins with `DOBUTSU1` and says no profile: its tables are of profile A. It is read, and not written.
+    First,
+    /// It begins with `DOBUTSU2` and says the profile.
+    Second,
+}
+
+impl Format {
+    /// How many bytes stand before the records.
+    pub(crate) fn header_len(self) -> usize
+        ensures { result ≡ header_len self }
+    {
+        match self {
+            Format::First => FRONT_LEN,
+            Format::Second => HEADER_LEN,
+        }
+    }
+}
+
+/// Appends the header of a file of that family and so many classes, in the second format.
+pub(crate) fn push_header(bytes: &mut Vec<u8>, family: Family, count: u64) -> Result<(), Memory>
+    ensures items { OnOk result (bytes.new.items
+        ≡ bytes.old.items ++ (title Second ++ set_bytes family.set ++ profile_bytes Second family.profile ++ count_bytes count)) }
     ensures capacity { vec_capacity bytes.old ≤ vec_capacity bytes.new }
 {
-    bytes.extend_from_slice(b"DOBUTSU1")?;
-    bytes.extend_from_slice(&[set.chicks, set.elephants, set.giraffes, 2])?;
-    let mut word = [0; 8];
+    let set = family.set;
+    let profile = profile_byte(family.profile);
+    bytes.extend_from_slice(b"DOBUTSU2")?;
+    bytes.extend_from_slice(&[set.chicks, set.elephants, set.giraffes, 2, profile])?;
+    let mut word = [0; COUNT_LEN];
     LittleEndian::write_u64(&mut word, count);
     bytes.extend_from_slice(&word)?;
     Ok(())
 }
 
-/// Whether the bytes are what each file begins with.
-pub(crate) fn is_title(bytes: &[u8]) -> bool
-    ensures { IsTrue result ↔ (bytes.now ≡ title) }
+// The number of a profile.
+fn profile_byte(profile: Profile) -> u8
+    ensures { result ≡ profile_byte profile }
 {
-    bytes == b"DOBUTSU1".as_slice()
+    match profile {
+        Profile::A => 0,
+        Profile::B => 1,
+    }
 }
 
-/// The piece set that those bytes name.
-pub(crate) fn set_named(bytes: &[u8]) -> Option<PieceSet>
+/// The format and the set that the first bytes name.
+///
+/// Errors: `Magic`, `SetByte`.
+pub(crate) fn front_named(front: &[u8]) -> Result<(Format, PieceSet), Fault>
+    requires { length front.now ≡ 20 }
+    ensures named { IfOk result (λ named. NamesSet named.0 named.1 front.now) }
+    ensures fault { IfErr result (HasHeaderFault front.now) }
+{
+    let Some(format) = format_named(&front[..8]) else {
+        return Err(Fault::Magic);
+    };
+    let Some(set) = set_named(&front[8..12]) else {
+        return Err(Fault::SetByte);
+    };
+    Ok((format, set))
+}
+
+/// The family of that set that the whole header names, where it has the number of its classes.
+///
+/// Errors: `ProfileByte`, `ClassCount`.
+pub(crate) fn family_counted(format: Format, set: PieceSet, header: &[u8]) -> Result<Family, Fault>
+    requires named { HasHeader format set header.now }
+    requires long { length header.now ≡ header_len format }
+    ensures counted { IfOk result (λ family. CountsClasses format family header.now) }
+    ensures fault { IfErr result (HasHeaderFault header.now) }
+{
+    let Some(profile) = profile_named(format, header) else {
+        return Err(Fault::ProfileByte);
+    };
+    let family = Family { set, profile };
+    let count = &header[format.header_len() - COUNT_LEN..];
+    if is_count(count, count_classes(family)) {
+        Ok(family)
+    } else {
+        Err(Fault::ClassCount)
+    }
+}
+
+// The format that begins with those bytes.
+fn format_named(bytes: &[u8]) -> Option<Format>
+    ensures { MatchOption result ((format : AnyFormat) → bytes.now ≢ title format) (λ format. bytes.now ≡ title format) }
+{
+    if bytes == b"DOBUTSU1".as_slice() {
+        Some(Format::First)
+    } else if bytes == b"DOBUTSU2".as_slice() {
+        Some(Format::Second)
+    } else {
+        None
+    }
+}
+
+// The piece set that those bytes name.
+fn set_named(bytes: &[u8]) -> Option<PieceSet>
     ensures { MatchOption result ((set : AnySet) → bytes.now ≢ set_bytes set) (λ set. bytes.now ≡ set_bytes set) }
 {
     match *bytes {
@@ -44,8 +133,30 @@ pub(crate) fn set_named(bytes: &[u8]) -> Option<PieceSet>
     }
 }
 
-/// Whether the eight bytes are that number of classes.
-pub(crate) fn is_count(bytes: &[u8], count: u64) -> bool
+// The profile that a header says.
+fn profile_named(format: Format, header: &[u8]) -> Option<Profile>
+    requires { length header.now ≡ header_len format }
+    ensures { MatchOption result ((profile : AnyProfile) → ¬ SaysProfile format profile header.now) (λ profile. SaysProfile format profile header.now) }
+{
+    match format {
+        Format::First => Some(Profile::A),
+        Format::Second => profile_of(&header[12..13]),
+    }
+}
+
+// The profile of that number.
+fn profile_of(bytes: &[u8]) -> Option<Profile>
+    ensures { MatchOption result ((profile : AnyProfile) → bytes.now ≢ profile_byte profile ∷ []) (λ profile. bytes.now ≡ profile_byte profile ∷ []) }
+{
+    match *bytes {
+        [0] => Some(Profile::A),
+        [1] => Some(Profile::B),
+        _ => None,
+    }
+}
+
+// Whether the eight bytes are that number of classes.
+fn is_count(bytes: &[u8], count: u64) -> bool
     requires { length bytes.now ≡ 8 }
     ensures { IsTrue result ↔ (bytes.now ≡ count_bytes count) }
 {

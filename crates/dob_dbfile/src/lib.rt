@@ -3,7 +3,10 @@
 
 mod device;
 mod fault;
+mod front;
 mod header;
+mod held;
+mod held_source;
 pub mod laws;
 mod look;
 mod mem_sink;
@@ -16,6 +19,9 @@ mod write;
 
 pub use device::{Failed, FailedAfter, PlacedSource, Sink, Source};
 pub use fault::Fault;
+pub use header::Format;
+pub use held::{held_family, held_value};
+pub use held_source::HeldSource;
 pub use look::{read_classes, read_value};
 pub use mem_sink::MemSink;
 pub use mem_source::MemSource;

@@ -1,73 +1,75 @@
 // Reading a table from a file.
 ghost use Rattle.std.specs.Prelude.{◌≡◌, ◌≢◌, ◌⊎◌, ◌↔◌, ℕ, List, ◌+◌, ◌*◌, ◌%◌, ◌^◌, ◌<◌, ◌≤◌, ◌||◌, [], false, length, All, IfOk};
 ghost use Rattle.std.specs.Prelude.{IfErr, IsTrue, OnOk, MatchResult};
-ghost use Rattle.dob_pieces.specs.declared.piece_set.PieceSet.{PieceSet as AnySet};
 ghost use Rattle.dob_value.specs.Follows.{ClassTable, IsTable};
 ghost use Rattle.dob_dbfile.specs.declared.fault.Fault.{Fault as AnyFault};
 ghost use Rattle.sha2.specs.Hashers.{Holds256};
 ghost use Rattle.dob_dbfile.specs.Devices.{Stream, after, whole};
-ghost use Rattle.dob_dbfile.specs.Format.{bytes_of};
-ghost use Rattle.dob_rank.specs.Limits.{IsSmall};
-ghost use Rattle.dob_dbfile.specs.Faults.{is_io_error, NamesClasses, CountsClasses, HasHeaderFault, HasDigest, HasReadFault};
+ghost use Rattle.dob_dbfile.specs.Format.{IsFile};
+ghost use Rattle.dob_dbfile.specs.Faults.{is_io_error, NamesClasses, HasReadFault, PassesAll};
 ghost use Rattle.dob_dbfile.specs.Reading.{TakesBytes, IsCut, IsNoEnd, ReadsCodes, HashesNext, EndsWith, IsDigest, HasDigestFault, HasRestFault};
 
 use crate::device::{Failed, Source};
 use crate::fault::Fault;
-use crate::header::{HEADER_LEN, is_count, is_title, set_named};
+use crate::front::read_header;
+use crate::header::HEADER_LEN;
 use crate::records::{PIECE_LEN, PIECE_RECORDS, RECORD_LEN, push_codes};
 use crate::transfer::read_full;
-use dob_pieces::{Memory, PieceSet};
-use dob_rank::{Classes, SegmentLength, Segments, count_classes};
+use dob_pieces::Memory;
+use dob_rank::{Classes, SegmentLength, Segments};
 use dob_value::Table;
 use sha2::{Digest, Sha256};
 use std::alloc::Global;
 
 /// How many bytes the digest has.
-const DIGEST_LEN: usize = 32;
+pub(crate) const DIGEST_LEN: usize = 32;
 
-/// Reads the table of a file: of just the bytes that `write_table` writes of it, up to the source's end.
+/// Reads the table of a file: of just the bytes that are a file of it, in either format, up to the source's end.
 ///
-/// Errors, the first of these that holds: `Truncated`, fewer than 20 bytes; `Magic`, `SetByte`, `SetTooLarge`,
-/// `ClassCount`, what the header says; `Truncated`, fewer bytes than the set's records and digest have; `Trailing`, a byte
-/// more; `Digest`. `Io` only where the source fails in this call, with how many bytes it gave before. `Memory`, in place of
-/// what is tested after `ClassCount`, or of the table. The source has lost what was read.
+/// Errors, the first of these that holds: `Truncated`, fewer than 20 bytes; `Magic`, `SetByte`, what these say; in the
+/// second format `Truncated`, fewer than 21 bytes, and `ProfileByte`; `ClassCount`; `Truncated`, fewer bytes
+/// than the family's records and digest have; `Trailing`, a byte more; `Digest`. `Io` only where the source fails in this
+/// call, with how many bytes it gave before. `Memory`, in place of what is tested after `ClassCount`, or of the table. The
+/// source has lost what was read.
 pub fn read_table<R: Source>(alloc: Global, source: &mut R) -> Result<Table, Fault>
     requires { R.has_failed source.old ≡ false }
-    // A table is read only where the source gives just its file and ends.
-    ensures read { (stream : Stream) → R.gives source.old stream → IfOk result (λ table. stream ≡ whole (bytes_of table)) }
+    // A table is read only where the source gives just a file of it and ends.
+    ensures read { (stream : Stream) → R.gives source.old stream → IfOk result (λ table. (stream.fails ≡ false) × IsFile stream.bytes table) }
     // A fault is given only where it is the first that holds.
     ensures fault { (stream : Stream) → R.gives source.old stream
         → IfErr result (λ given. (given ≡ Fault.Memory) ⊎ HasReadFault stream given) }
     // Where a fault holds it is given, or memory was refused.
     ensures exact { (stream : Stream) (fault : AnyFault) → R.gives source.old stream → HasReadFault stream fault
         → MatchResult result (λ _. ⊥) (λ given. (given ≡ Fault.Memory) ⊎ (given ≡ fault)) }
-    // The file of a table is read as that table, unless memory is refused.
-    ensures whole { (table : ClassTable) → IsSmall table.set → IsTable table.set table.values → R.gives source.old (whole (bytes_of table))
+    // A file of a table is read as that table, unless memory is refused.
+    ensures whole { (table : ClassTable) (bytes : List ℕ) → IsTable table.family table.values → IsFile bytes table
+        → R.gives source.old (whole bytes)
         → MatchResult result (λ found. found ≡ table) (λ given. given ≡ Fault.Memory) }
-    // Memory is wanted only once the header names a set with its number of classes.
-    ensures memory { (stream : Stream) → R.gives source.old stream → IfErr result (λ given. given ≡ Fault.Memory → NamesClasses stream) }
+    // Memory is wanted only once the header names a family with its number of classes.
+    ensures memory { (stream : Stream) → R.gives source.old stream → IfErr result (λ given. given ≡ Fault.Memory → NamesClasses stream.bytes) }
     // What is read is a table, also where nothing is known of the source.
-    ensures table { IfOk result (λ table. IsTable table.set table.values) }
+    ensures table { IfOk result (λ table. IsTable table.family table.values) }
     ensures failed { R.has_failed source.new ≡ is_io_error result }
 {
     read_file(alloc, source)
 }
 
-// Reads the table of a file, which has its digest.
+// Reads the table of a file, which passes all tests.
 fn read_file<R: Source>(alloc: Global, source: &mut R) -> Result<Table, Fault>
     requires { R.has_failed source.old ≡ false }
     ensures read { (stream : Stream) → R.gives source.old stream
-        → IfOk result (λ table. (stream ≡ whole (bytes_of table)) × HasDigest table.set stream) }
-    ensures table { IfOk result (λ table. IsTable table.set table.values) }
+        → IfOk result (λ table. (stream.fails ≡ false) × IsFile stream.bytes table × PassesAll stream) }
+    ensures table { IfOk result (λ table. IsTable table.family table.values) }
     ensures fault { (stream : Stream) → R.gives source.old stream
         → IfErr result (λ given. (given ≡ Fault.Memory) ⊎ HasReadFault stream given) }
-    ensures memory { (stream : Stream) → R.gives source.old stream → IfErr result (λ given. given ≡ Fault.Memory → NamesClasses stream) }
+    ensures memory { (stream : Stream) → R.gives source.old stream → IfErr result (λ given. given ≡ Fault.Memory → NamesClasses stream.bytes) }
     ensures failed { R.has_failed source.new ≡ is_io_error result }
 {
-    let mut header = [0; HEADER_LEN];
-    fill(source, &mut header, 0)?;
-    let classes = classes_named(alloc, &header)?;
-    let codes = read_codes(alloc, source, &header, classes.class_count())?;
+    let mut room = [0; HEADER_LEN];
+    let header = read_header(source, &mut room)?;
+    let classes = Classes::open(alloc, header.family)?;
+    let front = &room[..header.format.header_len()];
+    let codes = read_codes(alloc, source, front, classes.class_count())?;
     Ok(Table::new(classes, codes))
 }
 
@@ -88,36 +90,6 @@ pub(crate) fn fill<R: Source>(source: &mut R, room: &mut [u8], before: usize) ->
     }
 }
 
-/// The classes of the set that the header names. They are opened only once the header has their number.
-pub(crate) fn classes_named(alloc: Global, header: &[u8]) -> Result<Classes, Fault>
-    requires { length header.now ≡ 20 }
-    ensures named { IfOk result (λ classes. CountsClasses classes.set header.now) }
-    ensures fault { IfErr result (λ fault. (fault ≡ Fault.Memory) ⊎ HasHeaderFault header.now fault) }
-    ensures memory { IfErr result (λ fault. fault ≡ Fault.Memory → (set : AnySet) × CountsClasses set header.now) }
-{
-    let set = set_counted(header)?;
-    Ok(Classes::open(alloc, set)?)
-}
-
-// The set that the header names with its number of classes.
-fn set_counted(header: &[u8]) -> Result<PieceSet, Fault>
-    requires { length header.now ≡ 20 }
-    ensures counted { IfOk result (λ set. CountsClasses set header.now) }
-    ensures fault { IfErr result (HasHeaderFault header.now) }
-{
-    if !is_title(&header[..8]) {
-        return Err(Fault::Magic);
-    }
-    let Some(set) = set_named(&header[8..12]) else {
-        return Err(Fault::SetByte);
-    };
-    if is_count(&header[12..], count_classes(set)) {
-        Ok(set)
-    } else {
-        Err(Fault::ClassCount)
-    }
-}
-
 // The codes of so many records, which stand after the header and before the digest of all that.
 fn read_codes<R: Source>(
     alloc: Global,
@@ -125,7 +97,8 @@ fn read_codes<R: Source>(
     header: &[u8],
     count: u64,
 ) -> Result<Segments<u16>, Fault>
-    requires { count < 2 ^ 31 }
+    requires few { count < 2 ^ 31 }
+    requires short { length header.now ≤ 21 }
     ensures counted { IfOk result (λ codes. length codes ≡ count) }
     ensures fit { IfOk result (λ codes. All (λ code. code < 65536) codes) }
     ensures read { (stream : Stream) → R.gives source.old stream → IfOk result (λ codes. EndsWith header.now codes stream) }
@@ -134,8 +107,8 @@ fn read_codes<R: Source>(
 {
     let mut hasher = Sha256::new();
     hasher.update(header);
-    let codes = read_records(alloc, source, &mut hasher, count)?;
-    expect_digest(source, hasher, HEADER_LEN + RECORD_LEN * count as usize)?;
+    let codes = read_records(alloc, source, &mut hasher, count, header.len())?;
+    expect_digest(source, hasher, header.len() + RECORD_LEN * count as usize)?;
     Ok(codes)
 }
 
@@ -164,20 +137,22 @@ fn are_same(left: &[u8], right: &[u8]) -> bool
     left == right
 }
 
-// The codes of the next records. Memory is taken as they come.
+// The codes of the next records, before which so many bytes of the file have come. Memory is taken as they come.
 fn read_records<R: Source>(
     alloc: Global,
     source: &mut R,
     hasher: &mut Sha256,
     count: u64,
+    before: usize,
 ) -> Result<Segments<u16>, Fault>
-    requires { count < 2 ^ 31 }
+    requires few { count < 2 ^ 31 }
+    requires short { before ≤ 21 }
     ensures counted { IfOk result (λ codes. length codes ≡ count) }
     ensures fit { IfOk result (λ codes. All (λ code. code < 65536) codes) }
     ensures codes { (stream : Stream) → R.gives source.old stream
         → IfOk result (λ codes. ReadsCodes stream (2 * count) [] codes × R.gives source.new (after (2 * count) stream)) }
     ensures hashed { (stream : Stream) → R.gives source.old stream → OnOk result (HashesNext stream (2 * count) hasher.old hasher.new) }
-    ensures cut { (stream : Stream) → R.gives source.old stream → IfErr result (IsCut (2 * count) 20 stream) }
+    ensures cut { (stream : Stream) → R.gives source.old stream → IfErr result (IsCut (2 * count) before stream) }
     ensures failed { R.has_failed source.new ≡ (R.has_failed source.old || is_io_error result) }
 {
     let mut codes = Segments::new(alloc, SegmentLength::longest());
@@ -190,29 +165,32 @@ fn read_records<R: Source>(
             hasher,
             &mut room[..RECORD_LEN * records],
             &mut codes,
+            before,
         )?;
     }
     Ok(codes)
 }
 
-// Reads as many records as there is room for.
+// Reads as many records as there is room for. Before the first of all stand so many bytes.
 fn read_piece<R: Source>(
     source: &mut R,
     hasher: &mut Sha256,
     room: &mut [u8],
     codes: &mut Segments<u16>,
+    before: usize,
 ) -> Result<(), Fault>
     requires pairs { length room.old % 2 ≡ 0 }
+    requires short { before ≤ 21 }
     requires few { 2 * length codes.old + length room.old < 2 ^ 32 }
     ensures counted { OnOk result (2 * length codes.new ≡ 2 * length codes.old + length room.old) }
     ensures fit { All (λ code. code < 65536) codes.old → OnOk result (All (λ code. code < 65536) codes.new) }
     ensures codes { (stream : Stream) → R.gives source.old stream
         → OnOk result (ReadsCodes stream (length room.old) codes.old codes.new × R.gives source.new (after (length room.old) stream)) }
     ensures hashed { (stream : Stream) → R.gives source.old stream → OnOk result (HashesNext stream (length room.old) hasher.old hasher.new) }
-    ensures cut { (stream : Stream) → R.gives source.old stream → IfErr result (IsCut (length room.old) (20 + 2 * length codes.old) stream) }
+    ensures cut { (stream : Stream) → R.gives source.old stream → IfErr result (IsCut (length room.old) (before + 2 * length codes.old) stream) }
     ensures failed { R.has_failed source.new ≡ (R.has_failed source.old || is_io_error result) }
 {
-    fill(source, room, HEADER_LEN + RECORD_LEN * codes.len() as usize)?;
+    fill(source, room, before + RECORD_LEN * codes.len() as usize)?;
     hasher.update(&*room);
     push_codes(codes, room)?;
     Ok(())

@@ -3,7 +3,8 @@ ghost use Rattle.std.specs.Prelude.{◌≡◌, ◌++◌, ◌+◌, ◌*◌, ◌�
 ghost use Rattle.sha2.specs.Hashers.{Holds256};
 ghost use Rattle.sha2.specs.Sha256.{sha256};
 ghost use Rattle.dob_value.specs.Follows.{IsTable};
-ghost use Rattle.dob_dbfile.specs.Format.{bytes_of, header_of, records};
+ghost use Rattle.dob_dbfile.specs.Format.{bytes_of, header_in, records};
+ghost use Rattle.dob_dbfile.specs.declared.header.Format.TheVariants.{Second};
 ghost use Rattle.dob_dbfile.specs.Faults.{is_io_error};
 ghost use Rattle.dob_dbfile.specs.Sinks.{Puts, Writes, change};
 ghost use Rattle.dob_dbfile.specs.Writing.{Hashes, StopsAt, StopsBehind};
@@ -17,7 +18,7 @@ use dob_value::Table;
 use sha2::{Digest, Sha256};
 use std::alloc::Global;
 
-/// Writes the table as a file, in pieces of a few kilobytes, and flushes the sink once at the end.
+/// Writes a table as a file of the second format, in pieces of a few kilobytes, and flushes the sink once at the end.
 ///
 /// Errors: `Memory`, before anything is written; `Io` where the sink fails in this call, which then has received just
 /// the first bytes of the file, as many as the fault says, and all of them where it failed to flush.
@@ -28,7 +29,7 @@ pub fn write_table<W: Sink>(alloc: Global, table: &Table, sink: &mut W) -> Resul
     ensures failed { (W.state sink.new).has_failed ≡ is_io_error result }
 {
     let mut piece = Vec::with_capacity(alloc, PIECE_LEN)?;
-    push_header(&mut piece, table.set(), table.class_count())?;
+    push_header(&mut piece, table.family(), table.class_count())?;
     match put_file(table, sink, &mut piece) {
         Ok(()) => Ok(()),
         Err(FailedAfter { bytes: count }) => Err(Fault::Io(count as u64)),
@@ -38,7 +39,7 @@ pub fn write_table<W: Sink>(alloc: Global, table: &Table, sink: &mut W) -> Resul
 // Writes the file, whose header the piece is, and flushes the sink once at the end.
 fn put_file<W: Sink>(table: &Table, sink: &mut W, piece: &mut Vec<u8>) -> Result<(), FailedAfter>
     requires room { 4096 ≤ vec_capacity piece.old }
-    requires header { piece.old.items ≡ header_of table.now }
+    requires header { piece.old.items ≡ header_in Second table.now }
     ensures done { OnOk result (Puts (change (W.state sink.old) (W.state sink.new)) (bytes_of table.now)) }
     ensures part { IfErr result (StopsBehind (change (W.state sink.old) (W.state sink.new)) 0 (bytes_of table.now)) }
 {
@@ -57,13 +58,13 @@ fn write_records<W: Sink>(
     hasher: &mut Sha256,
     piece: &mut Vec<u8>,
 ) -> Result<(), FailedAfter>
-    requires table { IsTable table.now.set table.now.values }
+    requires table { IsTable table.now.family table.now.values }
     requires counted { count ≡ length table.now.values }
     requires few { count < 2 ^ 31 }
     requires room { 4096 ≤ vec_capacity piece.old }
     ensures done { OnOk result (Writes (change (W.state sink.old) (W.state sink.new)) (records table.now.values)) }
     ensures hashed { OnOk result (Hashes hasher.old (records table.now.values) hasher.new) }
-    ensures part { IfErr result (StopsBehind (change (W.state sink.old) (W.state sink.new)) 20 (records table.now.values)) }
+    ensures part { IfErr result (StopsBehind (change (W.state sink.old) (W.state sink.new)) 21 (records table.now.values)) }
 {
     let mut class = 0;
     'pieces: while class < count {

@@ -1,6 +1,7 @@
 -- The three pieces, one after the other.
-use Rattle.std.proofs.Common.{◌≡◌, ◌∙◌, ◌++◌, List, ℕ, ap, append_assoc, rules}
-use Rattle.dob_dbfile.specs.Format.{title, set_bytes, count_bytes}
+use Rattle.std.proofs.Common.{◌∷◌, [], ◌≡◌, ◌∙◌, ◌++◌, List, ℕ, ap, append_assoc, rules}
+use Rattle.dob_dbfile.specs.declared.header.Format.TheVariants.{Second}
+use Rattle.dob_dbfile.specs.Format.{title, set_bytes, profile_bytes, count_bytes}
 use Rattle.dob_dbfile.proofs.header.push_header.Goals as goal
 
 pieces : (old first second now a b c : List ℕ) → first ≡ old ++ a → second ≡ first ++ b → now ≡ second ++ c → now ≡ old ++ (a ++ (b ++ c))
@@ -10,5 +11,9 @@ pieces old first second now a b c e f g =
 pub returns-clause-items : goal.returns-clause-items
 returns-clause-items c =
     pieces c.args.bytes.now.items c.extend_from_slice.new.self.items c.extend_from_slice-2.new.self.items c.extend_from_slice-3.new.self.items
-    title (set_bytes c.args.set) (count_bytes c.args.count)
-    c.in_ok-extend_from_slice.ensures.items c.in_ok-extend_from_slice-2.ensures.items (search rules)
+    (title Second) (set_bytes c.args.family.set ++ profile_bytes Second c.args.family.profile) (count_bytes c.args.count)
+    c.in_ok-extend_from_slice.ensures.items
+    (c.in_ok-extend_from_slice-2.ensures.items
+    ∙ ap (λ (p : ℕ). c.extend_from_slice.new.self.items ++ (c.args.family.set.chicks ∷ c.args.family.set.elephants ∷ c.args.family.set.giraffes ∷ 2 ∷ p ∷ []))
+    c.profile_byte-profile.ensures)
+    (search rules)

@@ -1,5 +1,5 @@
 -- The codes are those of the records that the stream has.
-use Rattle.std.proofs.Common.{◌∙◌, [], sym}
+use Rattle.std.proofs.Common.{[]}
 use Rattle.dob_dbfile.proofs.Endings.{ends_with}
 use Rattle.dob_dbfile.proofs.read.read_codes.Goals as goal
 

@@ -1,85 +1,58 @@
 -- Each part of the file that is read tells its faults, and the last one the values.
-use Rattle.std.proofs.Common.{◌≡◌, ◌∙◌, ◌⊎◌, ℕ, List, arith, sym, subst, ap, length, take}
+use Rattle.std.proofs.Common.{◌≡◌, ◌∙◌, ℕ, List, sym, subst, ap, length, false}
 use Rattle.std.proofs.lemmas.Result.{err_from_is_err_and}
-use Rattle.dob_pieces.specs.declared.piece_set.PieceSet.{PieceSet}
-use Rattle.dob_value.specs.Follows.{ClassTable, IsTable}
-use Rattle.dob_dbfile.specs.declared.fault.Fault.TheVariants as fault
-use Rattle.dob_dbfile.specs.Devices.{after, whole}
-use Rattle.dob_dbfile.specs.Format.{bytes_of}
-use Rattle.dob_dbfile.specs.Faults.{header, HasHeader, HasHeaderFault, HasDigest, CountsClasses}
+use Rattle.dob_pieces.specs.declared.profile.Family.{Family}
+use Rattle.dob_rank.specs.Families.{classes_of}
+use Rattle.dob_value.specs.Codes.{values_of_codes}
+use Rattle.dob_value.specs.Follows.{ClassTable, class_table}
+use Rattle.dob_dbfile.specs.Devices.{Stream, after}
+use Rattle.dob_dbfile.specs.Format.{IsFile}
+use Rattle.dob_dbfile.specs.Faults.{PassesAll, header_len}
 use Rattle.dob_dbfile.specs.Reading.{EndsWith, HasRestFault}
-use Rattle.dob_dbfile.proofs.Verdicts.{header_fault, rest_fault, right_file, right_digest}
-use Rattle.dob_dbfile.proofs.Written.{table_of_codes}
+use Rattle.dob_dbfile.proofs.Verdicts.{front, head_is, rest_fault, right_file, right_digest}
 use Rattle.dob_dbfile.proofs.read.read_file.Goals as goal
-
-pub returns-in_err-classes-clause-fault : goal.returns-in_err-classes-clause-fault
-returns-in_err-classes-clause-fault g c = λ stream gives.
-    let p = err_from_is_err_and c.from_residual-in_err-classes.result c.from_residual-in_err-classes.ensures.1 in
-    let taken = c.in_ok-fill.ensures.taken stream gives in
-    let len : length c.fill.new.room ≡ 20 = c.fill.auto.room in
-    let front : c.fill.new.room ≡ header stream = taken.0.same ∙ ap (λ (n : ℕ). take n stream.bytes) len in
-    let there : HasHeader stream = omega (arith, len, taken.0.within) in
-    let given = c.in_err-classes.field-0.0 in
-    rw (p.1, p.2) (header_fault stream given there
-    (subst (λ (h : List ℕ). (given ≡ fault.Memory) ⊎ HasHeaderFault h given) front c.in_err-classes.ensures.fault))
-
-pub returns-in_err-codes-clause-fault : goal.returns-in_err-codes-clause-fault
-returns-in_err-codes-clause-fault g c = λ stream gives.
-    let p = err_from_is_err_and c.from_residual-in_err-codes.result c.from_residual-in_err-codes.ensures.1 in
-    let taken = c.in_ok-fill.ensures.taken stream gives in
-    let len : length c.fill.new.room ≡ 20 = c.fill.auto.room in
-    let front : c.fill.new.room ≡ header stream = taken.0.same ∙ ap (λ (n : ℕ). take n stream.bytes) len in
-    let there : HasHeader stream = omega (arith, len, taken.0.within) in
-    let set = c.in_ok-classes.classes.set in
-    let counts = subst (CountsClasses set) front c.in_ok-classes.ensures.named in
-    let later = subst (λ (n : ℕ). g.R.Source.gives c.fill.new.source (after n stream)) len taken.1 in
-    let given = c.in_err-codes.field-0.0 in
-    let wrong = subst (λ (n : ℕ). HasRestFault (header stream) n (after 20 stream) given) c.class_count.ensures.number
-    (subst (λ (h : List ℕ). HasRestFault h c.class_count.result (after 20 stream) given) front (c.in_err-codes.ensures.fault (after 20 stream) later)) in
-    rw (p.1, p.2) (rest_fault stream set given (there, counts) wrong)
-
-pub returns-clause-read : goal.returns-clause-read
-returns-clause-read g c = λ stream gives.
-    let taken = c.in_ok-fill.ensures.taken stream gives in
-    let len : length c.fill.new.room ≡ 20 = c.fill.auto.room in
-    let front : c.fill.new.room ≡ header stream = taken.0.same ∙ ap (λ (n : ℕ). take n stream.bytes) len in
-    let there : HasHeader stream = omega (arith, len, taken.0.within) in
-    let set = c.in_ok-classes.classes.set in
-    let codes = c.in_ok-codes.codes in
-    let counts = subst (CountsClasses set) front c.in_ok-classes.ensures.named in
-    let later = subst (λ (n : ℕ). g.R.Source.gives c.fill.new.source (after n stream)) len taken.1 in
-    let ends = subst (λ (h : List ℕ). EndsWith h codes (after 20 stream)) front (c.in_ok-codes.ensures.read (after 20 stream) later) in
-    let counted = c.in_ok-codes.ensures.counted ∙ c.class_count.ensures.number in
-    subst (λ (t : ClassTable). (stream ≡ whole (bytes_of t)) × HasDigest t.set stream) (sym c.new.ensures)
-    (right_file stream set codes there counts counted ends, right_digest stream set codes there counts counted ends)
-
-pub returns-clause-table : goal.returns-clause-table
-returns-clause-table g c =
-    let codes = c.in_ok-codes.codes in
-    subst (λ (t : ClassTable). IsTable t.set t.values) (sym c.new.ensures)
-    (table_of_codes c.in_ok-classes.classes.set codes (c.in_ok-codes.ensures.counted ∙ c.class_count.ensures.number)
-    c.in_ok-codes.ensures.fit)
 
 pub returns-in_err-classes-clause-memory : goal.returns-in_err-classes-clause-memory
 returns-in_err-classes-clause-memory g c = λ stream gives.
     let p = err_from_is_err_and c.from_residual-in_err-classes.result c.from_residual-in_err-classes.ensures.1 in
-    let taken = c.in_ok-fill.ensures.taken stream gives in
-    let len : length c.fill.new.room ≡ 20 = c.fill.auto.room in
-    let front : c.fill.new.room ≡ header stream = taken.0.same ∙ ap (λ (n : ℕ). take n stream.bytes) len in
-    let there : HasHeader stream = omega (arith, len, taken.0.within) in
+    let header = c.in_ok-header.header in
     let given = c.in_err-classes.field-0.0 in
-    rw (p.1, p.2) (λ (none : given ≡ fault.Memory).
-    let counts = subst (λ (h : List ℕ). (set : PieceSet) × CountsClasses set h) front (c.in_err-classes.ensures.memory none) in
-    (counts.0, (there, counts.1)))
+    rw (p.1) (λ _. (header.format, header.family, c.in_ok-header.ensures.counted stream gives))
 
 pub returns-in_err-codes-clause-memory : goal.returns-in_err-codes-clause-memory
 returns-in_err-codes-clause-memory g c = λ stream gives.
     let p = err_from_is_err_and c.from_residual-in_err-codes.result c.from_residual-in_err-codes.ensures.1 in
-    let taken = c.in_ok-fill.ensures.taken stream gives in
-    let len : length c.fill.new.room ≡ 20 = c.fill.auto.room in
-    let front : c.fill.new.room ≡ header stream = taken.0.same ∙ ap (λ (n : ℕ). take n stream.bytes) len in
-    let there : HasHeader stream = omega (arith, len, taken.0.within) in
-    let set = c.in_ok-classes.classes.set in
-    let counts = subst (CountsClasses set) front c.in_ok-classes.ensures.named in
+    let header = c.in_ok-header.header in
+    rw (p.1) (λ _. (header.format, header.family, c.in_ok-header.ensures.counted stream gives))
+
+pub returns-in_err-codes-clause-fault : goal.returns-in_err-codes-clause-fault
+returns-in_err-codes-clause-fault g c = λ stream gives.
+    let p = err_from_is_err_and c.from_residual-in_err-codes.result c.from_residual-in_err-codes.ensures.1 in
+    let header = c.in_ok-header.header in
+    let taken = c.in_ok-header.ensures.taken stream gives in
+    let later : Stream = after (header_len header.format) stream in
+    let head = head_is stream header.format c.header_len.result c.read_header.new.room c.read_header.auto.room c.header_len.ensures taken.0 in
+    let counted : c.class_count.result ≡ classes_of header.family = c.class_count.ensures.number ∙ ap classes_of c.in_ok-classes.ensures.family in
     let given = c.in_err-codes.field-0.0 in
-    rw (p.1, p.2) (λ (none : given ≡ fault.Memory). (set, (there, counts)))
+    let wrong = subst (λ (n : ℕ). HasRestFault (front header.format stream) n later given) counted
+    (subst (λ (h : List ℕ). HasRestFault h c.class_count.result later given) head (c.in_err-codes.ensures.fault later taken.1)) in
+    rw (p.1, p.2) (rest_fault stream header.format header.family given (c.in_ok-header.ensures.counted stream gives) wrong)
+
+pub returns-clause-read : goal.returns-clause-read
+returns-clause-read g c = λ stream gives.
+    let header = c.in_ok-header.header in
+    let codes = c.in_ok-codes.codes in
+    let counts = c.in_ok-header.ensures.counted stream gives in
+    let taken = c.in_ok-header.ensures.taken stream gives in
+    let later : Stream = after (header_len header.format) stream in
+    let head = head_is stream header.format c.header_len.result c.read_header.new.room c.read_header.auto.room c.header_len.ensures taken.0 in
+    let counted : length codes ≡ classes_of header.family
+    = c.in_ok-codes.ensures.counted ∙ c.class_count.ensures.number ∙ ap classes_of c.in_ok-classes.ensures.family in
+    let ends = subst (λ (h : List ℕ). EndsWith h codes later) head (c.in_ok-codes.ensures.read later taken.1) in
+    subst (λ (t : ClassTable). (stream.fails ≡ false) × IsFile stream.bytes t × PassesAll stream) (sym c.new.ensures)
+    (subst (λ (family : Family). (stream.fails ≡ false) × IsFile stream.bytes (class_table family (values_of_codes codes)) × PassesAll stream)
+    (sym c.in_ok-classes.ensures.family) (
+      ends.ends,
+      right_file stream header.format header.family codes counts counted ends,
+      (header.format, header.family, right_digest stream header.format header.family codes counts counted ends),
+    ))

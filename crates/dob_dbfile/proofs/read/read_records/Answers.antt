@@ -45,7 +45,7 @@ returns-in_err-read_piece-clause-cut g c = λ stream gives.
     let before = c.records.invariant.4 stream gives in
     let few = few_more c.args.count (length c.records.codes) c.min-records.result 2048 c.records.room c.records.invariant.0 (search rules) in
     let cut = c.in_err-read_piece.ensures.cut _ before.1 in
-    rw (p.1, p.2) (cut_later stream (2 * length c.records.codes) (2 * c.args.count) _ 20 _ before.0.within few cut)
+    rw (p.1, p.2) (cut_later stream (2 * length c.records.codes) (2 * c.args.count) _ c.args.before _ before.0.within few cut)
 
 pub returns-clause-codes : goal.returns-clause-codes
 returns-clause-codes g c = λ stream gives.

@@ -3,17 +3,17 @@ use Rattle.std.proofs.Common.{◌≡◌, ◌∙◌, ◌++◌, ◌*◌, ◌+◌, 
 use Rattle.std.proofs.lemmas.Result.{IfErr-weaker, err_from_is_err_and, on_ok_weaker}
 use Rattle.sha2.specs.Sha256.{sha256}
 use Rattle.sha2.specs.Hashers.{Holds256}
-use Rattle.dob_rank.specs.Marks.{classes_of}
-use Rattle.dob_dbfile.specs.Format.{bytes_of, contents, header_of, records}
+use Rattle.dob_rank.specs.Families.{classes_of}
+use Rattle.dob_dbfile.specs.Format.{bytes_of, contents_in, header_in, records}
 use Rattle.dob_dbfile.specs.Sinks.{Writes, change}
-use Rattle.dob_dbfile.proofs.FileBytes.{file_parts, header_records}
+use Rattle.dob_dbfile.specs.declared.header.Format.TheVariants.{Second}
+use Rattle.dob_dbfile.proofs.FileBytes.{file_parts, header_records, length-contents}
 use Rattle.dob_dbfile.proofs.Sinks.{puts_more, stops_behind, stops_last, writes_more, writes_none}
-use Rattle.dob_dbfile.proofs.Written.{length-contents}
 use Rattle.dob_dbfile.proofs.write.put_file.Goals as goal
 
 pub write_records-requires-clause-counted : goal.write_records-requires-clause-counted
 write_records-requires-clause-counted g c =
-    c.class_count-count.ensures.number ∙ ap classes_of c.classes.ensures.set ∙ c.classes.ensures.count
+    c.class_count-count.ensures.number ∙ ap classes_of c.classes.ensures.family ∙ c.classes.ensures.count
 
 pub write_records-requires-clause-table : goal.write_records-requires-clause-table
 write_records-requires-clause-table g c = c.classes.ensures.table
@@ -23,52 +23,52 @@ returns-in_err-write_hashed-clause-part g c =
     let p = err_from_is_err_and c.from_residual.result c.from_residual.ensures.1 in
     let table = c.args.table.now in
     let piece = c.deref.result.now in
-    let is : piece ≡ header_of table = c.deref.ensures.value ∙ c.requires.header in
-    let rest = records table.values ++ sha256 (contents table) in
+    let is : piece ≡ header_in Second table = c.deref.ensures.value ∙ c.requires.header in
+    let rest = records table.values ++ sha256 (contents_in Second table) in
     rw (p.1, p.2) (stops_behind (g.W.Sink.state c.args.sink.now) (g.W.Sink.state c.args.sink.now) (g.W.Sink.state c.write_hashed.new.sink) 0 0
     [] piece rest (bytes_of table) _ (writes_none (g.W.Sink.state c.args.sink.now)) refl
-    (file_parts table ∙ ap (λ (h : List ℕ). h ++ rest) (sym is)) c.in_err-write_hashed.ensures.part)
+    (file_parts Second table ∙ ap (λ (h : List ℕ). h ++ rest) (sym is)) c.in_err-write_hashed.ensures.part)
 
 pub returns-in_err-write_records-clause-part : goal.returns-in_err-write_records-clause-part
 returns-in_err-write_records-clause-part g c =
     let p = err_from_is_err_and c.from_residual-in_err-write_records.result c.from_residual-in_err-write_records.ensures.1 in
     let table = c.args.table.now in
     let piece = c.deref.result.now in
-    let is : piece ≡ header_of table = c.deref.ensures.value ∙ c.requires.header in
-    let digest = sha256 (contents table) in
-    rw (p.1, p.2) (stops_behind (g.W.Sink.state c.args.sink.now) (g.W.Sink.state c.write_hashed.new.sink) (g.W.Sink.state c.write_records.new.sink) 0 20
+    let is : piece ≡ header_in Second table = c.deref.ensures.value ∙ c.requires.header in
+    let digest = sha256 (contents_in Second table) in
+    rw (p.1, p.2) (stops_behind (g.W.Sink.state c.args.sink.now) (g.W.Sink.state c.write_hashed.new.sink) (g.W.Sink.state c.write_records.new.sink) 0 21
     piece (records table.values) digest (bytes_of table) _ c.in_ok-write_hashed.ensures.done (ap length is)
-    (file_parts table ∙ ap (λ (h : List ℕ). h ++ (records table.values ++ digest)) (sym is)) c.in_err-write_records.ensures.part)
+    (file_parts Second table ∙ ap (λ (h : List ℕ). h ++ (records table.values ++ digest)) (sym is)) c.in_err-write_records.ensures.part)
 
 pub returns-clause-done : goal.returns-clause-done
 returns-clause-done g c =
     let table = c.args.table.now in
     let piece = c.deref.result.now in
-    let all : piece ++ records table.values ≡ contents table =
-    ap (λ (h : List ℕ). h ++ records table.values) (c.deref.ensures.value ∙ c.requires.header) ∙ header_records table in
+    let all : piece ++ records table.values ≡ contents_in Second table =
+    ap (λ (h : List ℕ). h ++ records table.values) (c.deref.ensures.value ∙ c.requires.header) ∙ header_records Second table in
     let holds = subst (Holds256 c.write_records.new.hasher) all
     (c.in_ok-write_records.ensures.hashed piece (c.write_hashed.ensures.hashed [] c.new-hasher.ensures)) in
     let wrote = subst (Writes (change (g.W.Sink.state c.args.sink.now) (g.W.Sink.state c.write_records.new.sink))) all
     (writes_more (g.W.Sink.state c.args.sink.now) (g.W.Sink.state c.write_hashed.new.sink) (g.W.Sink.state c.write_records.new.sink) piece
     (records table.values) c.in_ok-write_hashed.ensures.done c.in_ok-write_records.ensures.done) in
     on_ok_weaker c.put_digest.result
-    (puts_more (g.W.Sink.state c.args.sink.now) (g.W.Sink.state c.write_records.new.sink) (g.W.Sink.state c.put_digest.new.sink) (contents table)
-    (sha256 (contents table)) wrote) (c.put_digest.ensures.done (contents table) holds)
+    (puts_more (g.W.Sink.state c.args.sink.now) (g.W.Sink.state c.write_records.new.sink) (g.W.Sink.state c.put_digest.new.sink) (contents_in Second table)
+    (sha256 (contents_in Second table)) wrote) (c.put_digest.ensures.done (contents_in Second table) holds)
 
 pub returns-clause-part : goal.returns-clause-part
 returns-clause-part g c =
     let table = c.args.table.now in
     let piece = c.deref.result.now in
-    let digest = sha256 (contents table) in
-    let all : piece ++ records table.values ≡ contents table =
-    ap (λ (h : List ℕ). h ++ records table.values) (c.deref.ensures.value ∙ c.requires.header) ∙ header_records table in
+    let digest = sha256 (contents_in Second table) in
+    let all : piece ++ records table.values ≡ contents_in Second table =
+    ap (λ (h : List ℕ). h ++ records table.values) (c.deref.ensures.value ∙ c.requires.header) ∙ header_records Second table in
     let holds = subst (Holds256 c.write_records.new.hasher) all
     (c.in_ok-write_records.ensures.hashed piece (c.write_hashed.ensures.hashed [] c.new-hasher.ensures)) in
     let wrote = subst (Writes (change (g.W.Sink.state c.args.sink.now) (g.W.Sink.state c.write_records.new.sink))) all
     (writes_more (g.W.Sink.state c.args.sink.now) (g.W.Sink.state c.write_hashed.new.sink) (g.W.Sink.state c.write_records.new.sink) piece
     (records table.values) c.in_ok-write_hashed.ensures.done c.in_ok-write_records.ensures.done) in
-    let counted = c.class_count-count.ensures.number ∙ ap classes_of c.classes.ensures.set ∙ c.classes.ensures.count in
-    let long : length (contents table) ≡ 20 + 2 * c.class_count-count.result = length-contents table ∙ ap (λ (n : ℕ). 20 + 2 * n) (sym counted) in
+    let counted = c.class_count-count.ensures.number ∙ ap classes_of c.classes.ensures.family ∙ c.classes.ensures.count in
+    let long : length (contents_in Second table) ≡ 21 + 2 * c.class_count-count.result = length-contents Second table ∙ ap (λ (n : ℕ). 21 + 2 * n) (sym counted) in
     IfErr-weaker c.put_digest.result _ _
     (λ failed. stops_last (g.W.Sink.state c.args.sink.now) (g.W.Sink.state c.write_records.new.sink) (g.W.Sink.state c.put_digest.new.sink)
-    (20 + 2 * c.class_count-count.result) (contents table) digest (bytes_of table) failed wrote long refl) (c.put_digest.ensures.part (contents table) holds)
+    (21 + 2 * c.class_count-count.result) (contents_in Second table) digest (bytes_of table) failed wrote long refl) (c.put_digest.ensures.part (contents_in Second table) holds)

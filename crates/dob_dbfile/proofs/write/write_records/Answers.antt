@@ -40,7 +40,7 @@ returns-in_err-write_hashed-clause-part g c =
     let piece = c.deref.result.now in
     let joined : front ++ piece ≡ records (take c.min-end.result values) =
     ap (λ (bytes : List ℕ). front ++ bytes) c.deref.ensures.value ∙ c.put_records.ensures.records in
-    rw (p.1, p.2) (stops_behind (g.W.Sink.state c.args.sink.now) (g.W.Sink.state c.pieces.sink) (g.W.Sink.state c.write_hashed.new.sink) 20 (2 * class)
+    rw (p.1, p.2) (stops_behind (g.W.Sink.state c.args.sink.now) (g.W.Sink.state c.pieces.sink) (g.W.Sink.state c.write_hashed.new.sink) 21 (2 * class)
     front piece (records (drop c.min-end.result values)) (records values) _ c.pieces.invariant.2
     (records_len values class (omega (arith, c.pieces.invariant.0, c.requires.counted)))
     (records_part values class c.min-end.result piece joined) c.in_err-write_hashed.ensures.part)

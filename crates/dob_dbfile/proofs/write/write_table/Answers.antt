@@ -4,5 +4,5 @@ use Rattle.dob_dbfile.proofs.write.write_table.Goals as goal
 
 pub put_file-requires-clause-header : goal.put_file-requires-clause-header
 put_file-requires-clause-header g c =
-    header_is c.args.table.now c.set.result c.class_count.result _ _ c.in_ok-piece.ensures.items c.set.ensures.set c.class_count.ensures.length
+    header_is c.args.table.now c.family.result c.class_count.result _ _ c.in_ok-piece.ensures.items c.family.ensures.family c.class_count.ensures.length
     c.in_ok-push_header.ensures.items

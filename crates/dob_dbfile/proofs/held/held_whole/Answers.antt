@@ -1,0 +1,30 @@
+-- How many bytes there are tells whether the file is cut or goes on.
+use Rattle.std.proofs.Common.{◌≡◌, ◌≤◌, ◌+◌, ◌*◌, arith, inr, refl, length}
+use Rattle.dob_rank.specs.Families.{classes_of}
+use Rattle.dob_dbfile.specs.Faults.{file_len}
+use Rattle.dob_dbfile.proofs.held.held_whole.Goals as goal
+
+pub returns-then-bytes-wanted-clause-fault : goal.returns-then-bytes-wanted-clause-fault
+returns-then-bytes-wanted-clause-fault c =
+    let format = c.in_ok-format.format in
+    let family = c.in_ok-format.family in (
+      inr (
+        format,
+        family,
+        c.in_ok-format.ensures.counted,
+        λ is. let le : file_len format family ≤ length c.args.bytes.now = is.1 in
+            omega (arith, le, c.header_len.ensures, c.count_classes.ensures.number, c.if-bytes-wanted.true),
+      ),
+      refl,
+    )
+
+pub returns-then-wanted-bytes-clause-fault : goal.returns-then-wanted-bytes-clause-fault
+returns-then-wanted-bytes-clause-fault c =
+    let format = c.in_ok-format.format in
+    let family = c.in_ok-format.family in (
+      format,
+      family,
+      (c.in_ok-format.ensures.counted, omega (arith, c.header_len.ensures, c.count_classes.ensures.number, c.if-wanted-bytes.true)),
+      λ is. let le : length c.args.bytes.now ≤ file_len format family = is.1 in
+          omega (arith, le, c.header_len.ensures, c.count_classes.ensures.number, c.if-wanted-bytes.true),
+    )

@@ -1,0 +1,74 @@
+// A file whose bytes the caller holds or has mapped: what it says of itself, and the record of one class. No memory is taken.
+ghost use Rattle.std.specs.Prelude.{◌≡◌, ◌≢◌, ◌⊎◌, ◌+◌, ◌*◌, ◌≤◌, ◌<◌, length, Err, IfOk, IfErr, IsErrOf, ◌↔◌};
+ghost use Rattle.dob_rank.specs.Families.{classes_of};
+ghost use Rattle.dob_value.specs.Follows.{IsEntry};
+ghost use Rattle.dob_dbfile.specs.declared.fault.Fault.{Fault as AnyFault};
+ghost use Rattle.dob_dbfile.specs.Devices.{whole};
+ghost use Rattle.dob_dbfile.specs.Faults.{CountsClasses, HasReadFault, HasHeaderFault, IsHeaderShort, IsNoLonger, file_len, header_len};
+ghost use Rattle.dob_dbfile.specs.Looking.{HasRecord, place_of};
+
+use crate::fault::Fault;
+use crate::header::{FRONT_LEN, Format, family_counted, front_named};
+use crate::read::DIGEST_LEN;
+use crate::records::{RECORD_LEN, value_in};
+use dob_pieces::Family;
+use dob_rank::count_classes;
+use dob_value::Value;
+
+/// The format of a file and the family whose table it holds, by its header and by how many bytes there are. The digest isn't
+/// read.
+///
+/// Errors, just where it is the first that holds: those of `read_table` but `Digest`, `Memory` and `Io`.
+pub fn held_family(bytes: &[u8]) -> Result<(Format, Family), Fault>
+    ensures named { IfOk result (λ held. IsNoLonger held.0 held.1 (whole bytes.now)) }
+    ensures fault { (fault : AnyFault) → IsErrOf result fault ↔ (HasReadFault (whole bytes.now) fault × (fault ≢ Fault.Digest)) }
+{
+    held_whole(bytes)
+}
+
+// The same, where a fault is one that holds.
+fn held_whole(bytes: &[u8]) -> Result<(Format, Family), Fault>
+    ensures named { IfOk result (λ held. IsNoLonger held.0 held.1 (whole bytes.now)) }
+    ensures fault { IfErr result (HasReadFault (whole bytes.now)) }
+    ensures known { IfErr result (λ given. given ≢ Fault.Digest) }
+{
+    let (format, family) = held_header(bytes)?;
+    let records = RECORD_LEN * count_classes(family) as usize;
+    let wanted = format.header_len() + records + DIGEST_LEN;
+    if bytes.len() < wanted {
+        Err(Fault::Truncated)
+    } else if wanted < bytes.len() {
+        Err(Fault::Trailing)
+    } else {
+        Ok((format, family))
+    }
+}
+
+// What the header says.
+fn held_header(bytes: &[u8]) -> Result<(Format, Family), Fault>
+    ensures counted { IfOk result (λ held. CountsClasses held.0 held.1 bytes.now) }
+    ensures fault { IfErr result (HasReadFault (whole bytes.now)) }
+    ensures known { IfErr result (λ given. given ≢ Fault.Digest) }
+{
+    if bytes.len() < FRONT_LEN {
+        return Err(Fault::Truncated);
+    }
+    let (format, set) = front_named(&bytes[..FRONT_LEN])?;
+    if bytes.len() < format.header_len() {
+        return Err(Fault::Truncated);
+    }
+    Ok((
+        format,
+        family_counted(format, set, &bytes[..format.header_len()])?,
+    ))
+}
+
+/// The value that the class's record says, in a file of that format.
+pub fn held_value(bytes: &[u8], format: Format, class: u64) -> Value
+    requires { place_of format class + 2 ≤ length bytes.now }
+    ensures read { HasRecord (whole bytes.now) format class result }
+    ensures entry { IsEntry result }
+{
+    let place = format.header_len() + RECORD_LEN * class as usize;
+    value_in(&bytes[place..place + RECORD_LEN])
+}
