@@ -7,50 +7,50 @@ use Rattle.dob_moves.specs.declared.game_move.Move.{Move}
 use Rattle.dob_moves.specs.declared.position_status.Status.TheVariants.{Open}
 use Rattle.dob_moves.specs.Moves.{Goes}
 use Rattle.dob_moves.specs.Statuses.{CanCatch, HasStatus}
-use Rattle.dob_rank.specs.Order.{IsPositionOf}
+use Rattle.dob_rank.specs.Families.{IsPositionOf}
 use Rattle.dob_value.specs.declared.value.Value.{Value}
 use Rattle.dob_value.specs.declared.value.Value.TheVariants.{Win, Loss, Draw}
 use Rattle.dob_value.specs.Values.{Won, Lost, HasValue}
 use Rattle.dob_value.specs.Follows.{ClassTable, IsConsistent, IsValueTable}
 use Rattle.dob_value.proofs.Consistency.{consistent_is_right}
 use Rattle.dob_value.proofs.Depths.{won_stays, won_not_lost, at_most_one_value}
-use Rattle.dob_value.proofs.Successors.{moves_keep_the_set}
+use Rattle.dob_value.proofs.Successors.{moves_keep_the_family}
 use Rattle.dob_probe.specs.Lines.{GivenBy, value_wanted, LeadsTo, GoesOnTo, Continues, IsLine, Begins, LacksMove}
 use Rattle.dob_probe.specs.declared.fault.Fault.{Fault}
-use Rattle.dob_probe.specs.declared.fault.Fault.TheVariants.{OtherSet, Inconsistent, Memory}
+use Rattle.dob_probe.specs.declared.fault.Fault.TheVariants.{FarChick, OtherSet, Inconsistent, Memory}
 use Rattle.dob_probe.specs.Faults.{IsFaultOfLine}
 use Rattle.dob_probe.specs.Laws.{LinesAreBest, NoneBreaks}
 
-module _ (table : ClassTable) (right : IsValueTable table.set table.values) where
-  pub to_value : (p : Setup) (v : Value) → IsPositionOf table.set p → GivenBy table p v → HasValue p v
+module _ (table : ClassTable) (right : IsValueTable table.family table.values) where
+  pub to_value : (p : Setup) (v : Value) → IsPositionOf table.family p → GivenBy table p v → HasValue table.family.profile p v
   to_value p v is given = right.values_are p v is given
 
-  pub of_value : (p : Setup) (v : Value) → IsPositionOf table.set p → HasValue p v → GivenBy table p v
+  pub of_value : (p : Setup) (v : Value) → IsPositionOf table.family p → HasValue table.family.profile p v → GivenBy table p v
   of_value p v is value =
       let given = right.known p is in
-      let same = at_most_one_value p given.0 v (to_value p given.0 is given.1) value in
+      let same = at_most_one_value table.family.profile p given.0 v (to_value p given.0 is given.1) value in
       subst (λ w. GivenBy table p w) same given.1
 
-  after : (p : Setup) (m : Move) (q : Setup) → IsPositionOf table.set p → HasStatus p Open → Goes p m q → IsPositionOf table.set q
-  after p m q is goes_on goes = moves_keep_the_set table.set p m q is goes_on goes
+  after : (p : Setup) (m : Move) (q : Setup) → IsPositionOf table.family p → HasStatus table.family.profile p Open → Goes table.family.profile p m q → IsPositionOf table.family q
+  after p m q is goes_on goes = moves_keep_the_family table.family p m q is goes_on goes
 
-  leads_by_value : (p : Setup) (wanted : Value) (m : Move) (q : Setup) → IsPositionOf table.set p → LeadsTo (GivenBy table) p wanted m q →
-      LeadsTo HasValue p wanted m q
+  leads_by_value : (p : Setup) (wanted : Value) (m : Move) (q : Setup) → IsPositionOf table.family p → LeadsTo table.family.profile (GivenBy table) p wanted m q →
+      LeadsTo table.family.profile (HasValue table.family.profile) p wanted m q
   leads_by_value p wanted m q is leads = record {
     goes_on = leads.goes_on;
     goes = leads.goes;
     has = to_value q wanted (after p m q is leads.goes_on leads.goes) leads.has;
   }
 
-  leads_by_table : (p : Setup) (wanted : Value) (m : Move) (q : Setup) → IsPositionOf table.set p → LeadsTo HasValue p wanted m q →
-      LeadsTo (GivenBy table) p wanted m q
+  leads_by_table : (p : Setup) (wanted : Value) (m : Move) (q : Setup) → IsPositionOf table.family p → LeadsTo table.family.profile (HasValue table.family.profile) p wanted m q →
+      LeadsTo table.family.profile (GivenBy table) p wanted m q
   leads_by_table p wanted m q is leads = record {
     goes_on = leads.goes_on;
     goes = leads.goes;
     has = of_value q wanted (after p m q is leads.goes_on leads.goes) leads.has;
   }
 
-  goes_on_by_value : (p : Setup) (wanted : Value) → IsPositionOf table.set p → GoesOnTo (GivenBy table) p wanted → GoesOnTo HasValue p wanted
+  goes_on_by_value : (p : Setup) (wanted : Value) → IsPositionOf table.family p → GoesOnTo (GivenBy table) p wanted → GoesOnTo (HasValue table.family.profile) p wanted
   goes_on_by_value p wanted is goes_on = record {
     no_catch = goes_on.no_catch;
     value = goes_on.value;
@@ -58,7 +58,7 @@ module _ (table : ClassTable) (right : IsValueTable table.set table.values) wher
     next = goes_on.next;
   }
 
-  continues_by_value : (p : Setup) (m : Move) (q : Setup) → IsPositionOf table.set p → Continues (GivenBy table) p m q → Continues HasValue p m q
+  continues_by_value : (p : Setup) (m : Move) (q : Setup) → IsPositionOf table.family p → Continues table.family.profile (GivenBy table) p m q → Continues table.family.profile (HasValue table.family.profile) p m q
   continues_by_value p m q is next = (
     next.0,
     goes_on_by_value p next.0 is next.1,
@@ -68,7 +68,7 @@ module _ (table : ClassTable) (right : IsValueTable table.set table.values) wher
     },
   )
 
-  pub best : (moves : List Move) (p : Setup) → IsPositionOf table.set p → IsLine (GivenBy table) p moves → IsLine HasValue p moves
+  pub best : (moves : List Move) (p : Setup) → IsPositionOf table.family p → IsLine table.family.profile (GivenBy table) p moves → IsLine table.family.profile (HasValue table.family.profile) p moves
   best [] p is ends = record {
     no_catch = ends.no_catch;
     value = ends.value;
@@ -83,8 +83,8 @@ module _ (table : ClassTable) (right : IsValueTable table.set table.values) wher
   ]
 
   -- a position lost within n plies, but in no fewer, is a loss in n; and likewise one won
-  loss_of : (n : ℕ) (q : Setup) (v : Value) → HasValue q v → Lost n q → ((e : ℕ) → Lost e q → n ≤ e) → v ≡ Loss n
-  loss_of n q (Win e) value lost least = absurd (won_not_lost e n q value.0 lost)
+  loss_of : (n : ℕ) (q : Setup) (v : Value) → HasValue table.family.profile q v → Lost table.family.profile n q → ((e : ℕ) → Lost table.family.profile e q → n ≤ e) → v ≡ Loss n
+  loss_of n q (Win e) value lost least = absurd (won_not_lost table.family.profile e n q value.0 lost)
   loss_of n q (Loss e) value lost least =
       let up : n ≤ e = least e value.0 in
       let down : e ≤ n = value.1 n lost in
@@ -93,13 +93,13 @@ module _ (table : ClassTable) (right : IsValueTable table.set table.values) wher
   loss_of n q Draw value lost least = absurd ((value n).1 lost)
 
   -- a position won within n plies is a win in at most n
-  win_of : (n : ℕ) (q : Setup) (v : Value) → HasValue q v → Won n q → (e : ℕ) × (v ≡ Win e) × (e ≤ n)
+  win_of : (n : ℕ) (q : Setup) (v : Value) → HasValue table.family.profile q v → Won table.family.profile n q → (e : ℕ) × (v ≡ Win e) × (e ≤ n)
   win_of n q (Win e) value won = (e, refl, value.1 n won)
-  win_of n q (Loss e) value won = absurd (won_not_lost n e q won value.0)
+  win_of n q (Loss e) value won = absurd (won_not_lost table.family.profile n e q won value.0)
   win_of n q Draw value won = absurd ((value n).0 won)
 
-  win_goes_on : (n : ℕ) (p : Setup) → IsPositionOf table.set p → ¬ CanCatch p → HasValue p (Win n)
-      → ((m : Move) (q : Setup) → ¬ LeadsTo HasValue p (Loss (n - 1)) m q) → ⊥
+  win_goes_on : (n : ℕ) (p : Setup) → IsPositionOf table.family p → ¬ CanCatch p → HasValue table.family.profile p (Win n)
+      → ((m : Move) (q : Setup) → ¬ LeadsTo table.family.profile (HasValue table.family.profile) p (Loss (n - 1)) m q) → ⊥
   win_goes_on zero p is no_catch value none = value.0
   win_goes_on (suc n) p is no_catch value none = elim value.0 [
     | inl caught ↦ no_catch caught
@@ -110,28 +110,28 @@ module _ (table : ClassTable) (right : IsValueTable table.set table.values) wher
         let goes = open_win.3 in
         let given = right.known q (after p m q is goes_on goes) in
         let known = to_value q given.0 (after p m q is goes_on goes) given.1 in
-        let least : (e : ℕ) → Lost e q → n ≤ e = λ e lost.
+        let least : (e : ℕ) → Lost table.family.profile e q → n ≤ e = λ e lost.
         let bound : suc n ≤ suc e = value.1 (suc e) (inr (goes_on, m, q, goes, lost)) in omega arith in
         let same = loss_of n q given.0 known open_win.4 least in
         let back : n ≡ suc n - 1 = omega arith in
         none m q (record {
           goes_on = goes_on;
           goes = goes;
-          has = subst (λ v. HasValue q v) (same ∙ ap (λ k. Loss k) back) known;
+          has = subst (λ v. HasValue table.family.profile q v) (same ∙ ap (λ k. Loss k) back) known;
         })
   ]
 
-  loss_goes_on : (n : ℕ) (p : Setup) → IsPositionOf table.set p → HasValue p (Loss (suc n)) → ((m : Move) (q : Setup) → ¬ LeadsTo HasValue p (Win n) m q) → ⊥
+  loss_goes_on : (n : ℕ) (p : Setup) → IsPositionOf table.family p → HasValue table.family.profile p (Loss (suc n)) → ((m : Move) (q : Setup) → ¬ LeadsTo table.family.profile (HasValue table.family.profile) p (Win n) m q) → ⊥
   loss_goes_on n p is value none = elim value.0 [
     | inl over ↦ let bound : suc n ≤ 0 = value.1 0 over in absurd (omega arith)
     | inr open_loss ↦ by_depth n open_loss.0 open_loss.1 value.1 none
   ]
     where
-      by_depth : (n : ℕ) → HasStatus p Open → ((m : Move) (q : Setup) → Goes p m q → Won n q) → ((e : ℕ) → Lost e p → suc n ≤ e) →
-          ((m : Move) (q : Setup) → ¬ LeadsTo HasValue p (Win n) m q) → ⊥
+      by_depth : (n : ℕ) → HasStatus table.family.profile p Open → ((m : Move) (q : Setup) → Goes table.family.profile p m q → Won table.family.profile n q) → ((e : ℕ) → Lost table.family.profile e p → suc n ≤ e) →
+          ((m : Move) (q : Setup) → ¬ LeadsTo table.family.profile (HasValue table.family.profile) p (Win n) m q) → ⊥
       by_depth zero goes_on all least none = let move = goes_on.2 in all move.0 move.1.0 move.1.1
       by_depth (suc k) goes_on all least none =
-          let lost : Lost (suc k) p = inr (
+          let lost : Lost table.family.profile (suc k) p = inr (
             goes_on,
             λ m q goes.
                 let member = after p m q is goes_on goes in
@@ -140,38 +140,38 @@ module _ (table : ClassTable) (right : IsValueTable table.set table.values) wher
                 let win = win_of (suc k) q given.0 known (all m q goes) in
                 let within : win.0 ≤ suc k = win.2 in
                 elim (cases_lt win.0 (suc k)) [
-                  | inl below ↦ won_stays win.0 k q (omega arith) (subst (λ v. HasValue q v) win.1 known).0
+                  | inl below ↦ won_stays table.family.profile win.0 k q (omega arith) (subst (λ v. HasValue table.family.profile q v) win.1 known).0
                   | inr upto ↦
                       let same : win.0 ≡ suc k = omega arith in
                       absurd (none m q (record {
                         goes_on = goes_on;
                         goes = goes;
-                        has = subst (λ v. HasValue q v) (win.1 ∙ ap (λ e. Win e) same) known;
+                        has = subst (λ v. HasValue table.family.profile q v) (win.1 ∙ ap (λ e. Win e) same) known;
                       }))
                 ],
           ) in
           let bound : suc (suc k) ≤ suc k = least (suc k) lost in
           absurd (omega arith)
 
-  goes_on_by : (v wanted : Value) (p : Setup) → IsPositionOf table.set p → ¬ CanCatch p → HasValue p v → value_wanted v ≡ Some wanted →
-      ((m : Move) (q : Setup) → ¬ LeadsTo HasValue p wanted m q) → ⊥
+  goes_on_by : (v wanted : Value) (p : Setup) → IsPositionOf table.family p → ¬ CanCatch p → HasValue table.family.profile p v → value_wanted v ≡ Some wanted →
+      ((m : Move) (q : Setup) → ¬ LeadsTo table.family.profile (HasValue table.family.profile) p wanted m q) → ⊥
   goes_on_by (Win n) wanted p is no_catch value next none =
       let same : wanted ≡ Loss (n - 1) = cc in
-      win_goes_on n p is no_catch value (subst (λ w. (m : Move) (q : Setup) → ¬ LeadsTo HasValue p w m q) same none)
+      win_goes_on n p is no_catch value (subst (λ w. (m : Move) (q : Setup) → ¬ LeadsTo table.family.profile (HasValue table.family.profile) p w m q) same none)
   goes_on_by (Loss zero) wanted p is no_catch value next none = let never : None ≡ Some wanted = next in absurd (cc)
   goes_on_by (Loss (suc n)) wanted p is no_catch value next none =
       let same : wanted ≡ Win n = cc in
-      loss_goes_on n p is value (subst (λ w. (m : Move) (q : Setup) → ¬ LeadsTo HasValue p w m q) same none)
+      loss_goes_on n p is value (subst (λ w. (m : Move) (q : Setup) → ¬ LeadsTo table.family.profile (HasValue table.family.profile) p w m q) same none)
   goes_on_by Draw wanted p is no_catch value next none = let never : None ≡ Some wanted = next in absurd (cc)
 
-  lacks_none : (p : Setup) → IsPositionOf table.set p → ¬ LacksMove (GivenBy table) p
+  lacks_none : (p : Setup) → IsPositionOf table.family p → ¬ LacksMove table.family.profile (GivenBy table) p
   lacks_none p is lacks =
       let goes_on = lacks.1 in
       goes_on_by goes_on.value lacks.0 p is goes_on.no_catch (to_value p goes_on.value is goes_on.has) goes_on.next
       (λ m q leads. lacks.2 m q (leads_by_table p lacks.0 m q is leads))
 
-  none_breaks_after : (ms : List Move) (p q : Setup) → IsPositionOf table.set p → Begins (GivenBy table) p ms q → ¬ LacksMove (GivenBy table) q
-  none_breaks_after [] p q is same lacks = lacks_none p is (subst (LacksMove (GivenBy table)) (sym same) lacks)
+  none_breaks_after : (ms : List Move) (p q : Setup) → IsPositionOf table.family p → Begins table.family.profile (GivenBy table) p ms q → ¬ LacksMove table.family.profile (GivenBy table) q
+  none_breaks_after [] p q is same lacks = lacks_none p is (subst (LacksMove table.family.profile (GivenBy table)) (sym same) lacks)
   none_breaks_after (m ∷ ms) p q is begins lacks =
       let next = begins.1.2.leads in
       none_breaks_after ms begins.0 q (after p m begins.0 is next.goes_on next.goes) begins.2 lacks
@@ -184,12 +184,13 @@ none_breaks table p class right is breaks = none_breaks_after table right breaks
 
 -- what a consistent table's line is, whatever came of it
 pub best_answered : {T : Type 0} (moves_of : T → List Move) (table : ClassTable) (p : Setup) (result : Result T Fault) →
-    IfOk result (λ t. IsLine (GivenBy table) p (moves_of t)) → IfErr result (IsFaultOfLine table p) →
-    IsConsistent table.set table.values → IsPositionOf table.set p →
-    MatchResult result (λ t. IsLine HasValue p (moves_of t)) (λ fault. fault ≡ Memory)
+    IfOk result (λ t. IsLine table.family.profile (GivenBy table) p (moves_of t)) → IfErr result (IsFaultOfLine table p) →
+    IsConsistent table.family table.values → IsPositionOf table.family p →
+    MatchResult result (λ t. IsLine table.family.profile (HasValue table.family.profile) p (moves_of t)) (λ fault. fault ≡ Memory)
 best_answered moves_of table p (Ok t) line fault consistent is =
-    lines_are_best table p (moves_of t) (consistent_is_right table.set table.values consistent) is line
-best_answered moves_of table p (Err OtherSet) line fault consistent is = absurd (fault is)
+    lines_are_best table p (moves_of t) (consistent_is_right table.family table.values consistent) is line
+best_answered moves_of table p (Err FarChick) line fault consistent is = absurd (fault is.allowed)
+best_answered moves_of table p (Err OtherSet) line fault consistent is = absurd (fault.1 is.of_set)
 best_answered moves_of table p (Err (Inconsistent class)) line fault consistent is =
-    absurd (none_breaks table p class (consistent_is_right table.set table.values consistent) is fault.1)
+    absurd (none_breaks table p class (consistent_is_right table.family table.values consistent) is fault.1)
 best_answered moves_of table p (Err Memory) line fault consistent is = refl

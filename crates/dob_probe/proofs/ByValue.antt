@@ -6,21 +6,22 @@ use Rattle.std.proofs.lemmas.Option.{slice_get-get_or, same_Some}
 use Rattle.std.proofs.lemmas.Grind.{in_insert}
 use Rattle.std.proofs.lemmas.List.Elements.{Contains-get_or}
 use Rattle.std.proofs.lemmas.List.Edits.{length-insert, get_or-insert_below, get_or-insert_at, get_or-insert_above}
+use Rattle.dob_pieces.specs.declared.profile.Family.{Family}
+use Rattle.dob_pieces.specs.declared.profile.Profile.{Profile}
 use Rattle.dob_pieces.specs.declared.setup.Setup.{Setup}
 use Rattle.dob_moves.specs.declared.game_move.Move.{Move}
 use Rattle.dob_moves.specs.declared.position_status.Status.TheVariants.{Open}
 use Rattle.dob_moves.specs.Moves.{Goes, CanGo, place}
 use Rattle.dob_moves.specs.Statuses.{CanCatch, HasStatus, AreMoves}
-use Rattle.dob_rank.specs.Order.{IsPositionOf}
+use Rattle.dob_rank.specs.Families.{IsPositionOf}
 use Rattle.dob_value.specs.declared.value.Value.{Value}
 use Rattle.dob_value.specs.declared.value.Value.TheVariants.{Win, Loss, Draw}
 use Rattle.dob_value.specs.Values.{HasValue}
 use Rattle.dob_value.specs.Follows.{ClassTable, IsValueTable}
-use Rattle.dob_value.proofs.Successors.{moves_keep_the_set}
+use Rattle.dob_value.proofs.Successors.{moves_keep_the_family}
 use Rattle.dob_probe.specs.declared.choices.ValuedMove.{ValuedMove}
 use Rattle.dob_probe.specs.Choices.{seen_from_before, IsBetter, ComesBefore, HasMoveValue, AreValuedMoves}
 use Rattle.dob_probe.specs.Lines.{GivenBy}
-use Rattle.dob_probe.proofs.Entries.{one_given}
 use Rattle.dob_probe.proofs.Best.{to_value, of_value}
 
 -- ---- values by preference
@@ -176,25 +177,25 @@ module _ (xs : List ValuedMove) (i : ℕ) (y : ValuedMove) (within : i ≤ lengt
 
 -- ---- the moves of the first choices
 
-pub record AreListed (Has : Setup → Value → Type 0) (p : Setup) (choices : List Move) (upto : ℕ) (list : List ValuedMove) : Type 0 where
+pub record AreListed (profile : Profile) (Has : Setup → Value → Type 0) (p : Setup) (choices : List Move) (upto : ℕ) (list : List ValuedMove) : Type 0 where
   pub sound : (valued : ValuedMove) → Contains list valued →
-      HasMoveValue Has p valued × ((index : ℕ) × (index < upto) × (slice_get choices index ≡ Some valued.choice))
-  pub whole : (index : ℕ) (valued : ValuedMove) → index < upto → slice_get choices index ≡ Some valued.choice → HasMoveValue Has p valued →
+      HasMoveValue profile Has p valued × ((index : ℕ) × (index < upto) × (slice_get choices index ≡ Some valued.choice))
+  pub whole : (index : ℕ) (valued : ValuedMove) → index < upto → slice_get choices index ≡ Some valued.choice → HasMoveValue profile Has p valued →
       Contains list valued
   pub ordered : AllPairs ComesBefore list
 
-pub listed_none : (Has : Setup → Value → Type 0) (p : Setup) (choices : List Move) → AreListed Has p choices 0 []
-listed_none Has p choices = record {
+pub listed_none : (profile : Profile) (Has : Setup → Value → Type 0) (p : Setup) (choices : List Move) → AreListed profile Has p choices 0 []
+listed_none profile Has p choices = record {
   sound = λ valued there. absurd (omega (arith, there.1));
   whole = λ index valued below there has. absurd (omega arith);
   ordered = λ i j d lt within. absurd (omega (arith, within));
 }
 
 -- each listed move stands before the next of the list of moves
-pub listed_earlier : (Has : Setup → Value → Type 0) (p : Setup) (choices : List Move) (upto : ℕ) (list : List ValuedMove) (choice : Move) →
-    AreMoves p choices → upto < length choices → slice_get choices upto ≡ Some choice → AreListed Has p choices upto list →
+pub listed_earlier : (profile : Profile) (Has : Setup → Value → Type 0) (p : Setup) (choices : List Move) (upto : ℕ) (list : List ValuedMove) (choice : Move) →
+    AreMoves profile p choices → upto < length choices → slice_get choices upto ≡ Some choice → AreListed profile Has p choices upto list →
     (valued : ValuedMove) → Contains list valued → place valued.choice < place choice
-listed_earlier Has p choices upto list choice are within here listed valued there =
+listed_earlier profile Has p choices upto list choice are within here listed valued there =
     let earlier = (listed.sound valued there).1 in
     let index : ℕ = earlier.0 in
     let below : index < upto = earlier.1 in
@@ -211,11 +212,13 @@ listed_earlier Has p choices upto list choice are within here listed valued ther
 same_valued : (a b : ValuedMove) → a.choice ≡ b.choice → a.value ≡ b.value → a ≡ b
 same_valued a b choice value = λ i. record { choice = choice i; value = value i }
 
-module _ (table : ClassTable) (p : Setup) (member : IsPositionOf table.set p) (choices : List Move) where
+-- where a position of the family has one value at most
+module _ (family : Family) (Has : Setup → Value → Type 0) (one : (q : Setup) (v w : Value) → IsPositionOf family q → Has q v → Has q w → v ≡ w)
+    (p : Setup) (member : IsPositionOf family p) (choices : List Move) where
   pub listed_more : (upto : ℕ) (list new : List ValuedMove) (more : ValuedMove) (value : Value) → slice_get choices upto ≡ Some more.choice →
-      HasStatus p Open → CanGo p more.choice → ((q : Setup) → Goes p more.choice q → GivenBy table q value) →
+      HasStatus family.profile p Open → CanGo family.profile p more.choice → ((q : Setup) → Goes family.profile p more.choice q → Has q value) →
       more.value ≡ seen_from_before value → ((x : ValuedMove) → Contains new x ↔ (Contains list x ⊎ (x ≡ more))) → AllPairs ComesBefore new →
-      AreListed (GivenBy table) p choices upto list → AreListed (GivenBy table) p choices (upto + 1) new
+      AreListed family.profile Has p choices upto list → AreListed family.profile Has p choices (upto + 1) new
   listed_more upto list new more value here goes_on can_go given seen has ordered before = record {
     sound = λ valued there. elim ((has valued).0 there) [
       | inl earlier ↦
@@ -223,7 +226,7 @@ module _ (table : ClassTable) (p : Setup) (member : IsPositionOf table.set p) (c
           let below : known.1.0 < upto = known.1.1 in
           (known.0, (known.1.0, omega (arith, below), known.1.2))
       | inr same ↦
-          let this : HasMoveValue (GivenBy table) p more = record {
+          let this : HasMoveValue family.profile Has p more = record {
             goes_on = goes_on;
             outcome = can_go.0;
             goes = can_go.1;
@@ -231,7 +234,7 @@ module _ (table : ClassTable) (p : Setup) (member : IsPositionOf table.set p) (c
             has = given can_go.0 can_go.1;
             seen = seen;
           } in
-          subst (λ x. HasMoveValue (GivenBy table) p x × ((index : ℕ) × (index < upto + 1) × (slice_get choices index ≡ Some x.choice)))
+          subst (λ x. HasMoveValue family.profile Has p x × ((index : ℕ) × (index < upto + 1) × (slice_get choices index ≡ Some x.choice)))
           (sym same) (this, (upto, omega arith, here))
     ];
     whole = λ index valued below there known. elim (cases_lt index upto) [
@@ -240,17 +243,17 @@ module _ (table : ClassTable) (p : Setup) (member : IsPositionOf table.set p) (c
           let same : upto ≡ index = omega arith in
           let here_too : slice_get choices index ≡ Some more.choice = subst (λ k. slice_get choices k ≡ Some more.choice) same here in
           let choice : valued.choice ≡ more.choice = same_Some valued.choice more.choice (sym there ∙ here_too) in
-          let goes : Goes p more.choice known.outcome = subst (λ m. Goes p m known.outcome) choice known.goes in
-          let inside = moves_keep_the_set table.set p valued.choice known.outcome member goes_on known.goes in
-          let one : known.value ≡ value = one_given table known.outcome known.value value inside known.has (given known.outcome goes) in
+          let goes : Goes family.profile p more.choice known.outcome = subst (λ m. Goes family.profile p m known.outcome) choice known.goes in
+          let inside = moves_keep_the_family family p valued.choice known.outcome member goes_on known.goes in
+          let one : known.value ≡ value = one known.outcome known.value value inside known.has (given known.outcome goes) in
           (has valued).1 (inr (same_valued valued more choice (known.seen ∙ ap seen_from_before one ∙ sym seen)))
     ];
     ordered = ordered;
   }
 
-pub listed_all : (Has : Setup → Value → Type 0) (p : Setup) (choices : List Move) (upto : ℕ) (list : List ValuedMove) → (¬ CanCatch p) →
-    AreMoves p choices → length choices ≤ upto → AreListed Has p choices upto list → AreValuedMoves Has p list
-listed_all Has p choices upto list free are all listed = record {
+pub listed_all : (profile : Profile) (Has : Setup → Value → Type 0) (p : Setup) (choices : List Move) (upto : ℕ) (list : List ValuedMove) → (¬ CanCatch p) →
+    AreMoves profile p choices → length choices ≤ upto → AreListed profile Has p choices upto list → AreValuedMoves profile Has p list
+listed_all profile Has p choices upto list free are all listed = record {
   sound = λ valued there. inr (listed.sound valued there).0;
   caught = λ catch. absurd (free catch);
   whole = λ valued has.
@@ -264,28 +267,28 @@ listed_all Has p choices upto list free are all listed = record {
 
 -- ---- by the value table the values are the right ones
 
-module _ (table : ClassTable) (right : IsValueTable table.set table.values) (p : Setup) (is : IsPositionOf table.set p) where
-  by_value : (valued : ValuedMove) → HasMoveValue (GivenBy table) p valued → HasMoveValue HasValue p valued
+module _ (table : ClassTable) (right : IsValueTable table.family table.values) (p : Setup) (is : IsPositionOf table.family p) where
+  by_value : (valued : ValuedMove) → HasMoveValue table.family.profile (GivenBy table) p valued → HasMoveValue table.family.profile (HasValue table.family.profile) p valued
   by_value valued has = record {
     goes_on = has.goes_on;
     outcome = has.outcome;
     goes = has.goes;
     value = has.value;
-    has = to_value table right has.outcome has.value (moves_keep_the_set table.set p valued.choice has.outcome is has.goes_on has.goes) has.has;
+    has = to_value table right has.outcome has.value (moves_keep_the_family table.family p valued.choice has.outcome is has.goes_on has.goes) has.has;
     seen = has.seen;
   }
 
-  by_table : (valued : ValuedMove) → HasMoveValue HasValue p valued → HasMoveValue (GivenBy table) p valued
+  by_table : (valued : ValuedMove) → HasMoveValue table.family.profile (HasValue table.family.profile) p valued → HasMoveValue table.family.profile (GivenBy table) p valued
   by_table valued has = record {
     goes_on = has.goes_on;
     outcome = has.outcome;
     goes = has.goes;
     value = has.value;
-    has = of_value table right has.outcome has.value (moves_keep_the_set table.set p valued.choice has.outcome is has.goes_on has.goes) has.has;
+    has = of_value table right has.outcome has.value (moves_keep_the_family table.family p valued.choice has.outcome is has.goes_on has.goes) has.has;
     seen = has.seen;
   }
 
-  pub valued_rightly : (list : List ValuedMove) → AreValuedMoves (GivenBy table) p list → AreValuedMoves HasValue p list
+  pub valued_rightly : (list : List ValuedMove) → AreValuedMoves table.family.profile (GivenBy table) p list → AreValuedMoves table.family.profile (HasValue table.family.profile) p list
   valued_rightly list are = record {
     sound = λ valued there. elim (are.sound valued there) [
       | inl catch ↦ inl catch

@@ -2,7 +2,7 @@
 use Rattle.std.proofs.Common.{◌≡◌, ℕ, inl, inr, sym, subst, ◌∙◌, List, Some, None, All, slice_get}
 use Rattle.std.proofs.lemmas.Option.{slice_get_cases, same_Some}
 use Rattle.dob_pieces.specs.declared.setup.Setup.{Setup}
-use Rattle.dob_rank.specs.Order.{IsPositionOf}
+use Rattle.dob_rank.specs.Families.{IsPositionOf}
 use Rattle.dob_value.specs.declared.value.Value.{Value}
 use Rattle.dob_value.specs.Follows.{ClassTable, IsEntry, IsTable}
 use Rattle.dob_value.proofs.ClassNumbers.{one_entry}
@@ -18,8 +18,8 @@ all_at P xs k x all read = elim (slice_get_cases xs k).1 [
 ]
 
 module _ (table : ClassTable) where
-  pub given_is_entry : (p : Setup) (v : Value) → IsTable table.set table.values → GivenBy table p v → IsEntry v
+  pub given_is_entry : (p : Setup) (v : Value) → IsTable table.family table.values → GivenBy table p v → IsEntry v
   given_is_entry p v is given = all_at IsEntry table.values given.class v is.entries given.entry
 
-  pub one_given : (p : Setup) (v w : Value) → IsPositionOf table.set p → GivenBy table p v → GivenBy table p w → v ≡ w
-  one_given p v w is a b = one_entry table.set table.values p v w is a b
+  pub one_given : (p : Setup) (v w : Value) → IsPositionOf table.family p → GivenBy table p v → GivenBy table p w → v ≡ w
+  one_given p v w is a b = one_entry table.family table.values p v w is a b

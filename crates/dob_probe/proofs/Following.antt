@@ -8,7 +8,7 @@ use Rattle.dob_moves.specs.declared.position_status.Status.TheVariants.{Caught, 
 use Rattle.dob_moves.specs.Moves.{Goes}
 use Rattle.dob_moves.specs.Statuses.{HasStatus}
 use Rattle.dob_moves.proofs.Cases.{one_status}
-use Rattle.dob_rank.specs.Order.{IsPositionOf}
+use Rattle.dob_rank.specs.Families.{IsPositionOf}
 use Rattle.dob_value.specs.declared.value.Value.{Value}
 use Rattle.dob_value.specs.declared.value.Value.TheVariants.{Win, Loss, Draw}
 use Rattle.dob_value.specs.declared.sweep.TheConstants.{MAX_DISTANCE}
@@ -16,24 +16,24 @@ use Rattle.dob_value.specs.Graphs.{AreSuccessors}
 use Rattle.dob_value.specs.Follows.{ClassTable, HasSuccessor, SuccessorsAreWins, FollowsFromSuccessors, FollowsAt, Follows, IsTable, IsConsistent}
 use Rattle.dob_value.specs.Distances.{IsLeastLoss}
 use Rattle.dob_value.proofs.ClassNumbers.{one_of_class}
-use Rattle.dob_value.proofs.Successors.{moves_keep_the_set}
+use Rattle.dob_value.proofs.Successors.{moves_keep_the_family}
 use Rattle.dob_probe.specs.Lines.{GivenBy}
 use Rattle.dob_probe.specs.Sums.{IsGreatestWin, TellsDraw, HasNext, value_after}
 use Rattle.dob_probe.specs.Checks.{HasEntry, ClassFollows, ClassBreaks}
 use Rattle.dob_probe.proofs.Entries.{one_given, given_is_entry}
 
-module _ (table : ClassTable) (p : Setup) (is : IsPositionOf table.set p) where
+module _ (table : ClassTable) (p : Setup) (is : IsPositionOf table.family p) where
   abbrev Has : Setup → Value → Type 0
   Has = GivenBy table
 
-  one : HasStatus p Open → (m : Move) (q : Setup) (v w : Value) → Goes p m q → Has q v → Has q w → v ≡ w
-  one goes_on m q v w goes a b = one_given table q v w (moves_keep_the_set table.set p m q is goes_on goes) a b
+  one : HasStatus table.family.profile p Open → (m : Move) (q : Setup) (v w : Value) → Goes table.family.profile p m q → Has q v → Has q w → v ≡ w
+  one goes_on m q v w goes a b = one_given table q v w (moves_keep_the_family table.family p m q is goes_on goes) a b
 
-  module _ (goes_on : HasStatus p Open) (values : List Value) (are : AreSuccessors (λ v q. GivenBy table q v) p values) where
-    has_of : (v : Value) → Contains values v → HasSuccessor Has p v
+  module _ (goes_on : HasStatus table.family.profile p Open) (values : List Value) (are : AreSuccessors table.family.profile (λ v q. GivenBy table q v) p values) where
+    has_of : (v : Value) → Contains values v → HasSuccessor table.family.profile Has p v
     has_of v there = are.sound v there
 
-    of_has : (v : Value) → HasSuccessor Has p v → Contains values v
+    of_has : (v : Value) → HasSuccessor table.family.profile Has p v → Contains values v
     of_has v has =
         let next = are.whole goes_on has.0 has.1 has.2 in
         subst (Contains values) (one goes_on has.0 has.1 next.0 v has.2 next.2 has.3) next.1
@@ -51,7 +51,7 @@ module _ (table : ClassTable) (p : Setup) (is : IsPositionOf table.set p) where
     no_value Draw no_loss no_win no_draw there = no_draw there
 
     pub follows_from : (least greatest : Option ℕ) (draw : Bool) → IsLeastLoss values least → IsGreatestWin values greatest →
-        TellsDraw values draw → FollowsFromSuccessors Has p (value_after least greatest draw)
+        TellsDraw values draw → FollowsFromSuccessors table.family.profile Has p (value_after least greatest draw)
     follows_from (Some least) greatest draw known wins tells =
         (least, refl, has_of (Loss least) known.0, λ other has. known.1 other (of_has (Loss other) has))
     follows_from None greatest true none wins there = (
@@ -77,7 +77,7 @@ module _ (table : ClassTable) (p : Setup) (is : IsPositionOf table.set p) where
         absurd (no_value next.0 none no_win no_draw next.1)
 
     -- one can be added to the distances that are kept
-    pub least_has_next : IsTable table.set table.values → (least : Option ℕ) → IsLeastLoss values least → HasNext least
+    pub least_has_next : IsTable table.family table.values → (least : Option ℕ) → IsLeastLoss values least → HasNext least
     least_has_next whole None none = tt
     least_has_next whole (Some least) known =
         let next = has_of (Loss least) known.0 in
@@ -85,7 +85,7 @@ module _ (table : ClassTable) (p : Setup) (is : IsPositionOf table.set p) where
         let short : least ≤ MAX_DISTANCE = entry.1 in
         omega arith
 
-    pub greatest_has_next : IsTable table.set table.values → (greatest : Option ℕ) → IsGreatestWin values greatest → HasNext greatest
+    pub greatest_has_next : IsTable table.family table.values → (greatest : Option ℕ) → IsGreatestWin values greatest → HasNext greatest
     greatest_has_next whole None none = tt
     greatest_has_next whole (Some greatest) known =
         let next = has_of (Win greatest) known.0 in
@@ -94,13 +94,13 @@ module _ (table : ClassTable) (p : Setup) (is : IsPositionOf table.set p) where
         omega arith
 
   -- one value follows
-  not_loss_and_wins : HasStatus p Open → (plies : ℕ) → HasSuccessor Has p (Loss plies) → ¬ SuccessorsAreWins Has p
+  not_loss_and_wins : HasStatus table.family.profile p Open → (plies : ℕ) → HasSuccessor table.family.profile Has p (Loss plies) → ¬ SuccessorsAreWins table.family.profile Has p
   not_loss_and_wins goes_on plies has all =
       let win = all has.0 has.1 has.2 in
       let never : Loss plies ≡ Win win.0 = one goes_on has.0 has.1 (Loss plies) (Win win.0) has.2 has.3 win.1 in
       absurd (cc)
 
-  one_from : HasStatus p Open → (v w : Value) → FollowsFromSuccessors Has p v → FollowsFromSuccessors Has p w → v ≡ w
+  one_from : HasStatus table.family.profile p Open → (v w : Value) → FollowsFromSuccessors table.family.profile Has p v → FollowsFromSuccessors table.family.profile Has p w → v ≡ w
   one_from goes_on (Win a) (Win b) x y =
       let up : x.0 ≤ y.0 = x.3 y.0 y.2 in
       let down : y.0 ≤ x.0 = y.3 x.0 x.2 in
@@ -123,26 +123,26 @@ module _ (table : ClassTable) (p : Setup) (is : IsPositionOf table.set p) where
   one_from goes_on Draw (Loss b) x y = absurd (x.1 y.4)
   one_from goes_on Draw Draw x y = refl
 
-  one_at : (s : Status) → HasStatus p s → (v w : Value) → FollowsAt Has p s v → FollowsAt Has p s w → v ≡ w
+  one_at : (s : Status) → HasStatus table.family.profile p s → (v w : Value) → FollowsAt table.family.profile Has p s v → FollowsAt table.family.profile Has p s w → v ≡ w
   one_at Caught status v w a b = a ∙ sym b
   one_at Tried status v w a b = a ∙ sym b
   one_at Stuck status v w a b = a ∙ sym b
   one_at Open status v w a b = one_from status v w a b
 
-  pub one_follows : (v w : Value) → Follows Has p v → Follows Has p w → v ≡ w
+  pub one_follows : (v w : Value) → Follows table.family.profile Has p v → Follows table.family.profile Has p w → v ≡ w
   one_follows v w a b =
-      let same = one_status p b.0 a.0 b.1 a.1 in
-      one_at a.0 a.1 v w a.2 (subst (λ s. FollowsAt Has p s w) same b.2)
+      let same = one_status table.family.profile p b.0 a.0 b.1 a.1 in
+      one_at a.0 a.1 v w a.2 (subst (λ s. FollowsAt table.family.profile Has p s w) same b.2)
 
 -- ---- what is found of one class
 
 module _ (table : ClassTable) (class : ℕ) (representative : Setup) (v : Value) (has : HasEntry table class representative v) (found : Value)
-    (follows : Follows (GivenBy table) representative found) where
+    (follows : Follows table.family.profile (GivenBy table) representative found) where
   pub class_follows : found ≡ v → ClassFollows table class
   class_follows same other w entry =
-      let same_representative = one_of_class table.set representative other class has.represents entry.represents has.number entry.number in
+      let same_representative = one_of_class table.family representative other class has.represents entry.represents has.number entry.number in
       let same_value = same_Some v w (sym has.entry ∙ entry.entry) in
-      subst (λ q. Follows (GivenBy table) q w) same_representative (subst (Follows (GivenBy table) representative) (same ∙ same_value) follows)
+      subst (λ q. Follows table.family.profile (GivenBy table) q w) same_representative (subst (Follows table.family.profile (GivenBy table) representative) (same ∙ same_value) follows)
 
   pub class_breaks : ¬ (found ≡ v) → ClassBreaks table class
   class_breaks apart = record {
@@ -154,8 +154,8 @@ module _ (table : ClassTable) (class : ℕ) (representative : Setup) (v : Value)
 
 -- ---- all classes
 
-pub consistent_of_all : (table : ClassTable) → IsTable table.set table.values →
-    ((class : ℕ) → class < length table.values → ClassFollows table class) → IsConsistent table.set table.values
+pub consistent_of_all : (table : ClassTable) → IsTable table.family table.values →
+    ((class : ℕ) → class < length table.values → ClassFollows table class) → IsConsistent table.family table.values
 consistent_of_all table whole all = record {
   table = whole;
   follows = λ representative class v represents number entry.
@@ -163,6 +163,6 @@ consistent_of_all table whole all = record {
       all class within representative v (record { represents = represents; number = number; entry = entry });
 }
 
-pub consistent_has_no_break : (table : ClassTable) (class : ℕ) → IsConsistent table.set table.values → ¬ ClassBreaks table class
+pub consistent_has_no_break : (table : ClassTable) (class : ℕ) → IsConsistent table.family table.values → ¬ ClassBreaks table class
 consistent_has_no_break table class consistent breaks =
     breaks.breaks (consistent.follows breaks.representative class breaks.value breaks.has.represents breaks.has.number breaks.has.entry)

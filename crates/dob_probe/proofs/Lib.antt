@@ -7,3 +7,4 @@ pub mod Following  -- the one value that follows from the successors' values
 pub mod Verdicts  -- the first fault among the verdicts of all classes
 pub mod ByValue  -- moves with their values, best first, as the list grows
 pub mod Slotted  -- what is counted of each code, and the groups that are there
+pub mod OnlyMoves  -- the only move to a value, and the puzzles of the classes so far

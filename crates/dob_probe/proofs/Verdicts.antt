@@ -9,7 +9,7 @@ use Rattle.rayon.specs.Lists.{filter_by_mask}
 use Rattle.dob_value.specs.Follows.{ClassTable, IsTable, IsConsistent, IsValueTable}
 use Rattle.dob_value.proofs.Consistency.{consistent_is_right}
 use Rattle.dob_probe.specs.declared.fault.Fault.{Fault}
-use Rattle.dob_probe.specs.declared.fault.Fault.TheVariants.{OtherSet, Inconsistent, Memory}
+use Rattle.dob_probe.specs.declared.fault.Fault.TheVariants.{FarChick, OtherSet, Inconsistent, Memory}
 use Rattle.dob_probe.specs.Checks.{ClassFollows, ClassBreaks}
 use Rattle.dob_probe.specs.Faults.{IsVerdict, IsFaultOfCheck}
 use Rattle.dob_probe.proofs.Following.{consistent_of_all, consistent_has_no_break}
@@ -60,13 +60,14 @@ module _ (table : ClassTable) where
       one_more from count (slice_get (filter_by_mask verdicts answers) 0) (passed from v are.0 (sym told.0))
       (first_fault (from + 1) count verdicts answers are.1 told.1)
 
-  module _ (whole : IsTable table.set table.values) where
-    pub none_broken : IsFirstFault 0 (length table.values) None → IsConsistent table.set table.values
+  module _ (whole : IsTable table.family table.values) where
+    pub none_broken : IsFirstFault 0 (length table.values) None → IsConsistent table.family table.values
     none_broken all = consistent_of_all table whole (λ class within. all class (omega arith) (omega arith))
 
     -- what a fault says of the table
     pub fault_holds : (verdict : Verdict) → IsFirstFault 0 (length table.values) (Some verdict) → IfErr verdict (IsFaultOfCheck table)
     fault_holds (Ok _) first = tt
+    fault_holds (Err FarChick) first = first.2
     fault_holds (Err OtherSet) first = first.2
     fault_holds (Err (Inconsistent class)) first =
         let same : class ≡ first.0 = first.2.0 in record {
@@ -76,32 +77,33 @@ module _ (table : ClassTable) where
         }
     fault_holds (Err Memory) first = tt
 
-    pub fault_not_ok : (verdict : Verdict) → is_err verdict ≡ true → IfOk verdict (λ _. IsConsistent table.set table.values)
+    pub fault_not_ok : (verdict : Verdict) → is_err verdict ≡ true → IfOk verdict (λ _. IsConsistent table.family table.values)
     fault_not_ok (Ok _) is = absurd (cc)
     fault_not_ok (Err fault) is = tt
 
-  pub passed_answered : (verdict : Verdict) → IfErr verdict (IsFaultOfCheck table) → IsConsistent table.set table.values →
+  pub passed_answered : (verdict : Verdict) → IfErr verdict (IsFaultOfCheck table) → IsConsistent table.family table.values →
       (verdict ≡ Ok tt) ⊎ (verdict ≡ Err Memory)
   passed_answered (Ok _) fault consistent = inl refl
+  passed_answered (Err FarChick) fault consistent = absurd fault
   passed_answered (Err OtherSet) fault consistent = absurd fault
   passed_answered (Err (Inconsistent class)) fault consistent = absurd (consistent_has_no_break table class consistent fault.breaks)
   passed_answered (Err Memory) fault consistent = inr refl
 
   -- what is answered
-  pub consistent_answered : IsTable table.set table.values → (found : Option Verdict) (result : Verdict) → result ≡ unwrap_or found (Ok tt) →
-      IsFirstFault 0 (length table.values) found → IfOk result (λ _. IsConsistent table.set table.values)
+  pub consistent_answered : IsTable table.family table.values → (found : Option Verdict) (result : Verdict) → result ≡ unwrap_or found (Ok tt) →
+      IsFirstFault 0 (length table.values) found → IfOk result (λ _. IsConsistent table.family table.values)
   consistent_answered whole None result is first =
-      subst (λ (v : Verdict). IfOk v (λ _. IsConsistent table.set table.values)) (sym is) (none_broken whole first)
+      subst (λ (v : Verdict). IfOk v (λ _. IsConsistent table.family table.values)) (sym is) (none_broken whole first)
   consistent_answered whole (Some verdict) result is first =
-      subst (λ (v : Verdict). IfOk v (λ _. IsConsistent table.set table.values)) (sym is) (fault_not_ok whole verdict first.3)
+      subst (λ (v : Verdict). IfOk v (λ _. IsConsistent table.family table.values)) (sym is) (fault_not_ok whole verdict first.3)
 
-  pub fault_answered : IsTable table.set table.values → (found : Option Verdict) (result : Verdict) → result ≡ unwrap_or found (Ok tt) →
+  pub fault_answered : IsTable table.family table.values → (found : Option Verdict) (result : Verdict) → result ≡ unwrap_or found (Ok tt) →
       IsFirstFault 0 (length table.values) found → IfErr result (IsFaultOfCheck table)
   fault_answered whole None result is first = subst (λ (v : Verdict). IfErr v (IsFaultOfCheck table)) (sym is) tt
   fault_answered whole (Some verdict) result is first =
       subst (λ (v : Verdict). IfErr v (IsFaultOfCheck table)) (sym is) (fault_holds whole verdict first)
 
-  pub right_answered : (verdict : Verdict) → IfOk verdict (λ _. IsConsistent table.set table.values) →
-      IfOk verdict (λ _. IsValueTable table.set table.values)
-  right_answered (Ok _) consistent = consistent_is_right table.set table.values consistent
+  pub right_answered : (verdict : Verdict) → IfOk verdict (λ _. IsConsistent table.family table.values) →
+      IfOk verdict (λ _. IsValueTable table.family table.values)
+  right_answered (Ok _) consistent = consistent_is_right table.family table.values consistent
   right_answered (Err fault) consistent = tt

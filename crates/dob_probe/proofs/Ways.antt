@@ -3,20 +3,21 @@ use Rattle.std.proofs.Common.{◌≡◌, ℕ, zero, suc, ◌+◌, ◌-◌, ◌�
 use Rattle.std.proofs.Common.{Option, Some, None, Contains, slice_get, append-nil, ◌%◌, Result, Ok, Err, IfOk, IfErr}
 use Rattle.std.proofs.lemmas.Bool.{cases_lt, cases_order}
 use Rattle.std.proofs.lemmas.Option.{slice_get-get_or, same_Some}
+use Rattle.dob_pieces.specs.declared.profile.Profile.{Profile}
 use Rattle.dob_pieces.specs.declared.setup.Setup.{Setup}
 use Rattle.dob_moves.specs.declared.game_move.Move.{Move}
 use Rattle.dob_moves.specs.Moves.{Goes, place}
 use Rattle.dob_moves.specs.Statuses.{CanCatch, AreMoves, IsFirstCatch}
-use Rattle.dob_moves.proofs.Outcomes.{Goes-is}
-use Rattle.dob_rank.specs.Order.{IsPositionOf, IsInClass}
-use Rattle.dob_rank.proofs.Representatives.{one_class}
+use Rattle.dob_moves.proofs.ProfileMoves.{Goes-is}
+use Rattle.dob_rank.specs.Families.{IsPositionOf, IsInClass}
+use Rattle.dob_rank.proofs.FamilyRepresentatives.{one_class}
 use Rattle.dob_value.specs.declared.value.Value.{Value}
 use Rattle.dob_value.specs.declared.value.Value.TheVariants.{Win, Loss, Draw}
 use Rattle.dob_value.specs.Follows.{ClassTable, IsEntry}
-use Rattle.dob_value.proofs.Successors.{moves_keep_the_set}
+use Rattle.dob_value.proofs.Successors.{moves_keep_the_family}
 use Rattle.dob_value.specs.declared.sweep.TheConstants.{MAX_DISTANCE}
 use Rattle.dob_probe.specs.declared.fault.Fault.{Fault}
-use Rattle.dob_probe.specs.declared.fault.Fault.TheVariants.{OtherSet, Inconsistent, Memory}
+use Rattle.dob_probe.specs.declared.fault.Fault.TheVariants.{FarChick, OtherSet, Inconsistent, Memory}
 use Rattle.dob_probe.specs.Faults.{IsGap, IsFaultOfLine}
 use Rattle.dob_probe.specs.Lines.{GivenBy, value_wanted, LeadsTo, IsFirstTo, EndsAt, GoesOnTo, Continues, IsLine, Begins, LacksMove, BreaksAt}
 use Rattle.dob_probe.specs.Laws.{LinesDontBreak, OneBreak}
@@ -24,33 +25,33 @@ use Rattle.dob_probe.proofs.Entries.{one_given}
 
 -- ---- one move more, and the rest of the line after a beginning
 
-module _ (Has : Setup → Value → Type 0) where
-  pub begins_more : (ms : List Move) (p q : Setup) (m : Move) (r : Setup) → Begins Has p ms q → Continues Has q m r →
-      Begins Has p (ms ++ m ∷ []) r
-  begins_more [] p q m r same next = (r, subst (λ s. Continues Has s m r) (sym same) next, refl)
+module _ (profile : Profile) (Has : Setup → Value → Type 0) where
+  pub begins_more : (ms : List Move) (p q : Setup) (m : Move) (r : Setup) → Begins profile Has p ms q → Continues profile Has q m r →
+      Begins profile Has p (ms ++ m ∷ []) r
+  begins_more [] p q m r same next = (r, subst (λ s. Continues profile Has s m r) (sym same) next, refl)
   begins_more (first ∷ ms) p q m r begins next = (begins.0, begins.1, begins_more ms begins.0 q m r begins.2 next)
 
-  pub line_after : (ms rest : List Move) (p q : Setup) → Begins Has p ms q → IsLine Has q rest → IsLine Has p (ms ++ rest)
-  line_after [] rest p q same line = subst (λ s. IsLine Has s rest) (sym same) line
+  pub line_after : (ms rest : List Move) (p q : Setup) → Begins profile Has p ms q → IsLine profile Has q rest → IsLine profile Has p (ms ++ rest)
+  line_after [] rest p q same line = subst (λ s. IsLine profile Has s rest) (sym same) line
   line_after (first ∷ ms) rest p q begins line = inr (begins.0, begins.1, line_after ms rest begins.0 q begins.2 line)
 
 -- ---- the first move to a value
 
 -- no move below an index leads to the value
-abbrev pub NoneBelow : (Setup → Value → Type 0) → Setup → Value → List Move → ℕ → Type 0
-NoneBelow Has p wanted choices upto = (index : ℕ) (move : Move) (q : Setup) → index < upto → slice_get choices index ≡ Some move →
-    ¬ LeadsTo Has p wanted move q
+abbrev pub NoneBelow : Profile → (Setup → Value → Type 0) → Setup → Value → List Move → ℕ → Type 0
+NoneBelow profile Has p wanted choices upto = (index : ℕ) (move : Move) (q : Setup) → index < upto → slice_get choices index ≡ Some move →
+    ¬ LeadsTo profile Has p wanted move q
 
-module _ (Has : Setup → Value → Type 0) (p : Setup) (wanted : Value) (choices : List Move) where
+module _ (profile : Profile) (Has : Setup → Value → Type 0) (p : Setup) (wanted : Value) (choices : List Move) where
   pub none_below_more : (upto : ℕ) (choice : Move) → slice_get choices upto ≡ Some choice →
-      ((q : Setup) → ¬ LeadsTo Has p wanted choice q) → NoneBelow Has p wanted choices upto → NoneBelow Has p wanted choices (upto + 1)
+      ((q : Setup) → ¬ LeadsTo profile Has p wanted choice q) → NoneBelow profile Has p wanted choices upto → NoneBelow profile Has p wanted choices (upto + 1)
   none_below_more upto choice here other before = λ index move q below there leads. elim (cases_lt index upto) [
     | inl earlier ↦ before index move q earlier there leads
     | inr later ↦
         let same : upto ≡ index = omega arith in
         let here_too : slice_get choices index ≡ Some choice = subst (λ k. slice_get choices k ≡ Some choice) same here in
         let is_choice : move ≡ choice = same_Some move choice (sym there ∙ here_too) in
-        other q (subst (λ m. LeadsTo Has p wanted m q) is_choice leads)
+        other q (subst (λ m. LeadsTo profile Has p wanted m q) is_choice leads)
   ]
 
   -- where a move of the list stands
@@ -61,9 +62,9 @@ module _ (Has : Setup → Value → Type 0) (p : Setup) (wanted : Value) (choice
     slice_get-get_or choices there.0 move there.1 ∙ ap (λ m. let o : Option Move = Some m in o) there.2,
   )
 
-  pub first_found : (index : ℕ) (choice : Move) (q : Setup) → AreMoves p choices → index < length choices →
-      slice_get choices index ≡ Some choice → NoneBelow Has p wanted choices index → LeadsTo Has p wanted choice q →
-      IsFirstTo Has p wanted choice q
+  pub first_found : (index : ℕ) (choice : Move) (q : Setup) → AreMoves profile p choices → index < length choices →
+      slice_get choices index ≡ Some choice → NoneBelow profile Has p wanted choices index → LeadsTo profile Has p wanted choice q →
+      IsFirstTo profile Has p wanted choice q
   first_found index choice q are within here none leads = record {
     leads = leads;
     first = λ other r leads_too.
@@ -83,7 +84,7 @@ module _ (Has : Setup → Value → Type 0) (p : Setup) (wanted : Value) (choice
       read k m below there d = same_Some (get_or choices k d) m (sym (slice_get-get_or choices k d below) ∙ there)
 
       in_order : (i j : ℕ) (a b : Move) → i < j → j < length choices → slice_get choices i ≡ Some a → slice_get choices j ≡ Some b →
-          AreMoves p choices → place a < place b
+          AreMoves profile p choices → place a < place b
       in_order i j a b below within at_i at_j are =
           let first = read i a (omega arith) at_i a in
           let later = read j b within at_j a in
@@ -92,8 +93,8 @@ module _ (Has : Setup → Value → Type 0) (p : Setup) (wanted : Value) (choice
           let high = ap place later in
           omega (arith, low, high, rising)
 
-  pub none_leads : (upto : ℕ) → AreMoves p choices → length choices ≤ upto → NoneBelow Has p wanted choices upto →
-      (move : Move) (q : Setup) → ¬ LeadsTo Has p wanted move q
+  pub none_leads : (upto : ℕ) → AreMoves profile p choices → length choices ≤ upto → NoneBelow profile Has p wanted choices upto →
+      (move : Move) (q : Setup) → ¬ LeadsTo profile Has p wanted move q
   none_leads upto are all none move q leads =
       let there = found_at move (are.whole move leads.goes_on (q, leads.goes)) in
       let below : there.0 < length choices = there.1 in
@@ -105,18 +106,18 @@ module _ (table : ClassTable) where
   abbrev Has : Setup → Value → Type 0
   Has = GivenBy table
 
-  one_wanted : (p : Setup) (v w : Value) → IsPositionOf table.set p → GoesOnTo Has p v → GoesOnTo Has p w → v ≡ w
+  one_wanted : (p : Setup) (v w : Value) → IsPositionOf table.family p → GoesOnTo Has p v → GoesOnTo Has p w → v ≡ w
   one_wanted p v w is a b =
       let same = one_given table p a.value b.value is a.has b.has in
       same_Some v w (sym a.next ∙ ap value_wanted same ∙ b.next)
 
-  not_over : (p : Setup) (wanted : Value) → IsPositionOf table.set p → EndsAt Has p → ¬ GoesOnTo Has p wanted
+  not_over : (p : Setup) (wanted : Value) → IsPositionOf table.family p → EndsAt Has p → ¬ GoesOnTo Has p wanted
   not_over p wanted is a b =
       let same = one_given table p a.value b.value is a.has b.has in
       let never : None ≡ Some wanted = sym a.over ∙ ap value_wanted same ∙ b.next in
       absurd (cc)
 
-  one_move : (p : Setup) (wanted : Value) (m n : Move) (q r : Setup) → IsFirstTo Has p wanted m q → IsFirstTo Has p wanted n r → m ≡ n
+  one_move : (p : Setup) (wanted : Value) (m n : Move) (q r : Setup) → IsFirstTo table.family.profile Has p wanted m q → IsFirstTo table.family.profile Has p wanted n r → m ≡ n
   one_move p wanted m n q r a b = elim (a.first n r b.leads) [
     | inl same ↦ same
     | inr before ↦ elim (b.first m q a.leads) [
@@ -126,26 +127,26 @@ module _ (table : ClassTable) where
   ]
 
   -- the line goes on in one way
-  one_way : (p : Setup) (m n : Move) (q r : Setup) → IsPositionOf table.set p → Continues Has p m q → Continues Has p n r → q ≡ r
+  one_way : (p : Setup) (m n : Move) (q r : Setup) → IsPositionOf table.family p → Continues table.family.profile Has p m q → Continues table.family.profile Has p n r → q ≡ r
   one_way p m n q r is a b =
       let wanted : b.0 ≡ a.0 = one_wanted p b.0 a.0 is b.1 a.1 in
-      let other : IsFirstTo Has p a.0 n r = subst (λ w. IsFirstTo Has p w n r) wanted b.2 in
+      let other : IsFirstTo table.family.profile Has p a.0 n r = subst (λ w. IsFirstTo table.family.profile Has p w n r) wanted b.2 in
       let same : n ≡ m = one_move p a.0 n m r q other a.2 in
-      Goes-is p m q a.2.leads.goes ∙ sym (Goes-is p m r (subst (λ k. Goes p k r) same other.leads.goes))
+      Goes-is table.family.profile p m q a.2.leads.goes ∙ sym (Goes-is table.family.profile p m r (subst (λ k. Goes table.family.profile p k r) same other.leads.goes))
 
-  lacks_not_continues : (p : Setup) (m : Move) (q : Setup) → IsPositionOf table.set p → LacksMove Has p → ¬ Continues Has p m q
+  lacks_not_continues : (p : Setup) (m : Move) (q : Setup) → IsPositionOf table.family p → LacksMove table.family.profile Has p → ¬ Continues table.family.profile Has p m q
   lacks_not_continues p m q is lacks next =
       let wanted : next.0 ≡ lacks.0 = one_wanted p next.0 lacks.0 is next.1 lacks.1 in
-      lacks.2 m q (subst (λ w. LeadsTo Has p w m q) wanted next.2.leads)
+      lacks.2 m q (subst (λ w. LeadsTo table.family.profile Has p w m q) wanted next.2.leads)
 
-  next_is : (p : Setup) (m : Move) (q : Setup) → IsPositionOf table.set p → Continues Has p m q → IsPositionOf table.set q
-  next_is p m q is next = moves_keep_the_set table.set p m q is next.2.leads.goes_on next.2.leads.goes
+  next_is : (p : Setup) (m : Move) (q : Setup) → IsPositionOf table.family p → Continues table.family.profile Has p m q → IsPositionOf table.family q
+  next_is p m q is next = moves_keep_the_family table.family p m q is next.2.leads.goes_on next.2.leads.goes
 
-  line_or_break : (line ms : List Move) (p q : Setup) → IsPositionOf table.set p → IsLine Has p line → Begins Has p ms q → ¬ LacksMove Has q
+  line_or_break : (line ms : List Move) (p q : Setup) → IsPositionOf table.family p → IsLine table.family.profile Has p line → Begins table.family.profile Has p ms q → ¬ LacksMove table.family.profile Has q
   line_or_break [] [] p q is ends same lacks = not_over p lacks.0 is ends (subst (λ s. GoesOnTo Has s lacks.0) (sym same) lacks.1)
   line_or_break [] (m ∷ ms) p q is ends begins lacks = not_over p begins.1.0 is ends begins.1.1
   line_or_break (l ∷ line) [] p q is way same lacks =
-      let lacks_here : LacksMove Has p = subst (LacksMove Has) (sym same) lacks in
+      let lacks_here : LacksMove table.family.profile Has p = subst (LacksMove table.family.profile Has) (sym same) lacks in
       elim way [
         | inl catch ↦ lacks_here.1.no_catch (l, catch.0.catches)
         | inr next ↦ lacks_not_continues p l next.0 is lacks_here next.1
@@ -154,19 +155,19 @@ module _ (table : ClassTable) where
     | inl catch ↦ begins.1.1.no_catch (l, catch.0.catches)
     | inr next ↦
         let same : begins.0 ≡ next.0 = one_way p m l begins.0 next.0 is begins.1 next.1 in
-        line_or_break line ms next.0 q (next_is p l next.0 is next.1) next.2 (subst (λ s. Begins Has s ms q) same begins.2) lacks
+        line_or_break line ms next.0 q (next_is p l next.0 is next.1) next.2 (subst (λ s. Begins table.family.profile Has s ms q) same begins.2) lacks
   ]
 
-  one_end : (ms ns : List Move) (p q r : Setup) → IsPositionOf table.set p → Begins Has p ms q → Begins Has p ns r →
-      LacksMove Has q → LacksMove Has r → (q ≡ r) × IsPositionOf table.set q
-  one_end [] [] p q r is a b lacks lacks_too = (sym a ∙ b, subst (IsPositionOf table.set) a is)
+  one_end : (ms ns : List Move) (p q r : Setup) → IsPositionOf table.family p → Begins table.family.profile Has p ms q → Begins table.family.profile Has p ns r →
+      LacksMove table.family.profile Has q → LacksMove table.family.profile Has r → (q ≡ r) × IsPositionOf table.family q
+  one_end [] [] p q r is a b lacks lacks_too = (sym a ∙ b, subst (IsPositionOf table.family) a is)
   one_end [] (n ∷ ns) p q r is a b lacks lacks_too =
-      absurd (lacks_not_continues p n b.0 is (subst (LacksMove Has) (sym a) lacks) b.1)
+      absurd (lacks_not_continues p n b.0 is (subst (LacksMove table.family.profile Has) (sym a) lacks) b.1)
   one_end (m ∷ ms) [] p q r is a b lacks lacks_too =
-      absurd (lacks_not_continues p m a.0 is (subst (LacksMove Has) (sym b) lacks_too) a.1)
+      absurd (lacks_not_continues p m a.0 is (subst (LacksMove table.family.profile Has) (sym b) lacks_too) a.1)
   one_end (m ∷ ms) (n ∷ ns) p q r is a b lacks lacks_too =
       let same : b.0 ≡ a.0 = one_way p n m b.0 a.0 is b.1 a.1 in
-      one_end ms ns a.0 q r (next_is p m a.0 is a.1) a.2 (subst (λ s. Begins Has s ns r) same b.2) lacks lacks_too
+      one_end ms ns a.0 q r (next_is p m a.0 is a.1) a.2 (subst (λ s. Begins table.family.profile Has s ns r) same b.2) lacks lacks_too
 
 pub lines_dont_break : LinesDontBreak
 lines_dont_break table p moves class is line breaks =
@@ -175,7 +176,7 @@ lines_dont_break table p moves class is line breaks =
 pub one_break : OneBreak
 one_break table p class other is a b =
     let end = one_end table a.0 b.0 p a.1 b.1 is a.2 b.2 a.4 b.4 in
-    one_class table.set a.1 class other a.3 (subst (λ s. IsInClass table.set s other) (sym end.0) b.3)
+    one_class table.family a.1 class other a.3 (subst (λ s. IsInClass table.family s other) (sym end.0) b.3)
 
 -- ---- the line as far as it has come
 
@@ -185,11 +186,11 @@ distance (Win plies) = plies
 distance (Loss plies) = plies
 distance Draw = 0
 
--- the moves are a beginning of the line of p, and lead to a position of the set with that value
+-- the moves are a beginning of the line of p, and lead to a position of the family with that value
 pub record IsOnLine (table : ClassTable) (p : Setup) (moves : List Move) (q : Setup) (value : Value) : Type 0 where
-  pub started : IsPositionOf table.set p
-  pub begins : Begins (GivenBy table) p moves q
-  pub member : IsPositionOf table.set q
+  pub started : IsPositionOf table.family p
+  pub begins : Begins table.family.profile (GivenBy table) p moves q
+  pub member : IsPositionOf table.family q
   pub given : GivenBy table q value
   pub entry : IsEntry value
 
@@ -228,29 +229,30 @@ module _ (table : ClassTable) (p : Setup) (moves : List Move) (q : Setup) (value
   goes_on_to wanted no_catch next = record { no_catch = no_catch; value = value; has = on.given; next = next }
 
   pub on_line_more : (wanted : Value) (m : Move) (r : Setup) → ¬ CanCatch q → value_wanted value ≡ Some wanted →
-      IsFirstTo (GivenBy table) q wanted m r → IsOnLine table p (moves ++ m ∷ []) r wanted
+      IsFirstTo table.family.profile (GivenBy table) q wanted m r → IsOnLine table p (moves ++ m ∷ []) r wanted
   on_line_more wanted m r no_catch next first = record {
     started = on.started;
-    begins = begins_more (GivenBy table) moves p q m r on.begins (wanted, goes_on_to wanted no_catch next, first);
-    member = moves_keep_the_set table.set q m r on.member first.leads.goes_on first.leads.goes;
+    begins = begins_more table.family.profile (GivenBy table) moves p q m r on.begins (wanted, goes_on_to wanted no_catch next, first);
+    member = moves_keep_the_family table.family q m r on.member first.leads.goes_on first.leads.goes;
     given = first.leads.has;
     entry = wanted_is_entry value wanted on.entry next;
   }
 
-  pub line_ends : ¬ CanCatch q → value_wanted value ≡ None → IsLine (GivenBy table) p moves
+  pub line_ends : ¬ CanCatch q → value_wanted value ≡ None → IsLine table.family.profile (GivenBy table) p moves
   line_ends no_catch over =
-      subst (IsLine (GivenBy table) p) (append-nil moves)
-      (line_after (GivenBy table) moves [] p q on.begins (record { no_catch = no_catch; value = value; has = on.given; over = over }))
+      subst (IsLine table.family.profile (GivenBy table) p) (append-nil moves)
+      (line_after table.family.profile (GivenBy table) moves [] p q on.begins (record { no_catch = no_catch; value = value; has = on.given; over = over }))
 
-  pub line_catches : (m : Move) → IsFirstCatch q m → IsLine (GivenBy table) p (moves ++ m ∷ [])
-  line_catches m catch = line_after (GivenBy table) moves (m ∷ []) p q on.begins (inl (catch, refl))
+  pub line_catches : (m : Move) → IsFirstCatch q m → IsLine table.family.profile (GivenBy table) p (moves ++ m ∷ [])
+  line_catches m catch = line_after table.family.profile (GivenBy table) moves (m ∷ []) p q on.begins (inl (catch, refl))
 
-  line_breaks : (wanted : Value) (class : ℕ) → ¬ CanCatch q → value_wanted value ≡ Some wanted → IsInClass table.set q class →
-      ((m : Move) (r : Setup) → ¬ LeadsTo (GivenBy table) q wanted m r) → BreaksAt table p class
+  line_breaks : (wanted : Value) (class : ℕ) → ¬ CanCatch q → value_wanted value ≡ Some wanted → IsInClass table.family q class →
+      ((m : Move) (r : Setup) → ¬ LeadsTo table.family.profile (GivenBy table) q wanted m r) → BreaksAt table p class
   line_breaks wanted class no_catch next number none = (moves, q, on.begins, number, (wanted, goes_on_to wanted no_catch next, none))
 
   pub gap_breaks : (wanted : Value) (fault : Fault) → ¬ CanCatch q → value_wanted value ≡ Some wanted → IsGap table q wanted fault →
       IsFaultOfLine table p fault
+  gap_breaks wanted FarChick no_catch next gap = absurd gap
   gap_breaks wanted OtherSet no_catch next gap = absurd gap
   gap_breaks wanted (Inconsistent class) no_catch next gap = (on.started, line_breaks wanted class no_catch next gap.0 gap.1)
   gap_breaks wanted Memory no_catch next gap = tt
@@ -258,20 +260,21 @@ module _ (table : ClassTable) (p : Setup) (moves : List Move) (q : Setup) (value
 -- ---- what is said of a line, whatever came of it
 
 module _ {T : Type 0} (moves_of : T → List Move) (table : ClassTable) (p : Setup) where
-  pub break_answered : (class : ℕ) (result : Result T Fault) → IfOk result (λ t. IsLine (GivenBy table) p (moves_of t)) →
-      IfErr result (IsFaultOfLine table p) → IsPositionOf table.set p → BreaksAt table p class →
+  pub break_answered : (class : ℕ) (result : Result T Fault) → IfOk result (λ t. IsLine table.family.profile (GivenBy table) p (moves_of t)) →
+      IfErr result (IsFaultOfLine table p) → IsPositionOf table.family p → BreaksAt table p class →
       (result ≡ Err (Inconsistent class)) ⊎ (result ≡ Err Memory)
   break_answered class (Ok t) line fault is breaks = absurd (lines_dont_break table p (moves_of t) class is line breaks)
-  break_answered class (Err OtherSet) line fault is breaks = absurd (fault is)
+  break_answered class (Err FarChick) line fault is breaks = absurd (fault is.allowed)
+  break_answered class (Err OtherSet) line fault is breaks = absurd (fault.1 is.of_set)
   break_answered class (Err (Inconsistent other)) line fault is breaks =
       let same = one_break table p other class is fault.1 breaks in
       inl (ap (λ k. let r : Result T Fault = Err (Inconsistent k) in r) same)
   break_answered class (Err Memory) line fault is breaks = inr refl
 
 -- a move to a position with another value doesn't lead to the value that is wanted
-pub other_value : (table : ClassTable) (p : Setup) (m : Move) (next : Setup) (v wanted : Value) → IsPositionOf table.set p → Goes p m next →
-    GivenBy table next v → ¬ (v ≡ wanted) → (q : Setup) → ¬ LeadsTo (GivenBy table) p wanted m q
+pub other_value : (table : ClassTable) (p : Setup) (m : Move) (next : Setup) (v wanted : Value) → IsPositionOf table.family p → Goes table.family.profile p m next →
+    GivenBy table next v → ¬ (v ≡ wanted) → (q : Setup) → ¬ LeadsTo table.family.profile (GivenBy table) p wanted m q
 other_value table p m next v wanted is goes given apart q leads =
-    let same : q ≡ next = Goes-is p m q leads.goes ∙ sym (Goes-is p m next goes) in
-    let member = moves_keep_the_set table.set p m next is leads.goes_on goes in
+    let same : q ≡ next = Goes-is table.family.profile p m q leads.goes ∙ sym (Goes-is table.family.profile p m next goes) in
+    let member = moves_keep_the_family table.family p m next is leads.goes_on goes in
     apart (one_given table next v wanted member given (subst (λ s. GivenBy table s wanted) same leads.has))

@@ -1,27 +1,27 @@
 -- Of which classes of a table the value follows, and which is the first whose value doesn't.
 use Rattle.std.specs.Prelude.{◌≡◌, ℕ, ◌<◌, length, Some, slice_get}
 use Rattle.dob_pieces.specs.declared.setup.Setup.{Setup}
-use Rattle.dob_rank.specs.Order.{IsRepresentative, HasClass}
+use Rattle.dob_rank.specs.Families.{IsRepresentative, HasClass}
 use Rattle.dob_value.specs.declared.value.Value.{Value}
 use Rattle.dob_value.specs.Follows.{ClassTable, Follows}
 use Rattle.dob_probe.specs.Lines.{GivenBy}
 
 -- the setup represents the class of that number, and this is the class's entry
 pub record HasEntry (table : ClassTable) (class : ℕ) (representative : Setup) (v : Value) : Type 0 where
-  pub represents : IsRepresentative table.set representative
-  pub number : HasClass table.set representative class
+  pub represents : IsRepresentative table.family representative
+  pub number : HasClass table.family representative class
   pub entry : slice_get table.values class ≡ Some v
 
 -- the class's entry follows from its status and its successors' values
 abbrev pub ClassFollows : ClassTable → ℕ → Type 0
-ClassFollows table class = (representative : Setup) (v : Value) → HasEntry table class representative v → Follows (GivenBy table) representative v
+ClassFollows table class = (representative : Setup) (v : Value) → HasEntry table class representative v → Follows table.family.profile (GivenBy table) representative v
 
 -- it doesn't
 pub record ClassBreaks (table : ClassTable) (class : ℕ) : Type 0 where
   pub representative : Setup
   pub value : Value
   pub has : HasEntry table class representative value
-  pub breaks : ¬ Follows (GivenBy table) representative value
+  pub breaks : ¬ Follows table.family.profile (GivenBy table) representative value
 
 -- the least class whose entry doesn't follow
 pub record IsFirstBroken (table : ClassTable) (class : ℕ) : Type 0 where

@@ -1,5 +1,6 @@
 -- The moves of a position with their values, best first.
 use Rattle.std.specs.Prelude.{◌≡◌, ◌⊎◌, ◌+◌, ◌<◌, List, length, Contains, AllPairs}
+use Rattle.dob_pieces.specs.declared.profile.Profile.{Profile}
 use Rattle.dob_pieces.specs.declared.setup.Setup.{Setup}
 use Rattle.dob_moves.specs.declared.position_status.Status.TheVariants.{Open}
 use Rattle.dob_moves.specs.Moves.{Goes, place}
@@ -36,18 +37,18 @@ pub record IsWinningCatch (p : Setup) (valued : ValuedMove) : Type 0 where
   pub wins : valued.value ≡ Win 1
 
 -- the move of an open position has the value of the position that it leads to, seen from before it
-pub record HasMoveValue (Has : Setup → Value → Type 0) (p : Setup) (valued : ValuedMove) : Type 0 where
-  pub goes_on : HasStatus p Open
+pub record HasMoveValue (profile : Profile) (Has : Setup → Value → Type 0) (p : Setup) (valued : ValuedMove) : Type 0 where
+  pub goes_on : HasStatus profile p Open
   pub outcome : Setup
-  pub goes : Goes p valued.choice outcome
+  pub goes : Goes profile p valued.choice outcome
   pub value : Value
   pub has : Has outcome value
   pub seen : valued.value ≡ seen_from_before value
 
 -- The moves of a position with their values: of an open one each move, once, best first and equal ones in the move order;
 -- where the lion can be caught its first catch alone; else none.
-pub record AreValuedMoves (Has : Setup → Value → Type 0) (p : Setup) (list : List ValuedMove) : Type 0 where
-  pub sound : (valued : ValuedMove) → Contains list valued → IsWinningCatch p valued ⊎ HasMoveValue Has p valued
+pub record AreValuedMoves (profile : Profile) (Has : Setup → Value → Type 0) (p : Setup) (list : List ValuedMove) : Type 0 where
+  pub sound : (valued : ValuedMove) → Contains list valued → IsWinningCatch p valued ⊎ HasMoveValue profile Has p valued
   pub caught : CanCatch p → length list ≡ 1
-  pub whole : (valued : ValuedMove) → HasMoveValue Has p valued → Contains list valued
+  pub whole : (valued : ValuedMove) → HasMoveValue profile Has p valued → Contains list valued
   pub ordered : AllPairs ComesBefore list

@@ -2,6 +2,8 @@ pub mod Lines
 pub mod Checks
 pub mod Sums
 pub mod Choices
+pub mod Puzzles
+pub mod SoleMoves
 pub mod Statistics
 pub mod Slots
 pub mod Faults

@@ -17,10 +17,10 @@ use std::thread::Threads;
 ///
 /// Errors: `Inconsistent` with the least class whose value doesn't follow; `Memory`.
 pub fn check(rt: &(impl Threads + Sync), alloc: Global, table: &Table) -> Result<(), Fault>
-    ensures consistent { IfOk result (λ _. IsConsistent table.now.set table.now.values) }
-    ensures right { IfOk result (λ _. IsValueTable table.now.set table.now.values) }
+    ensures consistent { IfOk result (λ _. IsConsistent table.now.family table.now.values) }
+    ensures right { IfOk result (λ _. IsValueTable table.now.family table.now.values) }
     ensures fault { IfErr result (IsFaultOfCheck table.now) }
-    ensures passed { IsConsistent table.now.set table.now.values → (result ≡ Ok tt) ⊎ (result ≡ Err Fault.Memory) }
+    ensures passed { IsConsistent table.now.family table.now.values → (result ≡ Ok tt) ⊎ (result ≡ Err Fault.Memory) }
 {
     let first_fault = (0..table.classes().class_count())
         .into_par_iter()
@@ -38,6 +38,21 @@ pub fn check(rt: &(impl Threads + Sync), alloc: Global, table: &Table) -> Result
             { verdict.is_err() },
         );
     first_fault.unwrap_or(Ok(()))
+}
+
+/// The same in the calling thread alone, one class after the other.
+///
+/// Errors: those of [`check`].
+pub fn check_alone(alloc: Global, table: &Table) -> Result<(), Fault>
+    ensures right { IfOk result (λ _. IsValueTable table.now.family table.now.values) }
+    ensures fault { IfErr result (IsFaultOfCheck table.now) }
+    ensures passed { IsConsistent table.now.family table.now.values → (result ≡ Ok tt) ⊎ (result ≡ Err Fault.Memory) }
+{
+    let mut room = Vec::new(alloc);
+    for class in 0..table.classes().class_count() {
+        check_class(&mut room, table, class)?;
+    }
+    Ok(())
 }
 
 // Whether the class's value follows. Moves are listed in the room.

@@ -1,9 +1,11 @@
 // The moves of a position with their values by a table, best first.
 ghost use Rattle.std.specs.Prelude.{◌≡◌, ◌⊎◌, ◌↔◌, ◌<◌, ◌≤◌, ℕ, length, get_or, Contains, AllPairs, IsTrue, IfOk, IfErr, OnOk, Err};
 ghost use Rattle.dob_pieces.specs.declared.setup.Setup.{Setup};
+ghost use Rattle.dob_pieces.specs.Profiles.{IsAllowed};
 ghost use Rattle.dob_moves.specs.Moves.{place};
 ghost use Rattle.dob_moves.specs.Statuses.{AreMoves, CanCatch};
-ghost use Rattle.dob_rank.specs.Order.{IsPositionOf};
+ghost use Rattle.dob_rank.specs.Families.{IsPositionOf};
+ghost use Rattle.dob_rank.specs.Order.{IsPositionOfSet};
 ghost use Rattle.dob_value.specs.Values.{HasValue};
 ghost use Rattle.dob_value.specs.Follows.{IsConsistent, IsEntry, IsTable};
 ghost use Rattle.dob_probe.specs.Choices.{AreValuedMoves, ComesBefore, IsBetter, seen_from_before};
@@ -11,7 +13,7 @@ ghost use Rattle.dob_probe.specs.Faults.{IsFaultOfMoves};
 ghost use Rattle.dob_probe.specs.Lines.{GivenBy};
 
 use crate::fault::Fault;
-use crate::probes::is_of_set;
+use crate::members::check_member;
 use crate::successors::value_to;
 use dob_moves::{Move, first_catch, moves};
 use dob_pieces::{Memory, Position};
@@ -30,22 +32,23 @@ pub struct ValuedMove {
 /// losses by the greatest; equal ones in the move order. Where the lion can be caught there is its first catch alone, a win in
 /// 1 ply, and none where the mover has lost already. Since a table's distances are at most 65,534, one ply more fits.
 ///
-/// Errors: `OtherSet` just where the position isn't of the table's set; `Memory`.
+/// Errors: `FarChick` just where the table's profile doesn't allow the position; `OtherSet` just where it does, and the position
+/// isn't of the table's set; `Memory`.
 pub fn valued_moves(
     alloc: Global,
     table: &Table,
     position: &Position,
 ) -> Result<Vec<ValuedMove>, Fault>
-    ensures moves { IfOk result (λ list. AreValuedMoves (GivenBy table.now) position.now.setup list.items) }
+    ensures moves { IfOk result (λ list. AreValuedMoves table.now.family.profile (GivenBy table.now) position.now.setup list.items) }
     ensures fault { IfErr result (IsFaultOfMoves table.now position.now.setup) }
-    ensures member { OnOk result (IsPositionOf table.now.set position.now.setup) }
-    ensures other { (IsPositionOf table.now.set position.now.setup → ⊥) → result ≡ Err Fault.OtherSet }
-    ensures right { IsConsistent table.now.set table.now.values →
-        IfOk result (λ list. AreValuedMoves HasValue position.now.setup list.items) }
+    ensures member { OnOk result (IsPositionOf table.now.family position.now.setup) }
+    ensures far { (IsAllowed table.now.family.profile position.now.setup → ⊥) → result ≡ Err Fault.FarChick }
+    ensures other { IsAllowed table.now.family.profile position.now.setup → (IsPositionOfSet table.now.family.set position.now.setup → ⊥)
+        → result ≡ Err Fault.OtherSet }
+    ensures right { IsConsistent table.now.family table.now.values →
+        IfOk result (λ list. AreValuedMoves table.now.family.profile (HasValue table.now.family.profile) position.now.setup list.items) }
 {
-    if !is_of_set(position, table.set()) {
-        return Err(Fault::OtherSet);
-    }
+    check_member(table.family(), position)?;
     Ok(moves_of_set(alloc, table, position)?)
 }
 
@@ -57,9 +60,9 @@ fn moves_of_set(
     table: &Table,
     position: &Position,
 ) -> Result<Vec<ValuedMove>, Memory>
-    requires whole { IsTable table.now.set table.now.values }
-    requires member { IsPositionOf table.now.set position.now.setup }
-    ensures { IfOk result (λ list. AreValuedMoves (GivenBy table.now) position.now.setup list.items) }
+    requires whole { IsTable table.now.family table.now.values }
+    requires member { IsPositionOf table.now.family position.now.setup }
+    ensures { IfOk result (λ list. AreValuedMoves table.now.family.profile (GivenBy table.now) position.now.setup list.items) }
 {
     if let Some(choice) = first_catch(position) {
         let mut list = Vec::new(alloc);
@@ -67,7 +70,7 @@ fn moves_of_set(
         list.push(ValuedMove { choice, value })?;
         return Ok(list);
     }
-    let choices = moves(alloc, position)?;
+    let choices = moves(alloc, table.family().profile, position)?;
     moves_by_value(alloc, table, position, &choices)
 }
 
@@ -80,11 +83,11 @@ fn moves_by_value(
     position: &Position,
     choices: &[Move],
 ) -> Result<Vec<ValuedMove>, Memory>
-    requires whole { IsTable table.now.set table.now.values }
-    requires member { IsPositionOf table.now.set position.now.setup }
-    requires choices { AreMoves position.now.setup choices.now }
+    requires whole { IsTable table.now.family table.now.values }
+    requires member { IsPositionOf table.now.family position.now.setup }
+    requires choices { AreMoves table.now.family.profile position.now.setup choices.now }
     requires free { ¬ CanCatch position.now.setup }
-    ensures { IfOk result (λ list. AreValuedMoves (GivenBy table.now) position.now.setup list.items) }
+    ensures { IfOk result (λ list. AreValuedMoves table.now.family.profile (GivenBy table.now) position.now.setup list.items) }
 {
     let mut list = Vec::new(alloc);
     for choice in choices {
@@ -98,8 +101,8 @@ fn moves_by_value(
     Ok(list)
 }
 
-// The value that the side that made a move has, where the position after it has that value.
-fn value_seen(value: Value) -> Value
+/// The value that the side that made a move has, where the position after it has that value for the other side.
+pub fn value_seen(value: Value) -> Value
     requires { IsEntry value }
     ensures { result ≡ seen_from_before value }
 {
@@ -110,10 +113,10 @@ fn value_seen(value: Value) -> Value
     }
 }
 
-// Inserts a move that is later in the move order than all that are listed.
-//
-// Error: `Memory`.
-fn insert_by_value(list: &mut Vec<ValuedMove>, more: ValuedMove) -> Result<(), Memory>
+/// Inserts a move that is later in the move order than all that are listed.
+///
+/// Error: `Memory`.
+pub fn insert_by_value(list: &mut Vec<ValuedMove>, more: ValuedMove) -> Result<(), Memory>
     requires later { (other : ValuedMove) → Contains list.old.items other → place other.choice < place more.choice }
     requires ordered { AllPairs ComesBefore list.old.items }
     ensures ordered { OnOk result (AllPairs ComesBefore list.new.items) }

@@ -2,31 +2,17 @@
 ghost use Rattle.std.specs.Prelude.{◌≡◌, Some};
 ghost use Rattle.dob_probe.specs.declared.fault.Fault.TheVariants as fault;
 
-use dob_pieces::Memory;
+use dob_pieces::{FarChick, Memory};
 use std::alloc::{AllocError, AllocFailed};
 use std::error::Error;
 use std::fmt;
 
-/// E7: the position's piece set isn't the table's.
-#[derive(Clone, Copy, Debug, PartialEq, Eq)]
-pub struct OtherSet;
-
-impl fmt::Display for OtherSet {
-    ghost use Rattle.dob_probe.specs.Faults.{other_set_text};
-
-    ghost output = { λ _. Some other_set_text };
-
-    fn fmt<W: fmt::Write>(&self, f: &mut fmt::Formatter<W>) -> fmt::Result {
-        write!(f, "E7 OtherSet")
-    }
-}
-
-impl Error for OtherSet {}
-
-/// Why a table gives no line, or isn't passed.
+/// Why a table says nothing of a position, gives no line, or isn't passed.
 #[derive(Clone, Copy, Debug, PartialEq, Eq)]
 pub enum Fault {
-    /// E7: the position's piece set isn't the table's.
+    /// E26: a chick stands on its own far row, which the table's profile doesn't allow. It is tested before E7.
+    FarChick,
+    /// E7: the position's pieces aren't those of the table's set.
     OtherSet,
     /// E21: what the table says of the class of this number doesn't go with what it says of others.
     Inconsistent(u64),
@@ -41,7 +27,8 @@ impl fmt::Display for Fault {
 
     fn fmt<W: fmt::Write>(&self, f: &mut fmt::Formatter<W>) -> fmt::Result {
         match self {
-            Fault::OtherSet => write!(f, "{OtherSet}"),
+            Fault::FarChick => write!(f, "{FarChick}"),
+            Fault::OtherSet => write!(f, "E7 OtherSet"),
             Fault::Inconsistent(class) => write!(f, "E21 Inconsistent class {class}"),
             Fault::Memory => write!(f, "{Memory}"),
         }
@@ -49,14 +36,6 @@ impl fmt::Display for Fault {
 }
 
 impl Error for Fault {}
-
-impl From<OtherSet> for Fault {
-    ghost from_gives = { λ _ given. given ≡ fault.OtherSet };
-
-    fn from(_lower: OtherSet) -> Fault {
-        Fault::OtherSet
-    }
-}
 
 impl From<Memory> for Fault {
     ghost from_gives = { λ _ given. given ≡ fault.Memory };

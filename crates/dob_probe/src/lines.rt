@@ -1,6 +1,8 @@
 // The line of a position by a table.
 ghost use Rattle.std.specs.Prelude.{◌≡◌, ◌⊎◌, ℕ, IfOk, IfErr, MatchResult, Err};
-ghost use Rattle.dob_rank.specs.Order.{IsPositionOf};
+ghost use Rattle.dob_pieces.specs.Profiles.{IsAllowed};
+ghost use Rattle.dob_rank.specs.Families.{IsPositionOf};
+ghost use Rattle.dob_rank.specs.Order.{IsPositionOfSet};
 ghost use Rattle.dob_value.specs.Values.{HasValue};
 ghost use Rattle.dob_value.specs.Follows.{IsEntry, IsConsistent};
 ghost use Rattle.dob_probe.specs.Lines.{GivenBy, IsFirstTo, IsLine, BreaksAt, value_wanted};
@@ -17,16 +19,19 @@ use std::alloc::Global;
 /// of the other side in one ply less, and from a loss the first to a win in one ply less, and so on. It is empty at a
 /// draw, and where the mover has lost already. By a table that `check` passes it is the best line.
 ///
-/// Errors: `OtherSet` just where the position isn't of the table's set; `Inconsistent` with the class at which the line
-/// goes on by the table, but no move leads to the value that it needs; `Memory`.
+/// Errors: `FarChick` just where the table's profile doesn't allow the position; `OtherSet` just where it does, and the position
+/// isn't of the table's set; `Inconsistent` with the class at which the line goes on by the table, but no move leads to the
+/// value that it needs; `Memory`.
 pub fn line(alloc: Global, table: &Table, position: &Position) -> Result<Vec<Move>, Fault>
-    ensures line { IfOk result (λ moves. IsLine (GivenBy table.now) position.now.setup moves.items) }
+    ensures line { IfOk result (λ moves. IsLine table.now.family.profile (GivenBy table.now) position.now.setup moves.items) }
     ensures fault { IfErr result (IsFaultOfLine table.now position.now.setup) }
-    ensures other { (IsPositionOf table.now.set position.now.setup → ⊥) → result ≡ Err Fault.OtherSet }
-    ensures broken { (class : ℕ) → IsPositionOf table.now.set position.now.setup → BreaksAt table.now position.now.setup class
+    ensures far { (IsAllowed table.now.family.profile position.now.setup → ⊥) → result ≡ Err Fault.FarChick }
+    ensures other { IsAllowed table.now.family.profile position.now.setup → (IsPositionOfSet table.now.family.set position.now.setup → ⊥)
+        → result ≡ Err Fault.OtherSet }
+    ensures broken { (class : ℕ) → IsPositionOf table.now.family position.now.setup → BreaksAt table.now position.now.setup class
         → (result ≡ Err (Fault.Inconsistent class)) ⊎ (result ≡ Err Fault.Memory) }
-    ensures right { IsConsistent table.now.set table.now.values → IsPositionOf table.now.set position.now.setup
-        → MatchResult result (λ moves. IsLine HasValue position.now.setup moves.items) (λ fault. fault ≡ Fault.Memory) }
+    ensures right { IsConsistent table.now.family table.now.values → IsPositionOf table.now.family position.now.setup
+        → MatchResult result (λ moves. IsLine table.now.family.profile (HasValue table.now.family.profile) position.now.setup moves.items) (λ fault. fault ≡ Fault.Memory) }
 {
     let value = probe(table, position)?;
     line_from(alloc, table, *position, value)
@@ -41,10 +46,10 @@ fn line_from(
     mut position: Position,
     mut value: Value,
 ) -> Result<Vec<Move>, Fault>
-    requires member { IsPositionOf table.now.set position.setup }
+    requires member { IsPositionOf table.now.family position.setup }
     requires value { GivenBy table.now position.setup value }
     requires entry { IsEntry value }
-    ensures line { IfOk result (λ moves. IsLine (GivenBy table.now) position.setup moves.items) }
+    ensures line { IfOk result (λ moves. IsLine table.now.family.profile (GivenBy table.now) position.setup moves.items) }
     ensures fault { IfErr result (IsFaultOfLine table.now position.setup) }
 {
     let mut line = Vec::new(alloc);
@@ -84,11 +89,11 @@ fn first_to(
     position: &Position,
     wanted: Value,
 ) -> Result<(Move, Position), Fault>
-    requires { IsPositionOf table.now.set position.now.setup }
-    ensures found { IfOk result (λ found. IsFirstTo (GivenBy table.now) position.now.setup wanted found.0 found.1.setup) }
+    requires { IsPositionOf table.now.family position.now.setup }
+    ensures found { IfOk result (λ found. IsFirstTo table.now.family.profile (GivenBy table.now) position.now.setup wanted found.0 found.1.setup) }
     ensures missing { IfErr result (IsGap table.now position.now.setup wanted) }
 {
-    let choices = moves(alloc, position)?;
+    let choices = moves(alloc, table.family().profile, position)?;
     for choice in &choices {
         let next = apply(position, *choice);
         if table.value_of(&next) == wanted {

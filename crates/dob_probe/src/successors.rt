@@ -1,11 +1,11 @@
 // What decides the value of a class: its successors' values, of which only the least loss, the greatest win and whether
 // there is a draw are kept.
-ghost use Rattle.std.specs.Prelude.{◌≡◌, ◌++◌, List, [], ◌∷◌, IfOk};
+ghost use Rattle.std.specs.Prelude.{◌≡◌, ◌++◌, List, [], ◌∷◌, IfOk, OnOk};
 ghost use Rattle.dob_pieces.specs.declared.setup.Setup.{Setup};
 ghost use Rattle.dob_moves.specs.Moves.{Goes, CanGo};
 ghost use Rattle.dob_moves.specs.Statuses.{AreMoves, HasStatus};
 ghost use Rattle.dob_moves.specs.declared.position_status.Status.{Status};
-ghost use Rattle.dob_rank.specs.Order.{IsPositionOf};
+ghost use Rattle.dob_rank.specs.Families.{IsPositionOf};
 ghost use Rattle.dob_value.specs.declared.value.Value.{Value as Valued};
 ghost use Rattle.dob_value.specs.Graphs.{AreSuccessors};
 ghost use Rattle.dob_value.specs.Follows.{Follows, IsTable};
@@ -101,22 +101,36 @@ pub(crate) fn value_that_follows(
     table: &Table,
     position: &Position,
 ) -> Result<Value, Memory>
-    requires whole { IsTable table.now.set table.now.values }
-    requires member { IsPositionOf table.now.set position.now.setup }
-    ensures { IfOk result (λ value. Follows (GivenBy table.now) position.now.setup value) }
+    requires whole { IsTable table.now.family table.now.values }
+    requires member { IsPositionOf table.now.family position.now.setup }
+    ensures { IfOk result (λ value. Follows table.now.family.profile (GivenBy table.now) position.now.setup value) }
 {
-    match moves_into(room, position)? {
+    match list_moves(room, table, position)? {
         Status::Caught => Ok(Value::Win(1)),
         Status::Tried | Status::Stuck => Ok(Value::Loss(0)),
         Status::Open => Ok(successors_of(table, position, room).value()),
     }
 }
 
+// Writes the moves of the position by the rules of the table's profile into the room, and gives its status.
+//
+// Error: `Memory`.
+pub(crate) fn list_moves(
+    room: &mut Vec<Move>,
+    table: &Table,
+    position: &Position,
+) -> Result<Status, Memory>
+    ensures moves { OnOk result (AreMoves table.now.family.profile position.now.setup room.new.items) }
+    ensures status { IfOk result (λ status. HasStatus table.now.family.profile position.now.setup status) }
+{
+    moves_into(table.family().profile, room, position)
+}
+
 // The values of the positions to which the moves lead.
 fn successors_of(table: &Table, position: &Position, choices: &[Move]) -> Successors
-    requires member { IsPositionOf table.now.set position.now.setup }
-    requires choices { AreMoves position.now.setup choices.now }
-    ensures { (values : List Valued) × AreSuccessors (λ v q. GivenBy table.now q v) position.now.setup values × AreSummed values result }
+    requires member { IsPositionOf table.now.family position.now.setup }
+    requires choices { AreMoves table.now.family.profile position.now.setup choices.now }
+    ensures { (values : List Valued) × AreSuccessors table.now.family.profile (λ v q. GivenBy table.now q v) position.now.setup values × AreSummed values result }
 {
     let mut kept = Successors::none();
     for choice in choices {
@@ -128,10 +142,10 @@ fn successors_of(table: &Table, position: &Position, choices: &[Move]) -> Succes
 
 // The value of the position to which the move leads.
 pub(crate) fn value_to(table: &Table, position: &Position, choice: Move) -> Value
-    requires member { IsPositionOf table.now.set position.now.setup }
-    requires open { HasStatus position.now.setup Status.Open }
-    requires can_go { CanGo position.now.setup choice }
-    ensures { (q : Setup) → Goes position.now.setup choice q → GivenBy table.now q result }
+    requires member { IsPositionOf table.now.family position.now.setup }
+    requires open { HasStatus table.now.family.profile position.now.setup Status.Open }
+    requires can_go { CanGo table.now.family.profile position.now.setup choice }
+    ensures { (q : Setup) → Goes table.now.family.profile position.now.setup choice q → GivenBy table.now q result }
 {
     table.value_of(&apply(position, choice))
 }

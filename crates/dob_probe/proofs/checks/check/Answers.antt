@@ -6,8 +6,8 @@ use Rattle.std.specs.List.{AllZip, range_with_len}
 use Rattle.rayon.specs.Numbers.{nat_range}
 use Rattle.rayon.proofs.ListFacts.{AllZip-weaken}
 use Rattle.rayon.proofs.ToStd.{nat_range-All}
-use Rattle.dob_pieces.specs.declared.piece_set.PieceSet.{PieceSet}
-use Rattle.dob_rank.specs.Marks.{classes_of}
+use Rattle.dob_pieces.specs.declared.profile.Family.{Family}
+use Rattle.dob_rank.specs.Families.{classes_of}
 use Rattle.dob_probe.specs.Faults.{IsVerdict}
 use Rattle.dob_probe.proofs.Verdicts.{Verdict, IsFirstFault, first_fault, consistent_answered, fault_answered, right_answered, passed_answered}
 use Rattle.dob_probe.proofs.checks.check.Goals as goal
@@ -17,7 +17,7 @@ find_first-first_fault-requires-clause-items g c = λ κs lives.
     let ends = c.into_par_iter.ensures in
     let values = c.args.table.now.values in
     let count : c.class_count.result ≡ length values =
-    c.class_count.ensures.number ∙ ap (λ (set : PieceSet). classes_of set) c.classes.ensures.set ∙ c.classes.ensures.count in
+    c.class_count.ensures.number ∙ ap (λ (family : Family). classes_of family) c.classes.ensures.family ∙ c.classes.ensures.count in
     let inside = nat_range-All (λ i. i < length values) 0 c.class_count.result (λ i low high. omega (arith, high, count)) in
     rw (c.map_init.ensures.base, c.map_init.ensures.f, ends.0, ends.1) (tt, λ k d lt. (λ p. inside k d lt, λ p q y e b same. tt))
 
@@ -28,7 +28,7 @@ found_is g c =
     let done = c.find_first-first_fault.ensures in
     let ends = c.into_par_iter.ensures in
     let count : c.class_count.result ≡ length table.values =
-    c.class_count.ensures.number ∙ ap (λ (set : PieceSet). classes_of set) c.classes.ensures.set ∙ c.classes.ensures.count in
+    c.class_count.ensures.number ∙ ap (λ (family : Family). classes_of family) c.classes.ensures.family ∙ c.classes.ensures.count in
     let whole : c.class_count.result - 0 ≡ length table.values = omega arith in
     let chain = rw (c.map_init.ensures.base, c.map_init.ensures.f) at done.2 in
     let places = chain.1 ∙ (λ i. nat_range (ends.0 i) (ends.1 i)) ∙ ap (range_with_len 0) whole in

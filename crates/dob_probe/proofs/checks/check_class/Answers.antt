@@ -1,7 +1,7 @@
 -- A class's entry follows where it is the value that follows for its representative, and breaks where it isn't.
 use Rattle.std.proofs.Common.{◌≡◌, rules, refl, subst}
-use Rattle.dob_pieces.specs.declared.piece_set.PieceSet.{PieceSet}
-use Rattle.dob_rank.specs.Order.{IsRepresentative, HasClass}
+use Rattle.dob_pieces.specs.declared.profile.Family.{Family}
+use Rattle.dob_rank.specs.Families.{IsRepresentative, HasClass}
 use Rattle.dob_probe.specs.Checks.{HasEntry}
 use Rattle.dob_probe.proofs.Following.{class_follows, class_breaks}
 use Rattle.dob_probe.proofs.checks.check_class.Goals as goal
@@ -12,8 +12,8 @@ entry_is : (c : After-value) → HasEntry c.args.table.now c.args.class c.class_
 entry_is c =
     let representative = c.class_at-position.result.setup in
     let class = c.args.class in record {
-      represents = subst (λ (set : PieceSet). IsRepresentative set representative) c.classes.ensures.set c.class_at-position.ensures.representative;
-      number = subst (λ (set : PieceSet). HasClass set representative class) c.classes.ensures.set c.class_at-position.ensures.class;
+      represents = subst (λ (family : Family). IsRepresentative family representative) c.classes.ensures.family c.class_at-position.ensures.representative;
+      number = subst (λ (family : Family). HasClass family representative class) c.classes.ensures.family c.class_at-position.ensures.class;
       entry = c.value.ensures;
     }
 

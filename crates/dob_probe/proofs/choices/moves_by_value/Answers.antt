@@ -4,35 +4,35 @@ use Rattle.std.proofs.lemmas.Option.{slice_get_read}
 use Rattle.dob_value.proofs.Successors.{choice_goes}
 use Rattle.dob_probe.specs.declared.choices.ValuedMove.{ValuedMove}
 use Rattle.dob_probe.specs.Lines.{GivenBy}
-use Rattle.dob_probe.proofs.Entries.{given_is_entry}
+use Rattle.dob_probe.proofs.Entries.{given_is_entry, one_given}
 use Rattle.dob_probe.proofs.ByValue.{AreListed, listed_none, listed_earlier, listed_more, listed_all}
 use Rattle.dob_probe.proofs.choices.moves_by_value.Goals as goal
 
 pub loop-choice-init : goal.loop-choice-init
 loop-choice-init c =
-    subst (λ (xs : List ValuedMove). AreListed (GivenBy c.args.table.now) c.args.position.now.setup c.args.choices.now 0 xs)
-    (sym c.new-list.ensures.items) (listed_none (GivenBy c.args.table.now) c.args.position.now.setup c.args.choices.now)
+    subst (λ (xs : List ValuedMove). AreListed c.args.table.now.family.profile (GivenBy c.args.table.now) c.args.position.now.setup c.args.choices.now 0 xs)
+    (sym c.new-list.ensures.items) (listed_none c.args.table.now.family.profile (GivenBy c.args.table.now) c.args.position.now.setup c.args.choices.now)
 
 pub value_to-requires-clause-open : goal.value_to-requires-clause-open
 value_to-requires-clause-open c =
-    (choice_goes c.args.position.now.setup c.args.choices.now c.loop-choice.choice-index c.choice-item.result
+    (choice_goes c.args.table.now.family.profile c.args.position.now.setup c.args.choices.now c.loop-choice.choice-index c.choice-item.result
     c.requires.choices c.loop-choice-test.true c.choice-item.is).0
 
 pub value_to-requires-clause-can_go : goal.value_to-requires-clause-can_go
 value_to-requires-clause-can_go c =
-    (choice_goes c.args.position.now.setup c.args.choices.now c.loop-choice.choice-index c.choice-item.result
+    (choice_goes c.args.table.now.family.profile c.args.position.now.setup c.args.choices.now c.loop-choice.choice-index c.choice-item.result
     c.requires.choices c.loop-choice-test.true c.choice-item.is).1
 
 pub value_seen-value-requires : goal.value_seen-value-requires
 value_seen-value-requires c =
-    let goes = choice_goes c.args.position.now.setup c.args.choices.now c.loop-choice.choice-index c.choice-item.result
+    let goes = choice_goes c.args.table.now.family.profile c.args.position.now.setup c.args.choices.now c.loop-choice.choice-index c.choice-item.result
     c.requires.choices c.loop-choice-test.true c.choice-item.is in
     given_is_entry c.args.table.now goes.1.0 c.value_to.result c.requires.whole (c.value_to.ensures goes.1.0 goes.1.1)
 
 pub insert_by_value-requires-clause-later : goal.insert_by_value-requires-clause-later
 insert_by_value-requires-clause-later c =
     let here = slice_get_read c.args.choices.now _ c.loop-choice.choice-index c.choice-item.result refl c.loop-choice-test.true c.choice-item.is in
-    listed_earlier (GivenBy c.args.table.now) c.args.position.now.setup c.args.choices.now c.loop-choice.choice-index c.loop-choice.list.items
+    listed_earlier c.args.table.now.family.profile (GivenBy c.args.table.now) c.args.position.now.setup c.args.choices.now c.loop-choice.choice-index c.loop-choice.list.items
     c.choice-item.result c.requires.choices c.loop-choice-test.true here c.loop-choice.invariant
 
 pub loop-choice-preserved : goal.loop-choice-preserved
@@ -42,13 +42,13 @@ loop-choice-preserved c =
     let index = c.loop-choice.choice-index in
     let choice = c.choice-item.result in
     let here = slice_get_read choices _ index choice refl c.loop-choice-test.true c.choice-item.is in
-    let goes = choice_goes setup choices index choice c.requires.choices c.loop-choice-test.true c.choice-item.is in
+    let goes = choice_goes c.args.table.now.family.profile setup choices index choice c.requires.choices c.loop-choice-test.true c.choice-item.is in
     let more : ValuedMove = record { choice = c.choice-item.result; value = c.value_seen-value.result } in
-    listed_more c.args.table.now setup c.requires.member choices index c.loop-choice.list.items c.insert_by_value.new.list.items more
+    listed_more c.args.table.now.family (GivenBy c.args.table.now) (one_given c.args.table.now) setup c.requires.member choices index c.loop-choice.list.items c.insert_by_value.new.list.items more
     c.value_to.result here goes.0 goes.1 c.value_to.ensures c.value_seen-value.ensures c.in_ok-insert_by_value.ensures.items
     c.in_ok-insert_by_value.ensures.ordered c.loop-choice.invariant
 
 pub returns : goal.returns
 returns c =
-    listed_all (GivenBy c.args.table.now) c.args.position.now.setup c.args.choices.now c.loop-choice.choice-index c.loop-choice.list.items
+    listed_all c.args.table.now.family.profile (GivenBy c.args.table.now) c.args.position.now.setup c.args.choices.now c.loop-choice.choice-index c.loop-choice.list.items
     c.requires.free c.requires.choices c.loop-choice-test.false c.loop-choice.invariant

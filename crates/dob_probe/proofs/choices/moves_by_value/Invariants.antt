@@ -4,4 +4,4 @@ use Rattle.dob_probe.proofs.ByValue.{AreListed}
 use Rattle.dob_probe.proofs.choices.moves_by_value.Given as goal
 
 abbrev pub invariant-loop-choice : goal.invariant-loop-choice
-invariant-loop-choice l = AreListed (GivenBy l.table) l.position.setup l.choices l.choice-index l.list.items
+invariant-loop-choice l = AreListed l.table.family.profile (GivenBy l.table) l.position.setup l.choices l.choice-index l.list.items

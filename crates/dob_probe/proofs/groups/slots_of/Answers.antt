@@ -2,15 +2,15 @@
 use Rattle.std.proofs.Common.{◌≡◌, ◌++◌, ◌∷◌, [], ◌+◌, ◌<◌, ℕ, sym, subst, ap, ◌∙◌, arith, List, length, take}
 use Rattle.std.proofs.lemmas.Option.{get_or_from_slice_get}
 use Rattle.std.proofs.lemmas.List.{take_more, length-take}
-use Rattle.dob_pieces.specs.declared.piece_set.PieceSet.{PieceSet}
-use Rattle.dob_rank.specs.Marks.{classes_of}
+use Rattle.dob_pieces.specs.declared.profile.Family.{Family}
+use Rattle.dob_rank.specs.Families.{classes_of}
 use Rattle.dob_value.specs.declared.value.Value.{Value}
 use Rattle.dob_probe.specs.Slots.{AreSlots}
 use Rattle.dob_probe.proofs.groups.slots_of.Goals as goal
 use Rattle.dob_probe.proofs.groups.slots_of.Goals.{After-class_count-class-end}
 
 count_is : (c : After-class_count-class-end) → c.class_count-class-end.result ≡ length c.args.table.now.values
-count_is c = c.class_count-class-end.ensures.number ∙ ap (λ (set : PieceSet). classes_of set) c.classes.ensures.set ∙ c.classes.ensures.count
+count_is c = c.class_count-class-end.ensures.number ∙ ap (λ (family : Family). classes_of family) c.classes.ensures.family ∙ c.classes.ensures.count
 
 pub count_class-requires-clause-slots : goal.count_class-requires-clause-slots
 count_class-requires-clause-slots c =

@@ -1,35 +1,42 @@
 -- No earlier move leads to the value that is wanted.
 use Rattle.std.proofs.Common.{◌≡◌, rules, refl, sym, subst}
 use Rattle.std.proofs.lemmas.Option.{slice_get_read}
-use Rattle.dob_pieces.specs.declared.piece_set.PieceSet.{PieceSet}
+use Rattle.dob_pieces.specs.declared.profile.Family.{Family}
+use Rattle.dob_moves.specs.declared.position_status.Status.TheVariants.{Open}
 use Rattle.dob_moves.specs.Statuses.{AreMoves}
-use Rattle.dob_rank.specs.Order.{IsInClass}
-use Rattle.dob_value.proofs.Successors.{choice_goes, moves_keep_the_set}
+use Rattle.dob_moves.proofs.ByProfile.{can_go}
+use Rattle.dob_moves.proofs.ProfileMoves.{goes_there, status_there}
+use Rattle.dob_rank.specs.Families.{IsInClass}
+use Rattle.dob_value.proofs.Successors.{choice_goes, moves_keep_the_family}
 use Rattle.dob_probe.specs.Lines.{GivenBy, LeadsTo}
 use Rattle.dob_probe.proofs.Ways.{none_below_more, first_found, none_leads, other_value}
 use Rattle.dob_probe.proofs.lines.first_to.Goals as goal
 use Rattle.dob_probe.proofs.lines.first_to.Goals.{After-deref-choice-items}
 
 -- what is known of the list of moves
-choices_are : (c : After-deref-choice-items) → AreMoves c.args.position.now.setup c.deref-choice-items.result.now
-choices_are c = subst (λ xs. AreMoves c.args.position.now.setup xs) (sym c.deref-choice-items.ensures.value) c.in_ok-choices.ensures
+choices_are : (c : After-deref-choice-items) → AreMoves c.args.table.now.family.profile c.args.position.now.setup c.deref-choice-items.result.now
+choices_are c =
+    subst (λ (family : Family). AreMoves family.profile c.args.position.now.setup c.deref-choice-items.result.now) c.family.ensures.family
+    (subst (λ xs. AreMoves c.family.result.profile c.args.position.now.setup xs) (sym c.deref-choice-items.ensures.value) c.in_ok-choices.ensures)
 
 pub apply-next-requires-clause-open : goal.apply-next-requires-clause-open
 apply-next-requires-clause-open c =
-    (choice_goes c.args.position.now.setup c.deref-choice-items.result.now c.loop-choice.choice-index c.choice-item.result
+    status_there c.args.table.now.family.profile c.args.position.now.setup Open c.args.position.now.legal
+    (choice_goes c.args.table.now.family.profile c.args.position.now.setup c.deref-choice-items.result.now c.loop-choice.choice-index c.choice-item.result
     (choices_are (goal.at.apply-next-requires-clause-open c).After-deref-choice-items) c.loop-choice-test.true c.choice-item.is).0
 
 pub apply-next-requires-clause-can_go : goal.apply-next-requires-clause-can_go
 apply-next-requires-clause-can_go c =
-    (choice_goes c.args.position.now.setup c.deref-choice-items.result.now c.loop-choice.choice-index c.choice-item.result
+    can_go c.args.table.now.family.profile c.args.position.now.setup c.choice-item.result
+    (choice_goes c.args.table.now.family.profile c.args.position.now.setup c.deref-choice-items.result.now c.loop-choice.choice-index c.choice-item.result
     (choices_are (goal.at.apply-next-requires-clause-can_go c).After-deref-choice-items) c.loop-choice-test.true c.choice-item.is).1
 
 pub value_of-requires : goal.value_of-requires
 value_of-requires c =
-    let goes = choice_goes c.args.position.now.setup c.deref-choice-items.result.now c.loop-choice.choice-index c.choice-item.result
+    let goes = choice_goes c.args.table.now.family.profile c.args.position.now.setup c.deref-choice-items.result.now c.loop-choice.choice-index c.choice-item.result
     (choices_are (goal.at.value_of-requires c).After-deref-choice-items) c.loop-choice-test.true c.choice-item.is in
-    moves_keep_the_set c.args.table.now.set c.args.position.now.setup c.choice-item.result c.apply-next.result.setup c.requires goes.0
-    c.apply-next.ensures
+    moves_keep_the_family c.args.table.now.family c.args.position.now.setup c.choice-item.result c.apply-next.result.setup c.requires goes.0
+    (goes_there c.args.table.now.family.profile c.args.position.now.setup c.choice-item.result c.apply-next.result.setup goes.1 c.apply-next.ensures)
 
 pub returns-then-eq-clause-found : goal.returns-then-eq-clause-found
 returns-then-eq-clause-found c =
@@ -39,15 +46,15 @@ returns-then-eq-clause-found c =
     let index = c.loop-choice.choice-index in
     let choice = c.choice-item.result in
     let are = choices_are (goal.at.returns-then-eq-clause-found c).After-deref-choice-items in
-    let goes = choice_goes setup choices index choice are c.loop-choice-test.true c.choice-item.is in
+    let goes = choice_goes c.args.table.now.family.profile setup choices index choice are c.loop-choice-test.true c.choice-item.is in
     let here = slice_get_read choices _ index choice refl c.loop-choice-test.true c.choice-item.is in
     let same : c.value_of.result ≡ c.args.wanted = search rules in
-    let leads : LeadsTo (GivenBy table) setup c.args.wanted choice c.apply-next.result.setup = record {
+    let leads : LeadsTo c.args.table.now.family.profile (GivenBy table) setup c.args.wanted choice c.apply-next.result.setup = record {
       goes_on = goes.0;
-      goes = c.apply-next.ensures;
+      goes = goes_there c.args.table.now.family.profile setup choice c.apply-next.result.setup goes.1 c.apply-next.ensures;
       has = subst (λ v. GivenBy table c.apply-next.result.setup v) same c.value_of.ensures;
     } in
-    first_found (GivenBy table) setup c.args.wanted choices index choice c.apply-next.result.setup are c.loop-choice-test.true here
+    first_found c.args.table.now.family.profile (GivenBy table) setup c.args.wanted choices index choice c.apply-next.result.setup are c.loop-choice-test.true here
     c.loop-choice.invariant leads
 
 pub loop-choice-preserved : goal.loop-choice-preserved
@@ -58,16 +65,19 @@ loop-choice-preserved c =
     let index = c.loop-choice.choice-index in
     let choice = c.choice-item.result in
     let here = slice_get_read choices _ index choice refl c.loop-choice-test.true c.choice-item.is in
+    let can = choice_goes c.args.table.now.family.profile setup choices index choice
+    (choices_are (goal.at.loop-choice-preserved c).After-deref-choice-items) c.loop-choice-test.true c.choice-item.is in
     let apart : ¬ (c.value_of.result ≡ c.args.wanted) = search rules in
-    none_below_more (GivenBy table) setup c.args.wanted choices index choice here
-    (other_value table setup choice c.apply-next.result.setup c.value_of.result c.args.wanted c.requires c.apply-next.ensures c.value_of.ensures apart)
+    none_below_more c.args.table.now.family.profile (GivenBy table) setup c.args.wanted choices index choice here
+    (other_value table setup choice c.apply-next.result.setup c.value_of.result c.args.wanted c.requires
+    (goes_there c.args.table.now.family.profile setup choice c.apply-next.result.setup can.1 c.apply-next.ensures) c.value_of.ensures apart)
     c.loop-choice.invariant
 
 pub returns-clause-missing : goal.returns-clause-missing
 returns-clause-missing c =
     let table = c.args.table.now in
     let setup = c.args.position.now.setup in (
-      subst (λ (set : PieceSet). IsInClass set setup c.class_of.result) c.classes.ensures.set c.class_of.ensures.class,
-      none_leads (GivenBy table) setup c.args.wanted c.deref-choice-items.result.now c.loop-choice.choice-index
+      subst (λ (family : Family). IsInClass family setup c.class_of.result) c.classes.ensures.family c.class_of.ensures.class,
+      none_leads c.args.table.now.family.profile (GivenBy table) setup c.args.wanted c.deref-choice-items.result.now c.loop-choice.choice-index
           (choices_are (goal.at.returns-clause-missing c).After-deref-choice-items) c.loop-choice-test.false c.loop-choice.invariant,
     )

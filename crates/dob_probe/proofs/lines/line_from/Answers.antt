@@ -13,7 +13,7 @@ loop-catch-init c =
 
 pub returns-in-Some-clause-line : goal.returns-in-Some-clause-line
 returns-in-Some-clause-line c =
-    subst (IsLine (GivenBy c.args.table.now) c.args.position.setup) (sym c.in_ok-push.ensures.items)
+    subst (IsLine c.args.table.now.family.profile (GivenBy c.args.table.now) c.args.position.setup) (sym c.in_ok-push.ensures.items)
     (line_catches c.args.table.now c.args.position.setup c.loop-catch.line.items c.loop-catch.position.setup c.loop-catch.value
     c.loop-catch.invariant c.in-Some.catch c.in-Some.ensures)
 

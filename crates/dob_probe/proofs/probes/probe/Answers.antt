@@ -1,24 +1,24 @@
--- The value of a position of the set is its class's entry, and by a consistent table it is the right one.
+-- The value of a position of the family is its class's entry, and by a consistent table it is the right one.
 use Rattle.std.proofs.Common.{rules, refl, subst}
-use Rattle.dob_pieces.specs.declared.piece_set.PieceSet.{PieceSet}
-use Rattle.dob_rank.specs.Order.{IsPositionOf}
+use Rattle.dob_pieces.specs.declared.profile.Family.{Family}
+use Rattle.dob_rank.specs.Families.{IsPositionOf}
 use Rattle.dob_value.proofs.Consistency.{consistent_is_right}
 use Rattle.dob_probe.proofs.Entries.{given_is_entry}
 use Rattle.dob_probe.proofs.probes.probe.Goals as goal
 
 pub value_of-requires : goal.value_of-requires
 value_of-requires c =
-    subst (λ (set : PieceSet). IsPositionOf set c.args.position.now.setup) c.set.ensures.set (c.if-not-is_of_set.ensures.0 refl)
+    subst (λ (family : Family). IsPositionOf family c.args.position.now.setup) c.family.ensures.family c.in_ok-check_member.ensures.member
 
 pub returns-clause-right : goal.returns-clause-right
 returns-clause-right c = λ consistent.
     let table = c.args.table.now in
-    let is = subst (λ (set : PieceSet). IsPositionOf set c.args.position.now.setup) c.set.ensures.set (c.if-not-is_of_set.ensures.0 refl) in
-    (consistent_is_right table.set table.values consistent).values_are c.args.position.now.setup c.value_of.result is c.value_of.ensures
+    let is = subst (λ (family : Family). IsPositionOf family c.args.position.now.setup) c.family.ensures.family c.in_ok-check_member.ensures.member in
+    (consistent_is_right table.family table.values consistent).values_are c.args.position.now.setup c.value_of.result is c.value_of.ensures
 
 pub returns-clause-entry : goal.returns-clause-entry
 returns-clause-entry c =
-    given_is_entry c.args.table.now c.args.position.now.setup c.value_of.result c.set.ensures.table c.value_of.ensures
+    given_is_entry c.args.table.now c.args.position.now.setup c.value_of.result c.family.ensures.table c.value_of.ensures
 
 pub returns-clause-value : goal.returns-clause-value
 returns-clause-value c = search rules fits 100

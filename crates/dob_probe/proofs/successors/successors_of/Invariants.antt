@@ -8,5 +8,5 @@ use Rattle.dob_probe.proofs.successors.successors_of.Given as goal
 
 abbrev pub invariant-loop-choice : goal.invariant-loop-choice
 invariant-loop-choice l =
-    (values : List Value) × AreSuccessorsBelow (λ (v : Value) q. GivenBy l.table q v) l.position.setup l.choices l.choice-index values
+    (values : List Value) × AreSuccessorsBelow l.table.family.profile (λ (v : Value) q. GivenBy l.table q v) l.position.setup l.choices l.choice-index values
     × AreSummed values l.kept

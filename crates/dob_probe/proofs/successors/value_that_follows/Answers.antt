@@ -11,8 +11,8 @@ use Rattle.dob_probe.proofs.successors.value_that_follows.Goals as goal
 use Rattle.dob_probe.proofs.successors.value_that_follows.Goals.{In-Open}
 
 -- the position is open
-open_is : (c : In-Open) → HasStatus c.args.position.now.setup Open
-open_is c = subst (λ (s : Status). HasStatus c.args.position.now.setup s) c.in-Open.is c.in_ok-moves_into.ensures.status
+open_is : (c : In-Open) → HasStatus c.args.table.now.family.profile c.args.position.now.setup Open
+open_is c = subst (λ (s : Status). HasStatus c.args.table.now.family.profile c.args.position.now.setup s) c.in-Open.is c.in_ok-list_moves.ensures.status
 
 pub value-requires-clause-least : goal.value-requires-clause-least
 value-requires-clause-least c =
@@ -37,7 +37,7 @@ returns-in-Open c =
     let is_open = open_is (goal.at.returns-in-Open c).In-Open in (
       Open,
       is_open,
-      subst (λ (v : Value). FollowsFromSuccessors (GivenBy table) setup v) (sym c.value.ensures)
+      subst (λ (v : Value). FollowsFromSuccessors c.args.table.now.family.profile (GivenBy table) setup v) (sym c.value.ensures)
           (follows_from table setup c.requires.member is_open kept.0 kept.1 found.least_loss found.greatest_win found.has_draw kept.2.least
           kept.2.greatest kept.2.draw),
     )

@@ -1,8 +1,30 @@
--- The position that a move of an open position leads to is of the table's set.
-use Rattle.dob_value.proofs.Successors.{moves_keep_the_set}
+-- The position that a move of an open position leads to is of the table's family.
+use Rattle.std.proofs.Common.{sym, subst, ◌∙◌}
+use Rattle.dob_moves.specs.declared.position_status.Status.TheVariants.{Open}
+use Rattle.dob_moves.proofs.ByProfile.{can_go, goes}
+use Rattle.dob_moves.proofs.Outcomes.{HasOutcome-is}
+use Rattle.dob_moves.proofs.ProfileMoves.{goes_there, status_there}
+use Rattle.dob_value.proofs.Successors.{moves_keep_the_family}
+use Rattle.dob_pieces.specs.declared.setup.Setup.{Setup}
+use Rattle.dob_probe.specs.Lines.{GivenBy}
 use Rattle.dob_probe.proofs.successors.value_to.Goals as goal
+
+pub apply-requires-clause-open : goal.apply-requires-clause-open
+apply-requires-clause-open c =
+    status_there c.args.table.now.family.profile c.args.position.now.setup Open c.args.position.now.legal c.requires.open
+
+pub apply-requires-clause-can_go : goal.apply-requires-clause-can_go
+apply-requires-clause-can_go c = can_go c.args.table.now.family.profile c.args.position.now.setup c.args.choice c.requires.can_go
 
 pub value_of-requires : goal.value_of-requires
 value_of-requires c =
-    moves_keep_the_set c.args.table.now.set c.args.position.now.setup c.args.choice c.apply.result.setup c.requires.member c.requires.open
-    c.apply.ensures
+    let setup = c.args.position.now.setup in
+    moves_keep_the_family c.args.table.now.family setup c.args.choice c.apply.result.setup c.requires.member c.requires.open
+    (goes_there c.args.table.now.family.profile setup c.args.choice c.apply.result.setup c.requires.can_go c.apply.ensures)
+
+pub returns : goal.returns
+returns c = λ q by.
+    let setup = c.args.position.now.setup in
+    let same = HasOutcome-is setup c.args.choice c.apply.result.setup c.apply.ensures
+    ∙ sym (HasOutcome-is setup c.args.choice q (goes c.args.table.now.family.profile setup c.args.choice q by)) in
+    subst (λ (s : Setup). GivenBy c.args.table.now s c.value_of.result) same c.value_of.ensures

@@ -1,0 +1,255 @@
+-- The only move to a value, and the puzzles of the classes so far.
+use Rattle.std.proofs.Common.{◌≡◌, ℕ, ◌+◌, ◌-◌, ◌≤◌, ◌<◌, ◌⊎◌, inl, inr, refl, sym, subst, ap, ap₂, ◌∙◌, arith, List, [], ◌∷◌, ◌++◌, length, get_or}
+use Rattle.std.proofs.Common.{Bool, true, false, true≢false, is_some, Option, Some, None, Contains, AllPairs, slice_get}
+use Rattle.std.proofs.lemmas.Bool.{cases_lt}
+use Rattle.std.proofs.lemmas.Option.{slice_get-get_or, slice_get_within, same_Some}
+use Rattle.std.proofs.lemmas.List.Elements.{Contains-push, Contains-push_cases, Contains-get_or, Contains-append_left}
+use Rattle.std.proofs.lemmas.List.Quantifiers.{all_pairs_push}
+use Rattle.dob_pieces.specs.declared.profile.Profile.{Profile}
+use Rattle.dob_pieces.specs.declared.setup.Setup.{Setup}
+use Rattle.dob_moves.specs.declared.game_move.Move.{Move}
+use Rattle.dob_moves.specs.Moves.{place}
+use Rattle.dob_moves.specs.Statuses.{AreMoves}
+use Rattle.dob_rank.proofs.FamilyRepresentatives.{one_of_class}
+use Rattle.dob_value.specs.declared.value.Value.{Value}
+use Rattle.dob_value.specs.declared.value.Value.TheVariants.{Win, Loss}
+use Rattle.dob_value.specs.declared.sweep.TheConstants.{MAX_DISTANCE}
+use Rattle.dob_value.specs.Follows.{ClassTable, IsEntry, IsTable}
+use Rattle.dob_probe.specs.declared.puzzles.Puzzle.{Puzzle}
+use Rattle.dob_probe.specs.Checks.{HasEntry}
+use Rattle.dob_probe.specs.Lines.{GivenBy, LeadsTo}
+use Rattle.dob_probe.specs.Puzzles.{ArePuzzles, IsOnlyTo, IsPuzzle}
+use Rattle.dob_probe.specs.SoleMoves.{IsPuzzleOf, IsSoleMove}
+use Rattle.dob_probe.proofs.Entries.{all_at}
+use Rattle.dob_probe.proofs.Ways.{NoneBelow, none_below_more, none_leads}
+
+-- ---- the only move to a value
+
+-- of the moves below an index this one leads to the value, and no other one
+pub record IsOnlyBelow (profile : Profile) (Has : Setup → Value → Type 0) (p : Setup) (wanted : Value) (choices : List Move) (upto : ℕ) (sole : Move) : Type 0 where
+  pub index : ℕ
+  pub below : index < upto
+  pub there : slice_get choices index ≡ Some sole
+  pub outcome : Setup
+  pub leads : LeadsTo profile Has p wanted sole outcome
+  pub only : (other : ℕ) (move : Move) (q : Setup) → other < upto → slice_get choices other ≡ Some move → LeadsTo profile Has p wanted move q → sole ≡ move
+
+abbrev pub IsSoleBelow : Profile → (Setup → Value → Type 0) → Setup → Value → List Move → ℕ → Option Move → Type 0
+IsSoleBelow profile Has p wanted choices upto None = NoneBelow profile Has p wanted choices upto
+IsSoleBelow profile Has p wanted choices upto (Some sole) = IsOnlyBelow profile Has p wanted choices upto sole
+
+module _ (profile : Profile) (Has : Setup → Value → Type 0) (p : Setup) (wanted : Value) (choices : List Move) where
+  pub sole_first : IsSoleBelow profile Has p wanted choices 0 None
+  sole_first = λ index move q below there leads. absurd (omega (arith, below))
+
+  -- which move stands at the index, where it isn't below it
+  here_is : (upto index : ℕ) (choice move : Move) → slice_get choices upto ≡ Some choice → index < upto + 1 → upto ≤ index →
+      slice_get choices index ≡ Some move → move ≡ choice
+  here_is upto index choice move here below later there =
+      let same : upto ≡ index = omega (arith, below, later) in
+      same_Some move choice (sym there ∙ subst (λ k. slice_get choices k ≡ Some choice) same here)
+
+  -- a move that leads elsewhere changes nothing
+  pub sole_skipped : (upto : ℕ) (choice : Move) (sole : Option Move) → slice_get choices upto ≡ Some choice →
+      ((q : Setup) → ¬ LeadsTo profile Has p wanted choice q) → IsSoleBelow profile Has p wanted choices upto sole →
+      IsSoleBelow profile Has p wanted choices (upto + 1) sole
+  sole_skipped upto choice None here elsewhere before = none_below_more profile Has p wanted choices upto choice here elsewhere before
+  sole_skipped upto choice (Some sole) here elsewhere before =
+      let below : before.index < upto = before.below in record {
+        index = before.index;
+        below = omega (arith, below);
+        there = before.there;
+        outcome = before.outcome;
+        leads = before.leads;
+        only = λ other move q within there leads. elim (cases_lt other upto) [
+          | inl earlier ↦ before.only other move q earlier there leads
+          | inr later ↦
+              let is : move ≡ choice = here_is upto other choice move here within later there in
+              absurd (elsewhere q (subst (λ m. LeadsTo profile Has p wanted m q) is leads))
+        ];
+      }
+
+  -- the first one that leads there
+  pub sole_found : (upto : ℕ) (choice : Move) (q : Setup) → slice_get choices upto ≡ Some choice → LeadsTo profile Has p wanted choice q →
+      NoneBelow profile Has p wanted choices upto → IsSoleBelow profile Has p wanted choices (upto + 1) (Some choice)
+  sole_found upto choice q here leads none = record {
+    index = upto;
+    below = omega arith;
+    there = here;
+    outcome = q;
+    leads = leads;
+    only = λ other move r within there leads_too. elim (cases_lt other upto) [
+      | inl earlier ↦ absurd (none other move r earlier there leads_too)
+      | inr later ↦ sym (here_is upto other choice move here within later there)
+    ];
+  }
+
+  read : (k : ℕ) (m : Move) → k < length choices → slice_get choices k ≡ Some m → (d : Move) → get_or choices k d ≡ m
+  read k m below there d = same_Some (get_or choices k d) m (sym (slice_get-get_or choices k d below) ∙ there)
+
+  -- where a second one leads there too, none is the only one
+  pub sole_doubled : (upto : ℕ) (choice sole : Move) (q : Setup) → AreMoves profile p choices → upto < length choices → slice_get choices upto ≡ Some choice →
+      LeadsTo profile Has p wanted choice q → IsOnlyBelow profile Has p wanted choices upto sole → IsSoleMove profile Has p wanted None
+  sole_doubled upto choice sole q are within here leads before = λ move only.
+      let one : move ≡ sole = only.only sole before.outcome before.leads in
+      let other : move ≡ choice = only.only choice q leads in
+      let below : before.index < upto = before.below in
+      let rising : place (get_or choices before.index sole) < place (get_or choices upto sole) = are.ordered before.index upto sole below within in
+      let low = ap place (read before.index sole (omega (arith, below, within)) before.there sole) in
+      let high = ap place (read upto choice within here sole) in
+      let same : place sole ≡ place choice = ap place (sym one ∙ other) in
+      absurd (omega (arith, rising, low, high, same))
+
+  pub sole_twice : (upto : ℕ) (choice : Move) (sole : Option Move) (q : Setup) → is_some sole ≡ true → AreMoves profile p choices → upto < length choices →
+      slice_get choices upto ≡ Some choice → LeadsTo profile Has p wanted choice q → IsSoleBelow profile Has p wanted choices upto sole →
+      IsSoleMove profile Has p wanted None
+  sole_twice upto choice None q some are within here leads before = absurd (true≢false (sym some))
+  sole_twice upto choice (Some sole) q some are within here leads before = sole_doubled upto choice sole q are within here leads before
+
+  pub sole_taken : (upto : ℕ) (choice : Move) (sole : Option Move) (q : Setup) → is_some sole ≡ false → slice_get choices upto ≡ Some choice →
+      LeadsTo profile Has p wanted choice q → IsSoleBelow profile Has p wanted choices upto sole → IsSoleBelow profile Has p wanted choices (upto + 1) (Some choice)
+  sole_taken upto choice None q none here leads before = sole_found upto choice q here leads before
+  sole_taken upto choice (Some sole) q none here leads before = absurd (true≢false none)
+
+  pub sole_all : (upto : ℕ) (sole : Option Move) → AreMoves profile p choices → length choices ≤ upto → IsSoleBelow profile Has p wanted choices upto sole →
+      IsSoleMove profile Has p wanted sole
+  sole_all upto None are all none = λ move only. none_leads profile Has p wanted choices upto are all none move only.outcome only.leads
+  sole_all upto (Some sole) are all before = record {
+    outcome = before.outcome;
+    leads = before.leads;
+    only = λ other r leads.
+        let there = are.whole other leads.goes_on (r, leads.goes) in
+        let within : there.0 < length choices = there.1 in
+        before.only there.0 other r (omega (arith, within, all))
+        (slice_get-get_or choices there.0 other there.1 ∙ ap (λ m. let o : Option Move = Some m in o) there.2) leads;
+  }
+
+-- ---- the puzzles of the classes
+
+module _ (table : ClassTable) (plies : ℕ) where
+  -- what is found for a class's representative is found for the class
+  pub puzzle_found : (puzzle : Puzzle) (class : ℕ) (representative : Setup) → puzzle.class ≡ class → HasEntry table class representative (Win plies) →
+      IsOnlyTo table.family.profile (GivenBy table) representative (Loss (plies - 1)) puzzle.choice → IsPuzzleOf table plies class (Some puzzle)
+  puzzle_found puzzle class representative is has only = (
+    is,
+    record {
+      representative = representative;
+      won = subst (λ k. HasEntry table k representative (Win plies)) (sym is) has;
+      solved = only;
+    },
+  )
+
+  pub puzzle_missing : (class : ℕ) (representative : Setup) → HasEntry table class representative (Win plies) →
+      IsSoleMove table.family.profile (GivenBy table) representative (Loss (plies - 1)) None → IsPuzzleOf table plies class None
+  puzzle_missing class representative has none = λ puzzle is given.
+      let won = subst (λ k. HasEntry table k given.representative (Win plies)) is given.won in
+      let same = one_of_class table.family given.representative representative class won.represents has.represents won.number has.number in
+      none puzzle.choice
+      (subst (λ p. IsOnlyTo table.family.profile (GivenBy table) p (Loss (plies - 1)) puzzle.choice) same given.solved)
+
+  -- of a class with another entry there is none
+  pub not_won : (class : ℕ) (value : Value) → slice_get table.values class ≡ Some value → ¬ (value ≡ Win plies) → IsPuzzleOf table plies class None
+  not_won class value entry apart = λ puzzle is given.
+      apart (same_Some value (Win plies) (sym entry ∙ subst (λ k. slice_get table.values k ≡ Some (Win plies)) is given.won.entry))
+
+  -- a class has one puzzle at most
+  one_puzzle : (a b : Puzzle) → a.class ≡ b.class → IsPuzzle table plies a → IsPuzzle table plies b → a ≡ b
+  one_puzzle a b is of_a of_b =
+      let won = subst (λ k. HasEntry table k of_a.representative (Win plies)) is of_a.won in
+      let same = one_of_class table.family of_b.representative of_a.representative b.class of_b.won.represents won.represents of_b.won.number won.number in
+      let solved = subst (λ p. IsOnlyTo table.family.profile (GivenBy table) p (Loss (plies - 1)) b.choice) same of_b.solved in
+      let choice = of_a.solved.only b.choice solved.outcome solved.leads in
+      ap₂ (λ (k : ℕ) (m : Move). let x : Puzzle = record { class = k; choice = m } in x) is choice
+
+  -- the puzzles of the classes below a number
+  pub record ArePuzzlesBelow (upto : ℕ) (list : List Puzzle) : Type 0 where
+    pub sound : (puzzle : Puzzle) → Contains list puzzle → (puzzle.class < upto) × IsPuzzle table plies puzzle
+    pub whole : (puzzle : Puzzle) → puzzle.class < upto → IsPuzzle table plies puzzle → Contains list puzzle
+    pub ordered : AllPairs (λ a b. a.class < b.class) list
+
+  pub puzzles_none : ArePuzzlesBelow 0 []
+  puzzles_none = record {
+    sound = λ puzzle there. absurd (omega (arith, there.1));
+    whole = λ puzzle below is. absurd (omega (arith, below));
+    ordered = λ i j d before within. absurd (omega (arith, within));
+  }
+
+  pub puzzles_same : (upto : ℕ) (list : List Puzzle) → IsPuzzleOf table plies upto None → ArePuzzlesBelow upto list → ArePuzzlesBelow (upto + 1) list
+  puzzles_same upto list none are = record {
+    sound = λ puzzle there.
+        let found = are.sound puzzle there in
+        let below : puzzle.class < upto = found.0 in
+        (omega (arith, below), found.1);
+    whole = λ puzzle below is. elim (cases_lt puzzle.class upto) [
+      | inl earlier ↦ are.whole puzzle earlier is
+      | inr later ↦
+          let same : puzzle.class ≡ upto = omega (arith, below, later) in
+          absurd (none puzzle same is)
+    ];
+    ordered = are.ordered;
+  }
+
+  pub puzzles_more : (upto : ℕ) (list : List Puzzle) (more : Puzzle) → IsPuzzleOf table plies upto (Some more) → ArePuzzlesBelow upto list →
+      ArePuzzlesBelow (upto + 1) (list ++ more ∷ [])
+  puzzles_more upto list more found are =
+      let here : more.class ≡ upto = found.0 in record {
+        sound = λ puzzle there. elim (Contains-push_cases list more puzzle there) [
+          | inl earlier ↦
+              let known = are.sound puzzle earlier in
+              let below : puzzle.class < upto = known.0 in
+              (omega (arith, below), known.1)
+          | inr same ↦
+              let class : more.class ≡ puzzle.class = ap (λ (x : Puzzle). x.class) same in
+              (omega (arith, class, here), subst (λ x. IsPuzzle table plies x) same found.1)
+        ];
+        whole = λ puzzle below is. elim (cases_lt puzzle.class upto) [
+          | inl earlier ↦ Contains-append_left list (more ∷ []) puzzle (are.whole puzzle earlier is)
+          | inr later ↦
+              let class : more.class ≡ puzzle.class = omega (arith, below, later, here) in
+              subst (λ x. Contains (list ++ more ∷ []) x) (one_puzzle more puzzle class found.1 is) (Contains-push list more)
+        ];
+        ordered = all_pairs_push (λ a b. a.class < b.class) list more are.ordered
+            (λ k d within.
+            let below : (get_or list k d).class < upto = (are.sound (get_or list k d) (Contains-get_or list k d within)).0 in
+            omega (arith, below, here));
+      }
+
+  -- as many as were asked for, or all of them
+  pub puzzles_full : (upto count : ℕ) (list : List Puzzle) → length list ≡ count → ArePuzzlesBelow upto list → ArePuzzles table plies count list
+  puzzles_full upto count list full are = record {
+    sound = λ puzzle there. (are.sound puzzle there).1;
+    ordered = are.ordered;
+    few = omega (arith, full);
+    whole = λ puzzle is. elim (cases_lt puzzle.class upto) [
+      | inl earlier ↦ inl (are.whole puzzle earlier is)
+      | inr later ↦ inr (
+        full,
+        λ listed there.
+            let below : listed.class < upto = (are.sound listed there).0 in
+            omega (arith, below, later),
+      )
+    ];
+  }
+
+  pub puzzles_all : (upto count : ℕ) (list : List Puzzle) → length table.values ≤ upto → length list ≤ count → ArePuzzlesBelow upto list →
+      ArePuzzles table plies count list
+  puzzles_all upto count list all few are = record {
+    sound = λ puzzle there. (are.sound puzzle there).1;
+    ordered = are.ordered;
+    few = few;
+    whole = λ puzzle is.
+        let within = slice_get_within table.values puzzle.class (Win plies) is.won.entry in
+        inl (are.whole puzzle (omega (arith, within, all)) is);
+  }
+
+  -- no table has so long a distance
+  pub puzzles_too_long : (count : ℕ) → IsTable table.family table.values → 65535 < plies → ArePuzzles table plies count []
+  puzzles_too_long count is long = record {
+    sound = λ puzzle there. absurd (omega (arith, there.1));
+    ordered = λ i j d before within. absurd (omega (arith, within));
+    few = omega arith;
+    whole = λ puzzle given.
+        let entry : IsEntry (Win plies) = all_at IsEntry table.values puzzle.class (Win plies) is.entries given.won.entry in
+        let short : plies ≤ MAX_DISTANCE = entry.1 in
+        absurd (omega (arith, short, long));
+  }

@@ -1,0 +1,28 @@
+-- What is found of the class's representative is found of the class.
+use Rattle.std.proofs.Common.{◌≡◌, ◌-◌, rules, subst, None, Option, Some, ap, ◌∙◌}
+use Rattle.dob_pieces.specs.declared.profile.Family.{Family}
+use Rattle.dob_moves.specs.declared.game_move.Move.{Move}
+use Rattle.dob_rank.specs.Families.{IsRepresentative, HasClass}
+use Rattle.dob_value.specs.declared.value.Value.{Value}
+use Rattle.dob_value.specs.declared.value.Value.TheVariants.{Win, Loss}
+use Rattle.dob_probe.specs.Checks.{HasEntry}
+use Rattle.dob_probe.specs.Lines.{GivenBy}
+use Rattle.dob_probe.specs.SoleMoves.{IsSoleMove}
+use Rattle.dob_probe.proofs.OnlyMoves.{puzzle_missing}
+use Rattle.dob_probe.proofs.puzzles.puzzle_of.Goals as goal
+
+pub returns-in-None : goal.returns-in-None
+returns-in-None c =
+    let table = c.args.table.now in
+    let class = c.args.class in
+    let plies = c.args.plies in
+    let representative = c.class_at-position.result.setup in
+    let won : c.value.result ≡ Win plies = search rules in
+    let entry : HasEntry table class representative (Win plies) = record {
+      represents = subst (λ (family : Family). IsRepresentative family representative) c.classes.ensures.family c.class_at-position.ensures.representative;
+      number = subst (λ (family : Family). HasClass family representative class) c.classes.ensures.family c.class_at-position.ensures.class;
+      entry = c.value.ensures ∙ ap (λ (v : Value). let o : Option Value = Some v in o) won;
+    } in
+    let none : IsSoleMove table.family.profile (GivenBy table) representative (Loss (plies - 1)) None =
+    subst (λ (o : Option Move). IsSoleMove table.family.profile (GivenBy table) representative (Loss (plies - 1)) o) c.in-None.is c.sole_move.ensures in
+    puzzle_missing table plies class representative entry none

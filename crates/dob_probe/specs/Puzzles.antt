@@ -1,0 +1,32 @@
+-- Puzzles of a table: classes that are won in so many plies, by one move alone.
+use Rattle.std.specs.Prelude.{◌≡◌, ◌⊎◌, ℕ, ◌-◌, ◌<◌, ◌≤◌, List, length, Contains, AllPairs}
+use Rattle.dob_pieces.specs.declared.profile.Profile.{Profile}
+use Rattle.dob_pieces.specs.declared.setup.Setup.{Setup}
+use Rattle.dob_moves.specs.declared.game_move.Move.{Move}
+use Rattle.dob_value.specs.declared.value.Value.{Value}
+use Rattle.dob_value.specs.declared.value.Value.TheVariants.{Win, Loss}
+use Rattle.dob_value.specs.Follows.{ClassTable}
+use Rattle.dob_probe.specs.declared.puzzles.Puzzle.{Puzzle}
+use Rattle.dob_probe.specs.Checks.{HasEntry}
+use Rattle.dob_probe.specs.Lines.{GivenBy, LeadsTo}
+
+-- the move leads to a position with that value, and it is the only one that does
+pub record IsOnlyTo (profile : Profile) (Has : Setup → Value → Type 0) (p : Setup) (wanted : Value) (move : Move) : Type 0 where
+  pub outcome : Setup
+  pub leads : LeadsTo profile Has p wanted move outcome
+  pub only : (other : Move) (r : Setup) → LeadsTo profile Has p wanted other r → move ≡ other
+
+-- The table says that the class is won in so many plies, and of the moves of its representative just this one leads to a position that
+-- is lost in one ply less.
+pub record IsPuzzle (table : ClassTable) (plies : ℕ) (puzzle : Puzzle) : Type 0 where
+  pub representative : Setup
+  pub won : HasEntry table puzzle.class representative (Win plies)
+  pub solved : IsOnlyTo table.family.profile (GivenBy table) representative (Loss (plies - 1)) puzzle.choice
+
+-- The first puzzles in the order of the classes, at most so many: each one that isn't listed stands behind as many as were asked for.
+pub record ArePuzzles (table : ClassTable) (plies count : ℕ) (list : List Puzzle) : Type 0 where
+  pub sound : (puzzle : Puzzle) → Contains list puzzle → IsPuzzle table plies puzzle
+  pub ordered : AllPairs (λ a b. a.class < b.class) list
+  pub few : length list ≤ count
+  pub whole : (puzzle : Puzzle) → IsPuzzle table plies puzzle
+      → Contains list puzzle ⊎ ((length list ≡ count) × ((listed : Puzzle) → Contains list listed → listed.class < puzzle.class))

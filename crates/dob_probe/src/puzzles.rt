@@ -1,0 +1,107 @@
+// Puzzles of a table: classes that are won in so many plies, by one move alone.
+ghost use Rattle.std.specs.Prelude.{◌≡◌, ◌<◌, ◌≤◌, length, IfOk};
+ghost use Rattle.dob_moves.specs.Statuses.{AreMoves};
+ghost use Rattle.dob_rank.specs.Families.{IsPositionOf};
+ghost use Rattle.dob_value.specs.Follows.{IsTable};
+ghost use Rattle.dob_value.specs.declared.value.Value.TheVariants.{Loss};
+ghost use Rattle.dob_probe.specs.Lines.{GivenBy};
+ghost use Rattle.dob_probe.specs.Puzzles.{ArePuzzles};
+ghost use Rattle.dob_probe.specs.SoleMoves.{IsPuzzleOf, IsSoleMove};
+
+use crate::successors::{list_moves, value_to};
+use dob_moves::Move;
+use dob_pieces::{Memory, Position};
+use dob_value::{Table, Value};
+use std::alloc::Global;
+
+/// A class that is won by one move alone: its number, and that move of its representative.
+#[derive(Clone, Copy, Debug, PartialEq, Eq)]
+pub struct Puzzle {
+    pub class: u64,
+    pub choice: Move,
+}
+
+/// The first classes, at most so many, that the table says are won in so many plies and of whose representative just one move
+/// leads to a position lost in one ply less, each with that move. They come in the order of their numbers. The classes are
+/// looked at up to the last one listed, and all of them where there are fewer; one room is kept for lists of moves.
+///
+/// Error: `Memory`.
+pub fn first_puzzles(
+    alloc: Global,
+    table: &Table,
+    plies: u64,
+    count: u64,
+) -> Result<Vec<Puzzle>, Memory>
+    requires { 0 < plies }
+    ensures { IfOk result (λ list. ArePuzzles table.now plies count list.items) }
+{
+    // That a table has no longer distance bounds the plies.
+    let _family = table.family();
+    if plies > u16::MAX as u64 {
+        return Ok(Vec::new(alloc));
+    }
+    list_puzzles(alloc, table, plies as u16, count)
+}
+
+// The same of a distance that a table may have.
+//
+// Error: `Memory`.
+fn list_puzzles(alloc: Global, table: &Table, plies: u16, count: u64) -> Result<Vec<Puzzle>, Memory>
+    requires { 0 < plies }
+    ensures { IfOk result (λ list. ArePuzzles table.now plies count list.items) }
+{
+    let mut list = Vec::new(alloc);
+    let mut room = Vec::new(alloc);
+    for class in 0..table.class_count() {
+        if list.len() as u64 >= count {
+            return Ok(list);
+        }
+        if let Some(puzzle) = puzzle_of(&mut room, table, plies, class)? {
+            list.push(puzzle)?;
+        }
+    }
+    Ok(list)
+}
+
+// The class as a puzzle, if it is one. Moves are listed in the room, whatever is in it.
+//
+// Error: `Memory`.
+fn puzzle_of(
+    room: &mut Vec<Move>,
+    table: &Table,
+    plies: u16,
+    class: u64,
+) -> Result<Option<Puzzle>, Memory>
+    requires positive { 0 < plies }
+    requires within { class < length table.now.values }
+    ensures { IfOk result (IsPuzzleOf table.now plies class) }
+{
+    if table.value(class) != Value::Win(plies) {
+        return Ok(None);
+    }
+    let position = table.classes().class_at(class);
+    list_moves(room, table, &position)?;
+    match sole_move(table, &position, room, Value::Loss(plies - 1)) {
+        Some(choice) => Ok(Some(Puzzle { class, choice })),
+        None => Ok(None),
+    }
+}
+
+// The only one of the position's moves that leads to a position of that value; `None` where there is no such move or
+// more than one.
+fn sole_move(table: &Table, position: &Position, choices: &[Move], wanted: Value) -> Option<Move>
+    requires member { IsPositionOf table.now.family position.now.setup }
+    requires choices { AreMoves table.now.family.profile position.now.setup choices.now }
+    ensures { IsSoleMove table.now.family.profile (GivenBy table.now) position.now.setup wanted result }
+{
+    let mut sole = None;
+    for choice in choices {
+        if value_to(table, position, *choice) == wanted {
+            if sole.is_some() {
+                return None;
+            }
+            sole = Some(*choice);
+        }
+    }
+    sole
+}
