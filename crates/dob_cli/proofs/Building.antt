@@ -1,4 +1,4 @@
--- What is told of a table and kept of it: the counts of its values, their lines, and its file.
+-- What is told of a table and kept of it: the lines of its counts, and its file.
 use Rattle.std.proofs.Common.{◌≡◌, ◌∙◌, ◌+◌, ◌<◌, ◌^◌, ◌++◌, ◌∷◌, [], ℕ, Bool, true, false, arith, refl, sym, ap, subst, cond, codes, append_assoc}
 use Rattle.std.proofs.Common.{get_or, length, take, List, Option, Some, None}
 use Rattle.std.specs.Prelude.{IsTrue, slice_get}
@@ -10,7 +10,9 @@ use Rattle.std.proofs.lemmas.List.Sums.{count_by-le-length, count_by_more_no, co
 use Rattle.std.proofs.lemmas.Option.{get_or_from_slice_get}
 use Rattle.dob_pieces.specs.declared.piece_set.PieceSet.{PieceSet}
 use Rattle.dob_pieces.specs.Sets.{set_text}
-use Rattle.dob_rank.specs.Limits.{IsSmall}
+use Rattle.dob_pieces.specs.declared.profile.Family.{Family}
+use Rattle.dob_pieces.specs.declared.profile.Profile.{Profile}
+use Rattle.dob_rank.specs.Families.{family_of}
 use Rattle.dob_value.specs.declared.value.Value.{Value}
 use Rattle.dob_value.specs.Entries.{is_draw}
 use Rattle.dob_value.specs.Follows.{ClassTable, IsValueTable}
@@ -24,38 +26,10 @@ use Rattle.dob_dbfile.specs.Sinks.{Change}
 use Rattle.dob_dbfile.specs.Writing.{StopsAt}
 use Rattle.dob_cli.specs.declared.tally.Tally.{Tally}
 use Rattle.dob_cli.specs.declared.fault.Fault.{Fault}
-use Rattle.dob_cli.specs.declared.fault.Fault.TheVariants.{Text, SetText, SetTooLarge, TooDeep, Run, File, Table, Memory, Io}
+use Rattle.dob_cli.specs.declared.fault.Fault.TheVariants.{Text, SetText, TooDeep, Run, File, Table, PuzzlePlies, Memory, Io}
 use Rattle.dob_cli.specs.Shelves.{HasJust, ShelfChange}
 use Rattle.dob_cli.specs.Sizes.{count_line}
-use Rattle.dob_cli.specs.Builds.{AddsValue, IsBuildFault, IsKeepingFault, IsTableFor, IsTally, class_lines, is_loss, is_win}
-
--- ---- counts
-
-module _ (values : List Value) (class : ℕ) (value : Value) (below : class < length values) (there : slice_get values class ≡ Some value) where
-  counted_more : (p : Value → Bool) → count_by p (take (class + 1) values) ≡ count_by p (take class values) + cond (p value) 1 0
-  counted_more p = go (p value) (ap p (get_or_from_slice_get values class value value there))
-    where
-      go : (b : Bool) → p (get_or values class value) ≡ b → count_by p (take (class + 1) values) ≡ count_by p (take class values) + cond b 1 0
-      go true e = count_by_more_yes p values class value below e
-      go false e = count_by_more_no p values class value below e ∙ omega arith
-
-  pub tally_more : (old new : Tally) → IsTally (take class values) old → AddsValue value old new → IsTally (take (class + 1) values) new
-  tally_more old new is adds = record {
-    wins = adds.wins ∙ ap (λ (n : ℕ). n + cond (is_win value) 1 0) is.wins ∙ sym (counted_more is_win);
-    losses = adds.losses ∙ ap (λ (n : ℕ). n + cond (is_loss value) 1 0) is.losses ∙ sym (counted_more is_loss);
-    draws = adds.draws ∙ ap (λ (n : ℕ). n + cond (is_draw value) 1 0) is.draws ∙ sym (counted_more is_draw);
-  }
-
--- each count is below the number of classes so far
-pub counts_fit : (values : List Value) (class : ℕ) (tally : Tally) → class < length values → length values < 2 ^ 64 → IsTally (take class values) tally
-    → (tally.wins + 1 < 2 ^ 64) × (tally.losses + 1 < 2 ^ 64) × (tally.draws + 1 < 2 ^ 64)
-counts_fit values class tally below few is = (fits tally.wins is_win is.wins, fits tally.losses is_loss is.losses, fits tally.draws is_draw is.draws)
-  where
-    fits : (n : ℕ) (p : Value → Bool) → n ≡ count_by p (take class values) → n + 1 < 2 ^ 64
-    fits n p e =
-        let most = count_by-le-length p (take class values) in
-        let len = length-take-le class values (omega (arith, below)) in
-        omega (arith, e, most, len, below, few)
+use Rattle.dob_cli.specs.Builds.{IsBuildFault, IsKeepingFault, IsTableFor, IsTally, class_lines, is_loss, is_win}
 
 -- ---- lines
 
@@ -90,13 +64,13 @@ lines_told values tally classes count is = four_lines classes tally.wins tally.l
 -- ---- the table
 
 -- the table that was built of the set with this text is the text's
-pub table_for : (text : List ℕ) (set : PieceSet) (nodes size capacity : ℕ) (built : Built) → text ≡ set_text set → IsBuilt set nodes size built
-    → IsSmall set × AreWithin nodes size capacity → IsTableFor text nodes built.table
-table_for text set nodes size capacity built named is limits = record {
-  named = named ∙ ap set_text (sym is.set_is);
-  small = subst IsSmall (sym is.set_is) limits.0;
-  few = limits.1.0;
-  right = subst (λ s. IsValueTable s built.table.values) (sym is.set_is) is.values;
+pub table_for : (profile : Profile) (text : List ℕ) (set : PieceSet) (nodes size capacity : ℕ) (built : Built) → text ≡ set_text set
+    → IsBuilt (family_of set profile) nodes size built → AreWithin nodes size capacity → IsTableFor profile text nodes built.table
+table_for profile text set nodes size capacity built named is limits = record {
+  named = named ∙ ap (λ (family : Family). set_text family.set) (sym is.family_is);
+  rules = ap (λ (family : Family). family.profile) is.family_is;
+  few = limits.0;
+  right = subst (λ s. IsValueTable s built.table.values) (sym is.family_is) is.values;
 }
 
 -- ---- the file
@@ -118,23 +92,23 @@ module _ (c : ShelfChange) (name : List ℕ) (table : ClassTable) where
       → IsKeepingFault c name table (File fault)
   stopped_keeping sink file_fault.Memory empty stops = empty
   stopped_keeping sink (file_fault.Io count) empty stops = (stops.within, empty)
-  stopped_keeping sink file_fault.SetTooLarge empty stops = absurd stops
   stopped_keeping sink file_fault.Truncated empty stops = absurd stops
   stopped_keeping sink file_fault.Magic empty stops = absurd stops
   stopped_keeping sink file_fault.SetByte empty stops = absurd stops
   stopped_keeping sink file_fault.ClassCount empty stops = absurd stops
   stopped_keeping sink file_fault.Trailing empty stops = absurd stops
   stopped_keeping sink file_fault.Digest empty stops = absurd stops
+  stopped_keeping sink file_fault.ProfileByte empty stops = absurd stops
 
   -- a fault of keeping the text's table is one of building it
-  pub keeping_holds : (text : List ℕ) (nodes : ℕ) (fault : Fault) → IsTableFor text nodes table → IsKeepingFault c name table fault
-      → IsBuildFault c text nodes name fault
-  keeping_holds text nodes (File f) built holds = (table, built, holds)
-  keeping_holds text nodes Io built holds = (table, built, holds)
-  keeping_holds text nodes Memory built holds = holds
-  keeping_holds text nodes (Text f) built holds = absurd holds
-  keeping_holds text nodes SetText built holds = absurd holds
-  keeping_holds text nodes SetTooLarge built holds = absurd holds
-  keeping_holds text nodes TooDeep built holds = absurd holds
-  keeping_holds text nodes (Run f) built holds = absurd holds
-  keeping_holds text nodes (Table f) built holds = absurd holds
+  pub keeping_holds : (profile : Profile) (text : List ℕ) (nodes : ℕ) (fault : Fault) → IsTableFor profile text nodes table
+      → IsKeepingFault c name table fault → IsBuildFault c profile text nodes name fault
+  keeping_holds profile text nodes (File f) built holds = (table, built, holds)
+  keeping_holds profile text nodes Io built holds = (table, built, holds)
+  keeping_holds profile text nodes Memory built holds = holds
+  keeping_holds profile text nodes (Text f) built holds = absurd holds
+  keeping_holds profile text nodes SetText built holds = absurd holds
+  keeping_holds profile text nodes TooDeep built holds = absurd holds
+  keeping_holds profile text nodes PuzzlePlies built holds = absurd holds
+  keeping_holds profile text nodes (Run f) built holds = absurd holds
+  keeping_holds profile text nodes (Table f) built holds = absurd holds

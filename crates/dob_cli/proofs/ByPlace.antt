@@ -1,22 +1,25 @@
 -- By the file of a value table the value that is looked up is the position's by definition, and the faults of looking are what is owed.
-use Rattle.std.proofs.Common.{◌≡◌, ◌⊎◌, ◌<◌, ◌≤◌, ◌||◌, ℕ, List, false, inl, inr, subst, sym}
-use Rattle.dob_pieces.specs.declared.piece_set.PieceSet.{PieceSet}
+use Rattle.std.proofs.Common.{◌≡◌, ◌⊎◌, ◌<◌, ◌≤◌, ◌||◌, ℕ, List, false, inl, inr, subst, sym, ap, ◌∙◌}
 use Rattle.dob_pieces.specs.declared.setup.Setup.{Setup}
-use Rattle.dob_rank.specs.Marks.{classes_of, marked}
-use Rattle.dob_rank.specs.Numbers.{size_of}
-use Rattle.dob_rank.proofs.Words.{marks_below-le}
-use Rattle.dob_rank.specs.Order.{IsInClass}
+use Rattle.dob_pieces.specs.declared.profile.Family.{Family}
+use Rattle.dob_pieces.specs.declared.profile.Profile.{Profile}
+use Rattle.dob_pieces.specs.Profiles.{IsAllowed}
+use Rattle.dob_rank.specs.Families.{IsInClass, classes_of}
+use Rattle.dob_value.specs.Values.{HasValue}
 use Rattle.dob_value.specs.declared.value.Value.{Value}
 use Rattle.dob_value.specs.Follows.{ClassTable, HasInTable}
 use Rattle.dob_dbfile.specs.Devices.{Stream, whole}
-use Rattle.dob_dbfile.specs.Format.{bytes_of}
+use Rattle.dob_dbfile.specs.declared.header.Format.{Format}
+use Rattle.dob_dbfile.specs.Faults.{CountsClasses}
 use Rattle.dob_dbfile.specs.Looking.{HasFrontFault}
 use Rattle.dob_dbfile.specs.declared.fault.Fault as file
 use Rattle.dob_dbfile.specs.declared.fault.Fault.TheVariants as file_fault
-use Rattle.dob_dbfile.proofs.Looked.{table_record, table_set}
+use Rattle.dob_dbfile.proofs.Looked.{table_family, table_record}
+use Rattle.dob_probe.specs.Faults.{IsRefusal}
+use Rattle.dob_probe.specs.declared.fault.Fault as probing
 use Rattle.dob_probe.specs.declared.fault.Fault.TheVariants as table_fault
 use Rattle.dob_cli.specs.declared.fault.Fault.{Fault}
-use Rattle.dob_cli.specs.declared.fault.Fault.TheVariants.{Text, SetText, SetTooLarge, TooDeep, Run, File, Table, Memory, Io}
+use Rattle.dob_cli.specs.declared.fault.Fault.TheVariants.{Text, SetText, TooDeep, Run, File, Table, PuzzlePlies, Memory, Io}
 use Rattle.dob_cli.specs.Faults.{fault_of_shelf, is_io}
 use Rattle.dob_cli.specs.declared.shelf.ShelfFault.{ShelfFault}
 use Rattle.dob_cli.specs.declared.shelf.ShelfFault.TheVariants as shelf_fault
@@ -28,34 +31,39 @@ use Rattle.dob_cli.specs.Looks.{AnswersLook, AnswersLookRight, HasLookFault, IsF
 use Rattle.dob_cli.proofs.TableFaults.{answers_weaker, is_shut}
 
 -- by the file of a value table the line tells the value that the position has by definition
-line_right : (Has : List ℕ → Type 0) (words lines : List ℕ) → HasValueFile Has → IsLookLine Has words lines → IsValueLineOf words lines
-line_right Has words lines file told =
-    let table : ClassTable = file.0 in
+line_right : (Has : List ℕ → Type 0) (profile : Profile) (words lines : List ℕ) → HasValueFile Has profile → IsLookLine Has words lines
+    → IsValueLineOf profile words lines
+line_right Has profile words lines file told =
+    let table : ClassTable = file.table in
     let position : Setup = told.position in
-    let looked : IsLookedUp (whole (bytes_of table)) position told.value = told.found (bytes_of table) file.2 in
-    let class : ℕ = looked.1 in
-    let same : looked.0 ≡ table.set = table_set table looked.0 looked.2.named in
-    let number : IsInClass table.set position class = subst (λ (set : PieceSet). IsInClass set position class) same looked.2.number in
-    let below : class < classes_of table.set = subst (λ (set : PieceSet). class < classes_of set) same looked.2.below in
-    let has : HasInTable table.set table.values position told.value =
-    record { class = class; number = number; entry = table_record table class told.value file.1.table below looked.3 } in (
+    let looked : IsLookedUp (whole file.bytes) position told.value = told.found file.bytes file.has in
+    let class : ℕ = looked.2 in
+    let one : looked.1 ≡ table.family = table_family table file.bytes looked.0 looked.1 file.right.table file.file looked.3.named in
+    let number : IsInClass table.family position class = subst (λ (family : Family). IsInClass family position class) one looked.3.number in
+    let below : class < classes_of table.family = subst (λ (family : Family). class < classes_of family) one looked.3.below in
+    let has : HasInTable table.family table.values position told.value = record {
+      class = class;
+      number = number;
+      entry = table_record table file.bytes looked.0 looked.1 class told.value file.right.table file.file looked.3.named below looked.4;
+    } in (
       told.value,
       record {
         position = position;
         legal = told.named.0;
+        allowed = subst (λ (p : Profile). IsAllowed p position) file.rules number.position.allowed;
         spelled = told.named.1;
-        right = file.1.values_are position told.value number.position has;
+        right = subst (λ (p : Profile). HasValue p position told.value) file.rules (file.right.values_are position told.value number.position has);
       },
       told.same,
     )
 
-pub look_right : (c : ShelfChange) (file words : List ℕ) (e : Ending) → HasValueFile (c.before.has file) → AnswersLook c file words e
-    → AnswersLookRight c file words e
-look_right c file words e right =
+pub look_right : (c : ShelfChange) (profile : Profile) (file words : List ℕ) (e : Ending) → HasValueFile (c.before.has file) profile
+    → AnswersLook c file words e → AnswersLookRight c profile file words e
+look_right c profile file words e right =
     answers_weaker (λ lines. IsLookLine (c.before.has file) words lines × FailsWhere c false)
-    (λ lines. IsValueLineOf words lines × FailsWhere c false)
+    (λ lines. IsValueLineOf profile words lines × FailsWhere c false)
     (λ fault. IsLookFault (c.before.has file) words fault × FailsWhere c (is_io fault)) e
-    (λ lines told. (line_right (c.before.has file) words lines right told.0, told.1))
+    (λ lines told. (line_right (c.before.has file) profile words lines right told.0, told.1))
 
 -- a fault of opening the file is one of looking for the position of a text
 pub shut_holds : (Has : List ℕ → Type 0) (words : List ℕ) (position : Setup) (lower : ShelfFault) → IsTextOf words position
@@ -68,14 +76,16 @@ pub fault_holds : (Has : List ℕ → Type 0) (Gives : Stream → Type 0) (words
     → ((bytes : List ℕ) → Has bytes → Gives (whole bytes)) → IsFaultOfLook Gives position fault → IsLookFault Has words fault
 fault_holds Has Gives words position (File fault) named gives holds =
     (position, named, λ stream file. holds stream (subst Gives (sym file.2) (gives file.0 file.1)))
+fault_holds Has Gives words position (Table table_fault.FarChick) named gives holds =
+    (position, named, λ stream file. holds stream (subst Gives (sym file.2) (gives file.0 file.1)))
 fault_holds Has Gives words position (Table table_fault.OtherSet) named gives holds =
     (position, named, λ stream file. holds stream (subst Gives (sym file.2) (gives file.0 file.1)))
 fault_holds Has Gives words position (Table (table_fault.Inconsistent class)) named gives holds = absurd holds
 fault_holds Has Gives words position (Table table_fault.Memory) named gives holds = absurd holds
 fault_holds Has Gives words position (Text fault) named gives holds = absurd holds
 fault_holds Has Gives words position SetText named gives holds = absurd holds
-fault_holds Has Gives words position SetTooLarge named gives holds = absurd holds
 fault_holds Has Gives words position TooDeep named gives holds = absurd holds
+fault_holds Has Gives words position PuzzlePlies named gives holds = absurd holds
 fault_holds Has Gives words position (Run fault) named gives holds = absurd holds
 fault_holds Has Gives words position Memory named gives holds = absurd holds
 fault_holds Has Gives words position Io named gives holds = absurd holds
@@ -86,7 +96,11 @@ pub front_holds : (stream : Stream) (position : Setup) (fault : file.Fault) → 
 front_holds stream position fault (inl none) = inl none
 front_holds stream position fault (inr wrong) = inr (inl wrong)
 
--- no more classes than positions
-pub few_classes : (set : PieceSet) → classes_of set ≤ size_of set
-unfolding classes_of
-few_classes set = marks_below-le (marked set) (size_of set)
+-- a family that refuses the position is the one that the header names
+pub refusal_looks : (Gives : Stream → Type 0) (position : Setup) (format : Format) (family : Family) (fault : probing.Fault)
+    → IsRefusal family position fault → ((stream : Stream) → Gives stream → CountsClasses format family stream.bytes)
+    → IsFaultOfLook Gives position (Table fault)
+refusal_looks Gives position format family table_fault.FarChick refused names = λ stream known. (format, family, names stream known, refused)
+refusal_looks Gives position format family table_fault.OtherSet refused names = λ stream known. (format, family, names stream known, refused)
+refusal_looks Gives position format family (table_fault.Inconsistent class) refused names = absurd refused
+refusal_looks Gives position format family table_fault.Memory refused names = absurd refused

@@ -22,60 +22,60 @@ use Rattle.dob_cli.specs.Forms.{Form, is_among, labels}
 use Rattle.dob_cli.specs.Words.{Given, Meaning, Stand, Text, after_dashes, after_part, after_word, asked, asks, at_end, behind, between, call, dashes, ended}
 use Rattle.dob_cli.specs.Words.{fits, help, is_dashes, is_help_flag, is_text, flag, kept, label_of, meaning_of_form, name_in, named_part, once, option, placed, text}
 use Rattle.dob_cli.specs.Words.{text_of, texts_of, unknown, usage, valued, version, wanted, wants}
-use Rattle.dob_cli.specs.Shapes.{bare_app, form_app}
+use Rattle.dob_cli.specs.Shapes.{AreProfiles, ProfileNames, bare_app, form_app}
 use Rattle.dob_cli.proofs.Lexing.{View, empty as no_byte, letter as a_letter, hyphen as one_hyphen, dashes as two_hyphens, long as a_long, short as a_short}
 use Rattle.dob_cli.proofs.Lexing.{flip_bytes, long_name, long_short, no_first, flag_letter, view}
 use Rattle.dob_cli.proofs.Turns.{KnowsHelp, help_flag, held, is_usage, or_else_usage}
 use Rattle.dob_cli.proofs.Steps.{closed_at, failing_turn, help_turn, open_at, other_turn, text_taken, text_turn, text_turn_at, text_walked, waiting_at}
-use Rattle.dob_cli.proofs.Texts.{Each, Looked, defaults_none, flag_arg, flag_passes, flag_twice, flagged_fresh, looked, no_faults, kept_both, rows_of, some_missing}
+use Rattle.dob_cli.proofs.Texts.{Each, Looked, defaults_none, flag_arg, flag_passes, flag_twice, flagged_fresh, looked, no_faults, kept_both, misfit_usage, rows_of, some_missing}
 use Rattle.dob_cli.proofs.Texts.{text_arg, use_misfit, use_passes, use_twice, used_fresh}
 
 -- ---- the subcommand's arguments, built
 
-abbrev pub option_arg : Form → Text × Text → Rule
-option_arg f o = text_arg f (Some o.0) None o.1
+abbrev pub option_arg : ProfileNames → Form → Text × Text → Rule
+option_arg profiles f o = text_arg profiles f (Some o.0) None o.1
 
-abbrev pub placed_args : Form → ℕ → List Text → List Rule
-placed_args f i [] = []
-placed_args f i (label ∷ more) = text_arg f None (Some i) label ∷ placed_args f (min (i + 1) usize_max) more
+abbrev pub placed_args : ProfileNames → Form → ℕ → List Text → List Rule
+placed_args profiles f i [] = []
+placed_args profiles f i (label ∷ more) = text_arg profiles f None (Some i) label ∷ placed_args profiles f (min (i + 1) usize_max) more
 
-abbrev pub args_of : Form → List Rule
-args_of f = map (option_arg f) f.options ++ (map flag_arg f.flags ++ (placed_args f 1 f.positions ++ help_flag ∷ []))
+abbrev pub args_of : ProfileNames → Form → List Rule
+args_of profiles f = map (option_arg profiles f) f.options ++ (map flag_arg f.flags ++ (placed_args profiles f 1 f.positions ++ help_flag ∷ []))
 
 -- the subcommand, built
-abbrev pub shape_of : Form → Shape
-shape_of f = record (built_leaf (inherited (with_leaf_noted (marked_built bare_app.top)) (form_app f).top)) { rules = args_of f }
+abbrev pub shape_of : ProfileNames → Form → Shape
+shape_of profiles f = record (built_leaf (inherited (with_leaf_noted (marked_built bare_app.top)) (form_app profiles f).top)) { rules = args_of profiles f }
 
 -- the places from this one on
-abbrev pub ArePlaced : Form → List Rule → ℕ → List Text → Type 0
-ArePlaced f rules p [] = arg_by_index rules p ≡ None
-ArePlaced f rules p (label ∷ left) =
-    (arg_by_index rules p ≡ Some (text_arg f None (Some p) label)) × (arg_by_id rules label ≡ Some (text_arg f None (Some p) label))
-    × ArePlaced f rules (next_position (text_arg f None (Some p) label) p) left
+abbrev pub ArePlaced : ProfileNames → Form → List Rule → ℕ → List Text → Type 0
+ArePlaced profiles f rules p [] = arg_by_index rules p ≡ None
+ArePlaced profiles f rules p (label ∷ left) =
+    (arg_by_index rules p ≡ Some (text_arg profiles f None (Some p) label)) × (arg_by_id rules label ≡ Some (text_arg profiles f None (Some p) label))
+    × ArePlaced profiles f rules (next_position (text_arg profiles f None (Some p) label) p) left
 
 -- what has to hold of a form: its labels and the names of its options and flags differ, and no flag has to be a number
-pub record IsTaken (f : Form) : Type 0 where
-  pub options : Each (λ o. arg_by_id (args_of f) o.1 ≡ Some (option_arg f o)) f.options
-  pub positions : ArePlaced f (args_of f) 1 f.positions
-  pub flags : Each (λ n. fits f.numbers n [] ≡ true) f.flags
+pub record IsTaken (profiles : ProfileNames) (f : Form) : Type 0 where
+  pub options : Each (λ o. arg_by_id (args_of profiles f) o.1 ≡ Some (option_arg profiles f o)) f.options
+  pub positions : ArePlaced profiles f (args_of profiles f) 1 f.positions
+  pub flags : Each (λ n. fits f n [] ≡ true) f.flags
   pub no_help : (label_of f.options (codes "help") ≡ None) × (is_among f.flags (codes "help") ≡ false)
   pub no_empty : (label_of f.options [] ≡ None) × (is_among f.flags [] ≡ false)
-  pub defaults : Each (λ a. a.defaults ≡ []) (args_of f)
-  pub required : (rows : List Row) → list_any (λ a. a.required && not (is_given a.id rows)) (args_of f) ≡ some_missing f rows (labels f)
+  pub defaults : Each (λ a. a.defaults ≡ []) (args_of profiles f)
+  pub required : (rows : List Row) → list_any (λ a. a.required && not (is_given a.id rows)) (args_of profiles f) ≡ some_missing f rows (labels f)
 
 -- ---- the arguments by their names
 
-long_options : (f : Form) (os : List (Text × Text)) (more : List Rule) (name : Text)
-    → arg_by_long (map (option_arg f) os ++ more) name
-    ≡ option_map_or (λ o. Some (option_arg f o)) (find (λ o. bytes_eq o.0 name) os) (arg_by_long more name)
-long_options f [] more name = refl
-long_options f (o ∷ os) more name = go (bytes_eq o.0 name) (long_options f os more name)
+long_options : (profiles : ProfileNames) (f : Form) (os : List (Text × Text)) (more : List Rule) (name : Text)
+    → arg_by_long (map (option_arg profiles f) os ++ more) name
+    ≡ option_map_or (λ o. Some (option_arg profiles f o)) (find (λ o. bytes_eq o.0 name) os) (arg_by_long more name)
+long_options profiles f [] more name = refl
+long_options profiles f (o ∷ os) more name = go (bytes_eq o.0 name) (long_options profiles f os more name)
   where
     go : (b : Bool)
-        → arg_by_long (map (option_arg f) os ++ more) name
-        ≡ option_map_or (λ x. Some (option_arg f x)) (find (λ x. bytes_eq x.0 name) os) (arg_by_long more name)
-        → cond (b || false) (Some (option_arg f o)) (arg_by_long (map (option_arg f) os ++ more) name)
-        ≡ option_map_or (λ x. Some (option_arg f x)) (cond b (Some o) (find (λ x. bytes_eq x.0 name) os)) (arg_by_long more name)
+        → arg_by_long (map (option_arg profiles f) os ++ more) name
+        ≡ option_map_or (λ x. Some (option_arg profiles f x)) (find (λ x. bytes_eq x.0 name) os) (arg_by_long more name)
+        → cond (b || false) (Some (option_arg profiles f o)) (arg_by_long (map (option_arg profiles f) os ++ more) name)
+        ≡ option_map_or (λ x. Some (option_arg profiles f x)) (cond b (Some o) (find (λ x. bytes_eq x.0 name) os)) (arg_by_long more name)
     go true rec = refl
     go false rec = rec
 
@@ -91,24 +91,24 @@ long_flags (n ∷ names) more name = go (bytes_eq n name) refl (long_flags names
     go true e rec = ap (λ x. Some (flag_arg x)) ((bytes_eq-Decides n name).0 e)
     go false e rec = rec
 
-long_placed : (f : Form) (i : ℕ) (labels : List Text) (more : List Rule) (name : Text)
-    → arg_by_long (placed_args f i labels ++ more) name ≡ arg_by_long more name
-long_placed f i [] more name = refl
-long_placed f i (label ∷ labels) more name = long_placed f (min (i + 1) usize_max) labels more name
+long_placed : (profiles : ProfileNames) (f : Form) (i : ℕ) (labels : List Text) (more : List Rule) (name : Text)
+    → arg_by_long (placed_args profiles f i labels ++ more) name ≡ arg_by_long more name
+long_placed profiles f i [] more name = refl
+long_placed profiles f i (label ∷ labels) more name = long_placed profiles f (min (i + 1) usize_max) labels more name
 
-short_options : (f : Form) (os : List (Text × Text)) (more : List Rule) (x : ℕ) → arg_by_short (map (option_arg f) os ++ more) x
+short_options : (profiles : ProfileNames) (f : Form) (os : List (Text × Text)) (more : List Rule) (x : ℕ) → arg_by_short (map (option_arg profiles f) os ++ more) x
     ≡ arg_by_short more x
-short_options f [] more x = refl
-short_options f (o ∷ os) more x = short_options f os more x
+short_options profiles f [] more x = refl
+short_options profiles f (o ∷ os) more x = short_options profiles f os more x
 
 short_flags : (names : List Text) (more : List Rule) (x : ℕ) → arg_by_short (map flag_arg names ++ more) x ≡ arg_by_short more x
 short_flags [] more x = refl
 short_flags (n ∷ names) more x = short_flags names more x
 
-short_placed : (f : Form) (i : ℕ) (labels : List Text) (more : List Rule) (x : ℕ)
-    → arg_by_short (placed_args f i labels ++ more) x ≡ arg_by_short more x
-short_placed f i [] more x = refl
-short_placed f i (label ∷ labels) more x = short_placed f (min (i + 1) usize_max) labels more x
+short_placed : (profiles : ProfileNames) (f : Form) (i : ℕ) (labels : List Text) (more : List Rule) (x : ℕ)
+    → arg_by_short (placed_args profiles f i labels ++ more) x ≡ arg_by_short more x
+short_placed profiles f i [] more x = refl
+short_placed profiles f i (label ∷ labels) more x = short_placed profiles f (min (i + 1) usize_max) labels more x
 
 -- what holds of each flag holds of the one of a name
 pub each_flag : (P : Text → Type 0) (names : List Text) (name : Text) → Each P names → is_among names name ≡ true → P name
@@ -131,15 +131,15 @@ each_found P p (x ∷ xs) o each e = go (p x) e (each_found P p xs o each.1)
     go true e rec = subst (ForFound P) e each.0
     go false e rec = rec e
 
-module _ (f : Form) (is : IsTaken f) where
+module _ (profiles : ProfileNames) (are : AreProfiles profiles) (f : Form) (is : IsTaken profiles f) where
   abbrev rules : List Rule
-  rules = args_of f
+  rules = args_of profiles f
 
   abbrev s : Shape
-  s = shape_of f
+  s = shape_of profiles f
 
   abbrev places : List Rule
-  places = placed_args f 1 f.positions ++ help_flag ∷ []
+  places = placed_args profiles f 1 f.positions ++ help_flag ∷ []
 
   abbrev found : Text → Option (Text × Text)
   found name = find (λ o. bytes_eq o.0 name) f.options
@@ -152,20 +152,20 @@ module _ (f : Form) (is : IsTaken f) where
   flag_or_help name = cond (is_among f.flags name) (Some (flag_arg name)) (help_or_none name)
 
   help_by_long : (name : Text) → arg_by_long places name ≡ help_or_none name
-  help_by_long name = long_placed f 1 f.positions (help_flag ∷ []) name
+  help_by_long name = long_placed profiles f 1 f.positions (help_flag ∷ []) name
       ∙ ap (λ b. cond b (Some help_flag) None) (or-false (bytes_eq (codes "help") name))
 
   flag_by_long : (name : Text) → arg_by_long (map flag_arg f.flags ++ places) name ≡ flag_or_help name
   flag_by_long name = long_flags f.flags places name ∙ ap (cond (is_among f.flags name) (Some (flag_arg name))) (help_by_long name)
 
-  by_long : (name : Text) → arg_by_long rules name ≡ option_map_or (λ o. Some (option_arg f o)) (found name) (flag_or_help name)
+  by_long : (name : Text) → arg_by_long rules name ≡ option_map_or (λ o. Some (option_arg profiles f o)) (found name) (flag_or_help name)
   by_long name =
-      long_options f f.options (map flag_arg f.flags ++ places) name
-      ∙ ap (option_map_or (λ o. Some (option_arg f o)) (found name)) (flag_by_long name)
+      long_options profiles f f.options (map flag_arg f.flags ++ places) name
+      ∙ ap (option_map_or (λ o. Some (option_arg profiles f o)) (found name)) (flag_by_long name)
 
   by_short : (x : ℕ) → arg_by_short rules x ≡ cond (104 == x) (Some help_flag) None
-  by_short x = short_options f f.options (map flag_arg f.flags ++ places) x ∙ (short_flags f.flags places x
-      ∙ (short_placed f 1 f.positions (help_flag ∷ []) x ∙ ap (λ b. cond b (Some help_flag) None) (or-false (104 == x))))
+  by_short x = short_options profiles f f.options (map flag_arg f.flags ++ places) x ∙ (short_flags f.flags places x
+      ∙ (short_placed profiles f 1 f.positions (help_flag ∷ []) x ∙ ap (λ b. cond b (Some help_flag) None) (or-false (104 == x))))
 
   -- the name is that of one of its options or flags
   abbrev is_named : Text → Bool
@@ -175,7 +175,7 @@ module _ (f : Form) (is : IsTaken f) where
   other_by_long name e = by_long name ∙ go (found name) (is_among f.flags name) e
     where
       go : (o : Option (Text × Text)) (b : Bool) → (is_some (option_map (λ x. x.1) o) || b) ≡ false
-          → option_map_or (λ x. Some (option_arg f x)) o (cond b (Some (flag_arg name)) (help_or_none name)) ≡ help_or_none name
+          → option_map_or (λ x. Some (option_arg profiles f x)) o (cond b (Some (flag_arg name)) (help_or_none name)) ≡ help_or_none name
       go None false e = refl
       go None true e = absurd (true≢false e)
       go (Some o) b e = absurd (true≢false e)
@@ -194,32 +194,33 @@ module _ (f : Form) (is : IsTaken f) where
   good_rows : (given : Given) → Good (rows_of given) None given
   good_rows given = record { settles = refl; rows_are = refl }
 
-  module _ (long : Option Text) (index : Option ℕ) (label : Text) (known : arg_by_id rules label ≡ Some (text_arg f long index label)) where
-    good_pending : (given : Given) (t : Text) → text_of label given ≡ None → fits f.numbers label t ≡ true
+  module _ (long : Option Text) (index : Option ℕ) (label : Text) (known : arg_by_id rules label ≡ Some (text_arg profiles f long index label)) where
+    good_pending : (given : Given) (t : Text) → text_of label given ≡ None → fits f label t ≡ true
         → Good (rows_of given) (Some (label, t ∷ [])) (given ++ (label, t) ∷ [])
     good_pending given t fresh fit = record {
-      settles = rw known (use_passes f long index label t given fresh fit);
-      rows_are = rw known (used_fresh f long index label t given fresh);
+      settles = rw known (use_passes profiles are f long index label t given fresh fit);
+      rows_are = rw known (used_fresh profiles f long index label t given fresh);
     }
 
     -- the text is kept
-    good_kept : (given : Given) (t : Text) → (is_some (text_of label given) || not (fits f.numbers label t)) ≡ false
+    good_kept : (given : Given) (t : Text) → (is_some (text_of label given) || not (fits f label t)) ≡ false
         → Good (rows_of given) (Some (label, t ∷ [])) (given ++ (label, t) ∷ [])
-    good_kept given t e = let both = kept_both (text_of label given) (fits f.numbers label t) e in good_pending given t both.0 both.1
+    good_kept given t e = let both = kept_both (text_of label given) (fits f label t) e in good_pending given t both.0 both.1
 
     -- a text that isn't what it has to be
-    misfit_fails : (given : Given) (t : Text) → text_of label given ≡ None → fits f.numbers label t ≡ false
+    misfit_fails : (given : Given) (t : Text) → text_of label given ≡ None → fits f label t ≡ false
         → is_usage (settle_fault rules false (held (rows_of given) (Some (label, t ∷ [])))) ≡ true
-    misfit_fails given t fresh misfit = rw (known, use_misfit f long index label t given fresh misfit) refl
+    misfit_fails given t fresh misfit =
+        rw (known, use_misfit profiles are f long index label t given fresh misfit) (misfit_usage (is_among f.numbers label))
 
     -- that, or a second text of one label
-    unfit_fails : (given : Given) (t : Text) → (is_some (text_of label given) || not (fits f.numbers label t)) ≡ true
+    unfit_fails : (given : Given) (t : Text) → (is_some (text_of label given) || not (fits f label t)) ≡ true
         → is_usage (settle_fault rules false (held (rows_of given) (Some (label, t ∷ [])))) ≡ true
-    unfit_fails given t e = go (text_of label given) (fits f.numbers label t) refl refl e
+    unfit_fails given t e = go (text_of label given) (fits f label t) refl refl e
       where
-        go : (o : Option Text) (b : Bool) → text_of label given ≡ o → fits f.numbers label t ≡ b → (is_some o || not b) ≡ true
+        go : (o : Option Text) (b : Bool) → text_of label given ≡ o → fits f label t ≡ b → (is_some o || not b) ≡ true
             → is_usage (settle_fault rules false (held (rows_of given) (Some (label, t ∷ [])))) ≡ true
-        go (Some u) b there fit e = rw (known, use_twice f long index label t u given there) refl
+        go (Some u) b there fit e = rw (known, use_twice profiles are f long index label t u given there) refl
         go None false fresh fit e = misfit_fails given t fresh fit
         go None true fresh fit e = absurd (true≢false (sym e))
 
@@ -307,16 +308,16 @@ module _ (f : Form) (is : IsTaken f) where
   and_false false = refl
 
   module _ (rows : List Row) (pending : Option (Text × List Text)) (fails : is_usage (settle_fault rules false (held rows pending)) ≡ true)
-      (p : ℕ) (left : List Text) (at : ArePlaced f rules p left) where
+      (p : ℕ) (left : List Text) (at : ArePlaced profiles f rules p left) where
     abbrev stray : Kinds
     stray = step_fault s p (held rows pending) a_value
 
     stray_fails : is_usage stray ≡ true
     stray_fails = go left at
       where
-        go : (ls : List Text) → ArePlaced f rules p ls → is_usage stray ≡ true
+        go : (ls : List Text) → ArePlaced profiles f rules p ls → is_usage stray ≡ true
         go [] e = rw e refl
-        go (l ∷ ls) e = rw (e.0, and_false (is_pending (text_arg f None (Some p) l) pending)) fails
+        go (l ∷ ls) e = rw (e.0, and_false (is_pending (text_arg profiles f None (Some p) l) pending)) fails
 
     closed_fails : (waiting : Waiting) (words : List Text) → is_usage (kinds_at (behind_at waiting rows pending p) words) ≡ true
     closed_fails waiting [] = ends_failing (behind_at waiting rows pending p) fails
@@ -396,14 +397,14 @@ module _ (f : Form) (is : IsTaken f) where
   -- where `clap`'s walk stands, by what the words so far come to
   data Rel : Stand → Walk → Type 0 where
     rel_between : (rows : List Row) (pending : Option (Text × List Text)) (p : ℕ) (given : Given) (left : List Text) → Good rows pending given
-        → ArePlaced f rules p left
+        → ArePlaced profiles f rules p left
         → Rel (between given left) (open_at rows pending p)
     rel_wants : (long : Option Text) (index : Option ℕ) (label : Text) (p : ℕ) (given : Given) (left : List Text)
-        → arg_by_id rules label ≡ Some (text_arg f long index label)
-        → text_of label given ≡ None → ArePlaced f rules p left
+        → arg_by_id rules label ≡ Some (text_arg profiles f long index label)
+        → text_of label given ≡ None → ArePlaced profiles f rules p left
         → Rel (wants label given left) (waiting_at (waits_for label) (rows_of given) (Some (label, [])) p)
     rel_behind : (rows : List Row) (pending : Option (Text × List Text)) (p : ℕ) (given : Given) (left : List Text) → Good rows pending given
-        → ArePlaced f rules p left
+        → ArePlaced profiles f rules p left
         → Rel (behind given left) (closed_at rows pending p)
 
   -- the rest goes on so
@@ -417,8 +418,8 @@ module _ (f : Form) (is : IsTaken f) where
 
     -- a text that an option wants
     wanted_step : (name : Option Text) (index : Option ℕ) (label : Text) (p : ℕ) (given : Given) (left : List Text)
-        → arg_by_id rules label ≡ Some (text_arg f name index label)
-        → text_of label given ≡ None → ArePlaced f rules p left
+        → arg_by_id rules label ≡ Some (text_arg profiles f name index label)
+        → text_of label given ≡ None → ArePlaced profiles f rules p left
         → Stepped (next_stand (wants label given left) word) (waiting_at (waits_for label) (rows_of given) (Some (label, [])) p)
     wanted_step name index label p given left known fresh at = go (is_text word) refl
       where
@@ -434,7 +435,7 @@ module _ (f : Form) (is : IsTaken f) where
             (text_taken s [] (rows_of given) (Some (label, [])) p (waits_for label) word refl e ∙ rw (known, same) refl)
             r
 
-        by_fit : (b : Bool) → fits f.numbers label word ≡ b → is_text word ≡ true
+        by_fit : (b : Bool) → fits f label word ≡ b → is_text word ≡ true
             → Reached (at_end f (fold next_stand (cond b (between (given ++ (label, word) ∷ []) left) (ended usage)) rest)) w (word ∷ rest)
         by_fit true fit e = taken _ e
             (goes _ _
@@ -445,40 +446,40 @@ module _ (f : Form) (is : IsTaken f) where
 
         go : (b : Bool) → is_text word ≡ b
             → Reached (at_end f (fold next_stand (cond b (wanted f label given left word) (ended usage)) rest)) w (word ∷ rest)
-        go true e = by_fit (fits f.numbers label word) refl e
+        go true e = by_fit (fits f label word) refl e
         go false e = ends_so usage w (word ∷ rest) rest
             (no_text (rows_of given) (Some (label, [])) (wanted_fails name index label known (rows_of given)) p left at (waits_for label) word rest e)
 
     -- a text for the next place, or one too many; `stand` and `at` tell whether it comes behind `--`
     place_step : (stand : Given → List Text → Stand) (at_walk : List Row → Option (Text × List Text) → ℕ → Walk)
         → ((rows : List Row) (pending : Option (Text × List Text)) (p : ℕ) (given : Given) (left : List Text) → Good rows pending given
-        → ArePlaced f rules p left
+        → ArePlaced profiles f rules p left
         → Rel (stand given left) (at_walk rows pending p))
         → ((rows : List Row) (pending : Option (Text × List Text)) (p : ℕ) (left : List Text) → is_usage (settle_fault rules false (held rows pending)) ≡ true
-        → ArePlaced f rules p left
+        → ArePlaced profiles f rules p left
         → is_usage (kinds_at (at_walk rows pending p) rest) ≡ true)
         → (rows : List Row) (pending : Option (Text × List Text)) (p : ℕ) (given : Given) (left : List Text) → Good rows pending given
-        → ArePlaced f rules p left
+        → ArePlaced profiles f rules p left
         → turn_fault s [] (at_walk rows pending p) word ≡ step_fault s p (held rows pending) a_value
-        → ((label : Text) → arg_by_index rules p ≡ Some (text_arg f None (Some p) label)
+        → ((label : Text) → arg_by_index rules p ≡ Some (text_arg profiles f None (Some p) label)
         → walked rules [] (at_walk rows pending p) word
-        ≡ at_walk (settled_rows rules pending rows) (Some (label, word ∷ [])) (next_position (text_arg f None (Some p) label) p))
+        ≡ at_walk (settled_rows rules pending rows) (Some (label, word ∷ [])) (next_position (text_arg profiles f None (Some p) label) p))
         → Stepped (placed f stand given left word) (at_walk rows pending p)
     place_step stand at_walk related failing_on rows pending p given [] good at turn walks =
         ends_so usage (at_walk rows pending p) (word ∷ rest) rest (misused (at_walk rows pending p) word rest (rw (turn, at) refl))
     place_step stand at_walk related failing_on rows pending p given (label ∷ left) good at turn walks =
-        go (is_some (text_of label given) || not (fits f.numbers label word)) refl
+        go (is_some (text_of label given) || not (fits f label word)) refl
       where
         next : ℕ
-        next = next_position (text_arg f None (Some p) label) p
+        next = next_position (text_arg profiles f None (Some p) label) p
 
         passing_on : turn_fault s [] (at_walk rows pending p) word ≡ []
-        passing_on = turn ∙ rw (at.0, and_false (is_pending (text_arg f None (Some p) label) pending), good.settles) refl
+        passing_on = turn ∙ rw (at.0, and_false (is_pending (text_arg profiles f None (Some p) label) pending), good.settles) refl
 
         there : walked rules [] (at_walk rows pending p) word ≡ at_walk (rows_of given) (Some (label, word ∷ [])) next
         there = walks label at.0 ∙ ap (λ r. at_walk r (Some (label, word ∷ [])) next) good.rows_are
 
-        go : (b : Bool) → (is_some (text_of label given) || not (fits f.numbers label word)) ≡ b
+        go : (b : Bool) → (is_some (text_of label given) || not (fits f label word)) ≡ b
             → Reached (at_end f (fold next_stand (cond b (ended usage) (stand (given ++ (label, word) ∷ []) left)) rest)) (at_walk rows pending p)
             (word ∷ rest)
         go false e = passes _ (at_walk rows pending p) (at_walk (rows_of given) (Some (label, word ∷ [])) next) word rest passing_on there
@@ -490,23 +491,23 @@ module _ (f : Form) (is : IsTaken f) where
             (failing_on (rows_of given) (Some (label, word ∷ [])) next left (unfit_fails None (Some p) label at.1 given word e) at.2))
 
     behind_step : (rows : List Row) (pending : Option (Text × List Text)) (p : ℕ) (given : Given) (left : List Text) → Good rows pending given
-        → ArePlaced f rules p left
+        → ArePlaced profiles f rules p left
         → Stepped (placed f behind given left word) (closed_at rows pending p)
     unfolding walked
     behind_step rows pending p given left good at =
         place_step behind closed_at rel_behind (λ r q i ls fails places. closed_fails r q fails i ls places idle rest) rows pending p given left good at refl
-        (λ label known. rw (known, and_false (is_pending (text_arg f None (Some p) label) pending)) refl)
+        (λ label known. rw (known, and_false (is_pending (text_arg profiles f None (Some p) label) pending)) refl)
 
     text_step : (rows : List Row) (pending : Option (Text × List Text)) (p : ℕ) (given : Given) (left : List Text) → Good rows pending given
-        → ArePlaced f rules p left → is_text word ≡ true
+        → ArePlaced profiles f rules p left → is_text word ≡ true
         → Stepped (placed f between given left word) (open_at rows pending p)
     text_step rows pending p given left good at e =
         place_step between open_at rel_between (λ r q i ls fails places. failing r q fails i ls places rest) rows pending p given left good at
         (text_turn s [] rows pending p word refl refl e)
-        (λ label known. text_walked s [] rows pending p word refl e ∙ rw (known, and_false (is_pending (text_arg f None (Some p) label) pending)) refl)
+        (λ label known. text_walked s [] rows pending p word refl e ∙ rw (known, and_false (is_pending (text_arg profiles f None (Some p) label) pending)) refl)
 
     module _ (rows : List Row) (pending : Option (Text × List Text)) (p : ℕ) (given : Given) (left : List Text) (good : Good rows pending given)
-        (at : ArePlaced f rules p left) where
+        (at : ArePlaced profiles f rules p left) where
       abbrev here : Walk
       here = open_at rows pending p
 
@@ -527,10 +528,10 @@ module _ (f : Form) (is : IsTaken f) where
           (flip_bytes (codes "--") word false no_dashes)))
 
   -- what follows a second option of one label
-  again_fails : (name : Option Text) (index : Option ℕ) (label : Text) → arg_by_id rules label ≡ Some (text_arg f name index label)
+  again_fails : (name : Option Text) (index : Option ℕ) (label : Text) → arg_by_id rules label ≡ Some (text_arg profiles f name index label)
       → (given : Given) (u : Text)
       → text_of label given ≡ Some u
-      → (p : ℕ) (left : List Text) → ArePlaced f rules p left → (words : List Text)
+      → (p : ℕ) (left : List Text) → ArePlaced profiles f rules p left → (words : List Text)
       → is_usage (kinds_at (waiting_at (waits_for label) (rows_of given) (Some (label, [])) p) words) ≡ true
   again_fails name index label known given u there p left at [] =
       ends_failing (waiting_at (waits_for label) (rows_of given) (Some (label, [])) p) (wanted_fails name index label known (rows_of given))
@@ -547,12 +548,12 @@ module _ (f : Form) (is : IsTaken f) where
           (text_turn_at s [] (rows_of given) (Some (label, [])) p (waits_for label) v refl refl e)
           (text_taken s [] (rows_of given) (Some (label, [])) p (waits_for label) v refl e ∙ rw (known, same) refl)
           (failing (rows_of given) (Some (label, v ∷ []))
-          (unfit_fails name index label known given v (ap (λ (o : Option Text). is_some o || not (fits f.numbers label v)) there)) p left at more)
+          (unfit_fails name index label known given v (ap (λ (o : Option Text). is_some o || not (fits f label v)) there)) p left at more)
       go false e = no_text (rows_of given) (Some (label, [])) (wanted_fails name index label known (rows_of given)) p left at (waits_for label) v more e
 
   module _ (rest : List Text) (goes : Goes rest) (c : ℕ) (cs : Text) (rows : List Row) (pending : Option (Text × List Text)) (p : ℕ) (given : Given)
       (left : List Text)
-      (good : Good rows pending given) (at : ArePlaced f rules p left) where
+      (good : Good rows pending given) (at : ArePlaced profiles f rules p left) where
     abbrev word : Text
     word = 45 ∷ 45 ∷ c ∷ cs
 
@@ -569,13 +570,13 @@ module _ (f : Form) (is : IsTaken f) where
     Led stand = Reached (at_end f (fold next_stand stand rest)) from (word ∷ rest)
 
     module _ (o : Text × Text) (is_found : found (name_in (c ∷ cs)) ≡ Some o) where
-      named : arg_by_long rules (name_in (c ∷ cs)) ≡ Some (option_arg f o)
+      named : arg_by_long rules (name_in (c ∷ cs)) ≡ Some (option_arg profiles f o)
       named =
           by_long (name_in (c ∷ cs))
-          ∙ ap (λ m. option_map_or (λ x. Some (option_arg f x)) m (flag_or_help (name_in (c ∷ cs)))) is_found
+          ∙ ap (λ m. option_map_or (λ x. Some (option_arg profiles f x)) m (flag_or_help (name_in (c ∷ cs)))) is_found
 
-      labelled : arg_by_id rules o.1 ≡ Some (option_arg f o)
-      labelled = each_found (λ x. arg_by_id rules x.1 ≡ Some (option_arg f x)) (λ x. bytes_eq x.0 (name_in (c ∷ cs))) f.options o is.options is_found
+      labelled : arg_by_id rules o.1 ≡ Some (option_arg profiles f o)
+      labelled = each_found (λ x. arg_by_id rules x.1 ≡ Some (option_arg profiles f x)) (λ x. bytes_eq x.0 (name_in (c ∷ cs))) f.options o is.options is_found
 
       option_fits : has_equals ≡ false → turn_fault s [] from word ≡ []
       option_fits e = rw (e, named, good.settles) refl
@@ -596,13 +597,13 @@ module _ (f : Form) (is : IsTaken f) where
 
       valued_step : has_equals ≡ true → Led (kept f o.1 after_equals given (between (given ++ (o.1, after_equals) ∷ []) left))
       unfolding walked
-      valued_step e = go (text_of o.1 given) (fits f.numbers o.1 after_equals) refl refl
+      valued_step e = go (text_of o.1 given) (fits f o.1 after_equals) refl refl
         where
-          go : (m : Option Text) (b : Bool) → text_of o.1 given ≡ m → fits f.numbers o.1 after_equals ≡ b
+          go : (m : Option Text) (b : Bool) → text_of o.1 given ≡ m → fits f o.1 after_equals ≡ b
               → Led (cond (is_some m || not b) (ended usage) (between (given ++ (o.1, after_equals) ∷ []) left))
           go None true fresh fit = passes _ from (open_at (rows_of (given ++ (o.1, after_equals) ∷ [])) None p) word rest
-              (rw (e, named, good.settles, good.rows_are, use_passes f (Some o.0) None o.1 after_equals given fresh fit) refl)
-              (rw (e, named, good.rows_are, used_fresh f (Some o.0) None o.1 after_equals given fresh) refl)
+              (rw (e, named, good.settles, good.rows_are, use_passes profiles are f (Some o.0) None o.1 after_equals given fresh fit) refl)
+              (rw (e, named, good.rows_are, used_fresh profiles f (Some o.0) None o.1 after_equals given fresh) refl)
               (goes _ _ (rel_between _ None p (given ++ (o.1, after_equals) ∷ []) left (good_rows (given ++ (o.1, after_equals) ∷ [])) at))
           go None false fresh misfit = ends_so usage from (word ∷ rest) rest
               (misused from word rest (rw (
@@ -610,10 +611,10 @@ module _ (f : Form) (is : IsTaken f) where
                 named,
                 good.settles,
                 good.rows_are,
-                use_misfit f (Some o.0) None o.1 after_equals given fresh misfit,
-              ) refl))
+                use_misfit profiles are f (Some o.0) None o.1 after_equals given fresh misfit,
+              ) (misfit_usage (is_among f.numbers o.1))))
           go (Some u) b there fit = ends_so usage from (word ∷ rest) rest
-              (misused from word rest (rw (e, named, good.settles, good.rows_are, use_twice f (Some o.0) None o.1 after_equals u given there) refl))
+              (misused from word rest (rw (e, named, good.settles, good.rows_are, use_twice profiles are f (Some o.0) None o.1 after_equals u given there) refl))
 
     abbrev own_name : Text
     own_name = name_in (c ∷ cs)
@@ -628,7 +629,7 @@ module _ (f : Form) (is : IsTaken f) where
 
       flag_step : has_equals ≡ false → Led (kept f own_name [] given (between (given ++ (own_name, []) ∷ []) left))
       unfolding walked
-      flag_step e = rw (each_flag (λ n. fits f.numbers n [] ≡ true) f.flags own_name is.flags own) (go (text_of own_name given) refl)
+      flag_step e = rw (each_flag (λ n. fits f n [] ≡ true) f.flags own_name is.flags own) (go (text_of own_name given) refl)
         where
           go : (m : Option Text) → text_of own_name given ≡ m → Led (cond (is_some m || false) (ended usage) (between (given ++ (own_name, []) ∷ []) left))
           go None fresh = passes _ from (open_at (rows_of (given ++ (own_name, []) ∷ [])) None p) word rest
@@ -656,7 +657,7 @@ module _ (f : Form) (is : IsTaken f) where
   -- a word that begins with a hyphen, is not `--` and asks for no help
   hyphen_step : (rest : List Text) → Goes rest → (word : Text) → View word
       → (rows : List Row) (pending : Option (Text × List Text)) (p : ℕ) (given : Given) (left : List Text)
-      → Good rows pending given → ArePlaced f rules p left → is_text word ≡ false → is_dashes word ≡ false → is_help_flag word ≡ false
+      → Good rows pending given → ArePlaced profiles f rules p left → is_text word ≡ false → is_dashes word ≡ false → is_help_flag word ≡ false
       → Reached (at_end f (fold next_stand (after_part f given left word (option_map_or (named_part f) (after_dashes word) unknown)) rest))
       (open_at rows pending p) (word ∷ rest)
   hyphen_step rest goes _ no_byte rows pending p given left good at t d c = absurd (true≢false t)
@@ -687,7 +688,7 @@ module _ (f : Form) (is : IsTaken f) where
       go false false false t d h = hyphen_step rest goes word (view word) rows pending p given left good at t d h
 
   ends_wanting : (label : Text) (p : ℕ) (given : Given) (name : Option Text) (index : Option ℕ) → arg_by_id rules label
-      ≡ Some (text_arg f name index label)
+      ≡ Some (text_arg profiles f name index label)
       → Reached usage (waiting_at (waits_for label) (rows_of given) (Some (label, [])) p) []
   ends_wanting label p given name index known =
       ends_failing (waiting_at (waits_for label) (rows_of given) (Some (label, [])) p) (wanted_fails name index label known (rows_of given))

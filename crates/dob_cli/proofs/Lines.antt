@@ -9,12 +9,12 @@ use Rattle.std.proofs.lemmas.Slice.Eq.{bytes_eq-Decides}
 use Rattle.std.proofs.lemmas.Bool.Decides.{Decides-eqb}
 use Rattle.clap.specs.Lexer.{has_byte}
 use Rattle.dob_cli.specs.Forms.{is_among, is_needed}
-use Rattle.dob_cli.specs.Forms.{Form, Text, build_form, check_form, count_form, forms, labels, line_form, look_form, moves_form, probe_form, show_form, stats_form, value_form}
+use Rattle.dob_cli.specs.Forms.{Form, Text, build_form, check_form, count_form, forms, labels, line_form, look_form, migrate_form, moves_form, probe_form, puzzles_form, show_form, stats_form, value_form}
 use Rattle.dob_cli.specs.Words.{Given, Meaning, Stand, after_dashes, after_part, after_word, asked, asks, at_end, behind, between, call, dashes}
 use Rattle.dob_cli.specs.Words.{ended, fits, flag, has_topic, help, kept, meaning_of_topic, named_part}
 use Rattle.dob_cli.specs.Words.{is_dashes, is_help_flag, is_text, label_of, meaning_of, meaning_of_form, meaning_of_other, name_in, option}
 use Rattle.dob_cli.specs.Words.{part_of, placed, text, text_of, texts_of, unknown, usage, valued, version, wanted, wants}
-use Rattle.dob_cli.specs.Lines.{AreNew, Behind, Gives, IsAmong, IsLine, by_dashes, by_flag, by_option, by_place, by_value, next, none, nothing}
+use Rattle.dob_cli.specs.Lines.{AreNew, Behind, Gives, IsAmong, IsCommandLine, by_dashes, by_flag, by_option, by_place, by_value, next, none, nothing}
 use Rattle.dob_cli.specs.Shapes.{AreFit, IsFit}
 use Rattle.dob_cli.specs.Readings.{ComesFromLine, IsReadingOf, SomeLine}
 use Rattle.dob_cli.specs.declared.command.Reading.{Reading}
@@ -79,7 +79,7 @@ module _ (f : Form) (name : Text) (texts : List (Option Text)) where
   abbrev Told : Stand → List Text → Type 0
   Told (between before left) words = (more : Given) × Gives f left words more × Came before more
   Told (wants label before left) words =
-      (t : Text) × (rest : List Text) × (more : Given) × (words ≡ t ∷ rest) × (is_text t ≡ true) × (fits f.numbers label t ≡ true) × Gives f left rest more
+      (t : Text) × (rest : List Text) × (more : Given) × (words ≡ t ∷ rest) × (is_text t ≡ true) × (fits f label t ≡ true) × Gives f left rest more
       × Came (before ++ (label, t) ∷ []) more
   Told (behind before left) words = (more : Given) × Behind left words more × Came before more
   Told (ended m) words = m ≡ asks name texts
@@ -107,7 +107,7 @@ module _ (f : Form) (name : Text) (texts : List (Option Text)) where
   unfolding is_asked
   not_help e = absurd (true≢false (sym (ap is_asked e)))
 
-  came_more : (label t : Text) (before more : Given) → text_of label before ≡ None → fits f.numbers label t ≡ true
+  came_more : (label t : Text) (before more : Given) → text_of label before ≡ None → fits f label t ≡ true
       → Came (before ++ (label, t) ∷ []) more → Came before ((label, t) ∷ more)
   came_more label t before more fresh fit came = ((fresh, fit, came.0), ap (asked f) (sym (append_assoc before ((label, t) ∷ []) more)) ∙ came.1)
 
@@ -118,27 +118,27 @@ module _ (f : Form) (name : Text) (texts : List (Option Text)) where
 
     placed_told : (before : Given) (left : List Text) → is_text word ≡ true → Led (placed f between before left word) → Told (between before left) (word ∷ rest)
     placed_told before [] t e = not_usage (ended_told usage rest e)
-    placed_told before (label ∷ left) t e = go (is_some (text_of label before) || not (fits f.numbers label word)) refl e
+    placed_told before (label ∷ left) t e = go (is_some (text_of label before) || not (fits f label word)) refl e
       where
-        go : (b : Bool) → (is_some (text_of label before) || not (fits f.numbers label word)) ≡ b
+        go : (b : Bool) → (is_some (text_of label before) || not (fits f label word)) ≡ b
             → Led (cond b (ended usage) (between (before ++ (label, word) ∷ []) left))
             → Told (between before (label ∷ left)) (word ∷ rest)
         go true h e = not_usage (ended_told usage rest e)
         go false h e =
-            let both = kept_both (text_of label before) (fits f.numbers label word) h in
+            let both = kept_both (text_of label before) (fits f label word) h in
             let r : Told (between (before ++ (label, word) ∷ []) left) rest = rec (between (before ++ (label, word) ∷ []) left) e in
             ((label, word) ∷ r.0, by_place label word left rest r.0 t r.1, came_more label word before r.0 both.0 both.1 r.2)
 
     behind_told : (before : Given) (left : List Text) → Led (placed f behind before left word) → Told (behind before left) (word ∷ rest)
     behind_told before [] e = not_usage (ended_told usage rest e)
-    behind_told before (label ∷ left) e = go (is_some (text_of label before) || not (fits f.numbers label word)) refl e
+    behind_told before (label ∷ left) e = go (is_some (text_of label before) || not (fits f label word)) refl e
       where
-        go : (b : Bool) → (is_some (text_of label before) || not (fits f.numbers label word)) ≡ b
+        go : (b : Bool) → (is_some (text_of label before) || not (fits f label word)) ≡ b
             → Led (cond b (ended usage) (behind (before ++ (label, word) ∷ []) left))
             → Told (behind before (label ∷ left)) (word ∷ rest)
         go true h e = not_usage (ended_told usage rest e)
         go false h e =
-            let both = kept_both (text_of label before) (fits f.numbers label word) h in
+            let both = kept_both (text_of label before) (fits f label word) h in
             let r : Told (behind (before ++ (label, word) ∷ []) left) rest = rec (behind (before ++ (label, word) ∷ []) left) e in
             ((label, word) ∷ r.0, next label word left rest r.0 r.1, came_more label word before r.0 both.0 both.1 r.2)
 
@@ -146,7 +146,7 @@ module _ (f : Form) (name : Text) (texts : List (Option Text)) where
         → Told (wants label before left) (word ∷ rest)
     wanted_told label before left e = go (is_text word) refl e
       where
-        by_fit : (b : Bool) → fits f.numbers label word ≡ b → is_text word ≡ true
+        by_fit : (b : Bool) → fits f label word ≡ b → is_text word ≡ true
             → Led (cond b (between (before ++ (label, word) ∷ []) left) (ended usage)) → Told (wants label before left) (word ∷ rest)
         by_fit false fit t e = not_usage (ended_told usage rest e)
         by_fit true fit t e =
@@ -156,7 +156,7 @@ module _ (f : Form) (name : Text) (texts : List (Option Text)) where
         go : (b : Bool) → is_text word ≡ b → Led (cond b (wanted f label before left word) (ended usage))
             → Told (wants label before left) (word ∷ rest)
         go false t e = not_usage (ended_told usage rest e)
-        go true t e = by_fit (fits f.numbers label word) refl t e
+        go true t e = by_fit (fits f label word) refl t e
 
     named_told : (before : Given) (left : List Text) (r : Text) → codes "--" ++ r ≡ word → Led (after_part f before left word (named_part f r))
         → Told (between before left) (word ∷ rest)
@@ -178,11 +178,11 @@ module _ (f : Form) (name : Text) (texts : List (Option Text)) where
             )
 
         with_value : (label : Text) → label_of f.options (name_in r) ≡ Some label → name_in r ++ 61 ∷ behind_equals ≡ r → (b : Bool)
-            → (is_some (text_of label before) || not (fits f.numbers label behind_equals)) ≡ b
+            → (is_some (text_of label before) || not (fits f label behind_equals)) ≡ b
             → Led (cond b (ended usage) (between (before ++ (label, behind_equals) ∷ []) left)) → Told (between before left) (word ∷ rest)
         with_value label known split true h e = not_usage (ended_told usage rest e)
         with_value label known split false h e =
-            let both = kept_both (text_of label before) (fits f.numbers label behind_equals) h in
+            let both = kept_both (text_of label before) (fits f label behind_equals) h in
             let q : Told (between (before ++ (label, behind_equals) ∷ []) left) rest = rec (between (before ++ (label, behind_equals) ∷ []) left) e in (
               (label, behind_equals) ∷ q.0,
               subst (λ w. Gives f left (w ∷ rest) ((label, behind_equals) ∷ q.0)) (ap (λ x. codes "--" ++ x) split ∙ is)
@@ -190,11 +190,11 @@ module _ (f : Form) (name : Text) (texts : List (Option Text)) where
               came_more label behind_equals before q.0 both.0 both.1 q.2,
             )
 
-        with_flag : is_among f.flags r ≡ true → (b : Bool) → (is_some (text_of r before) || not (fits f.numbers r [])) ≡ b
+        with_flag : is_among f.flags r ≡ true → (b : Bool) → (is_some (text_of r before) || not (fits f r [])) ≡ b
             → Led (cond b (ended usage) (between (before ++ (r, []) ∷ []) left)) → Told (between before left) (word ∷ rest)
         with_flag own true h e = not_usage (ended_told usage rest e)
         with_flag own false h e =
-            let both = kept_both (text_of r before) (fits f.numbers r []) h in
+            let both = kept_both (text_of r before) (fits f r []) h in
             let q : Told (between (before ++ (r, []) ∷ []) left) rest = rec (between (before ++ (r, []) ∷ []) left) e in (
               (r, []) ∷ q.0,
               subst (λ w. Gives f left (w ∷ rest) ((r, []) ∷ q.0)) is (by_flag r left rest q.0 own q.1),
@@ -213,12 +213,12 @@ module _ (f : Form) (name : Text) (texts : List (Option Text)) where
         go None b false known h own e = not_usage (ended_told usage rest e)
         go None true true known h own e = not_usage (ended_told usage rest e)
         go None false true known h own e =
-            with_flag (ap (is_among f.flags) (sym (all_name h)) ∙ own) (is_some (text_of r before) || not (fits f.numbers r [])) refl
+            with_flag (ap (is_among f.flags) (sym (all_name h)) ∙ own) (is_some (text_of r before) || not (fits f r [])) refl
             (subst (λ n. Led (kept f n [] before (between (before ++ (n, []) ∷ []) left))) (all_name h) e)
         go (Some label) false b known h own e =
             with_option label (ap (label_of f.options) (sym (all_name h)) ∙ known) (text_of label before) refl e
         go (Some label) true b known h own e = with_value label known (equals_split r h) (is_some (text_of label before) || not
-            (fits f.numbers label behind_equals)) refl e
+            (fits f label behind_equals)) refl e
 
     hyphen_told : (before : Given) (left : List Text) (o : Option Text) → after_dashes word ≡ o
         → Led (after_part f before left word (option_map_or (named_part f) o unknown)) → Told (between before left) (word ∷ rest)
@@ -323,15 +323,15 @@ module _ (f : Form) (is : IsSpelled f) where
   -- ---- the texts of a line
 
   -- a text that was given is what it has to be
-  given_fits : (given before : Given) → AreNew f before given → (label t : Text) → text_of label given ≡ Some t → fits f.numbers label t ≡ true
+  given_fits : (given before : Given) → AreNew f before given → (label t : Text) → text_of label given ≡ Some t → fits f label t ≡ true
   given_fits [] before new label t e = absurd (true≢false (sym (ap is_some e)))
   given_fits (g ∷ given) before new label t e = go (bytes_eq g.0 label) refl e (given_fits given (before ++ g ∷ []) new.2 label t)
     where
       go : (b : Bool) → bytes_eq g.0 label ≡ b → option_map (λ (x : Text × Text). x.1) (cond b (Some g) (find (λ x. bytes_eq x.0 label) given)) ≡ Some t
-          → (text_of label given ≡ Some t → fits f.numbers label t ≡ true) → fits f.numbers label t ≡ true
+          → (text_of label given ≡ Some t → fits f label t ≡ true) → fits f label t ≡ true
       go true same e rec =
           let is_t : g.1 ≡ t = ap (λ (m : Option Text). unwrap_or m []) e in
-          subst (λ l. fits f.numbers l t ≡ true) ((bytes_eq-Decides g.0 label).0 same) (subst (λ u. fits f.numbers g.0 u ≡ true) is_t new.1)
+          subst (λ l. fits f l t ≡ true) ((bytes_eq-Decides g.0 label).0 same) (subst (λ u. fits f g.0 u ≡ true) is_t new.1)
       go false same e rec = rec e
 
   -- what was given for a label is fit, and so is nothing where the label may be left out
@@ -359,25 +359,29 @@ module _ (f : Form) (is : IsSpelled f) where
           (text_fits given new l (text_of l given) refl is, rec ts are)
 
 -- each text of a line is what it has to be
-pub line_fits : (f : Form) (words : List Text) (texts : List (Option Text)) → IsSpelled f → IsLine f words texts → AreFit f (labels f) texts
+pub line_fits : (f : Form) (words : List Text) (texts : List (Option Text)) → IsSpelled f → IsCommandLine f words texts → AreFit f (labels f) texts
 line_fits f words texts is line = texts_fit f is line.given line.new (labels f) texts line.complete
 
 -- ---- the program's forms
 
 pub value_spelled : IsSpelled value_form
-value_spelled = record { by_name = tt; by_value = tt; by_flag = tt }
+value_spelled = record {
+  by_name = (long_part value_form 114 (codes "ules") refl, tt);
+  by_value = (λ t. long_part value_form 114 (codes "ules=" ++ t) refl, tt);
+  by_flag = tt;
+}
 
 pub count_spelled : IsSpelled count_form
 count_spelled = record {
-  by_name = (long_part count_form 115 (codes "et") refl, tt);
-  by_value = (λ t. long_part count_form 115 (codes "et=" ++ t) refl, tt);
+  by_name = (long_part count_form 115 (codes "et") refl, (long_part count_form 114 (codes "ules") refl, tt));
+  by_value = (λ t. long_part count_form 115 (codes "et=" ++ t) refl, (λ t. long_part count_form 114 (codes "ules=" ++ t) refl, tt));
   by_flag = tt;
 }
 
 pub build_spelled : IsSpelled build_form
 build_spelled = record {
-  by_name = (long_part build_form 115 (codes "et") refl, (long_part build_form 110 (codes "odes") refl, (long_part build_form 111 (codes "ut") refl, tt)));
-  by_value = (λ t. long_part build_form 115 (codes "et=" ++ t) refl, (λ t. long_part build_form 110 (codes "odes=" ++ t) refl, (λ t. long_part build_form 111 (codes "ut=" ++ t) refl, tt)));
+  by_name = (long_part build_form 115 (codes "et") refl, (long_part build_form 110 (codes "odes") refl, (long_part build_form 111 (codes "ut") refl, (long_part build_form 114 (codes "ules") refl, tt))));
+  by_value = (λ t. long_part build_form 115 (codes "et=" ++ t) refl, (λ t. long_part build_form 110 (codes "odes=" ++ t) refl, (λ t. long_part build_form 111 (codes "ut=" ++ t) refl, (λ t. long_part build_form 114 (codes "ules=" ++ t) refl, tt))));
   by_flag = tt;
 }
 
@@ -430,6 +434,20 @@ stats_spelled = record {
   by_flag = tt;
 }
 
+pub migrate_spelled : IsSpelled migrate_form
+migrate_spelled = record {
+  by_name = (long_part migrate_form 100 (codes "b") refl, (long_part migrate_form 111 (codes "ut") refl, tt));
+  by_value = (λ t. long_part migrate_form 100 (codes "b=" ++ t) refl, (λ t. long_part migrate_form 111 (codes "ut=" ++ t) refl, tt));
+  by_flag = tt;
+}
+
+pub puzzles_spelled : IsSpelled puzzles_form
+puzzles_spelled = record {
+  by_name = (long_part puzzles_form 100 (codes "b") refl, (long_part puzzles_form 112 (codes "lies") refl, (long_part puzzles_form 99 (codes "ount") refl, tt)));
+  by_value = (λ t. long_part puzzles_form 100 (codes "b=" ++ t) refl, (λ t. long_part puzzles_form 112 (codes "lies=" ++ t) refl, (λ t. long_part puzzles_form 99 (codes "ount=" ++ t) refl, tt)));
+  by_flag = tt;
+}
+
 abbrev EachForm : (Form → Type 0) → List Form → Type 0
 EachForm P [] = Unit {0}
 EachForm P (f ∷ fs) = P f × (EachForm P fs)
@@ -444,7 +462,7 @@ all_known = (
     (count_spelled, λ rest. refl),
     (
       (build_spelled, λ rest. refl),
-      ((probe_spelled, λ rest. refl), ((line_spelled, λ rest. refl), ((check_spelled, λ rest. refl), ((look_spelled, λ rest. refl), ((show_spelled, λ rest. refl), ((moves_spelled, λ rest. refl), ((stats_spelled, λ rest. refl), tt))))))),
+      ((probe_spelled, λ rest. refl), ((line_spelled, λ rest. refl), ((check_spelled, λ rest. refl), ((look_spelled, λ rest. refl), ((show_spelled, λ rest. refl), ((moves_spelled, λ rest. refl), ((stats_spelled, λ rest. refl), ((puzzles_spelled, λ rest. refl), ((migrate_spelled, λ rest. refl), tt))))))))),
     ),
   ),
 )
@@ -455,7 +473,7 @@ among_known (g ∷ fs) f each (inl e) = subst IsKnown (sym e) each.0
 among_known (g ∷ fs) f each (inr more) = among_known fs f each.1 more
 
 -- a line asks for its texts
-pub line_means : (f : Form) (words : List Text) (texts : List (Option Text)) → IsAmong f forms → IsLine f words texts → meaning_of words ≡ asks f.name texts
+pub line_means : (f : Form) (words : List Text) (texts : List (Option Text)) → IsAmong f forms → IsCommandLine f words texts → meaning_of words ≡ asks f.name texts
 line_means f words texts among line =
     let known : IsKnown f = among_known forms f all_known among in
     ap meaning_of line.named ∙ (known.1 line.rest ∙ line_asked f known.0 line.rest texts line.given line.gives line.new line.complete)
@@ -463,7 +481,7 @@ line_means f words texts among line =
 -- and where something is asked for, the words are a line of it
 
 pub form_line : (f : Form) (rest : List Text) (name : Text) (texts : List (Option Text)) → meaning_of_form f rest ≡ asks name texts
-    → (f.name ≡ name) × IsLine f (f.name ∷ rest) texts
+    → (f.name ≡ name) × IsCommandLine f (f.name ∷ rest) texts
 form_line f rest name texts e =
     let r : Told f name texts (between [] f.positions) rest = told f name texts rest (between [] f.positions) e in
     let p = texts_asked (texts_of f (labels f) r.0) r.2.1 in
@@ -496,7 +514,7 @@ line_of (word ∷ rest) name texts e = first (bytes_eq (codes "--version") word)
             → SomeLine (word ∷ rest) name texts) → SomeLine (word ∷ rest) name texts
         by true is e later =
             let l = form_line f rest name texts e in
-            (f, among f (inl refl), l.0, subst (λ w. IsLine f (w ∷ rest) texts) ((bytes_eq-Decides f.name word).0 is) l.1)
+            (f, among f (inl refl), l.0, subst (λ w. IsCommandLine f (w ∷ rest) texts) ((bytes_eq-Decides f.name word).0 is) l.1)
         by false is e later = later e
 
     first : (v t : Bool)
@@ -521,7 +539,7 @@ order_from_line words (reading.Help s) h = tt
 order_from_line words (reading.Usage s) h = tt
 
 -- and at each line it is read
-pub reading_at_line : (words : List Text) (f : Form) (texts : List (Option Text)) (r : Reading) → IsAmong f forms → IsLine f words texts
+pub reading_at_line : (words : List Text) (f : Form) (texts : List (Option Text)) (r : Reading) → IsAmong f forms → IsCommandLine f words texts
     → IsReadingOf (meaning_of words) r
     → IsReadingOf (asks f.name texts) r
 reading_at_line words f texts r among line h = subst (λ m. IsReadingOf m r) (line_means f words texts among line) h

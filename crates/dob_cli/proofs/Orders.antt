@@ -1,13 +1,14 @@
 -- What is owed for an order is owed for the words that ask for it.
 use Rattle.std.proofs.Common.{◌≡◌, ℕ, Bool, List, [], ◌∷◌, Option, Some, None, ap, ap₂, codes, is_some, true, false, refl, subst, sym, true≢false, ◌∙◌}
 use Rattle.std.specs.Borrow.{Bor}
+use Rattle.dob_pieces.specs.declared.profile.Profile.{Profile}
 use Rattle.std.specs.Str.{bytes_eq}
 use Rattle.dob_cli.specs.Forms.{Text}
 use Rattle.dob_cli.specs.declared.command.Order.{Order}
-use Rattle.dob_cli.specs.declared.command.Order.TheVariants.{Value, Count, Build, Probe, Line, Check, Look, Show, Moves, Stats}
+use Rattle.dob_cli.specs.declared.command.Order.TheVariants.{Value, Count, Build, Probe, Line, Check, Look, Show, Moves, Stats, Puzzles, Migrate}
 use Rattle.dob_cli.specs.Endings.{Ending}
 use Rattle.dob_cli.specs.Shelves.{SameFiles, SameOthers, ShelfChange}
-use Rattle.dob_cli.specs.Words.{Meaning, asks, build, flag_text, help, number_of, show, usage, version}
+use Rattle.dob_cli.specs.Words.{Meaning, asks, build, flag_text, help, migrate, number_of, profile_named, show, usage, version}
 use Rattle.dob_cli.specs.declared.command.Reading.TheVariants as reading
 use Rattle.dob_cli.specs.Readings.{IsOrder, IsReadingOf, name_of_order, text_given}
 use Rattle.dob_cli.specs.Orders.{AnswersOrder, KeepsFiles}
@@ -18,6 +19,8 @@ use Rattle.dob_cli.specs.Looks.{AnswersLook}
 use Rattle.dob_cli.specs.Choices.{AnswersMoves}
 use Rattle.dob_cli.specs.Shows.{AnswersShow, KeepsButPicture}
 use Rattle.dob_cli.specs.Stats.{AnswersStats}
+use Rattle.dob_cli.specs.Puzzles.{AnswersPuzzles}
+use Rattle.dob_cli.specs.Migrations.{AnswersMigrate}
 use Rattle.dob_cli.specs.Tables.{AnswersCheck, AnswersLine, AnswersProbe}
 
 -- two names that differ aren't one
@@ -34,6 +37,17 @@ two_texts x y a b e = (cc, cc)
 three_texts : (x y z a b c : Text) → Some x ∷ Some y ∷ Some z ∷ [] ≡ Some a ∷ Some b ∷ Some c ∷ [] → (x ≡ a) × (y ≡ b) × (z ≡ c)
 three_texts x y z a b c e = (cc, cc, cc)
 
+-- a text that may be left out before one, behind one and behind three
+ruled_text : (x a : Option Text) (y b : Text) → x ∷ Some y ∷ [] ≡ a ∷ Some b ∷ [] → (x ≡ a) × (y ≡ b)
+ruled_text x a y b e = (cc, cc)
+
+text_ruled : (x a : Text) (y b : Option Text) → Some x ∷ y ∷ [] ≡ Some a ∷ b ∷ [] → (x ≡ a) × (y ≡ b)
+text_ruled x a y b e = (cc, cc)
+
+texts_ruled : (x y z a b c : Text) (w d : Option Text) → Some x ∷ Some y ∷ Some z ∷ w ∷ [] ≡ Some a ∷ Some b ∷ Some c ∷ d ∷ []
+    → (x ≡ a) × (y ≡ b) × (z ≡ c) × (w ≡ d)
+texts_ruled x y z a b c w d e = (cc, cc, cc, cc)
+
 -- a flag between two texts, and two texts that may be left out before one
 flagged_texts : (x z a c : Text) (y b : Option Text) → Some x ∷ y ∷ Some z ∷ [] ≡ Some a ∷ b ∷ Some c ∷ [] → (x ≡ a) × (y ≡ b) × (z ≡ c)
 flagged_texts x z a c y b e = (cc, cc, cc)
@@ -47,22 +61,30 @@ flag_given true = refl
 flag_given false = refl
 
 module _ (c : ShelfChange) (e : Ending) where
-  pub done_value : (o : Order) (text : Text) → IsOrder (codes "value") (Some text ∷ []) o → AnswersOrder c o e → AnswersValue c text e
-  done_value (Value t) text is answers = subst (λ (x : Text). AnswersValue c x e) (one_text t.now text is.1) answers
-  done_value o text is answers = absurd (differs (name_of_order o) (codes "value") refl refl is.0)
+  pub done_value : (o : Order) (rules : Option Text) (text : Text) → IsOrder (codes "value") (rules ∷ Some text ∷ []) o → AnswersOrder c o e
+      → AnswersValue c (profile_named rules) text e
+  done_value (Value p t) rules text is answers =
+      let same = ruled_text is.1.0 rules t.now text is.1.1 in
+      subst (λ (x : Profile). AnswersValue c x text e) (is.1.2 ∙ ap profile_named same.0) (subst (λ (x : Text). AnswersValue c p x e) same.1 answers)
+  done_value o rules text is answers = absurd (differs (name_of_order o) (codes "value") refl refl is.0)
 
-  pub done_count : (o : Order) (text : Text) → IsOrder (codes "count") (Some text ∷ []) o → AnswersOrder c o e → AnswersCount c text e
-  done_count (Count t) text is answers = subst (λ (x : Text). AnswersCount c x e) (one_text t.now text is.1) answers
-  done_count o text is answers = absurd (differs (name_of_order o) (codes "count") refl refl is.0)
+  pub done_count : (o : Order) (rules : Option Text) (text : Text) → IsOrder (codes "count") (Some text ∷ rules ∷ []) o → AnswersOrder c o e
+      → AnswersCount c (profile_named rules) text e
+  done_count (Count p t) rules text is answers =
+      let same = text_ruled t.now text is.1.0 rules is.1.1 in
+      subst (λ (x : Profile). AnswersCount c x text e) (is.1.2 ∙ ap profile_named same.1) (subst (λ (x : Text). AnswersCount c p x e) same.0 answers)
+  done_count o rules text is answers = absurd (differs (name_of_order o) (codes "count") refl refl is.0)
 
-  pub done_build : (o : Order) (set nodes file : Text) → IsOrder (codes "build") (Some set ∷ Some nodes ∷ Some file ∷ []) o → AnswersOrder c o e
-      → AnswersBuild c set (number_of nodes) file e
-  done_build (Build s n f) set nodes file is answers =
-      let same = three_texts s.now is.1.0 f.now set nodes file is.1.1 in
-      subst (λ (x : Text). AnswersBuild c x (number_of nodes) file e) same.0
-      (subst (λ (x : Text). AnswersBuild c s.now (number_of nodes) x e) same.2
-      (subst (λ (x : ℕ). AnswersBuild c s.now x f.now e) (is.1.3 ∙ ap number_of same.1) answers))
-  done_build o set nodes file is answers = absurd (differs (name_of_order o) (codes "build") refl refl is.0)
+  pub done_build : (o : Order) (rules : Option Text) (set nodes file : Text)
+      → IsOrder (codes "build") (Some set ∷ Some nodes ∷ Some file ∷ rules ∷ []) o → AnswersOrder c o e
+      → AnswersBuild c (profile_named rules) set (number_of nodes) file e
+  done_build (Build p s n f) rules set nodes file is answers =
+      let same = texts_ruled s.now is.1.0 f.now set nodes file is.1.1 rules is.1.2 in
+      subst (λ (x : Profile). AnswersBuild c x set (number_of nodes) file e) (is.1.5 ∙ ap profile_named same.3)
+      (subst (λ (x : Text). AnswersBuild c p x (number_of nodes) file e) same.0
+      (subst (λ (x : Text). AnswersBuild c p s.now (number_of nodes) x e) same.2
+      (subst (λ (x : ℕ). AnswersBuild c p s.now x f.now e) (is.1.4 ∙ ap number_of same.1) answers)))
+  done_build o rules set nodes file is answers = absurd (differs (name_of_order o) (codes "build") refl refl is.0)
 
   pub done_probe : (o : Order) (file text : Text) → IsOrder (codes "probe") (Some file ∷ Some text ∷ []) o → AnswersOrder c o e
       → AnswersProbe c file text e
@@ -110,14 +132,36 @@ module _ (c : ShelfChange) (e : Ending) where
   done_stats (Stats f) file is answers = subst (λ (x : Text). AnswersStats c x e) (one_text f.now file is.1) answers
   done_stats o file is answers = absurd (differs (name_of_order o) (codes "stats") refl refl is.0)
 
+  pub done_puzzles : (o : Order) (file plies count : Text) → IsOrder (codes "puzzles") (Some file ∷ Some plies ∷ Some count ∷ []) o → AnswersOrder c o e
+      → AnswersPuzzles c file (number_of plies) (number_of count) e
+  done_puzzles (Puzzles f d n) file plies count is answers =
+      let same = three_texts f.now is.1.0 is.1.1 file plies count is.1.2 in
+      subst (λ (x : Text). AnswersPuzzles c x (number_of plies) (number_of count) e) same.0
+      (subst (λ (k : ℕ). AnswersPuzzles c f.now k (number_of count) e) (is.1.4 ∙ ap number_of same.1)
+      (subst (λ (k : ℕ). AnswersPuzzles c f.now d k e) (is.1.6 ∙ ap number_of same.2) answers))
+  done_puzzles o file plies count is answers = absurd (differs (name_of_order o) (codes "puzzles") refl refl is.0)
+
+  pub done_migrate : (o : Order) (file out : Text) → IsOrder (codes "migrate") (Some file ∷ Some out ∷ []) o → AnswersOrder c o e
+      → AnswersMigrate c file out e
+  done_migrate (Migrate f t) file out is answers =
+      let same = two_texts f.now t.now file out is.1 in
+      subst (λ (x : Text). AnswersMigrate c x out e) same.0 (subst (λ (x : Text). AnswersMigrate c f.now x e) same.1 answers)
+  done_migrate o file out is answers = absurd (differs (name_of_order o) (codes "migrate") refl refl is.0)
+
 -- ---- files
 
 module _ (c : ShelfChange) where
-  pub kept_others : (o : Order) (set nodes file : Text) → IsOrder (codes "build") (Some set ∷ Some nodes ∷ Some file ∷ []) o → KeepsFiles c o
-      → SameOthers file c.before.has c.after.has
-  kept_others (Build s n f) set nodes file is keeps =
-      subst (λ (x : Text). SameOthers x c.before.has c.after.has) (three_texts s.now is.1.0 f.now set nodes file is.1.1).2 keeps
-  kept_others o set nodes file is keeps = absurd (differs (name_of_order o) (codes "build") refl refl is.0)
+  pub kept_others : (o : Order) (rules : Option Text) (set nodes file : Text)
+      → IsOrder (codes "build") (Some set ∷ Some nodes ∷ Some file ∷ rules ∷ []) o → KeepsFiles c o → SameOthers file c.before.has c.after.has
+  kept_others (Build p s n f) rules set nodes file is keeps =
+      subst (λ (x : Text). SameOthers x c.before.has c.after.has) (texts_ruled s.now is.1.0 f.now set nodes file is.1.1 rules is.1.2).2 keeps
+  kept_others o rules set nodes file is keeps = absurd (differs (name_of_order o) (codes "build") refl refl is.0)
+
+  pub kept_migrated : (o : Order) (file out : Text) → IsOrder (codes "migrate") (Some file ∷ Some out ∷ []) o → KeepsFiles c o
+      → SameOthers out c.before.has c.after.has
+  kept_migrated (Migrate f t) file out is keeps =
+      subst (λ (x : Text). SameOthers x c.before.has c.after.has) (two_texts f.now t.now file out is.1).1 keeps
+  kept_migrated o file out is keeps = absurd (differs (name_of_order o) (codes "migrate") refl refl is.0)
 
   pub kept_but_picture : (o : Order) (file : Option Text) (picture text : Text)
       → IsOrder (codes "show") (file ∷ Some picture ∷ Some text ∷ []) o → KeepsFiles c o → SameOthers picture c.before.has c.after.has
@@ -127,12 +171,20 @@ module _ (c : ShelfChange) where
   kept_but_picture o file picture text is keeps = absurd (differs (name_of_order o) (codes "show") refl refl is.0)
 
   -- the words that ask for a build say what it is
-  no_build : (m : Meaning) (s f : Bor Text) (n : ℕ) → IsReadingOf m (reading.Order (Build s n f))
-      → ((set nodes file : Text) → m ≡ build set nodes file → ⊥) → ⊥
-  no_build (asks name texts) s f n is none = none s.now is.1.0 f.now (ap₂ (λ (x : Text) (y : List (Option Text)). asks x y) (sym is.0) (sym is.1.1))
-  no_build help s f n is none = is
-  no_build usage s f n is none = is
-  no_build version s f n is none = is
+  no_build : (m : Meaning) (p : Profile) (s f : Bor Text) (n : ℕ) → IsReadingOf m (reading.Order (Build p s n f))
+      → ((rules : Option Text) (set nodes file : Text) → m ≡ build rules set nodes file → ⊥) → ⊥
+  no_build (asks name texts) p s f n is none =
+      none is.1.1 s.now is.1.0 f.now (ap₂ (λ (x : Text) (y : List (Option Text)). asks x y) (sym is.0) (sym is.1.2))
+  no_build help p s f n is none = is
+  no_build usage p s f n is none = is
+  no_build version p s f n is none = is
+
+  -- and so do those that ask for a migration
+  no_migration : (m : Meaning) (f t : Bor Text) → IsReadingOf m (reading.Order (Migrate f t)) → ((file out : Text) → m ≡ migrate file out → ⊥) → ⊥
+  no_migration (asks name texts) f t is none = none f.now t.now (ap₂ (λ (x : Text) (y : List (Option Text)). asks x y) (sym is.0) (sym is.1))
+  no_migration help f t is none = is
+  no_migration usage f t is none = is
+  no_migration version f t is none = is
 
   -- and so do those that ask for a picture
   no_picture : (m : Meaning) (f : Option (Bor Text)) (p t : Bor Text) → IsReadingOf m (reading.Order (Show f (Some p) t))
@@ -142,18 +194,22 @@ module _ (c : ShelfChange) where
   no_picture usage f p t is none = is
   no_picture version f p t is none = is
 
-  -- where the words ask for neither, all files have what they had
-  pub kept_files : (m : Meaning) (o : Order) → IsReadingOf m (reading.Order o) → ((set nodes file : Text) → m ≡ build set nodes file → ⊥)
+  -- where the words ask for none of these, all files have what they had
+  pub kept_files : (m : Meaning) (o : Order) → IsReadingOf m (reading.Order o)
+      → ((rules : Option Text) (set nodes file : Text) → m ≡ build rules set nodes file → ⊥)
       → ((file : Option Text) (picture text : Text) → m ≡ show file (Some picture) text → ⊥)
+      → ((file out : Text) → m ≡ migrate file out → ⊥)
       → KeepsFiles c o → SameFiles c.before.has c.after.has
-  kept_files m (Build s n f) is none undrawn keeps = absurd (no_build m s f n is none)
-  kept_files m (Show f (Some p) t) is none undrawn keeps = absurd (no_picture m f p t is undrawn)
-  kept_files m (Show f None t) is none undrawn keeps = keeps
-  kept_files m (Value t) is none undrawn keeps = keeps
-  kept_files m (Count t) is none undrawn keeps = keeps
-  kept_files m (Probe f t) is none undrawn keeps = keeps
-  kept_files m (Line f n t) is none undrawn keeps = keeps
-  kept_files m (Check f) is none undrawn keeps = keeps
-  kept_files m (Look f t) is none undrawn keeps = keeps
-  kept_files m (Moves f t) is none undrawn keeps = keeps
-  kept_files m (Stats f) is none undrawn keeps = keeps
+  kept_files m (Build p s n f) is none undrawn still keeps = absurd (no_build m p s f n is none)
+  kept_files m (Show f (Some p) t) is none undrawn still keeps = absurd (no_picture m f p t is undrawn)
+  kept_files m (Migrate f t) is none undrawn still keeps = absurd (no_migration m f t is still)
+  kept_files m (Show f None t) is none undrawn still keeps = keeps
+  kept_files m (Value p t) is none undrawn still keeps = keeps
+  kept_files m (Count p t) is none undrawn still keeps = keeps
+  kept_files m (Probe f t) is none undrawn still keeps = keeps
+  kept_files m (Line f n t) is none undrawn still keeps = keeps
+  kept_files m (Check f) is none undrawn still keeps = keeps
+  kept_files m (Look f t) is none undrawn still keeps = keeps
+  kept_files m (Moves f t) is none undrawn still keeps = keeps
+  kept_files m (Stats f) is none undrawn still keeps = keeps
+  kept_files m (Puzzles f d n) is none undrawn still keeps = keeps

@@ -18,7 +18,7 @@ use Rattle.clap.proofs.WalkLemmas.{both, first_value-rows}
 use Rattle.dob_cli.specs.Forms.{Form, Text, forms}
 use Rattle.dob_cli.specs.Lines.{IsAmong as IsAmongForms}
 use Rattle.dob_cli.specs.Words.{Meaning, asks, help, is_version, is_topic, meaning_of, meaning_of_command, meaning_of_topic, usage, version}
-use Rattle.dob_cli.specs.Shapes.{Finds, HasShape, IsRead, dobutsu_app}
+use Rattle.dob_cli.specs.Shapes.{AreProfiles, Finds, HasShape, IsRead, ProfileNames, dobutsu_app}
 use Rattle.dob_cli.specs.Readings.{IsOrder, IsReadingOf, IsReadingOfKind}
 use Rattle.dob_cli.specs.declared.command.Order.{Order}
 use Rattle.dob_cli.specs.declared.command.Reading.{Reading}
@@ -65,14 +65,14 @@ asked_for words usage met e fits = absurd (true≢false (sym fits))
 asked_for words version met e fits = absurd fits
 
 -- matches come only where something is asked for, and have its texts
-pub asked_by_matches : (app : App) (words : List Text) (m : ArgMatches) {X : Type 0} → is_topic words ≡ false → app ≡ dobutsu_app
+pub asked_by_matches : (profiles : ProfileNames) → AreProfiles profiles → (app : App) (words : List Text) (m : ArgMatches) {X : Type 0} → is_topic words ≡ false → app ≡ dobutsu_app profiles
     → (is_simple_and_free app ≡ true → fault_of app words ≡ []) → (is_simple app ≡ true → X × (subcommand_rows_of m ≡ subcommand_of app words))
     → IsAsked words (subcommand_rows_of m)
-asked_by_matches app words m no_topic is kinds matches =
-    let clean : fault_of dobutsu_app words ≡ [] = ap (λ a. fault_of a words) (sym is) ∙ kinds (ap is_simple_and_free is) in
-    let rows : subcommand_rows_of m ≡ subcommand_of dobutsu_app words = (matches (ap is_simple is)).1 ∙ ap (λ a. subcommand_of a words) is in
-    let fits : Fits (meaning_of_command words) [] (subcommand_of dobutsu_app words) =
-    subst (λ k. Fits (meaning_of_command words) k (subcommand_of dobutsu_app words)) clean (words_fit words no_topic) in
+asked_by_matches profiles are app words m no_topic is kinds matches =
+    let clean : fault_of (dobutsu_app profiles) words ≡ [] = ap (λ a. fault_of a words) (sym is) ∙ kinds (ap is_simple_and_free is) in
+    let rows : subcommand_rows_of m ≡ subcommand_of (dobutsu_app profiles) words = (matches (ap is_simple is)).1 ∙ ap (λ a. subcommand_of a words) is in
+    let fits : Fits (meaning_of_command words) [] (subcommand_of (dobutsu_app profiles) words) =
+    subst (λ k. Fits (meaning_of_command words) k (subcommand_of (dobutsu_app profiles) words)) clean (words_fit profiles are words no_topic) in
     asked_for words (meaning_of_command words) (subcommand_rows_of m) refl (subst (Fits (meaning_of_command words) []) (sym rows) fits)
 
 -- so there is an order
@@ -153,20 +153,20 @@ error_is_meant version kinds met k r fits (inr among) h = absurd fits
 error_is_meant usage kinds met k r fits (inr among) h = usage_read r (not_help k r (usage_kind kinds k (usage_list kinds fits) among) h)
 
 -- the same of the words
-pub error_of_words : (app : App) (words : List Text) (e : Error) → is_topic words ≡ false → app ≡ dobutsu_app → (is_simple_and_free app ≡ true → HasKind (fault_of app words) e)
+pub error_of_words : (profiles : ProfileNames) → AreProfiles profiles → (app : App) (words : List Text) (e : Error) → is_topic words ≡ false → app ≡ dobutsu_app profiles → (is_simple_and_free app ≡ true → HasKind (fault_of app words) e)
     → (r : Reading) → IsReadingOfKind (kind_of e) r → IsReadingOf (meaning_of_command words) r
-error_of_words app words e no_topic is kinds r h =
-    let has : HasKind (fault_of dobutsu_app words) e = subst (λ a. HasKind (fault_of a words) e) is (kinds (ap is_simple_and_free is)) in
-    error_is_meant (meaning_of_command words) (fault_of dobutsu_app words) _ (kind_of e) r (words_fit words no_topic) has h
+error_of_words profiles are app words e no_topic is kinds r h =
+    let has : HasKind (fault_of (dobutsu_app profiles) words) e = subst (λ a. HasKind (fault_of a words) e) is (kinds (ap is_simple_and_free is)) in
+    error_is_meant (meaning_of_command words) (fault_of (dobutsu_app profiles) words) _ (kind_of e) r (words_fit profiles are words no_topic) has h
 
 -- ---- words that ask by `help`, or for the version
 
 -- by `help` there are no matches
-pub no_matches : (app : App) (words : List Text) → is_topic words ≡ true → app ≡ dobutsu_app
+pub no_matches : (profiles : ProfileNames) → AreProfiles profiles → (app : App) (words : List Text) → is_topic words ≡ true → app ≡ dobutsu_app profiles
     → (is_simple_and_free app ≡ true → fault_of app words ≡ []) → ⊥
-no_matches app words topic is kinds =
-    let clean : fault_of dobutsu_app words ≡ [] = ap (λ a. fault_of a words) (sym is) ∙ kinds (ap is_simple_and_free is) in
-    no_kinds _ _ (sym clean ∙ topic_kinds words topic)
+no_matches profiles are app words topic is kinds =
+    let clean : fault_of (dobutsu_app profiles) words ≡ [] = ap (λ a. fault_of a words) (sym is) ∙ kinds (ap is_simple_and_free is) in
+    no_kinds _ _ (sym clean ∙ topic_kinds profiles are words topic)
 
 -- other words mean what the command makes of them
 pub command_meaning : (words : List Text) → is_version words ≡ false → is_topic words ≡ false → meaning_of_command words ≡ meaning_of words

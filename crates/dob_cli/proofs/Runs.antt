@@ -17,7 +17,7 @@ use Rattle.dob_cli.specs.Runs.{Ran, RanOn}
 use Rattle.dob_cli.proofs.Shelves.{others_kept}
 use Rattle.dob_cli.proofs.TableFaults.{moves_right, probe_right}
 use Rattle.dob_cli.proofs.ByPlace.{look_right}
-use Rattle.dob_cli.proofs.Orders.{done_build, done_check, done_count, done_line, done_look, done_moves, done_probe, done_show, done_stats, done_value, kept_but_picture, kept_files, kept_others}
+use Rattle.dob_cli.proofs.Orders.{done_build, done_check, done_count, done_line, done_look, done_migrate, done_moves, done_probe, done_puzzles, done_show, done_stats, done_value, kept_but_picture, kept_files, kept_migrated, kept_others}
 
 -- ---- the streams are those that they were
 
@@ -50,25 +50,28 @@ memory_answered AreLines Holds e holds told = inr (inl (record { fault = Memory;
 module _ (c : ShelfChange) (words : List Text) (e : Ending) where
   pub ran_memory : TellsMemory e → SameFiles c.before.has c.after.has → FailsWhere c false → Ran c words e
   ran_memory told same works = record {
-    value = λ text _. memory_answered _ _ e (tt, works) told;
-    count = λ set _. memory_answered _ _ e (tt, works) told;
-    build = λ set nodes file _. memory_answered _ _ e (same, works) told;
-    probe_right = λ file text _ _. memory_answered _ _ e (tt, works) told;
+    value = λ rules text _. memory_answered _ _ e (tt, works) told;
+    count = λ rules set _. memory_answered _ _ e (tt, works) told;
+    build = λ rules set nodes file _. memory_answered _ _ e (same, works) told;
+    probe_right = λ profile file text _ _. memory_answered _ _ e (tt, works) told;
     probe = λ file text _. memory_answered _ _ e (tt, works) told;
     line = λ file is_numbered text _. memory_answered _ _ e (tt, works) told;
     check = λ file _. memory_answered _ _ e (tt, works) told;
-    look_right = λ file text _ _. memory_answered _ _ e (tt, works) told;
+    look_right = λ profile file text _ _. memory_answered _ _ e (tt, works) told;
     look = λ file text _. memory_answered _ _ e (tt, works) told;
     show = λ file picture text _. memory_answered _ _ e (same, works) told;
-    moves_right = λ file text _ _. memory_answered _ _ e (tt, works) told;
+    moves_right = λ profile file text _ _. memory_answered _ _ e (tt, works) told;
     moves = λ file text _. memory_answered _ _ e (tt, works) told;
     stats = λ file _. memory_answered _ _ e (tt, works) told;
+    puzzles = λ file plies count _. memory_answered _ _ e (tt, works) told;
+    migrate = λ file out _. memory_answered _ _ e (same, works) told;
     help = λ _. inr told;
     version = λ _. inr told;
     usage = λ _. inr told;
-    others = λ set nodes file _. others_kept file c.before.has c.after.has same;
+    others = λ rules set nodes file _. others_kept file c.before.has c.after.has same;
     others_of_picture = λ file picture text _. others_kept picture c.before.has c.after.has same;
-    files = λ _ _. same;
+    others_of_migration = λ file out _. others_kept out c.before.has c.after.has same;
+    files = λ _ _ _. same;
     same_out = untouched_same e.out told.1;
     same_err = said_same e.err _ told.0.1;
   }
@@ -79,51 +82,57 @@ module _ (c : ShelfChange) (words : List Text) (e : Ending) where
 
   pub ran_order : (o : Order) → IsReadingOf (meaning_of words) (reading.Order o) → AnswersOrder c o e → KeepsFiles c o → Ran c words e
   ran_order o read answers keeps = record {
-    value = λ text is. done_value c e o text (asked (reading.Order o) read _ is) answers;
-    count = λ set is. done_count c e o set (asked (reading.Order o) read _ is) answers;
-    build = λ set nodes file is. done_build c e o set nodes file (asked (reading.Order o) read _ is) answers;
+    value = λ rules text is. done_value c e o rules text (asked (reading.Order o) read _ is) answers;
+    count = λ rules set is. done_count c e o rules set (asked (reading.Order o) read _ is) answers;
+    build = λ rules set nodes file is. done_build c e o rules set nodes file (asked (reading.Order o) read _ is) answers;
     probe = λ file text is. done_probe c e o file text (asked (reading.Order o) read _ is) answers;
-    probe_right = λ file text is right.
-        probe_right c file text e right (done_probe c e o file text (asked (reading.Order o) read _ is) answers);
+    probe_right = λ profile file text is right.
+        probe_right c profile file text e right (done_probe c e o file text (asked (reading.Order o) read _ is) answers);
     line = λ file is_numbered text is. done_line c e o file is_numbered text (asked (reading.Order o) read _ is) answers;
     check = λ file is. done_check c e o file (asked (reading.Order o) read _ is) answers;
     look = λ file text is. done_look c e o file text (asked (reading.Order o) read _ is) answers;
     show = λ file picture text is. done_show c e o file picture text (asked (reading.Order o) read _ is) answers;
-    moves_right = λ file text is right. moves_right c file text e right (done_moves c e o file text (asked (reading.Order o) read _ is) answers);
+    moves_right = λ profile file text is right. moves_right c profile file text e right (done_moves c e o file text (asked (reading.Order o) read _ is) answers);
     moves = λ file text is. done_moves c e o file text (asked (reading.Order o) read _ is) answers;
     stats = λ file is. done_stats c e o file (asked (reading.Order o) read _ is) answers;
-    look_right = λ file text is right. look_right c file text e right (done_look c e o file text (asked (reading.Order o) read _ is) answers);
+    puzzles = λ file plies count is. done_puzzles c e o file plies count (asked (reading.Order o) read _ is) answers;
+    migrate = λ file out is. done_migrate c e o file out (asked (reading.Order o) read _ is) answers;
+    look_right = λ profile file text is right. look_right c profile file text e right (done_look c e o file text (asked (reading.Order o) read _ is) answers);
     help = λ is. absurd (asked (reading.Order o) read _ is);
     version = λ is. absurd (asked (reading.Order o) read _ is);
     usage = λ is. absurd (asked (reading.Order o) read _ is);
-    others = λ set nodes file is. kept_others c o set nodes file (asked (reading.Order o) read _ is) keeps;
+    others = λ rules set nodes file is. kept_others c o rules set nodes file (asked (reading.Order o) read _ is) keeps;
+    others_of_migration = λ file out is. kept_migrated c o file out (asked (reading.Order o) read _ is) keeps;
     others_of_picture = λ file picture text is. kept_but_picture c o file picture text (asked (reading.Order o) read _ is) keeps;
-    files = λ none undrawn. kept_files c (meaning_of words) o read none undrawn keeps;
+    files = λ none undrawn still. kept_files c (meaning_of words) o read none undrawn still keeps;
     same_out = (answers_same (λ lines. AreLinesFor c o lines × FailsWhere c false) (λ fault. IsFaultFor c o fault × FailsWhere c (is_io fault)) e answers).0;
     same_err = (answers_same (λ lines. AreLinesFor c o lines × FailsWhere c false) (λ fault. IsFaultFor c o fault × FailsWhere c (is_io fault)) e answers).1;
   }
 
   pub ran_version : IsReadingOf (meaning_of words) reading.Version → Tells version_line e → SameFiles c.before.has c.after.has → Ran c words e
   ran_version read told same = record {
-    value = λ text is. absurd (asked reading.Version read _ is);
-    count = λ set is. absurd (asked reading.Version read _ is);
-    build = λ set nodes file is. absurd (asked reading.Version read _ is);
+    value = λ rules text is. absurd (asked reading.Version read _ is);
+    count = λ rules set is. absurd (asked reading.Version read _ is);
+    build = λ rules set nodes file is. absurd (asked reading.Version read _ is);
     probe = λ file text is. absurd (asked reading.Version read _ is);
-    probe_right = λ file text is. absurd (asked reading.Version read _ is);
+    probe_right = λ profile file text is. absurd (asked reading.Version read _ is);
     line = λ file is_numbered text is. absurd (asked reading.Version read _ is);
     check = λ file is. absurd (asked reading.Version read _ is);
     look = λ file text is. absurd (asked reading.Version read _ is);
     show = λ file picture text is. absurd (asked reading.Version read _ is);
-    moves_right = λ file text is. absurd (asked reading.Version read _ is);
+    moves_right = λ profile file text is. absurd (asked reading.Version read _ is);
     moves = λ file text is. absurd (asked reading.Version read _ is);
     stats = λ file is. absurd (asked reading.Version read _ is);
-    look_right = λ file text is. absurd (asked reading.Version read _ is);
+    puzzles = λ file plies count is. absurd (asked reading.Version read _ is);
+    migrate = λ file out is. absurd (asked reading.Version read _ is);
+    look_right = λ profile file text is. absurd (asked reading.Version read _ is);
     help = λ is. absurd (asked reading.Version read _ is);
     version = λ _. inl told;
     usage = λ is. absurd (asked reading.Version read _ is);
-    others = λ set nodes file is. absurd (asked reading.Version read _ is);
+    others = λ rules set nodes file is. absurd (asked reading.Version read _ is);
+    others_of_migration = λ file out is. absurd (asked reading.Version read _ is);
     others_of_picture = λ file picture text is. absurd (asked reading.Version read _ is);
-    files = λ _ _. same;
+    files = λ _ _ _. same;
     same_out = (told_same _ e told).0;
     same_err = (told_same _ e told).1;
   }

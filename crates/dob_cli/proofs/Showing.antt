@@ -8,7 +8,7 @@ use Rattle.dob_probe.specs.declared.fault.Fault as probing
 use Rattle.dob_probe.specs.declared.fault.Fault.TheVariants as table_fault
 use Rattle.dob_probe.specs.Faults.{IsFaultOfLine}
 use Rattle.dob_cli.specs.declared.fault.Fault.{Fault}
-use Rattle.dob_cli.specs.declared.fault.Fault.TheVariants.{Text, SetText, SetTooLarge, TooDeep, Run, File, Table, Memory, Io}
+use Rattle.dob_cli.specs.declared.fault.Fault.TheVariants.{Text, SetText, TooDeep, Run, File, Table, PuzzlePlies, Memory, Io}
 use Rattle.dob_cli.specs.Shelves.{Files, SameFiles, SameOthers, ShelfChange, ShelfState, shelf_change}
 use Rattle.dob_cli.specs.Shows.{IsDrawingFault, IsFaultBy, IsPictureFault, IsShowFault}
 use Rattle.dob_cli.specs.Tables.{IsFileOf, IsOpeningFault, IsProbingFault, IsTextOf}
@@ -16,7 +16,7 @@ use Rattle.dob_cli.proofs.Shelves.{others_chain, others_kept}
 
 -- ---- files
 
-same_chain : (Old Mid New : Files) → SameFiles Old Mid → SameFiles Mid New → SameFiles Old New
+pub same_chain : (Old Mid New : Files) → SameFiles Old Mid → SameFiles Mid New → SameFiles Old New
 same_chain Old Mid New first second name bytes =
     (λ h. (second name bytes).0 ((first name bytes).0 h), λ h. (first name bytes).1 ((second name bytes).1 h))
 
@@ -32,13 +32,14 @@ module _ (Has : List ℕ → Type 0) (position : Setup) where
   opening_probes Memory holds = tt
   opening_probes (Text f) holds = absurd holds
   opening_probes SetText holds = absurd holds
-  opening_probes SetTooLarge holds = absurd holds
   opening_probes TooDeep holds = absurd holds
+  opening_probes PuzzlePlies holds = absurd holds
   opening_probes (Run f) holds = absurd holds
   opening_probes (Table f) holds = absurd holds
 
   pub line_probes : (table : ClassTable) → IsFileOf Has table → (fault : probing.Fault) → IsFaultOfLine table position fault
       → IsProbingFault Has position (Table fault)
+  line_probes table file table_fault.FarChick holds = (table, file, holds)
   line_probes table file table_fault.OtherSet holds = (table, file, holds)
   line_probes table file (table_fault.Inconsistent class) holds = (table, file, holds.1)
   line_probes table file table_fault.Memory holds = tt
@@ -50,8 +51,8 @@ probing_draws Has file position Io holds = holds
 probing_draws Has file position Memory holds = tt
 probing_draws Has file position (Text f) holds = absurd holds
 probing_draws Has file position SetText holds = absurd holds
-probing_draws Has file position SetTooLarge holds = absurd holds
 probing_draws Has file position TooDeep holds = absurd holds
+probing_draws Has file position PuzzlePlies holds = absurd holds
 probing_draws Has file position (Run f) holds = absurd holds
 probing_draws Has file position (Table f) holds = holds
 
@@ -71,8 +72,8 @@ module _ (c : ShelfChange) (file : Option (List ℕ)) (words : List ℕ) (positi
   drawing_shows picture (Table f) same holds = (position, named, holds, same)
   drawing_shows picture (Run f) same holds = (position, named, holds, same)
   drawing_shows picture SetText same holds = (position, named, holds, same)
-  drawing_shows picture SetTooLarge same holds = (position, named, holds, same)
   drawing_shows picture TooDeep same holds = (position, named, holds, same)
+  drawing_shows picture PuzzlePlies same holds = (position, named, holds, same)
 
   pub picture_shows : (mid : ShelfState) (name : List ℕ) (fault : Fault) → SameFiles c.before.has mid.has → mid.tells ≡ c.before.tells
       → IsPictureFault (shelf_change mid c.after) name fault → IsShowFault c file (Some name) words fault
@@ -87,8 +88,8 @@ module _ (c : ShelfChange) (file : Option (List ℕ)) (words : List ℕ) (positi
   )
   picture_shows mid name (Text f) same told holds = absurd holds
   picture_shows mid name SetText same told holds = absurd holds
-  picture_shows mid name SetTooLarge same told holds = absurd holds
   picture_shows mid name TooDeep same told holds = absurd holds
+  picture_shows mid name PuzzlePlies same told holds = absurd holds
   picture_shows mid name (Run f) same told holds = absurd holds
   picture_shows mid name (File f) same told holds = absurd holds
   picture_shows mid name (Table f) same told holds = absurd holds

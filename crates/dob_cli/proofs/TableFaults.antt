@@ -1,14 +1,18 @@
 -- The faults of a table are those of the file that it was read from, and by the file of a value table the value told is right.
 use Rattle.std.proofs.Common.{◌≡◌, ℕ, false, List, inl, inr, subst}
 use Rattle.dob_pieces.specs.declared.setup.Setup.{Setup}
+use Rattle.dob_pieces.specs.Profiles.{IsAllowed}
+use Rattle.dob_pieces.specs.declared.profile.Profile.{Profile}
+use Rattle.dob_value.specs.Values.{HasValue}
 use Rattle.dob_value.specs.Follows.{ClassTable, IsValueTable}
 use Rattle.dob_dbfile.proofs.Written.{same_files}
 use Rattle.dob_probe.specs.declared.fault.Fault as probing
 use Rattle.dob_probe.specs.declared.fault.Fault.TheVariants as table_fault
+use Rattle.dob_probe.specs.Choices.{AreValuedMoves}
 use Rattle.dob_probe.proofs.ByValue.{valued_rightly}
-use Rattle.dob_probe.specs.Faults.{IsFaultOfCheck, IsFaultOfLine, IsFaultOfMoves}
+use Rattle.dob_probe.specs.Faults.{IsFaultOfCheck, IsFaultOfLine, IsFaultOfMoves, IsRefusal}
 use Rattle.dob_cli.specs.declared.fault.Fault.{Fault}
-use Rattle.dob_cli.specs.declared.fault.Fault.TheVariants.{Text, SetText, SetTooLarge, TooDeep, Run, File, Table, Memory, Io}
+use Rattle.dob_cli.specs.declared.fault.Fault.TheVariants.{Text, SetText, TooDeep, Run, File, Table, PuzzlePlies, Memory, Io}
 use Rattle.dob_cli.specs.Shelves.{FailsWhere, ShelfChange}
 use Rattle.dob_cli.specs.Faults.{fault_of_shelf, is_io}
 use Rattle.dob_cli.specs.declared.shelf.ShelfFault.{ShelfFault}
@@ -16,26 +20,40 @@ use Rattle.dob_cli.specs.declared.shelf.ShelfFault.TheVariants as shelf_fault
 use Rattle.dob_cli.specs.Endings.{Answers, Ending}
 use Rattle.dob_cli.specs.Program.{IsValueLineOf}
 use Rattle.dob_cli.specs.Choices.{AnswersMoves, AnswersMovesRight, AreChoiceLines, AreRightChoiceLines}
-use Rattle.dob_cli.specs.Tables.{AnswersProbe, AnswersProbeRight, HasValueFile, IsCheckFault, IsFileOf, IsOpeningFault, IsPositionFault, IsShut}
+use Rattle.dob_cli.specs.Tables.{AnswersProbe, AnswersProbeRight, HasValueFile, IsCheckFault, IsFileOf, IsOpeningFault, IsPositionFault, IsProbingFault, IsShut}
 use Rattle.dob_cli.specs.Tables.{IsProbeLine, IsTextOf}
 
 module _ (Has : List ℕ → Type 0) (table : ClassTable) (file : IsFileOf Has table) where
   pub check_fault_holds : (fault : probing.Fault) → IsFaultOfCheck table fault → IsCheckFault Has (Table fault)
+  check_fault_holds table_fault.FarChick holds = absurd holds
   check_fault_holds table_fault.OtherSet holds = absurd holds
   check_fault_holds (table_fault.Inconsistent class) holds = (table, file, holds)
   check_fault_holds table_fault.Memory holds = tt
 
   pub line_fault_holds : (words : List ℕ) (position : Setup) (fault : probing.Fault) → IsTextOf words position →
       IsFaultOfLine table position fault → IsPositionFault Has words (Table fault)
+  line_fault_holds words position table_fault.FarChick named holds = (position, named, (table, file, holds))
   line_fault_holds words position table_fault.OtherSet named holds = (position, named, (table, file, holds))
   line_fault_holds words position (table_fault.Inconsistent class) named holds = (position, named, (table, file, holds.1))
   line_fault_holds words position table_fault.Memory named holds = (position, named, tt)
 
   pub choice_fault_holds : (words : List ℕ) (position : Setup) (fault : probing.Fault) → IsTextOf words position →
       IsFaultOfMoves table position fault → IsPositionFault Has words (Table fault)
+  choice_fault_holds words position table_fault.FarChick named holds = (position, named, (table, file, holds))
   choice_fault_holds words position table_fault.OtherSet named holds = (position, named, (table, file, holds))
   choice_fault_holds words position (table_fault.Inconsistent class) named holds = absurd holds
   choice_fault_holds words position table_fault.Memory named holds = (position, named, tt)
+
+  -- a position that the table refuses
+  pub refusal_probes : (position : Setup) (fault : probing.Fault) → IsRefusal table.family position fault → IsProbingFault Has position (Table fault)
+  refusal_probes position table_fault.FarChick refused = (table, file, refused)
+  refusal_probes position table_fault.OtherSet refused = (table, file, refused)
+  refusal_probes position (table_fault.Inconsistent class) refused = absurd refused
+  refusal_probes position table_fault.Memory refused = tt
+
+  pub refusal_holds : (words : List ℕ) (position : Setup) (fault : probing.Fault) → IsTextOf words position
+      → IsRefusal table.family position fault → IsPositionFault Has words (Table fault)
+  refusal_holds words position fault named refused = (position, named, refusal_probes position fault refused)
 
 -- where a file that a shelf has isn't opened for lack of memory alone, it isn't there where the cause is another one
 pub is_shut : (Has : List ℕ → Type 0) → ((bytes : List ℕ) → Has bytes → shelf_fault.Failed ≡ shelf_fault.Memory) → IsShut Has
@@ -53,39 +71,49 @@ opening_fault_holds Has words position (File fault) named holds = (position, nam
 opening_fault_holds Has words position Io named holds = (position, named, holds)
 opening_fault_holds Has words position (Text fault) named holds = absurd holds
 opening_fault_holds Has words position SetText named holds = absurd holds
-opening_fault_holds Has words position SetTooLarge named holds = absurd holds
 opening_fault_holds Has words position TooDeep named holds = absurd holds
+opening_fault_holds Has words position PuzzlePlies named holds = absurd holds
 opening_fault_holds Has words position (Run fault) named holds = absurd holds
 opening_fault_holds Has words position (Table fault) named holds = absurd holds
 opening_fault_holds Has words position Memory named holds = tt
 
--- by the file of a value table the line tells the value that the position has by definition
-line_right : (Has : List ℕ → Type 0) (words lines : List ℕ) → HasValueFile Has → IsProbeLine Has words lines → IsValueLineOf words lines
-line_right Has words lines file told =
-    let same : file.0 ≡ told.table = same_files file.0 told.table file.1.table told.file.whole (told.file.same _ file.2) in
-    let right : IsValueTable told.table.set told.table.values = subst (λ (t : ClassTable). IsValueTable t.set t.values) same file.1 in (
-      told.value,
-      record {
-        position = told.position;
-        legal = told.named.0;
-        spelled = told.named.1;
-        right = right.values_are told.position told.value told.given.number.position told.given;
-      },
-      told.same,
-    )
+module _ (Has : List ℕ → Type 0) (profile : Profile) (file : HasValueFile Has profile) where
+  -- the table that was read is the value table
+  right_table : (table : ClassTable) → IsFileOf Has table → IsValueTable table.family table.values × (table.family.profile ≡ profile)
+  right_table table is =
+      let same : file.table ≡ table =
+      same_files file.bytes file.table table file.right.table is.whole file.file (is.same file.bytes file.has) in (
+        subst (λ (t : ClassTable). IsValueTable t.family t.values) same file.right,
+        subst (λ (t : ClassTable). t.family.profile ≡ profile) same file.rules,
+      )
 
--- and the moves have the values told by definition
-choices_right : (Has : List ℕ → Type 0) (words lines : List ℕ) → HasValueFile Has → AreChoiceLines Has words lines → AreRightChoiceLines words lines
-choices_right Has words lines file told =
-    let same : file.0 ≡ told.table = same_files file.0 told.table file.1.table told.file.whole (told.file.same _ file.2) in
-    let right : IsValueTable told.table.set told.table.values = subst (λ (t : ClassTable). IsValueTable t.set t.values) same file.1 in
-    record {
-      position = told.position;
-      named = told.named;
-      choices = told.choices;
-      valued = valued_rightly told.table right told.position told.member told.choices told.valued;
-      same = told.same;
-    }
+  -- so the line tells the value that the position has by definition
+  line_right : (words lines : List ℕ) → IsProbeLine Has words lines → IsValueLineOf profile words lines
+  line_right words lines told =
+      let is = right_table told.table told.file in (
+        told.value,
+        record {
+          position = told.position;
+          legal = told.named.0;
+          allowed = subst (λ (p : Profile). IsAllowed p told.position) is.1 told.given.number.position.allowed;
+          spelled = told.named.1;
+          right = subst (λ (p : Profile). HasValue p told.position told.value) is.1
+              (is.0.values_are told.position told.value told.given.number.position told.given);
+        },
+        told.same,
+      )
+
+  -- and the moves have the values told by definition
+  choices_right : (words lines : List ℕ) → AreChoiceLines Has words lines → AreRightChoiceLines profile words lines
+  choices_right words lines told =
+      let is = right_table told.table told.file in record {
+        position = told.position;
+        named = told.named;
+        choices = told.choices;
+        valued = subst (λ (p : Profile). AreValuedMoves p (HasValue p) told.position told.choices) is.1
+            (valued_rightly told.table is.0 told.position told.member told.choices told.valued);
+        same = told.same;
+      }
 
 -- where lines of one kind are of another one
 pub answers_weaker : (A B : List ℕ → Type 0) (Holds : Fault → Type 0) (e : Ending) → ((lines : List ℕ) → A lines → B lines)
@@ -96,18 +124,18 @@ answers_weaker A B Holds e weaker (inr (inl t)) = inr (inl t)
 answers_weaker A B Holds e weaker (inr (inr t)) =
     inr (inr (record { lines = t.lines; right = weaker t.lines t.right; part = t.part; told = t.told }))
 
-pub probe_right : (c : ShelfChange) (file words : List ℕ) (e : Ending) → HasValueFile (c.before.has file) → AnswersProbe c file words e
-    → AnswersProbeRight c file words e
-probe_right c file words e right =
+pub probe_right : (c : ShelfChange) (profile : Profile) (file words : List ℕ) (e : Ending) → HasValueFile (c.before.has file) profile
+    → AnswersProbe c file words e → AnswersProbeRight c profile file words e
+probe_right c profile file words e right =
     answers_weaker (λ lines. IsProbeLine (c.before.has file) words lines × FailsWhere c false)
-    (λ lines. IsValueLineOf words lines × FailsWhere c false)
+    (λ lines. IsValueLineOf profile words lines × FailsWhere c false)
     (λ fault. IsPositionFault (c.before.has file) words fault × FailsWhere c (is_io fault)) e
-    (λ lines told. (line_right (c.before.has file) words lines right told.0, told.1))
+    (λ lines told. (line_right (c.before.has file) profile right words lines told.0, told.1))
 
-pub moves_right : (c : ShelfChange) (file words : List ℕ) (e : Ending) → HasValueFile (c.before.has file) → AnswersMoves c file words e
-    → AnswersMovesRight c file words e
-moves_right c file words e right =
+pub moves_right : (c : ShelfChange) (profile : Profile) (file words : List ℕ) (e : Ending) → HasValueFile (c.before.has file) profile
+    → AnswersMoves c file words e → AnswersMovesRight c profile file words e
+moves_right c profile file words e right =
     answers_weaker (λ lines. AreChoiceLines (c.before.has file) words lines × FailsWhere c false)
-    (λ lines. AreRightChoiceLines words lines × FailsWhere c false)
+    (λ lines. AreRightChoiceLines profile words lines × FailsWhere c false)
     (λ fault. IsPositionFault (c.before.has file) words fault × FailsWhere c (is_io fault)) e
-    (λ lines told. (choices_right (c.before.has file) words lines right told.0, told.1))
+    (λ lines told. (choices_right (c.before.has file) profile right words lines told.0, told.1))

@@ -13,21 +13,25 @@ use Rattle.clap.specs.Values.{reading_of}
 use Rattle.clap.specs.ValueTests.{accepts}
 use Rattle.clap.specs.declared.builder.value_parser.Reading.{Reading}
 use Rattle.clap.specs.declared.builder.value_parser.Reading.TheVariants.{AsWritten}
-use Rattle.clap.specs.declared.builder.value_parser.ValueParser.TheVariants.{String, Unsigned}
+use Rattle.clap.specs.declared.builder.value_parser.ValueParser.TheVariants.{Names, String, Unsigned}
 use Rattle.clap.specs.Walk.{Row, Rule, at_row, first_of, has_row, more_values, used, with_default, with_values, without}
 use Rattle.clap.specs.Simple.{filled}
 use Rattle.clap.specs.Takes.{is_given}
 use Rattle.clap.specs.Kinds.{Kinds, or_else, value_kinds}
 use Rattle.clap.specs.Faults.{default_fault, defaults_fault, use_fault}
+use Rattle.clap.specs.declared.error.kind.ErrorKind.{ErrorKind}
 use Rattle.clap.specs.declared.error.kind.ErrorKind.TheVariants as kind
+use Rattle.clap.specs.declared.builder.value_parser.ValueParser.{ValueParser}
+use Rattle.std.specs.Borrow.{Bor}
 use Rattle.clap.specs.declared.parser.matches.ValueSource.TheVariants.{CommandLine}
-use Rattle.dob_cli.specs.Words.{Given, Text, fits, is_number, number_of, text_of, texts_of}
+use Rattle.dob_cli.specs.Words.{Given, Text, fits, is_number, is_profile, number_of, text_of, texts_of}
 use Rattle.dob_cli.specs.Forms.{Form, is_among, is_needed, plain_form}
-use Rattle.dob_cli.specs.Shapes.{flag_rule, text_rule}
+use Rattle.dob_cli.specs.Shapes.{AreProfiles, ProfileNames, flag_rule, no_names, text_rule}
+use Rattle.dob_cli.proofs.Turns.{is_usage}
 
 -- the argument of a text, built: an option's by its name, another by its place
-abbrev pub text_arg : Form → Option Text → Option ℕ → Text → Rule
-text_arg f long index label = record (filled (text_rule f label)) { long = long; index = index }
+abbrev pub text_arg : ProfileNames → Form → Option Text → Option ℕ → Text → Rule
+text_arg profiles f long index label = record (filled (text_rule profiles f label)) { long = long; index = index }
 
 -- a flag, built
 abbrev pub flag_arg : Text → Rule
@@ -115,16 +119,22 @@ at_row_fresh id change missing (r ∷ rs) e = go (bytes_eq r.id id) e (at_row_fr
     go true e rec = absurd (true≢false e)
     go false e rec = ap (λ xs. r ∷ xs) (rec e)
 
--- a number's text is read as it is written, as any other
-as_written : (is_one : Bool) → reading_of (parser_of_value (Some (unwrap_or (cond is_one (Some (Unsigned 0 18446744073709551615)) None) String))) ≡ AsWritten
-as_written true = refl
-as_written false = refl
+-- what a text is read as, where it has to be a number, or to name a profile
+abbrev parser_for : ProfileNames → Bool → Bool → ValueParser
+parser_for profiles is_one is_name =
+    parser_of_value (Some (unwrap_or (cond is_one (Some (Unsigned 0 18446744073709551615)) (cond is_name (Some (Names profiles)) None)) String))
 
-pub used_fresh : (f : Form) (long : Option Text) (index : Option ℕ) (label t : Text) (given : Given) → text_of label given ≡ None
-    → used (text_arg f long index label) (t ∷ []) (rows_of given) ≡ rows_of (given ++ (label, t) ∷ [])
-used_fresh f long index label t given fresh =
+-- each is read as it is written
+as_written : (profiles : ProfileNames) (is_one is_name : Bool) → reading_of (parser_for profiles is_one is_name) ≡ AsWritten
+as_written profiles true is_name = refl
+as_written profiles false true = refl
+as_written profiles false false = refl
+
+pub used_fresh : (profiles : ProfileNames) (f : Form) (long : Option Text) (index : Option ℕ) (label t : Text) (given : Given) → text_of label given ≡ None
+    → used (text_arg profiles f long index label) (t ∷ []) (rows_of given) ≡ rows_of (given ++ (label, t) ∷ [])
+used_fresh profiles f long index label t given fresh =
     let none : has_row label (rows_of given) ≡ false = has_found label given ∙ ap is_some fresh in
-    ap (λ (how : Reading). with_values label how CommandLine (t ∷ []) (without label (rows_of given))) (as_written (is_among f.numbers label))
+    ap (λ (how : Reading). with_values label how CommandLine (t ∷ []) (without label (rows_of given))) (as_written profiles (is_among f.numbers label) (is_among f.profiles label))
     ∙ ap (at_row label (more_values CommandLine (t ∷ [])) (row_of (label, t) ∷ []))
     (at_row_fresh label (λ _. []) [] (rows_of given) none ∙ append-nil (rows_of given))
     ∙ (at_row_fresh label (more_values CommandLine (t ∷ [])) (row_of (label, t) ∷ []) (rows_of given) none ∙ sym (map-append row_of given ((label, t) ∷ [])))
@@ -144,17 +154,38 @@ taken_number t = go (nat_lt 0 (length digits) && list_all (λ d. nat_lt (digit_v
         let below = ltb-true (number_of t) (2 ^ 64) e in
         rw (le-leb 0 (number_of t) (omega arith), le-leb (number_of t) 18446744073709551615 (omega (arith, below))) refl
 
+-- and just the names of profiles
+any_name : (names : List (Bor Text)) (t : Text) → list_any (λ name. bytes_eq name.now t) names ≡ is_among (map (λ name. name.now) names) t
+any_name [] t = refl
+any_name (name ∷ names) t = ap (λ (b : Bool). bytes_eq name.now t || b) (any_name names t)
+
+taken_profile : (profiles : ProfileNames) → AreProfiles profiles → (t : Text) → accepts false (Names profiles) t ≡ is_profile t
+taken_profile profiles are t = any_name profiles.now t ∙ ap (λ (names : List Text). is_among names t) are
+
 -- the kinds of error of one text of a label
-abbrev text_kinds : Bool → Text → Kinds
-text_kinds is_one t = value_kinds false (parser_of_value (Some (unwrap_or (cond is_one (Some (Unsigned 0 18446744073709551615)) None) String))) t
+abbrev text_kinds : ProfileNames → Bool → Bool → Text → Kinds
+text_kinds profiles is_one is_name t = value_kinds false (parser_for profiles is_one is_name) t
 
-fit_kinds : (is_one : Bool) (t : Text) → (not is_one || is_number t) ≡ true → text_kinds is_one t ≡ []
-fit_kinds false t e = refl
-fit_kinds true t e = rw (taken_number t, e) refl
+fit_kinds : (profiles : ProfileNames) → AreProfiles profiles → (is_one is_name : Bool) (t : Text)
+    → cond is_one (is_number t) (cond is_name (is_profile t) true) ≡ true → text_kinds profiles is_one is_name t ≡ []
+fit_kinds profiles are false false t e = refl
+fit_kinds profiles are false true t e = rw (taken_profile profiles are t, e) refl
+fit_kinds profiles are true is_name t e = rw (taken_number t, e) refl
 
-misfit_kinds : (is_one : Bool) (t : Text) → (not is_one || is_number t) ≡ false → text_kinds is_one t ≡ kind.ValueValidation ∷ []
-misfit_kinds false t e = absurd (true≢false e)
-misfit_kinds true t e = rw (taken_number t, e) refl
+-- what is told of a text that isn't what it has to be
+abbrev pub misfit_kind : Bool → ErrorKind
+misfit_kind true = kind.ValueValidation
+misfit_kind false = kind.InvalidValue
+
+pub misfit_usage : (is_one : Bool) → is_usage (misfit_kind is_one ∷ []) ≡ true
+misfit_usage true = refl
+misfit_usage false = refl
+
+misfit_kinds : (profiles : ProfileNames) → AreProfiles profiles → (is_one is_name : Bool) (t : Text)
+    → cond is_one (is_number t) (cond is_name (is_profile t) true) ≡ false → text_kinds profiles is_one is_name t ≡ misfit_kind is_one ∷ []
+misfit_kinds profiles are false false t e = absurd (true≢false e)
+misfit_kinds profiles are false true t e = rw (taken_profile profiles are t, e) refl
+misfit_kinds profiles are true is_name t e = rw (taken_number t, e) refl
 
 -- a text that is kept is the first of its label, and what it has to be
 pub kept_both : (before : Option Text) (fit : Bool) → (is_some before || not fit) ≡ false → (before ≡ None) × (fit ≡ true)
@@ -162,30 +193,32 @@ kept_both None true e = (refl, refl)
 kept_both None false e = absurd (true≢false e)
 kept_both (Some t) fit e = absurd (true≢false e)
 
-module _ (f : Form) (long : Option Text) (index : Option ℕ) (label : Text) where
-  pub use_passes : (t : Text) (given : Given) → text_of label given ≡ None → fits f.numbers label t ≡ true
-      → use_fault false (text_arg f long index label) (t ∷ []) (rows_of given) ≡ []
-  use_passes t given fresh fit = rw (has_found label given, fresh, fit_kinds (is_among f.numbers label) t fit) refl
+module _ (profiles : ProfileNames) (are : AreProfiles profiles) (f : Form) (long : Option Text) (index : Option ℕ) (label : Text) where
+  pub use_passes : (t : Text) (given : Given) → text_of label given ≡ None → fits f label t ≡ true
+      → use_fault false (text_arg profiles f long index label) (t ∷ []) (rows_of given) ≡ []
+  use_passes t given fresh fit =
+      rw (has_found label given, fresh, fit_kinds profiles are (is_among f.numbers label) (is_among f.profiles label) t fit) refl
 
-  -- a text that isn't a number, and has to be, is refused
-  pub use_misfit : (t : Text) (given : Given) → text_of label given ≡ None → fits f.numbers label t ≡ false
-      → use_fault false (text_arg f long index label) (t ∷ []) (rows_of given) ≡ kind.ValueValidation ∷ []
-  use_misfit t given fresh misfit = rw (has_found label given, fresh, misfit_kinds (is_among f.numbers label) t misfit) refl
+  -- a text that isn't what it has to be is refused
+  pub use_misfit : (t : Text) (given : Given) → text_of label given ≡ None → fits f label t ≡ false
+      → use_fault false (text_arg profiles f long index label) (t ∷ []) (rows_of given) ≡ misfit_kind (is_among f.numbers label) ∷ []
+  use_misfit t given fresh misfit =
+      rw (has_found label given, fresh, misfit_kinds profiles are (is_among f.numbers label) (is_among f.profiles label) t misfit) refl
 
   -- a second text of one label is refused
   pub use_twice : (t u : Text) (given : Given) → text_of label given ≡ Some u
-      → use_fault false (text_arg f long index label) (t ∷ []) (rows_of given) ≡ kind.ArgumentConflict ∷ []
+      → use_fault false (text_arg profiles f long index label) (t ∷ []) (rows_of given) ≡ kind.ArgumentConflict ∷ []
   use_twice t u given there = rw (has_found label given, there) refl
 
   -- and so is none
-  pub use_none : (rows : List Row) → use_fault false (text_arg f long index label) [] rows ≡ kind.InvalidValue ∷ []
+  pub use_none : (rows : List Row) → use_fault false (text_arg profiles f long index label) [] rows ≡ kind.InvalidValue ∷ []
   use_none rows = refl
 
 -- ---- one more flag
 
 -- a flag's row is that of the empty text
 pub flagged_fresh : (name : Text) (given : Given) → text_of name given ≡ None → used (flag_arg name) [] (rows_of given) ≡ rows_of (given ++ (name, []) ∷ [])
-flagged_fresh name given fresh = used_fresh (plain_form [] [] []) None None name [] given fresh
+flagged_fresh name given fresh = used_fresh no_names (plain_form [] [] []) None None name [] given fresh
 
 pub flag_passes : (name : Text) (given : Given) → text_of name given ≡ None → use_fault false (flag_arg name) [] (rows_of given) ≡ []
 flag_passes name given fresh = rw (has_found name given, fresh) refl

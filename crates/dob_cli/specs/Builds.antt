@@ -1,9 +1,10 @@
 -- What the program owes where it is asked to build a database file.
-use Rattle.std.specs.Prelude.{◌≡◌, ◌≢◌, ◌≤◌, ℕ, Bool, true, false, IsTrue, cond, List, [], ◌+◌, ◌++◌, ◌⊎◌, codes, length}
+use Rattle.std.specs.Prelude.{◌≡◌, ◌≢◌, ◌<◌, ◌≤◌, ◌^◌, ℕ, Bool, true, false, IsTrue, List, [], ◌∷◌, ◌++◌, ◌⊎◌, Some, codes, length, slice_get}
 use Rattle.std.specs.List.{count_by}
 use Rattle.dob_pieces.specs.declared.piece_set.PieceSet.{PieceSet}
 use Rattle.dob_pieces.specs.Sets.{set_text}
-use Rattle.dob_rank.specs.Limits.{IsSmall}
+use Rattle.dob_pieces.specs.declared.profile.Profile.{Profile}
+use Rattle.dob_rank.specs.Families.{family_of}
 use Rattle.dob_safra.specs.Laws.{IsSize}
 use Rattle.dob_value.specs.declared.value.Value.{Value}
 use Rattle.dob_value.specs.declared.value.Value.TheVariants.{Win, Loss}
@@ -36,11 +37,14 @@ pub record IsTally (values : List Value) (tally : Tally) : Type 0 where
   pub losses : tally.losses ≡ count_by is_loss values
   pub draws : tally.draws ≡ count_by is_draw values
 
--- the one of the value's kind is one more
-pub record AddsValue (value : Value) (old new : Tally) : Type 0 where
-  pub wins : new.wins ≡ old.wins + cond (is_win value) 1 0
-  pub losses : new.losses ≡ old.losses + cond (is_loss value) 1 0
-  pub draws : new.draws ≡ old.draws + cond (is_draw value) 1 0
+-- the tally of the one value that stands at a place
+abbrev pub IsTallyAt : List Value → ℕ → Tally → Type 0
+IsTallyAt values place tally = (value : Value) × (slice_get values place ≡ Some value) × IsTally (value ∷ []) tally
+
+-- two tallies added up: of values that one half has and those that the other half has, as many as a length can tell, the tally of all
+abbrev pub AreAddedUp : Tally → Tally → Tally → Type 0
+AreAddedUp left right both =
+    (values more : List Value) → length (values ++ more) < 2 ^ 64 → IsTally values left → IsTally more right → IsTally (values ++ more) both
 
 -- the four lines that tell how many classes there are, and how many of them have which value
 abbrev pub class_lines : List Value → List ℕ
@@ -50,19 +54,19 @@ class_lines values =
     ++ (count_line (codes "loss ") (count_by is_loss values)
     ++ count_line (codes "draw ") (count_by is_draw values)))
 
--- So many nodes may build the table: it is the value table of the piece set that the text names, a small one, and there are 1
--- to 16 nodes.
-pub record IsTableFor (text : List ℕ) (nodes : ℕ) (table : ClassTable) : Type 0 where
-  pub named : text ≡ set_text table.set
-  pub small : IsSmall table.set
+-- So many nodes may build the table: it is the value table by the rules of the profile of the piece set that the text names, and
+-- there are 1 to 16 nodes.
+pub record IsTableFor (profile : Profile) (text : List ℕ) (nodes : ℕ) (table : ClassTable) : Type 0 where
+  pub named : text ≡ set_text table.family.set
+  pub rules : table.family.profile ≡ profile
   pub few : IsSize nodes
-  pub right : IsValueTable table.set table.values
+  pub right : IsValueTable table.family table.values
 
 -- The lines tell of the value table of the text's piece set, and under the name the shelf has just its file, where it tells
 -- its bytes.
-pub record AreBuildLines (c : ShelfChange) (text : List ℕ) (nodes : ℕ) (file lines : List ℕ) : Type 0 where
+pub record AreBuildLines (c : ShelfChange) (profile : Profile) (text : List ℕ) (nodes : ℕ) (file lines : List ℕ) : Type 0 where
   pub table : ClassTable
-  pub built : IsTableFor text nodes table
+  pub built : IsTableFor profile text nodes table
   pub kept : IsTrue c.before.tells → HasJust file (bytes_of table) c.after.has
   pub same : lines ≡ class_lines table.values
 
@@ -81,19 +85,20 @@ IsKeepingFault c file table (File (file_fault.Io count)) =
 IsKeepingFault c file table _ = ⊥
 
 -- The fault of building, by its moment. While each file has what it had: no set has the text; or the run by so many nodes,
--- with batches of 256 and channels of 64, was refused or stopped, no node of it held back by a gate; or memory was refused,
+-- with batches of 256 and inboxes of 64, was refused or stopped, no node of it held back by a gate; or memory was refused,
 -- for the words, for the lines or for making the file. Then the table is there, and keeping its file failed.
-abbrev pub IsBuildFault : ShelfChange → List ℕ → ℕ → List ℕ → Fault → Type 0
-IsBuildFault c text nodes file SetText = ((set : PieceSet) → text ≢ set_text set) × SameFiles c.before.has c.after.has
-IsBuildFault c text nodes file (Run fault) =
-    (set : PieceSet) × (text ≡ set_text set) × HasBuildFault set nodes 256 64 fault × IsUnheld fault × SameFiles c.before.has c.after.has
-IsBuildFault c text nodes file Memory = SameFiles c.before.has c.after.has
-IsBuildFault c text nodes file Io = (table : ClassTable) × IsTableFor text nodes table × IsKeepingFault c file table Io
-IsBuildFault c text nodes file (File fault) =
-    (table : ClassTable) × IsTableFor text nodes table × IsKeepingFault c file table (File fault)
-IsBuildFault c text nodes file _ = ⊥
+abbrev pub IsBuildFault : ShelfChange → Profile → List ℕ → ℕ → List ℕ → Fault → Type 0
+IsBuildFault c profile text nodes file SetText = ((set : PieceSet) → text ≢ set_text set) × SameFiles c.before.has c.after.has
+IsBuildFault c profile text nodes file (Run fault) =
+    (set : PieceSet) × (text ≡ set_text set) × HasBuildFault nodes 256 64 fault × IsUnheld fault
+    × SameFiles c.before.has c.after.has
+IsBuildFault c profile text nodes file Memory = SameFiles c.before.has c.after.has
+IsBuildFault c profile text nodes file Io = (table : ClassTable) × IsTableFor profile text nodes table × IsKeepingFault c file table Io
+IsBuildFault c profile text nodes file (File fault) =
+    (table : ClassTable) × IsTableFor profile text nodes table × IsKeepingFault c file table (File fault)
+IsBuildFault c profile text nodes file _ = ⊥
 
--- What the program does where it is asked for a file of the table of the piece set that a text names, built by so many nodes.
--- Where standard output fails it does so in lines that are right, and so the file is whole.
-abbrev pub AnswersBuild : ShelfChange → List ℕ → ℕ → List ℕ → Ending → Type 0
-AnswersBuild c text nodes file = AnswersOver c (AreBuildLines c text nodes file) (IsBuildFault c text nodes file)
+-- What the program does where it is asked for a file of the table of the piece set that a text names, by the rules of a profile, built by
+-- so many nodes. Where standard output fails it does so in lines that are right, and so the file is whole.
+abbrev pub AnswersBuild : ShelfChange → Profile → List ℕ → ℕ → List ℕ → Ending → Type 0
+AnswersBuild c profile text nodes file = AnswersOver c (AreBuildLines c profile text nodes file) (IsBuildFault c profile text nodes file)

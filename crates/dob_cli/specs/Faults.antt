@@ -5,8 +5,6 @@ use Rattle.dob_text.specs.Faults as position
 use Rattle.dob_value.specs.Faults as value_texts
 use Rattle.dob_value.specs.declared.fault.Fault as value
 use Rattle.dob_value.specs.declared.fault.Fault.TheVariants as value_fault
-use Rattle.dob_rank.specs.Faults as rank_texts
-use Rattle.dob_rank.specs.declared.fault.Fault.TheVariants as rank_fault
 use Rattle.dob_dbfile.specs.FaultTexts as file
 use Rattle.dob_dbfile.specs.Faults as reading
 use Rattle.dob_dbfile.specs.declared.fault.Fault.TheVariants as file_fault
@@ -18,16 +16,16 @@ use Rattle.dob_pieces.specs.Bytes.{line_feed}
 use Rattle.dob_cli.specs.declared.shelf.ShelfFault as shelf
 use Rattle.dob_cli.specs.declared.shelf.ShelfFault.TheVariants as shelf_fault
 use Rattle.dob_cli.specs.declared.fault.Fault.{Fault}
-use Rattle.dob_cli.specs.declared.fault.Fault.TheVariants.{Text, SetText, SetTooLarge, TooDeep, Run, File, Table, Memory, Io}
+use Rattle.dob_cli.specs.declared.fault.Fault.TheVariants.{Text, SetText, TooDeep, Run, File, Table, PuzzlePlies, Memory, Io}
 
 abbrev pub fault_text : Fault → List ℕ
 fault_text (Text fault) = position.fault_text fault
 fault_text SetText = set_fault_text
-fault_text SetTooLarge = rank_texts.fault_text rank_fault.SetTooLarge
 fault_text TooDeep = value_texts.fault_text value_fault.TooDeep
 fault_text (Run fault) = run.fault_text fault
 fault_text (File fault) = file.fault_text fault
 fault_text (Table fault) = table.fault_text fault
+fault_text PuzzlePlies = codes "--plies is an odd number of at least 3"
 fault_text Memory = memory_text
 fault_text Io = file.fault_text (file_fault.Io 0)
 
@@ -45,11 +43,10 @@ abbrev pub is_io_error : {X : Type 0} → Result X Fault → Bool
 is_io_error (Ok x) = false
 is_io_error (Err fault) = is_io fault
 
--- 1 where what was asked is refused, 3 where the program failed
+-- 1 where what was asked is refused, 2 where the words make no sense, 3 where the program failed
 abbrev pub status_of : Fault → ℕ
 status_of (Text _) = 1
 status_of SetText = 1
-status_of SetTooLarge = 1
 status_of TooDeep = 3
 status_of (Run (run_fault.Stopped node why)) = 3
 status_of (Run run_fault.Memory) = 3
@@ -59,12 +56,12 @@ status_of (File (file_fault.Io _)) = 3
 status_of (File _) = 1
 status_of (Table table_fault.Memory) = 3
 status_of (Table _) = 1
+status_of PuzzlePlies = 2
 status_of Memory = 3
 status_of Io = 3
 
 -- a fault of finding a value
 abbrev pub fault_of_value : value.Fault → Fault
-fault_of_value value_fault.SetTooLarge = SetTooLarge
 fault_of_value value_fault.TooDeep = TooDeep
 fault_of_value value_fault.Memory = Memory
 

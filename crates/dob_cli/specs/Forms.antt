@@ -18,6 +18,8 @@ pub record Form : Type 0 where
   pub positions : List Text
   -- what those of its texts are called that are numbers
   pub numbers : List Text
+  -- what those of its texts are called that name a profile of the rules
+  pub profiles : List Text
   -- what those of its texts are called that may be left out
   pub optional : List Text
 
@@ -33,7 +35,7 @@ is_among labels label = list_any (λ l. bytes_eq l label) labels
 abbrev pub is_needed : Form → Text → Bool
 is_needed form label = not (is_among (form.optional ++ form.flags) label)
 
--- a subcommand of which no text may be left out, and none is a number
+-- a subcommand of which no text may be left out, and none is a number or names a profile
 abbrev pub plain_form : Text → List (Text × Text) → List Text → Form
 plain_form name options positions = record {
   name = name;
@@ -41,20 +43,29 @@ plain_form name options positions = record {
   flags = [];
   positions = positions;
   numbers = [];
+  profiles = [];
   optional = [];
 }
 
--- `value POSITION`
+-- the option `--rules PROFILE`
+abbrev pub rules_option : Text × Text
+rules_option = (codes "rules", codes "PROFILE")
+
+-- a form that has this option, which may be left out
+abbrev pub with_rules : Form → Form
+with_rules form = record form { profiles = codes "PROFILE" ∷ []; optional = codes "PROFILE" ∷ [] }
+
+-- `value [--rules PROFILE] POSITION`
 abbrev pub value_form : Form
-value_form = plain_form (codes "value") [] (codes "POSITION" ∷ [])
+value_form = with_rules (plain_form (codes "value") (rules_option ∷ []) (codes "POSITION" ∷ []))
 
 -- the option `--set CEG`
 abbrev pub set_option : Text × Text
 set_option = (codes "set", codes "CEG")
 
--- `count --set CEG`
+-- `count --set CEG [--rules PROFILE]`
 abbrev pub count_form : Form
-count_form = plain_form (codes "count") (set_option ∷ []) []
+count_form = with_rules (plain_form (codes "count") (set_option ∷ rules_option ∷ []) [])
 
 -- the option `--db FILE`
 abbrev pub file_option : Text × Text
@@ -98,6 +109,17 @@ check_form = plain_form (codes "check") (file_option ∷ []) []
 abbrev pub stats_form : Form
 stats_form = plain_form (codes "stats") (file_option ∷ []) []
 
+-- the options `--plies D` and `--count N`
+abbrev pub plies_option : Text × Text
+plies_option = (codes "plies", codes "D")
+
+abbrev pub number_option : Text × Text
+number_option = (codes "count", codes "N")
+
+-- `puzzles --db FILE --plies D --count N`
+abbrev pub puzzles_form : Form
+puzzles_form = record (plain_form (codes "puzzles") (file_option ∷ plies_option ∷ number_option ∷ []) []) { numbers = codes "D" ∷ codes "N" ∷ [] }
+
 -- the options `--nodes N` and `--out FILE`
 abbrev pub nodes_option : Text × Text
 nodes_option = (codes "nodes", codes "N")
@@ -105,10 +127,19 @@ nodes_option = (codes "nodes", codes "N")
 abbrev pub out_option : Text × Text
 out_option = (codes "out", codes "FILE")
 
--- `build --set CEG --nodes N --out FILE`
+-- `build --set CEG --nodes N --out FILE [--rules PROFILE]`
 abbrev pub build_form : Form
-build_form = record (plain_form (codes "build") (set_option ∷ nodes_option ∷ out_option ∷ []) []) { numbers = codes "N" ∷ [] }
+build_form = record (with_rules (plain_form (codes "build") (set_option ∷ nodes_option ∷ out_option ∷ rules_option ∷ []) [])) { numbers = codes "N" ∷ [] }
+
+-- the option `--out OUT`, beside one whose text is called FILE
+abbrev pub new_file_option : Text × Text
+new_file_option = (codes "out", codes "OUT")
+
+-- `migrate --db FILE --out OUT`
+abbrev pub migrate_form : Form
+migrate_form = plain_form (codes "migrate") (file_option ∷ new_file_option ∷ []) []
 
 -- the subcommands, in the order of the help
 abbrev pub forms : List Form
-forms = value_form ∷ count_form ∷ build_form ∷ probe_form ∷ line_form ∷ check_form ∷ look_form ∷ show_form ∷ moves_form ∷ stats_form ∷ []
+forms = value_form ∷ count_form ∷ build_form ∷ probe_form ∷ line_form ∷ check_form ∷ look_form ∷ show_form ∷ moves_form ∷ stats_form
+    ∷ puzzles_form ∷ migrate_form ∷ []

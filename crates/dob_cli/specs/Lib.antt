@@ -13,7 +13,9 @@ pub mod Shows
 pub mod Choices
 pub mod Sizes
 pub mod Builds
+pub mod Migrations
 pub mod Stats
+pub mod Puzzles
 pub mod Orders
 pub mod Runs
 pub mod Laws

@@ -28,13 +28,13 @@ pub data Gives (form : Form) : List Text → List Text → Given → Type 0 wher
   -- `--`
   by_dashes : (left words : List Text) (given : Given) → Behind left words given → Gives form left (codes "--" ∷ words) given
 
--- no label is one of those before, nor of those that stand before it, and each text that has to be a number is one
+-- no label is one of those before, nor of those that stand before it, and each text is a number, or names a profile, that has to
 abbrev pub AreNew : Form → Given → Given → Type 0
 AreNew form before [] = Unit {0}
-AreNew form before (g ∷ more) = (text_of g.0 before ≡ None) × (fits form.numbers g.0 g.1 ≡ true) × AreNew form (before ++ g ∷ []) more
+AreNew form before (g ∷ more) = (text_of g.0 before ≡ None) × (fits form g.0 g.1 ≡ true) × AreNew form (before ++ g ∷ []) more
 
 -- The words are the subcommand's name, and then each of these texts once, in any order of its options, its flags and its places.
-pub record IsLine (form : Form) (words : List Text) (texts : List (Option Text)) : Type 0 where
+pub record IsCommandLine (form : Form) (words : List Text) (texts : List (Option Text)) : Type 0 where
   pub rest : List Text
   pub given : Given
   pub named : words ≡ form.name ∷ rest

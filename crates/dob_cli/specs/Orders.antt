@@ -2,7 +2,7 @@
 use Rattle.std.specs.Prelude.{ℕ, List}
 use Rattle.dob_cli.specs.declared.fault.Fault.{Fault}
 use Rattle.dob_cli.specs.declared.command.Order.{Order}
-use Rattle.dob_cli.specs.declared.command.Order.TheVariants.{Value, Count, Build, Probe, Line, Check, Look, Show, Moves, Stats}
+use Rattle.dob_cli.specs.declared.command.Order.TheVariants.{Value, Count, Build, Probe, Line, Check, Look, Show, Moves, Stats, Puzzles, Migrate}
 use Rattle.dob_cli.specs.Endings.{AnswersOver, Ending}
 use Rattle.dob_cli.specs.Shelves.{SameFiles, SameOthers, ShelfChange}
 use Rattle.dob_cli.specs.Program.{IsFaultOf, IsValueLineOf}
@@ -10,6 +10,8 @@ use Rattle.dob_cli.specs.Sizes.{AreCountLinesOf, IsCountFaultOf}
 use Rattle.dob_cli.specs.Builds.{AreBuildLines, IsBuildFault}
 use Rattle.dob_cli.specs.Looks.{IsLookFault, IsLookLine}
 use Rattle.dob_cli.specs.Choices.{AreChoiceLines}
+use Rattle.dob_cli.specs.Migrations.{AreMigrateLines, IsMigrateFault}
+use Rattle.dob_cli.specs.Puzzles.{ArePuzzleLines, IsPuzzlesFault}
 use Rattle.dob_cli.specs.Readings.{text_given}
 use Rattle.dob_cli.specs.Shows.{AreShowLines, IsShowFault, KeepsButPicture}
 use Rattle.dob_cli.specs.Stats.{AreStatsLines, IsStatsFault}
@@ -17,9 +19,9 @@ use Rattle.dob_cli.specs.Tables.{IsCheckFault, IsCheckLine, AreMovesLines, IsPos
 
 -- the lines are right for the order, over a shelf that changes so
 abbrev pub AreLinesFor : ShelfChange → Order → List ℕ → Type 0
-AreLinesFor c (Value position) = IsValueLineOf position.now
-AreLinesFor c (Count set) = AreCountLinesOf set.now
-AreLinesFor c (Build set nodes file) = AreBuildLines c set.now nodes file.now
+AreLinesFor c (Value profile position) = IsValueLineOf profile position.now
+AreLinesFor c (Count profile set) = AreCountLinesOf profile set.now
+AreLinesFor c (Build profile set nodes file) = AreBuildLines c profile set.now nodes file.now
 AreLinesFor c (Probe file position) = IsProbeLine (c.before.has file.now) position.now
 AreLinesFor c (Line file is_numbered position) = AreMovesLines (c.before.has file.now) is_numbered position.now
 AreLinesFor c (Check file) = IsCheckLine (c.before.has file.now)
@@ -27,12 +29,14 @@ AreLinesFor c (Look file position) = IsLookLine (c.before.has file.now) position
 AreLinesFor c (Show file picture position) = AreShowLines c (text_given file) (text_given picture) position.now
 AreLinesFor c (Moves file position) = AreChoiceLines (c.before.has file.now) position.now
 AreLinesFor c (Stats file) = AreStatsLines (c.before.has file.now)
+AreLinesFor c (Puzzles file plies count) = ArePuzzleLines (c.before.has file.now) plies count
+AreLinesFor c (Migrate file out) = AreMigrateLines c file.now out.now
 
 -- the fault holds of the order
 abbrev pub IsFaultFor : ShelfChange → Order → Fault → Type 0
-IsFaultFor c (Value position) = IsFaultOf position.now
-IsFaultFor c (Count set) = IsCountFaultOf set.now
-IsFaultFor c (Build set nodes file) = IsBuildFault c set.now nodes file.now
+IsFaultFor c (Value profile position) = IsFaultOf profile position.now
+IsFaultFor c (Count profile set) = IsCountFaultOf set.now
+IsFaultFor c (Build profile set nodes file) = IsBuildFault c profile set.now nodes file.now
 IsFaultFor c (Probe file position) = IsPositionFault (c.before.has file.now) position.now
 IsFaultFor c (Line file is_numbered position) = IsPositionFault (c.before.has file.now) position.now
 IsFaultFor c (Check file) = IsCheckFault (c.before.has file.now)
@@ -40,10 +44,13 @@ IsFaultFor c (Look file position) = IsLookFault (c.before.has file.now) position
 IsFaultFor c (Show file picture position) = IsShowFault c (text_given file) (text_given picture) position.now
 IsFaultFor c (Moves file position) = IsPositionFault (c.before.has file.now) position.now
 IsFaultFor c (Stats file) = IsStatsFault (c.before.has file.now)
+IsFaultFor c (Puzzles file plies count) = IsPuzzlesFault (c.before.has file.now) plies
+IsFaultFor c (Migrate file out) = IsMigrateFault c file.now out.now
 
 -- the order leaves each file what it had, but for the one that it names to be made
 abbrev pub KeepsFiles : ShelfChange → Order → Type 0
-KeepsFiles c (Build set nodes file) = SameOthers file.now c.before.has c.after.has
+KeepsFiles c (Build profile set nodes file) = SameOthers file.now c.before.has c.after.has
+KeepsFiles c (Migrate file out) = SameOthers out.now c.before.has c.after.has
 KeepsFiles c (Show file picture position) = KeepsButPicture (text_given picture) c.before.has c.after.has
 KeepsFiles c _ = SameFiles c.before.has c.after.has
 

@@ -4,8 +4,8 @@ use Rattle.std.specs.Borrow.{Bor}
 use Rattle.clap.specs.declared.error.kind.ErrorKind.{ErrorKind}
 use Rattle.clap.specs.declared.error.kind.ErrorKind.TheVariants as kind
 use Rattle.dob_cli.specs.Forms.{Form, Text, forms}
-use Rattle.dob_cli.specs.Lines.{IsAmong, IsLine}
-use Rattle.dob_cli.specs.Words.{Meaning, asks, help, is_number, number_of, usage, version}
+use Rattle.dob_cli.specs.Lines.{IsAmong, IsCommandLine}
+use Rattle.dob_cli.specs.Words.{Meaning, asks, help, is_number, number_of, profile_named, usage, version}
 use Rattle.dob_cli.specs.declared.command.Order.{Order}
 use Rattle.dob_cli.specs.declared.command.Order.TheVariants as order
 use Rattle.dob_cli.specs.declared.command.Reading.{Reading}
@@ -13,9 +13,9 @@ use Rattle.dob_cli.specs.declared.command.Reading.TheVariants as reading
 
 -- the subcommand that the order is for
 abbrev pub name_of_order : Order → Text
-name_of_order (order.Value _) = codes "value"
-name_of_order (order.Count _) = codes "count"
-name_of_order (order.Build _ _ _) = codes "build"
+name_of_order (order.Value _ _) = codes "value"
+name_of_order (order.Count _ _) = codes "count"
+name_of_order (order.Build _ _ _ _) = codes "build"
 name_of_order (order.Probe _ _) = codes "probe"
 name_of_order (order.Line _ _ _) = codes "line"
 name_of_order (order.Check _) = codes "check"
@@ -23,6 +23,8 @@ name_of_order (order.Look _ _) = codes "look"
 name_of_order (order.Show _ _ _) = codes "show"
 name_of_order (order.Moves _ _) = codes "moves"
 name_of_order (order.Stats _) = codes "stats"
+name_of_order (order.Puzzles _ _ _) = codes "puzzles"
+name_of_order (order.Migrate _ _) = codes "migrate"
 
 -- the text that may be left out
 abbrev pub text_given : Option (Bor Text) → Option Text
@@ -30,10 +32,13 @@ text_given = option_map (λ t. t.now)
 
 -- it has these texts, in the order of the subcommand's form; of a number the text may be any that tells it
 abbrev pub HasTexts : List (Option Text) → Order → Type 0
-HasTexts texts (order.Value position) = Some position.now ∷ [] ≡ texts
-HasTexts texts (order.Count set) = Some set.now ∷ [] ≡ texts
-HasTexts texts (order.Build set nodes file) =
-    (t : Text) × (Some set.now ∷ Some t ∷ Some file.now ∷ [] ≡ texts) × (is_number t ≡ true) × (nodes ≡ number_of t)
+HasTexts texts (order.Value profile position) =
+    (rules : Option Text) × (rules ∷ Some position.now ∷ [] ≡ texts) × (profile ≡ profile_named rules)
+HasTexts texts (order.Count profile set) =
+    (rules : Option Text) × (Some set.now ∷ rules ∷ [] ≡ texts) × (profile ≡ profile_named rules)
+HasTexts texts (order.Build profile set nodes file) =
+    (t : Text) × (rules : Option Text) × (Some set.now ∷ Some t ∷ Some file.now ∷ rules ∷ [] ≡ texts) × (is_number t ≡ true)
+    × (nodes ≡ number_of t) × (profile ≡ profile_named rules)
 HasTexts texts (order.Probe file position) = Some file.now ∷ Some position.now ∷ [] ≡ texts
 HasTexts texts (order.Line file is_numbered position) =
     (flag : Option Text) × (Some file.now ∷ flag ∷ Some position.now ∷ [] ≡ texts) × (is_numbered ≡ is_some flag)
@@ -42,6 +47,10 @@ HasTexts texts (order.Look file position) = Some file.now ∷ Some position.now 
 HasTexts texts (order.Show file picture position) = text_given file ∷ text_given picture ∷ Some position.now ∷ [] ≡ texts
 HasTexts texts (order.Moves file position) = Some file.now ∷ Some position.now ∷ [] ≡ texts
 HasTexts texts (order.Stats file) = Some file.now ∷ [] ≡ texts
+HasTexts texts (order.Puzzles file plies count) =
+    (d n : Text) × (Some file.now ∷ Some d ∷ Some n ∷ [] ≡ texts) × (is_number d ≡ true) × (plies ≡ number_of d) × (is_number n ≡ true)
+    × (count ≡ number_of n)
+HasTexts texts (order.Migrate file out) = Some file.now ∷ Some out.now ∷ [] ≡ texts
 
 -- the order is for this subcommand and these texts
 abbrev pub IsOrder : Text → List (Option Text) → Order → Type 0
@@ -57,7 +66,7 @@ IsReadingOf _ _ = ⊥
 
 -- the words are a line for the subcommand of this name and these texts
 abbrev pub SomeLine : List Text → Text → List (Option Text) → Type 0
-SomeLine words name texts = (form : Form) × IsAmong form forms × (form.name ≡ name) × IsLine form words texts
+SomeLine words name texts = (form : Form) × IsAmong form forms × (form.name ≡ name) × IsCommandLine form words texts
 
 -- an order is read only from a line that asks for it
 abbrev pub ComesFromLine : List Text → Reading → Type 0

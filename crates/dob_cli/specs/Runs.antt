@@ -1,8 +1,9 @@
 -- What the program does with its words, whatever they are.
 use Rattle.std.specs.Prelude.{◌≡◌, ◌≢◌, ◌⊎◌, ℕ, Bool, false, List, [], ◌∷◌, ◌++◌, Option, Some, codes}
 use Rattle.dob_dbfile.specs.Sinks.{Change, IsSame, IsUntouched, Says}
-use Rattle.dob_cli.specs.Words.{Text, build, check, count, help, line, look, meaning_of, moves, number_of, probe, show, stats, usage, value, version}
+use Rattle.dob_cli.specs.Words.{Text, build, check, count, help, line, look, meaning_of, migrate, moves, number_of, probe, profile_named, puzzles, show, stats, usage, value, version}
 use Rattle.dob_pieces.specs.Bytes.{line_feed}
+use Rattle.dob_pieces.specs.declared.profile.Profile.{Profile}
 use Rattle.dob_cli.specs.Endings.{AnswersHelp, AnswersUsage, AnswersVersion, Ending, TellsMemory, ended}
 use Rattle.dob_cli.specs.Shelves.{SameFiles, SameOthers, ShelfChange}
 use Rattle.dob_cli.specs.Program.{AnswersValue}
@@ -12,33 +13,43 @@ use Rattle.dob_cli.specs.Looks.{AnswersLook, AnswersLookRight}
 use Rattle.dob_cli.specs.Choices.{AnswersMoves, AnswersMovesRight}
 use Rattle.dob_cli.specs.Shows.{AnswersShow}
 use Rattle.dob_cli.specs.Stats.{AnswersStats}
+use Rattle.dob_cli.specs.Puzzles.{AnswersPuzzles}
+use Rattle.dob_cli.specs.Migrations.{AnswersMigrate}
 use Rattle.dob_cli.specs.Tables.{AnswersCheck, AnswersLine, AnswersProbe, AnswersProbeRight, HasValueFile}
 
 -- It does what these words ask for, over a shelf that changes so.
 pub record Ran (c : ShelfChange) (words : List Text) (e : Ending) : Type 0 where
-  -- a build and a picture leave the other files what they had, and all else leaves all files so
-  pub others : (set nodes file : Text) → meaning_of words ≡ build set nodes file → SameOthers file c.before.has c.after.has
+  -- a build, a picture and a migration leave the other files what they had, and all else leaves all files so
+  pub others : (rules : Option Text) (set nodes file : Text) → meaning_of words ≡ build rules set nodes file → SameOthers file c.before.has c.after.has
   pub others_of_picture : (file : Option Text) (picture position : Text) → meaning_of words ≡ show file (Some picture) position
       → SameOthers picture c.before.has c.after.has
-  pub files : ((set nodes file : Text) → meaning_of words ≢ build set nodes file)
+  pub others_of_migration : (file out : Text) → meaning_of words ≡ migrate file out → SameOthers out c.before.has c.after.has
+  pub files : ((rules : Option Text) (set nodes file : Text) → meaning_of words ≢ build rules set nodes file)
       → ((file : Option Text) (picture position : Text) → meaning_of words ≢ show file (Some picture) position)
+      → ((file out : Text) → meaning_of words ≢ migrate file out)
       → SameFiles c.before.has c.after.has
   -- what it tells
-  pub value : (position : Text) → meaning_of words ≡ value position → AnswersValue c position e
-  pub count : (set : Text) → meaning_of words ≡ count set → AnswersCount c set e
-  pub build : (set nodes file : Text) → meaning_of words ≡ build set nodes file → AnswersBuild c set (number_of nodes) file e
-  -- by the file of a value table the value told is right
-  pub probe_right : (file position : Text) → meaning_of words ≡ probe file position → HasValueFile (c.before.has file) → AnswersProbeRight c file position e
+  pub value : (rules : Option Text) (position : Text) → meaning_of words ≡ value rules position → AnswersValue c (profile_named rules) position e
+  pub count : (rules : Option Text) (set : Text) → meaning_of words ≡ count rules set → AnswersCount c (profile_named rules) set e
+  pub build : (rules : Option Text) (set nodes file : Text) → meaning_of words ≡ build rules set nodes file
+      → AnswersBuild c (profile_named rules) set (number_of nodes) file e
+  -- by the file of a value table the value told is right, by its rules
+  pub probe_right : (profile : Profile) (file position : Text) → meaning_of words ≡ probe file position → HasValueFile (c.before.has file) profile
+      → AnswersProbeRight c profile file position e
   pub probe : (file position : Text) → meaning_of words ≡ probe file position → AnswersProbe c file position e
   pub line : (file : Text) (is_numbered : Bool) (position : Text) → meaning_of words ≡ line file is_numbered position
       → AnswersLine c file is_numbered position e
   pub check : (file : Text) → meaning_of words ≡ check file → AnswersCheck c file e
-  pub look_right : (file position : Text) → meaning_of words ≡ look file position → HasValueFile (c.before.has file) → AnswersLookRight c file position e
+  pub look_right : (profile : Profile) (file position : Text) → meaning_of words ≡ look file position → HasValueFile (c.before.has file) profile
+      → AnswersLookRight c profile file position e
   pub look : (file position : Text) → meaning_of words ≡ look file position → AnswersLook c file position e
   pub show : (file picture : Option Text) (position : Text) → meaning_of words ≡ show file picture position → AnswersShow c file picture position e
-  pub moves_right : (file position : Text) → meaning_of words ≡ moves file position → HasValueFile (c.before.has file) → AnswersMovesRight c file position e
+  pub moves_right : (profile : Profile) (file position : Text) → meaning_of words ≡ moves file position → HasValueFile (c.before.has file) profile
+      → AnswersMovesRight c profile file position e
   pub moves : (file position : Text) → meaning_of words ≡ moves file position → AnswersMoves c file position e
   pub stats : (file : Text) → meaning_of words ≡ stats file → AnswersStats c file e
+  pub puzzles : (file plies count : Text) → meaning_of words ≡ puzzles file plies count → AnswersPuzzles c file (number_of plies) (number_of count) e
+  pub migrate : (file out : Text) → meaning_of words ≡ migrate file out → AnswersMigrate c file out e
   pub help : meaning_of words ≡ help → AnswersHelp e
   pub version : meaning_of words ≡ version → AnswersVersion e
   pub usage : meaning_of words ≡ usage → AnswersUsage e

@@ -1,4 +1,5 @@
 -- What `clap` reads of the program's commands.
+use Rattle.std.specs.Borrow.{Bor}
 use Rattle.std.specs.Prelude.{◌≡◌, ◌++◌, List, [], ◌∷◌, Option, None, Some, codes, false, fold, if◌then◌else◌, map, true}
 use Rattle.clap.specs.declared.builder.Arg.{Arg}
 use Rattle.clap.specs.declared.builder.Command.{Command}
@@ -6,7 +7,7 @@ use Rattle.clap.specs.declared.builder.Command.TheViews.{out-Command}
 use Rattle.clap.specs.Words.{App, Row, Rule, app_of, first_of, new_app, new_rule, rule_of, with_subcommand}
 use Rattle.clap.specs.declared.builder.action.ArgAction.TheVariants.{Set}
 use Rattle.clap.specs.declared.builder.value_parser.ValueParser.{ValueParser}
-use Rattle.clap.specs.declared.builder.value_parser.ValueParser.TheVariants.{Unsigned}
+use Rattle.clap.specs.declared.builder.value_parser.ValueParser.TheVariants.{Names, Unsigned}
 use Rattle.dob_cli.specs.Forms.{Form, Text, forms, is_among, is_needed, labels}
 use Rattle.dob_cli.specs.Words.{fits}
 
@@ -14,17 +15,31 @@ use Rattle.dob_cli.specs.Words.{fits}
 abbrev pub HasShape : App → Command → Type 0
 HasShape app c = (app_of c ≡ app) × ((out-Command c).has_globals ≡ false)
 
--- what a text of this label is read as, where these labels are those of numbers
-abbrev pub parser_of : List Text → Text → Option ValueParser
-parser_of numbers label = if is_among numbers label then Some (Unsigned 0 18446744073709551615) else None
+-- the names of the profiles, as `clap` has them
+abbrev pub ProfileNames : Type 0
+ProfileNames = Bor (List (Bor Text))
+
+abbrev pub AreProfiles : ProfileNames → Type 0
+AreProfiles profiles = map (λ name. name.now) profiles.now ≡ codes "A" ∷ codes "B" ∷ []
+
+-- none, for arguments that ask for none
+abbrev pub no_names : ProfileNames
+no_names = record { ref_ptr = (0, 0); now = [] }
+
+-- what a text of this label is read as
+abbrev pub parser_of : ProfileNames → Form → Text → Option ValueParser
+parser_of profiles form label =
+    if is_among form.numbers label then Some (Unsigned 0 18446744073709551615)
+    else if is_among form.profiles label then Some (Names profiles)
+    else None
 
 -- a text by its place, as POSITION
-abbrev pub text_rule : Form → Text → Rule
-text_rule form label = record (new_rule label) { required = is_needed form label; parser = parser_of form.numbers label }
+abbrev pub text_rule : ProfileNames → Form → Text → Rule
+text_rule profiles form label = record (new_rule label) { required = is_needed form label; parser = parser_of profiles form label }
 
 -- an option with its text, as `--set CEG`
-abbrev pub option_rule : Form → Text × Text → Rule
-option_rule form o = record (text_rule form o.1) { long = Some o.0 }
+abbrev pub option_rule : ProfileNames → Form → Text × Text → Rule
+option_rule profiles form o = record (text_rule profiles form o.1) { long = Some o.0 }
 
 -- a flag, as `--numbered`: it is set to the empty text, with no text behind it
 abbrev pub flag_rule : Text → Rule
@@ -40,10 +55,10 @@ abbrev pub IsRead : Rule → Arg → Type 0
 IsRead rule a = (rule_of a ≡ rule) × (a.global ≡ false)
 
 -- a subcommand of this form
-abbrev pub form_app : Form → App
-form_app form = record (new_app form.name) {
+abbrev pub form_app : ProfileNames → Form → App
+form_app profiles form = record (new_app form.name) {
   top = record (new_app form.name).top {
-    rules = map (option_rule form) form.options ++ map flag_rule form.flags ++ map (text_rule form) form.positions;
+    rules = map (option_rule profiles form) form.options ++ map flag_rule form.flags ++ map (text_rule profiles form) form.positions;
   };
 }
 
@@ -54,13 +69,16 @@ bare_app = record (new_app (codes "dobutsu")) {
 }
 
 -- the program
-abbrev pub dobutsu_app : App
-dobutsu_app = fold (λ app form. with_subcommand app (form_app form).top) bare_app forms
+abbrev pub dobutsu_app : ProfileNames → App
+dobutsu_app profiles = fold (λ app form. with_subcommand app (form_app profiles form).top) bare_app forms
 
--- what is given for this label is a number where it has to be, or left out where it may be
+abbrev pub IsProgram : Command → Type 0
+IsProgram c = (profiles : ProfileNames) × AreProfiles profiles × HasShape (dobutsu_app profiles) c
+
+-- what is given for this label is a number or names a profile where it has to, or is left out where it may be
 abbrev pub IsFit : Form → Text → Option Text → Type 0
 IsFit form label None = is_needed form label ≡ false
-IsFit form label (Some t) = fits form.numbers label t ≡ true
+IsFit form label (Some t) = fits form label t ≡ true
 
 -- so is what is given for each of these labels
 abbrev pub AreFit : Form → List Text → List (Option Text) → Type 0

@@ -1,5 +1,6 @@
 -- What the program owes where it is asked to show a position.
 use Rattle.std.specs.Prelude.{◌≡◌, ◌⊎◌, ℕ, IsTrue, List, [], ◌∷◌, ◌++◌, Option, None, Some}
+use Rattle.dob_pieces.specs.declared.profile.Profile.TheVariants.{A}
 use Rattle.dob_pieces.specs.declared.setup.Setup.{Setup}
 use Rattle.dob_pieces.specs.Bytes.{line_feed}
 use Rattle.dob_text.specs.Drawings.{drawing_of}
@@ -30,7 +31,7 @@ pub record AreDrawnBy (Has : List ℕ → Type 0) (position : Setup) (lines : Li
   pub value : Value
   pub given : GivenBy table position value
   pub moves : List Move
-  pub line : IsLine (GivenBy table) position moves
+  pub line : IsLine table.family.profile (GivenBy table) position moves
   pub same : lines ≡ played_drawing position value moves
 
 -- the lines draw the position, by the file of that name where one is named
@@ -77,7 +78,7 @@ IsUnkept c (Some name) = IsPictureFault c name Io
 -- The fault of showing, by its moment. While each file has what it had: the text is no position's, or asking the file failed, or memory
 -- was refused. Then the picture's file failed.
 abbrev pub IsShowFault : ShelfChange → Option (List ℕ) → Option (List ℕ) → List ℕ → Fault → Type 0
-IsShowFault c file picture words (Text fault) = HasTextFault words fault × SameFiles c.before.has c.after.has
+IsShowFault c file picture words (Text fault) = HasTextFault A words fault × SameFiles c.before.has c.after.has
 IsShowFault c file picture words Memory = SameFiles c.before.has c.after.has
 IsShowFault c file picture words Io = (position : Setup) × IsTextOf words position
     × ((IsFaultBy c.before.has file position Io × SameFiles c.before.has c.after.has) ⊎ IsUnkept c picture)

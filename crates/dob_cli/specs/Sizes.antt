@@ -2,8 +2,10 @@
 use Rattle.std.specs.Prelude.{◌≡◌, ◌≢◌, ℕ, List, [], ◌∷◌, ◌++◌, codes}
 use Rattle.std.specs.Fmt.{decimal}
 use Rattle.dob_pieces.specs.declared.piece_set.PieceSet.{PieceSet}
+use Rattle.dob_pieces.specs.declared.profile.Family.{Family}
+use Rattle.dob_pieces.specs.declared.profile.Profile.{Profile}
 use Rattle.dob_pieces.specs.Sets.{set_text}
-use Rattle.dob_rank.specs.Order.{HasSize, HasClasses}
+use Rattle.dob_rank.specs.Families.{HasClasses, HasSize, family_of}
 use Rattle.dob_cli.specs.declared.counts.Counts.{Counts}
 use Rattle.dob_cli.specs.declared.fault.Fault.{Fault}
 use Rattle.dob_cli.specs.declared.fault.Fault.TheVariants.{SetText, Memory}
@@ -11,14 +13,14 @@ use Rattle.dob_pieces.specs.Bytes.{line_feed}
 use Rattle.dob_cli.specs.Endings.{AnswersOver, Ending}
 use Rattle.dob_cli.specs.Shelves.{ShelfChange}
 
--- these are the set's numbers of positions and classes
-pub record HasCounts (set : PieceSet) (counts : Counts) : Type 0 where
-  pub positions : HasSize set counts.positions
-  pub classes : HasClasses set counts.classes
+-- these are the family's numbers of positions and classes
+pub record HasCounts (family : Family) (counts : Counts) : Type 0 where
+  pub positions : HasSize family counts.positions
+  pub classes : HasClasses family counts.classes
 
--- the text is that of a piece set with these numbers
-abbrev pub AreCountsOf : List ℕ → Counts → Type 0
-AreCountsOf text counts = (set : PieceSet) × (text ≡ set_text set) × HasCounts set counts
+-- the text is that of a piece set with these numbers by the rules of the profile
+abbrev pub AreCountsOf : Profile → List ℕ → Counts → Type 0
+AreCountsOf profile text counts = (set : PieceSet) × (text ≡ set_text set) × HasCounts (family_of set profile) counts
 
 -- a line with a name and a number, and its line feed
 abbrev pub count_line : List ℕ → ℕ → List ℕ
@@ -29,8 +31,8 @@ abbrev pub count_lines : Counts → List ℕ
 count_lines counts = count_line (codes "positions ") counts.positions ++ count_line (codes "classes ") counts.classes
 
 -- the bytes are the lines of the numbers of the text's piece set
-abbrev pub AreCountLinesOf : List ℕ → List ℕ → Type 0
-AreCountLinesOf text lines = (counts : Counts) × AreCountsOf text counts × (lines ≡ count_lines counts)
+abbrev pub AreCountLinesOf : Profile → List ℕ → List ℕ → Type 0
+AreCountLinesOf profile text lines = (counts : Counts) × AreCountsOf profile text counts × (lines ≡ count_lines counts)
 
 -- the fault is given only where no set has the text, or memory failed for the lines
 abbrev pub IsCountFaultOf : List ℕ → Fault → Type 0
@@ -38,6 +40,6 @@ IsCountFaultOf text SetText = (set : PieceSet) → text ≢ set_text set
 IsCountFaultOf text Memory = Unit {0}
 IsCountFaultOf text _ = ⊥
 
--- what the program does where it is asked for the numbers of the piece set that a text names
-abbrev pub AnswersCount : ShelfChange → List ℕ → Ending → Type 0
-AnswersCount c text = AnswersOver c (AreCountLinesOf text) (IsCountFaultOf text)
+-- what the program does where it is asked for the numbers of the piece set that a text names, by the rules of a profile
+abbrev pub AnswersCount : ShelfChange → Profile → List ℕ → Ending → Type 0
+AnswersCount c profile text = AnswersOver c (AreCountLinesOf profile text) (IsCountFaultOf text)

@@ -4,7 +4,7 @@ use Rattle.std.specs.Fmt.{decimal}
 use Rattle.dob_pieces.specs.declared.setup.Setup.{Setup}
 use Rattle.dob_pieces.specs.Bytes.{line_feed, space}
 use Rattle.dob_text.specs.PositionText.{text_of}
-use Rattle.dob_rank.specs.Order.{HasClass, IsRepresentative}
+use Rattle.dob_rank.specs.Families.{HasClass, IsRepresentative}
 use Rattle.dob_value.specs.declared.value.Value.{Value}
 use Rattle.dob_value.specs.declared.value.Value.TheVariants.{Win, Loss, Draw}
 use Rattle.dob_value.specs.Follows.{ClassTable}
@@ -49,7 +49,7 @@ longest_text Draw text = []
 abbrev pub IsLongestLine : ClassTable → Option Group → List ℕ → Type 0
 IsLongestLine table None line = line ≡ []
 IsLongestLine table (Some group) line =
-    (position : Setup) × IsRepresentative table.set position × HasClass table.set position group.first
+    (position : Setup) × IsRepresentative table.family position × HasClass table.family position group.first
     × (line ≡ longest_text group.value (text_of position))
 
 -- The four lines of a build, a line for each distance that occurs, ascending, and then the longest win and the longest loss.

@@ -1,12 +1,13 @@
 -- What the program owes where it is asked for something of a database file.
 use Rattle.std.specs.Prelude.{◌≡◌, ◌⊎◌, ℕ, Bool, false, if◌then◌else◌, not, List, [], ◌∷◌, ◌++◌, codes}
+use Rattle.dob_pieces.specs.declared.profile.Profile.TheVariants.{A}
+use Rattle.dob_pieces.specs.declared.profile.Profile.{Profile}
 use Rattle.dob_pieces.specs.declared.setup.Setup.{Setup}
 use Rattle.dob_pieces.specs.Setups.{IsLegal}
 use Rattle.dob_text.specs.PositionText.{Spells}
 use Rattle.dob_text.specs.Faults as text
 use Rattle.dob_text.specs.MoveText.{move_text, numbered_text}
 use Rattle.dob_moves.specs.declared.game_move.Move.{Move}
-use Rattle.dob_rank.specs.Order.{IsPositionOf}
 use Rattle.dob_value.specs.declared.value.Value.{Value}
 use Rattle.dob_value.specs.declared.value.Value.TheVariants.{Draw}
 use Rattle.dob_value.specs.Follows.{ClassTable, IsTable, IsValueTable}
@@ -14,10 +15,11 @@ use Rattle.dob_dbfile.specs.declared.fault.Fault as file
 use Rattle.dob_dbfile.specs.declared.fault.Fault.TheVariants as file_fault
 use Rattle.dob_dbfile.specs.Devices.{whole}
 use Rattle.dob_dbfile.specs.Faults as reading
-use Rattle.dob_dbfile.specs.Format.{bytes_of}
+use Rattle.dob_dbfile.specs.Format.{IsFile}
 use Rattle.dob_probe.specs.declared.fault.Fault.TheVariants as table_fault
 use Rattle.dob_probe.specs.Lines.{GivenBy, IsLine, BreaksAt}
 use Rattle.dob_probe.specs.Checks.{IsFirstBroken}
+use Rattle.dob_probe.specs.Faults.{IsRefusal}
 use Rattle.dob_cli.specs.declared.fault.Fault.{Fault}
 use Rattle.dob_cli.specs.declared.fault.Fault.TheVariants.{Text, File, Table, Memory, Io}
 use Rattle.dob_pieces.specs.Bytes.{line_feed, space}
@@ -27,14 +29,19 @@ use Rattle.dob_cli.specs.Endings.{AnswersOver, Ending}
 
 -- ---- the file; Has says which bytes it has, where that is known
 
--- it is a table, and the file is its
+-- it is a table, and the file is one of it, in either format
 pub record IsFileOf (Has : List ℕ → Type 0) (table : ClassTable) : Type 0 where
-  pub whole : IsTable table.set table.values
-  pub same : (bytes : List ℕ) → Has bytes → bytes ≡ bytes_of table
+  pub whole : IsTable table.family table.values
+  pub same : (bytes : List ℕ) → Has bytes → IsFile bytes table
 
--- the file is that of a value table
-abbrev pub HasValueFile : (List ℕ → Type 0) → Type 0
-HasValueFile Has = (table : ClassTable) × IsValueTable table.set table.values × Has (bytes_of table)
+-- the file is one of a value table by the rules of the profile
+pub record HasValueFile (Has : List ℕ → Type 0) (profile : Profile) : Type 0 where
+  pub table : ClassTable
+  pub bytes : List ℕ
+  pub right : IsValueTable table.family table.values
+  pub rules : table.family.profile ≡ profile
+  pub file : IsFile bytes table
+  pub has : Has bytes
 
 -- the fault is the first that the file has, or memory failed
 abbrev pub HasFileFault : (List ℕ → Type 0) → file.Fault → Type 0
@@ -85,14 +92,14 @@ pub record AreMovesLines (Has : List ℕ → Type 0) (is_numbered : Bool) (words
   pub value : Value
   pub given : GivenBy table position value
   pub moves : List Move
-  pub line : IsLine (GivenBy table) position moves
+  pub line : IsLine table.family.profile (GivenBy table) position moves
   pub same : lines ≡ moves_lines is_numbered value moves
 
 -- the lines say that the file's table is the value table
 pub record IsCheckLine (Has : List ℕ → Type 0) (lines : List ℕ) : Type 0 where
   pub table : ClassTable
   pub file : IsFileOf Has table
-  pub right : IsValueTable table.set table.values
+  pub right : IsValueTable table.family table.values
   pub same : lines ≡ codes "consistent" ++ line_feed ∷ []
 
 -- ---- faults
@@ -108,13 +115,13 @@ IsOpeningFault Has Memory = Unit {0}
 IsOpeningFault Has Io = IsShut Has
 IsOpeningFault Has _ = ⊥
 
--- a fault of asking a file for a position: the file's, or the table's; or memory failed, or the file couldn't be opened
+-- a fault of asking a file for a position: the file's, or the table's, E26 before E7; or memory failed, or the file couldn't be opened
 abbrev pub IsProbingFault : (List ℕ → Type 0) → Setup → Fault → Type 0
 IsProbingFault Has position (File fault) = HasFileFault Has fault
-IsProbingFault Has position (Table table_fault.OtherSet) = (table : ClassTable) × IsFileOf Has table × ¬ IsPositionOf table.set position
 IsProbingFault Has position (Table (table_fault.Inconsistent class)) =
     (table : ClassTable) × IsFileOf Has table × BreaksAt table position class
 IsProbingFault Has position (Table table_fault.Memory) = Unit {0}
+IsProbingFault Has position (Table fault) = (table : ClassTable) × IsFileOf Has table × IsRefusal table.family position fault
 IsProbingFault Has position Memory = Unit {0}
 IsProbingFault Has position Io = IsShut Has
 IsProbingFault Has position _ = ⊥
@@ -122,7 +129,7 @@ IsProbingFault Has position _ = ⊥
 -- A fault of asking for the position of a text: the text's, or memory failed for the words; the file is asked only where the
 -- text is a position's.
 abbrev pub IsPositionFault : (List ℕ → Type 0) → List ℕ → Fault → Type 0
-IsPositionFault Has words (Text fault) = text.HasTextFault words fault
+IsPositionFault Has words (Text fault) = text.HasTextFault A words fault
 IsPositionFault Has words Memory = Unit {0}
 IsPositionFault Has words fault = (position : Setup) × IsTextOf words position × IsProbingFault Has position fault
 
@@ -140,9 +147,9 @@ IsCheckFault Has _ = ⊥
 abbrev pub AnswersProbe : ShelfChange → List ℕ → List ℕ → Ending → Type 0
 AnswersProbe c file words = AnswersOver c (IsProbeLine (c.before.has file) words) (IsPositionFault (c.before.has file) words)
 
--- the same, where the lines tell the value that the text's position has by definition
-abbrev pub AnswersProbeRight : ShelfChange → List ℕ → List ℕ → Ending → Type 0
-AnswersProbeRight c file words = AnswersOver c (IsValueLineOf words) (IsPositionFault (c.before.has file) words)
+-- the same, where the lines tell the value that the text's position has by definition, by the rules of the profile
+abbrev pub AnswersProbeRight : ShelfChange → Profile → List ℕ → List ℕ → Ending → Type 0
+AnswersProbeRight c profile file words = AnswersOver c (IsValueLineOf profile words) (IsPositionFault (c.before.has file) words)
 
 abbrev pub AnswersLine : ShelfChange → List ℕ → Bool → List ℕ → Ending → Type 0
 AnswersLine c file is_numbered words = AnswersOver c (AreMovesLines (c.before.has file) is_numbered words) (IsPositionFault (c.before.has file) words)

@@ -8,6 +8,8 @@ use Rattle.std.specs.Option.{option_map_or}
 use Rattle.std.specs.Str.{bytes_eq, chars}
 use Rattle.std.specs.Str.Parse.{digits_value, without_leading_plus}
 use Rattle.dob_pieces.specs.Bytes.{hyphen, equals_sign, lower_h}
+use Rattle.dob_pieces.specs.declared.profile.Profile.{Profile}
+use Rattle.dob_pieces.specs.declared.profile.Profile.TheVariants.{A, B}
 use Rattle.dob_cli.specs.Forms.{Form, forms, is_among, is_needed, labels}
 pub use Rattle.dob_cli.specs.Forms.{Text}
 
@@ -48,9 +50,21 @@ abbrev pub is_number : Text → Bool
 is_number t =
     nat_lt 0 (length (without_leading_plus t)) && list_all (λ d. nat_lt (digit_value d) 10) (without_leading_plus t) && nat_lt (number_of t) (2 ^ 64)
 
--- the text of this label is a number, where it has to be one
-abbrev pub fits : List Text → Text → Text → Bool
-fits numbers label t = not (is_among numbers label) || is_number t
+-- the text names a profile of the rules
+abbrev pub is_profile : Text → Bool
+is_profile t = is_among (codes "A" ∷ codes "B" ∷ []) t
+
+-- the profile that it names; where it is left out, A
+abbrev pub profile_named : Option Text → Profile
+profile_named None = A
+profile_named (Some t) = if bytes_eq (codes "B") t then B else A
+
+-- the text of this label is a number, or names a profile, where it has to
+abbrev pub fits : Form → Text → Text → Bool
+fits form label t =
+    if is_among form.numbers label then is_number t
+    else if is_among form.profiles label then is_profile t
+    else true
 
 -- what a word is to a subcommand of a form
 pub data Part : Type 0 where
@@ -137,9 +151,9 @@ pub data Stand : Type 0 where
 abbrev pub once : Text → Given → Stand → Stand
 once label given stand = if is_some (text_of label given) then ended usage else stand
 
--- nor one that isn't a number and has to be
+-- nor one that isn't what it has to be
 abbrev pub kept : Form → Text → Text → Given → Stand → Stand
-kept form label t given stand = if is_some (text_of label given) || not (fits form.numbers label t) then ended usage else stand
+kept form label t given stand = if is_some (text_of label given) || not (fits form label t) then ended usage else stand
 
 -- the word is the text of the next place
 abbrev pub placed : Form → (Given → List Text → Stand) → Given → List Text → Text → Stand
@@ -157,7 +171,7 @@ after_part form given left word unknown = ended usage
 
 -- the word is the text of the option before it
 abbrev pub wanted : Form → Text → Given → List Text → Text → Stand
-wanted form label given left word = if fits form.numbers label word then between (given ++ (label, word) ∷ []) left else ended usage
+wanted form label given left word = if fits form label word then between (given ++ (label, word) ∷ []) left else ended usage
 
 -- after one more word
 abbrev pub after_word : Form → Stand → Text → Stand
@@ -232,17 +246,17 @@ asks_all name texts = asks name (map (λ t. Some t) texts)
 abbrev pub flag_text : Bool → Option Text
 flag_text is_given = if is_given then Some [] else None
 
--- the value of the position that the text names
-abbrev pub value : Text → Meaning
-value position = asks_all (codes "value") (position ∷ [])
+-- the value of the position that the text names, by the rules that are named
+abbrev pub value : Option Text → Text → Meaning
+value rules position = asks (codes "value") (rules ∷ Some position ∷ [])
 
--- the numbers of positions and classes of the piece set that the text names
-abbrev pub count : Text → Meaning
-count set = asks_all (codes "count") (set ∷ [])
+-- the numbers of positions and classes of the piece set that the text names, by the rules that are named
+abbrev pub count : Option Text → Text → Meaning
+count rules set = asks (codes "count") (Some set ∷ rules ∷ [])
 
--- a file of the table of the piece set that the text names, built by so many nodes
-abbrev pub build : Text → Text → Text → Meaning
-build set nodes file = asks_all (codes "build") (set ∷ nodes ∷ file ∷ [])
+-- a file of the table of the piece set that the text names, by the rules that are named, built by so many nodes
+abbrev pub build : Option Text → Text → Text → Text → Meaning
+build rules set nodes file = asks (codes "build") (Some set ∷ Some nodes ∷ Some file ∷ rules ∷ [])
 
 -- the value of the position by the table of the file
 abbrev pub probe : Text → Text → Meaning
@@ -271,3 +285,11 @@ moves file position = asks_all (codes "moves") (file ∷ position ∷ [])
 -- how many classes of the file's table have which value
 abbrev pub stats : Text → Meaning
 stats file = asks_all (codes "stats") (file ∷ [])
+
+-- the first positions, so many, that the file's table says are won in so many plies by one move alone
+abbrev pub puzzles : Text → Text → Text → Meaning
+puzzles file plies count = asks_all (codes "puzzles") (file ∷ plies ∷ count ∷ [])
+
+-- the table of the file in another one, in the format that is written
+abbrev pub migrate : Text → Text → Meaning
+migrate file out = asks_all (codes "migrate") (file ∷ out ∷ [])

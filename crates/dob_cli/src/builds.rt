@@ -9,15 +9,15 @@ use crate::fault::Fault;
 use crate::shelf::Shelf;
 use crate::tally::tally_of;
 use dob_dbfile::{Failed, write_table};
-use dob_pieces::PieceSet;
+use dob_pieces::{Family, PieceSet, Profile};
 use dob_run::{BATCH, CAPACITY, Free, run_nodes};
 use dob_value::Table;
 use std::alloc::{AllocError, Global};
 use std::sync::Wait;
 use std::thread::Threads;
 
-/// Builds the table of the piece set that the text names by so many nodes, and keeps it under the name. The lines that
-/// tell how many classes have which value. Its promises hold if it returns.
+/// Builds the table of the piece set that the text names, by the rules of the profile and by so many nodes, and keeps it under
+/// the name. The lines that tell how many classes have which value. Its promises hold if it returns.
 ///
 /// The file is made when the table is there, and the lines too, and kept when it is whole. A fault before it is made leaves all
 /// files as they were. After that the disk's file is as it was until it is kept; in memory it is empty.
@@ -25,24 +25,33 @@ pub(crate) fn answer_build<R: Threads + Wait + Sync, S: Shelf>(
     rt: &R,
     alloc: Global,
     shelf: &mut S,
+    profile: Profile,
     text: &str,
     nodes: u64,
     file: &str,
 ) -> Result<String, Fault>
-    ensures ok { IfOk result (λ lines. AreBuildLines (shelf_change (S.state shelf.old) (S.state shelf.new)) text.now nodes file.now (string_bytes lines)) }
-    ensures err { IfErr result (IsBuildFault (shelf_change (S.state shelf.old) (S.state shelf.new)) text.now nodes file.now) }
+    ensures ok { IfOk result (λ lines. AreBuildLines (shelf_change (S.state shelf.old) (S.state shelf.new)) profile text.now nodes file.now (string_bytes lines)) }
+    ensures err { IfErr result (IsBuildFault (shelf_change (S.state shelf.old) (S.state shelf.new)) profile text.now nodes file.now) }
     ensures others { SameOthers file.now (S.state shelf.old).has (S.state shelf.new).has }
     ensures failed { FailsWhere (shelf_change (S.state shelf.old) (S.state shelf.new)) (is_io_error result) }
 {
     let set = PieceSet::read(text)?;
-    let built = run_nodes(rt, alloc, set, nodes as usize, BATCH, CAPACITY, &Free)?;
-    let lines = lines_of(alloc, &built.table)?;
+    let built = run_nodes(
+        rt,
+        alloc,
+        Family { set, profile },
+        nodes as usize,
+        BATCH,
+        CAPACITY,
+        &Free,
+    )?;
+    let lines = lines_of(rt, alloc, &built.table)?;
     keep_table(alloc, shelf, file, &built.table)?;
     Ok(lines)
 }
 
-// Keeps the table's file under the name. Where it can't be written its sink is given up.
-fn keep_table<S: Shelf>(
+/// Keeps the table's file under the name. Where it can't be written its sink is given up.
+pub(crate) fn keep_table<S: Shelf>(
     alloc: Global,
     shelf: &mut S,
     file: &str,
@@ -68,11 +77,15 @@ fn keep_table<S: Shelf>(
 }
 
 /// The lines that tell how many classes the table has, and how many of them have which value.
-pub(crate) fn lines_of(alloc: Global, table: &Table) -> Result<String, AllocError>
+pub(crate) fn lines_of(
+    rt: &(impl Threads + Sync),
+    alloc: Global,
+    table: &Table,
+) -> Result<String, AllocError>
     ensures { IfOk result (λ lines. string_bytes lines ≡ class_lines table.now.values) }
 {
     let classes = table.class_count();
-    let tally = tally_of(table);
+    let tally = tally_of(rt, table);
     let wins = tally.wins;
     let losses = tally.losses;
     let draws = tally.draws;

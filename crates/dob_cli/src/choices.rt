@@ -9,7 +9,7 @@ use crate::fault::Fault;
 use crate::program::line_of;
 use crate::shelf::Shelf;
 use crate::tables::open;
-use dob_pieces::Memory;
+use dob_pieces::{Memory, Profile};
 use dob_probe::{ValuedMove, valued_moves};
 use dob_text::{read_position, write_move};
 use std::alloc::Global;
@@ -26,7 +26,7 @@ pub(crate) fn answer_moves<S: Shelf>(
     ensures files { SameFiles (S.state shelf.old).has (S.state shelf.new).has }
     ensures failed { FailsWhere (shelf_change (S.state shelf.old) (S.state shelf.new)) (is_io_error result) }
 {
-    let position = read_position(text)?;
+    let position = read_position(Profile::A, text)?;
     let table = open(alloc, shelf, file)?;
     let choices = valued_moves(alloc, &table, &position)?;
     Ok(choice_lines(alloc, &choices)?)

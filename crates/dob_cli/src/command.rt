@@ -14,29 +14,38 @@
 // - in program.rt an arm of `answer`, and its cases in proofs/Orders.antt and proofs/Runs.antt.
 ghost use Rattle.std.specs.Prelude.{◌≡◌, [], IfOk, IsSomeAnd, List, Option, codes, false, map, true};
 ghost use Rattle.clap.specs.Words.{App, Rule, kind_of, subcommand_rows_of, with_rule, with_subcommand};
-ghost use Rattle.dob_cli.specs.Forms.{Form, Text, build_form, check_form, count_form, forms, line_form, look_form, probe_form};
-ghost use Rattle.dob_cli.specs.Forms.{moves_form, show_form, value_form, file_option, nodes_option, numbered_flag, out_option, picture_option};
-ghost use Rattle.dob_cli.specs.Forms.{plain_form, set_option, stats_form};
-ghost use Rattle.dob_cli.specs.Lines.{IsAmong, IsLine};
+ghost use Rattle.dob_cli.specs.Forms.{Form, Text, build_form, check_form, count_form, forms, line_form, look_form, migrate_form, probe_form};
+ghost use Rattle.dob_cli.specs.Forms.{moves_form, show_form, value_form, file_option, new_file_option, nodes_option, numbered_flag, out_option, picture_option};
+ghost use Rattle.dob_cli.specs.Forms.{number_option, plain_form, plies_option, puzzles_form, rules_option, set_option, stats_form};
+ghost use Rattle.dob_cli.specs.Lines.{IsAmong, IsCommandLine};
 ghost use Rattle.dob_cli.specs.Words.{asks, has_topic, is_topic, is_version, meaning_of, meaning_of_topic, names_subcommand};
-ghost use Rattle.dob_cli.specs.Shapes.{Finds, HasShape, IsRead, bare_app, dobutsu_app, flag_rule, form_app, option_rule, text_rule};
+ghost use Rattle.dob_cli.specs.Shapes.{AreProfiles, Finds, HasShape, IsProgram, IsRead, bare_app, flag_rule, form_app, no_names, option_rule, text_rule};
 ghost use Rattle.dob_cli.specs.Readings.{ComesFromLine, IsOrder, IsReadingOf, IsReadingOfKind};
 
 mod orders;
 
 use clap::error::ErrorKind;
 use clap::{Arg, ArgAction, ArgMatches, Command, Error, value_parser};
+use dob_pieces::Profile;
 use std::alloc::{AllocError, Global};
 
 /// What the program is asked to do.
 #[derive(Clone, Copy)]
 pub enum Order<'a> {
-    /// To print the value of the position that the text names.
-    Value(&'a str),
-    /// To print the numbers of positions and of classes of the piece set that the text names.
-    Count(&'a str),
-    /// To build the table of the piece set that the text names by so many nodes, and to keep it under the name.
+    /// To print the value of the position that the text names, by the rules of the profile.
+    Value {
+        profile: Profile,
+        position: &'a str,
+    },
+    /// To print the numbers of positions and of classes of the piece set that the text names, by the rules of the profile.
+    Count {
+        profile: Profile,
+        set: &'a str,
+    },
+    /// To build the table of the piece set that the text names, by the rules of the profile and by so many nodes, and to keep
+    /// it under the name.
     Build {
+        profile: Profile,
         set: &'a str,
         nodes: u64,
         file: &'a str,
@@ -73,6 +82,17 @@ pub enum Order<'a> {
     },
     /// To print how many classes of the file's table have which value.
     Stats(&'a str),
+    /// To print the first positions of the file's table, so many, that are won in so many plies by one move alone.
+    Puzzles {
+        file: &'a str,
+        plies: u64,
+        count: u64,
+    },
+    /// To keep the table of the file under the other name, in the format that is written.
+    Migrate {
+        file: &'a str,
+        out: &'a str,
+    },
 }
 
 /// What the words come to.
@@ -88,8 +108,12 @@ pub enum Reading<'a> {
     Usage(String),
 }
 
+/// What `--rules` takes.
+const PROFILES: &[&str] = &["A", "B"];
+
 const PROGRAM_HELP: &str =
-    "`dobutsu value --help` says how a position is written, `dobutsu count --help` how a piece set is.
+    "`dobutsu value --help` says how a position is written and what the rules A and B are, `dobutsu count --help` how a
+piece set is.
 
 A fault is one line on standard error. The status is 1, and 3 for E12, E14, E23 and E24:
 
@@ -100,7 +124,6 @@ A fault is one line on standard error. The status is 1, and 3 for E12, E14, E23 
   E5 Count         there are more than two pieces of a kind, hens counted as chicks
   E6 FarLion       the lion of the side to move stands on row 4
   E7 OtherSet      the position's piece set isn't the file's
-  E8 SetTooLarge   there are more than six pieces besides the lions, which no piece set has
   E9 Nodes         there aren't 1 to 16 nodes
   E12 TooDeep      of `value`: a distance would be above 65534 plies
   E14 Stopped node N: CAUSE
@@ -117,6 +140,9 @@ A fault is one line on standard error. The status is 1, and 3 for E12, E14, E23 
   E23 Memory       no memory is left
   E24 Io           standard output or the file failed
   E25 SetText      the piece set isn't three digits, each 0, 1 or 2
+  E26 FarChick     by rules B, or of a file of rules B: a chick stands on its own far row. So
+                   `dobutsu value --rules B \"C.l/.../.../L.. - -\"` is told
+  E27 ProfileByte  byte 12 of the file says other rules than A and B
 
 Words that the program doesn't know are told with status 2.";
 
@@ -128,30 +154,44 @@ Letters: L lion, G giraffe, E elephant, C chick, H hen, upper case for the side 
 lower case for the other side; `.` is an empty square. A hand is `-`, or letters of C, E, G in
 that order with repeats, upper case for the side to move and lower case for the other side.
 
+Rules: both follow those that the Japanese women professionals published, and differ in one choice that these leave
+open. By A, the default, a chick may be dropped on its far row, where it has no move; by B it may not, and a position
+with a chick on its own far row, row 4 for the side to move and row 1 for the other side, is none (E26).
+
+It goes over all positions with the same pieces, in one thread: at once with up to two pieces besides the lions, in a third
+of a second and 24 MB with three, and in much longer and more than 16 GB with six. Of such a set `dobutsu build` makes
+a file once, which `dobutsu look` asks at once.
+
 Answers: `win D`, `loss D` or `draw`, where D is the distance in plies.
 
-Example: dobutsu value \"..l/.../L../... - -\" prints `win 3`.";
+Example: dobutsu value \"..l/.../L../... - -\" prints `win 3`.
+dobutsu value --rules B \"C.l/.../.../L.. - -\" is told `E26 FarChick`: its chick stands on row 4. By rules A it is a `draw`.";
 
 const SET_HELP: &str =
     "A piece set: three digits CEG, each 0, 1 or 2: how many chicks (hens counted with them), elephants
 and giraffes there are besides the lions, on the board and in the hands together. `222` is the whole
 game.
 
-Answers: `positions N` and `classes N`, where a class is a position with its mirror image.
+Answers: `positions N` and `classes N`, where a class is a position with its mirror image. `dobutsu value --help` says what
+the rules A and B are; by B a set with chicks has fewer positions.
 
-Example: dobutsu count --set 100 prints `positions 4158` and `classes 2124`.";
+Example: dobutsu count --set 100 prints `positions 4158` and `classes 2124`, and with `--rules B` 3648 and 1864.";
 
 const BUILD_HELP: &str =
     "A piece set: three digits CEG, as `dobutsu count --help` says. Nodes: 1 to 16. Each works in a thread of
 its own and owns a part of the positions; with more nodes than processors it works too, only slower.
 The file is the same whatever their number.
 
-The file has 2 bytes a class and 52 more, and its build takes some 26 bytes of memory a class.
+The file has 2 bytes a class and 53 more, and its build takes some 26 bytes of memory a class.
 `dobutsu count --set 111` gives the classes of a set: 765360 of three pieces, which take a second or two.
 The whole game, `222`, has 588021930, which take a quarter of an hour, 16 GB of memory and 1.2 GB of disk.
 
 The table is written to FILE with `.part` behind it, and takes the place of FILE when it is whole and on
 the disk: until then FILE is as it was, whatever happens. A pipe, a device or a link is written where it is.
+
+The file says by which rules its values are, so that `dobutsu probe` and the others need no `--rules`. They read a position
+by rules A, and of a file of rules B one with a chick on its own far row is told E26. `dobutsu value --help` says what the
+rules are.
 
 Answers: `classes N`, `win N`, `loss N` and `draw N`, where a class is a position with its mirror image.
 
@@ -187,7 +227,7 @@ Answers: `consistent`; or `E21 Inconsistent class N` with the first class whose 
 Example: dobutsu check --db 000.db prints `consistent`.";
 
 const LOOK_HELP: &str =
-    "Of the file only its first 20 bytes and the 2 bytes of the position are read, each by its place, so that
+    "Of the file only its first 21 bytes and the 2 bytes of the position are read, each by its place, so that
 a file of any size is asked at once. Its digest isn't read: damage isn't found, nor whether the file is
 too long or too short. `dobutsu probe` reads and tests it all.
 
@@ -229,6 +269,29 @@ each with the first class of that distance, where there are wins and losses.
 
 Example: dobutsu stats --db 000.db prints `classes 54` first.";
 
+const PUZZLES_HELP: &str =
+    "Exercises for a class: positions in which the side to move wins, and just one move wins soonest. All other moves are
+slower, or don't win. D counts the plies of both sides up to the catch of the lion or the lion's safe arrival, so `3` is: move,
+answer, win. A file that `dobutsu check` calls consistent holds the values by definition.
+
+Answers: a line for each position, `POSITION  MOVE`, its text, two spaces and that move, in the order of the file, the first N of
+them; or `none`. Of a position and its mirror image only the one that stands first is told. `dobutsu show POSITION` draws it, and
+`dobutsu line --numbered --db FILE POSITION` plays it to its end. Where D is even or below 3, that is said with status 2.
+
+Example: dobutsu puzzles --db 000.db --plies 3 --count 1 prints `.../..l/L../... - -  La2-a3`.";
+
+const MIGRATE_HELP: &str =
+    "Reads the whole file FILE, in either format, and tests it as `dobutsu probe` does. Only then is OUT written, with the same
+values, in the second format: its title is `DOBUTSU2`, its byte 12 says the rules, and it has 2 bytes a class and 53
+more. A file of the first format is one of rules A. A damaged file is refused, and OUT stays as it was.
+
+OUT may be FILE itself: it is written to OUT with `.part` behind it, which takes the place of OUT when it is whole and on
+the disk, as `dobutsu build --help` says.
+
+Answers: `classes N`, where a class is a position with its mirror image.
+
+Example: dobutsu migrate --db old.db --out new.db prints `classes 54` for lions alone.";
+
 /// Reads the words after the program's name. `--help`, `-h` and the subcommand `help`, alone or with the name of another
 /// one, give a help. As the first word `--version` asks for the version. A word that begins with `-` is an option, but for a lone `-`,
 /// the first `--` and what follows it.
@@ -240,7 +303,7 @@ pub fn read_words<'a>(alloc: Global, words: &'a [&'a str]) -> Result<Reading<'a>
     ensures meaning { IfOk result (IsReadingOf (meaning_of (map (λ w. w.now) words.now))) }
     ensures sound { IfOk result (ComesFromLine (map (λ w. w.now) words.now)) }
     ensures complete { (form : Form) (texts : List (Option Text)) → IsAmong form forms
-        → IsLine form (map (λ w. w.now) words.now) texts → IfOk result (IsReadingOf (asks form.name texts)) }
+        → IsCommandLine form (map (λ w. w.now) words.now) texts → IfOk result (IsReadingOf (asks form.name texts)) }
 {
     if asks_version(words) {
         return Ok(Reading::Version);
@@ -320,24 +383,29 @@ fn names_subcommand(name: &str) -> bool
             | "show"
             | "moves"
             | "stats"
+            | "puzzles"
+            | "migrate"
     )
 }
 
 // The program's command with its subcommands.
 fn dobutsu_command<'a>(alloc: Global) -> Result<Command<'a>, AllocError>
-    ensures { IfOk result (HasShape dobutsu_app) }
+    ensures { IfOk result IsProgram }
 {
+    let profiles = profile_names();
     let command = bare_command(alloc);
-    let command = add_subcommand(command, value_command(alloc));
-    let command = add_subcommand(command, count_command(alloc));
-    let command = add_subcommand(command, build_command(alloc));
+    let command = add_subcommand(command, value_command(alloc, profiles));
+    let command = add_subcommand(command, count_command(alloc, profiles));
+    let command = add_subcommand(command, build_command(alloc, profiles));
     let command = add_subcommand(command, probe_command(alloc));
     let command = add_subcommand(command, line_command(alloc));
     let command = add_subcommand(command, check_command(alloc));
     let command = add_subcommand(command, look_command(alloc));
     let command = add_subcommand(command, show_command(alloc));
     let command = add_subcommand(command, moves_command(alloc));
-    add_subcommand(command, stats_command(alloc))
+    let command = add_subcommand(command, stats_command(alloc));
+    let command = add_subcommand(command, puzzles_command(alloc));
+    add_subcommand(command, migrate_command(alloc))
 }
 
 // The command with the subcommand, where memory was left for both. It takes their results, since a chain of `?` is slow
@@ -350,6 +418,13 @@ fn add_subcommand<'a>(
         → IfOk result (HasShape (with_subcommand outer inner.top)) }
 {
     command?.subcommand(subcommand?)
+}
+
+// What `--rules` takes.
+fn profile_names<'a>() -> &'a [&'a str]
+    ensures { AreProfiles result }
+{
+    PROFILES
 }
 
 // The program's command without its subcommands.
@@ -366,28 +441,30 @@ fn bare_command<'a>(alloc: Global) -> Result<Command<'a>, AllocError>
 }
 
 // The subcommand `value`.
-fn value_command<'a>(alloc: Global) -> Result<Command<'a>, AllocError>
-    ensures { IfOk result (HasShape (form_app value_form)) }
+fn value_command<'a>(alloc: Global, profiles: &'a [&'a str]) -> Result<Command<'a>, AllocError>
+    ensures { IfOk result (HasShape (form_app profiles.entry value_form)) }
 {
-    Command::new(alloc, "value")
+    let command = Command::new(alloc, "value")
         .about("Prints the value of a position")
         .after_help(POSITION_HELP)
-        .arg(position_argument(alloc))
+        .arg(rules_argument(alloc, profiles));
+    add_argument(command, position_argument(alloc))
 }
 
 // The subcommand `count`.
-fn count_command<'a>(alloc: Global) -> Result<Command<'a>, AllocError>
-    ensures { IfOk result (HasShape (form_app count_form)) }
+fn count_command<'a>(alloc: Global, profiles: &'a [&'a str]) -> Result<Command<'a>, AllocError>
+    ensures { IfOk result (HasShape (form_app profiles.entry count_form)) }
 {
-    Command::new(alloc, "count")
+    let command = Command::new(alloc, "count")
         .about("Prints how many positions and classes a piece set has, as `count --set 100`")
         .after_help(SET_HELP)
-        .arg(set_argument(alloc))
+        .arg(set_argument(alloc));
+    add_argument(command, rules_argument(alloc, profiles))
 }
 
 // The subcommand `build`.
-fn build_command<'a>(alloc: Global) -> Result<Command<'a>, AllocError>
-    ensures { IfOk result (HasShape (form_app build_form)) }
+fn build_command<'a>(alloc: Global, profiles: &'a [&'a str]) -> Result<Command<'a>, AllocError>
+    ensures { IfOk result (HasShape (form_app profiles.entry build_form)) }
 {
     let command = Command::new(alloc, "build")
         .about(
@@ -396,12 +473,13 @@ fn build_command<'a>(alloc: Global) -> Result<Command<'a>, AllocError>
         .after_help(BUILD_HELP)
         .arg(set_argument(alloc));
     let command = add_argument(command, nodes_argument(alloc));
-    add_argument(command, out_argument(alloc))
+    let command = add_argument(command, out_argument(alloc));
+    add_argument(command, rules_argument(alloc, profiles))
 }
 
 // The subcommand `probe`.
 fn probe_command<'a>(alloc: Global) -> Result<Command<'a>, AllocError>
-    ensures { IfOk result (HasShape (form_app probe_form)) }
+    ensures { IfOk result (HasShape (form_app no_names probe_form)) }
 {
     let command = Command::new(alloc, "probe")
         .about("Prints the value of a position by a database file")
@@ -412,7 +490,7 @@ fn probe_command<'a>(alloc: Global) -> Result<Command<'a>, AllocError>
 
 // The subcommand `line`.
 fn line_command<'a>(alloc: Global) -> Result<Command<'a>, AllocError>
-    ensures { IfOk result (HasShape (form_app line_form)) }
+    ensures { IfOk result (HasShape (form_app no_names line_form)) }
 {
     let command = Command::new(alloc, "line")
         .about("Prints the best play from a position by a database file")
@@ -424,7 +502,7 @@ fn line_command<'a>(alloc: Global) -> Result<Command<'a>, AllocError>
 
 // The subcommand `check`.
 fn check_command<'a>(alloc: Global) -> Result<Command<'a>, AllocError>
-    ensures { IfOk result (HasShape (form_app check_form)) }
+    ensures { IfOk result (HasShape (form_app no_names check_form)) }
 {
     Command::new(alloc, "check")
         .about("Tells whether a database file is right, without trusting who made it")
@@ -434,7 +512,7 @@ fn check_command<'a>(alloc: Global) -> Result<Command<'a>, AllocError>
 
 // The subcommand `look`.
 fn look_command<'a>(alloc: Global) -> Result<Command<'a>, AllocError>
-    ensures { IfOk result (HasShape (form_app look_form)) }
+    ensures { IfOk result (HasShape (form_app no_names look_form)) }
 {
     let command = Command::new(alloc, "look")
         .about("Prints the value of a position by its own two bytes of a database file")
@@ -445,7 +523,7 @@ fn look_command<'a>(alloc: Global) -> Result<Command<'a>, AllocError>
 
 // The subcommand `show`.
 fn show_command<'a>(alloc: Global) -> Result<Command<'a>, AllocError>
-    ensures { IfOk result (HasShape (form_app show_form)) }
+    ensures { IfOk result (HasShape (form_app no_names show_form)) }
 {
     let command = Command::new(alloc, "show")
         .about("Draws the board of a position, with its squares' names and both hands")
@@ -457,7 +535,7 @@ fn show_command<'a>(alloc: Global) -> Result<Command<'a>, AllocError>
 
 // The subcommand `moves`.
 fn moves_command<'a>(alloc: Global) -> Result<Command<'a>, AllocError>
-    ensures { IfOk result (HasShape (form_app moves_form)) }
+    ensures { IfOk result (HasShape (form_app no_names moves_form)) }
 {
     let command = Command::new(alloc, "moves")
         .about("Prints each move of a position with its value by a database file, best first")
@@ -468,12 +546,35 @@ fn moves_command<'a>(alloc: Global) -> Result<Command<'a>, AllocError>
 
 // The subcommand `stats`.
 fn stats_command<'a>(alloc: Global) -> Result<Command<'a>, AllocError>
-    ensures { IfOk result (HasShape (form_app stats_form)) }
+    ensures { IfOk result (HasShape (form_app no_names stats_form)) }
 {
     Command::new(alloc, "stats")
         .about("Prints how many classes of a database file have which value, and the longest ones")
         .after_help(STATS_HELP)
         .arg(file_argument(alloc))
+}
+
+// The subcommand `puzzles`.
+fn puzzles_command<'a>(alloc: Global) -> Result<Command<'a>, AllocError>
+    ensures { IfOk result (HasShape (form_app no_names puzzles_form)) }
+{
+    let command = Command::new(alloc, "puzzles")
+        .about("Prints positions of a database file that just one move wins soonest")
+        .after_help(PUZZLES_HELP)
+        .arg(file_argument(alloc));
+    let command = add_argument(command, plies_argument(alloc));
+    add_argument(command, number_argument(alloc))
+}
+
+// The subcommand `migrate`.
+fn migrate_command<'a>(alloc: Global) -> Result<Command<'a>, AllocError>
+    ensures { IfOk result (HasShape (form_app no_names migrate_form)) }
+{
+    let command = Command::new(alloc, "migrate")
+        .about("Writes a database file of either format anew, in the format of today")
+        .after_help(MIGRATE_HELP)
+        .arg(file_argument(alloc));
+    add_argument(command, new_file_argument(alloc))
 }
 
 // The command with a further argument, where memory was left for it so far. It takes a result, as `add_subcommand` does.
@@ -489,14 +590,23 @@ fn add_argument<'a>(
 
 // The option `--set CEG`.
 fn set_argument<'a>(alloc: Global) -> Arg<'a>
-    ensures { IsRead (option_rule count_form set_option) result }
+    ensures { IsRead (option_rule no_names count_form set_option) result }
 {
     option_argument(alloc, "set", "CEG", "The piece set, as three digits").required(true)
 }
 
+// The option `--rules PROFILE`.
+fn rules_argument<'a>(alloc: Global, profiles: &'a [&'a str]) -> Arg<'a>
+    ensures { IsRead (option_rule profiles.entry value_form rules_option) result }
+{
+    let help =
+        "The rules: B lets no chick be dropped on its far row, A does; A where it is left out";
+    option_argument(alloc, "rules", "PROFILE", help).value_parser(profiles)
+}
+
 // The option `--nodes N`.
 fn nodes_argument<'a>(alloc: Global) -> Arg<'a>
-    ensures { IsRead (option_rule build_form nodes_option) result }
+    ensures { IsRead (option_rule no_names build_form nodes_option) result }
 {
     let number = value_parser!(u64);
     let help = "The number of nodes, 1 to 16";
@@ -505,24 +615,54 @@ fn nodes_argument<'a>(alloc: Global) -> Arg<'a>
         .value_parser(number)
 }
 
+// The option `--plies D`.
+fn plies_argument<'a>(alloc: Global) -> Arg<'a>
+    ensures { IsRead (option_rule no_names puzzles_form plies_option) result }
+{
+    let number = value_parser!(u64);
+    let help = "In how many plies they are won: an odd number of at least 3";
+    option_argument(alloc, "plies", "D", help)
+        .required(true)
+        .value_parser(number)
+}
+
+// The option `--count N`.
+fn number_argument<'a>(alloc: Global) -> Arg<'a>
+    ensures { IsRead (option_rule no_names puzzles_form number_option) result }
+{
+    let number = value_parser!(u64);
+    option_argument(alloc, "count", "N", "How many of them at most")
+        .required(true)
+        .value_parser(number)
+}
+
 // The option `--out FILE`.
 fn out_argument<'a>(alloc: Global) -> Arg<'a>
-    ensures { IsRead (option_rule build_form out_option) result }
+    ensures { IsRead (option_rule no_names build_form out_option) result }
 {
     let help = "The database file, made anew or overwritten";
     option_argument(alloc, "out", "FILE", help).required(true)
 }
 
+// The same, of `migrate`.
+fn new_file_argument<'a>(alloc: Global) -> Arg<'a>
+    ensures { IsRead (option_rule no_names migrate_form new_file_option) result }
+{
+    let help =
+        "The database file to be written, made anew or overwritten; it may be the one that is read";
+    option_argument(alloc, "out", "OUT", help).required(true)
+}
+
 // The option `--db FILE`.
 fn file_argument<'a>(alloc: Global) -> Arg<'a>
-    ensures { IsRead (option_rule probe_form file_option) result }
+    ensures { IsRead (option_rule no_names probe_form file_option) result }
 {
     option_argument(alloc, "db", "FILE", "The database file").required(true)
 }
 
 // The same, where it may be left out.
 fn shown_file_argument<'a>(alloc: Global) -> Arg<'a>
-    ensures { IsRead (option_rule show_form file_option) result }
+    ensures { IsRead (option_rule no_names show_form file_option) result }
 {
     let help = "A database file, for the value and the best play";
     option_argument(alloc, "db", "FILE", help)
@@ -530,7 +670,7 @@ fn shown_file_argument<'a>(alloc: Global) -> Arg<'a>
 
 // The option `--svg OUT`.
 fn picture_argument<'a>(alloc: Global) -> Arg<'a>
-    ensures { IsRead (option_rule show_form picture_option) result }
+    ensures { IsRead (option_rule no_names show_form picture_option) result }
 {
     let help = "A file for the board as a picture, made anew or overwritten";
     option_argument(alloc, "svg", "OUT", help)
@@ -545,7 +685,7 @@ fn numbered_argument<'a>(alloc: Global) -> Arg<'a>
 
 // An option that may be left out: the name behind `--`, and what its text is called.
 fn option_argument<'a>(alloc: Global, name: &'a str, label: &'a str, help: &'a str) -> Arg<'a>
-    ensures { IsRead (record (option_rule (plain_form [] [] []) (name.now, label.now)) { required = false }) result }
+    ensures { IsRead (record (option_rule no_names (plain_form [] [] []) (name.now, label.now)) { required = false }) result }
 {
     Arg::new(alloc, label).long(name).help(help)
 }
@@ -564,7 +704,7 @@ fn flag_argument<'a>(alloc: Global, name: &'a str, help: &'a str) -> Arg<'a>
 
 // The argument POSITION.
 fn position_argument<'a>(alloc: Global) -> Arg<'a>
-    ensures { IsRead (text_rule value_form (codes "POSITION")) result }
+    ensures { IsRead (text_rule no_names value_form (codes "POSITION")) result }
 {
     Arg::new(alloc, "POSITION")
         .required(true)
@@ -588,6 +728,8 @@ fn order_of<'a>(matches: &ArgMatches<'a>) -> Option<Order<'a>>
         "show" => orders::show_order(inner),
         "moves" => orders::moves_order(inner),
         "stats" => orders::stats_order(inner),
+        "puzzles" => orders::puzzles_order(inner),
+        "migrate" => orders::migrate_order(inner),
         _ => None,
     }
 }

@@ -1,25 +1,26 @@
-// How many positions and classes a piece set has.
+// How many positions and classes a piece set has by the rules of a profile.
 ghost use Rattle.std.specs.Prelude.{◌≡◌, IfOk, IfErr, string_bytes};
 ghost use Rattle.dob_cli.specs.Sizes.{AreCountLinesOf, HasCounts, IsCountFaultOf, count_lines};
 
 use crate::fault::Fault;
-use dob_pieces::PieceSet;
+use dob_pieces::{Family, PieceSet, Profile};
 use dob_rank::{count_classes, size};
 use std::alloc::{AllocError, Global};
 
-/// How many positions a piece set has, and how many classes.
+/// How many positions a family has, and how many classes.
 #[derive(Clone, Copy)]
 pub(crate) struct Counts {
     pub(crate) positions: u64,
     pub(crate) classes: u64,
 }
 
-/// The lines that tell the numbers of positions and of classes of the piece set that the text names.
-pub(crate) fn answer_count(alloc: Global, text: &str) -> Result<String, Fault>
-    ensures ok { IfOk result (λ lines. AreCountLinesOf text.now (string_bytes lines)) }
+/// The lines that tell the numbers of positions and of classes of the piece set that the text names, by the rules of the profile.
+pub(crate) fn answer_count(alloc: Global, profile: Profile, text: &str) -> Result<String, Fault>
+    ensures ok { IfOk result (λ lines. AreCountLinesOf profile text.now (string_bytes lines)) }
     ensures err { IfErr result (IsCountFaultOf text.now) }
 {
-    let counts = counts_of(PieceSet::read(text)?);
+    let set = PieceSet::read(text)?;
+    let counts = counts_of(Family { set, profile });
     Ok(lines_with(alloc, counts)?)
 }
 
@@ -32,12 +33,12 @@ fn lines_with(alloc: Global, counts: Counts) -> Result<String, AllocError>
     format!(in alloc; "positions {positions}\nclasses {classes}\n")
 }
 
-// The numbers of positions and of classes of the piece set, which take no memory.
-fn counts_of(set: PieceSet) -> Counts
-    ensures { HasCounts set result }
+// The numbers of positions and of classes of the family, which take no memory.
+fn counts_of(family: Family) -> Counts
+    ensures { HasCounts family result }
 {
     Counts {
-        positions: size(set),
-        classes: count_classes(set),
+        positions: size(family),
+        classes: count_classes(family),
     }
 }

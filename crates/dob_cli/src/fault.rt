@@ -1,11 +1,9 @@
 // The faults of the program, their lines and their exit statuses.
 ghost use Rattle.std.specs.Prelude.{◌≡◌, Some};
-ghost use Rattle.dob_probe.specs.declared.fault.Fault.TheVariants as table_fault;
 ghost use Rattle.dob_cli.specs.declared.fault.Fault.TheVariants as fault;
 
 use crate::shelf::ShelfFault;
 use dob_pieces::{Memory, SetText};
-use dob_probe::OtherSet;
 use dob_text::TextFault;
 use std::alloc::AllocError;
 use std::error::Error;
@@ -14,20 +12,20 @@ use std::fmt;
 /// Why the program refuses what it is asked, or fails at it.
 #[derive(Clone, Copy, Debug, PartialEq, Eq)]
 pub enum Fault {
-    /// E1 to E6: the text isn't a position's.
+    /// E1 to E6, E26: the text isn't a position's of the profile.
     Text(TextFault),
     /// E25: the text isn't a piece set's.
     SetText,
-    /// E8: the piece set is larger than those whose values can be found, or whose positions are counted.
-    SetTooLarge,
     /// E12: a distance would be above 65,534 plies.
     TooDeep,
-    /// E8, E9, E14, E23: the build isn't begun, or it was stopped.
+    /// E9, E14, E23: the build isn't begun, or it was stopped.
     Run(dob_run::Fault),
-    /// E8, E15 to E20, E23, E24: the file isn't one of a table, or reading or writing it failed.
+    /// E15 to E20, E23, E24, E27: the file isn't one of a table, or reading or writing it failed.
     File(dob_dbfile::Fault),
-    /// E7, E21, E23: the table has no answer.
+    /// E7, E21, E23, E26: the table has no answer.
     Table(dob_probe::Fault),
+    /// No puzzle has so many plies: an even number, or less than 3.
+    PuzzlePlies,
     /// E23: a growth was refused for lack of memory.
     Memory,
     /// E24: standard output failed, or the file couldn't be opened or made.
@@ -37,12 +35,13 @@ pub enum Fault {
 impl Fault {
     ghost use Rattle.dob_cli.specs.Faults.{status_of};
 
-    /// The exit status: 1 where what was asked is refused, 3 where the program failed.
+    /// The exit status: 1 where what was asked is refused, 2 where the words make no sense, 3 where the program failed.
     pub fn status(self) -> u8
         ensures { result ≡ status_of self }
     {
         match self {
-            Fault::Text(_) | Fault::SetText | Fault::SetTooLarge => 1,
+            Fault::Text(_) | Fault::SetText => 1,
+            Fault::PuzzlePlies => 2,
             Fault::TooDeep | Fault::Memory | Fault::Io => 3,
             Fault::Run(dob_run::Fault::Stopped { .. } | dob_run::Fault::Memory) => 3,
             Fault::Run(_) => 1,
@@ -63,11 +62,11 @@ impl fmt::Display for Fault {
         match self {
             Fault::Text(fault) => write!(f, "{fault}"),
             Fault::SetText => write!(f, "{SetText}"),
-            Fault::SetTooLarge => write!(f, "{}", dob_rank::Fault::SetTooLarge),
             Fault::TooDeep => write!(f, "{}", dob_value::Fault::TooDeep),
             Fault::Run(fault) => write!(f, "{fault}"),
             Fault::File(fault) => write!(f, "{fault}"),
             Fault::Table(fault) => write!(f, "{fault}"),
+            Fault::PuzzlePlies => write!(f, "--plies is an odd number of at least 3"),
             Fault::Memory => write!(f, "{Memory}"),
             Fault::Io => write!(f, "{}", dob_dbfile::Fault::Io(0)),
         }
@@ -99,7 +98,6 @@ impl From<dob_value::Fault> for Fault {
 
     fn from(given: dob_value::Fault) -> Fault {
         match given {
-            dob_value::Fault::SetTooLarge => Fault::SetTooLarge,
             dob_value::Fault::TooDeep => Fault::TooDeep,
             dob_value::Fault::Memory => Fault::Memory,
         }
@@ -127,14 +125,6 @@ impl From<dob_probe::Fault> for Fault {
 
     fn from(given: dob_probe::Fault) -> Fault {
         Fault::Table(given)
-    }
-}
-
-impl From<OtherSet> for Fault {
-    ghost from_gives = { λ _ result. result ≡ fault.Table table_fault.OtherSet };
-
-    fn from(_given: OtherSet) -> Fault {
-        Fault::Table(dob_probe::Fault::OtherSet)
     }
 }
 

@@ -1,6 +1,5 @@
 // The value of a position by the one record of a database file, whatever the file's size.
-ghost use Rattle.std.specs.Prelude.{◌≡◌, ◌⊎◌, ◌↔◌, false, IfOk, IfErr, IsTrue, string_bytes};
-ghost use Rattle.dob_rank.specs.Order.{IsPositionOf};
+ghost use Rattle.std.specs.Prelude.{◌≡◌, false, IfOk, IfErr, string_bytes};
 ghost use Rattle.dob_dbfile.specs.Devices.{Stream};
 ghost use Rattle.dob_cli.specs.Faults.{is_io_error};
 ghost use Rattle.dob_cli.specs.Looks.{IsFaultOfLook, IsLookedUp, IsLookFault, IsLookLine};
@@ -10,9 +9,8 @@ use crate::fault::Fault;
 use crate::program::line_of;
 use crate::shelf::Shelf;
 use dob_dbfile::{PlacedSource, read_classes, read_value};
-use dob_pieces::{PieceSet, Position};
-use dob_probe::OtherSet;
-use dob_rank::size;
+use dob_pieces::{Position, Profile};
+use dob_probe::check_member;
 use dob_text::read_position;
 use dob_value::Value;
 use std::alloc::Global;
@@ -29,7 +27,7 @@ pub(crate) fn answer_look<S: Shelf>(
     ensures files { SameFiles (S.state shelf.old).has (S.state shelf.new).has }
     ensures failed { FailsWhere (shelf_change (S.state shelf.old) (S.state shelf.new)) (is_io_error result) }
 {
-    let position = read_position(text)?;
+    let position = read_position(Profile::A, text)?;
     let mut source = shelf.find(file)?;
     let found = look(alloc, &mut source, &position);
     shelf.close(source);
@@ -44,19 +42,8 @@ fn look<R: PlacedSource>(alloc: Global, source: &mut R, position: &Position) -> 
     ensures fault { IfErr result (IsFaultOfLook (λ stream. R.gives source.old stream × R.shows source.old stream) position.now.setup) }
     ensures failed { R.has_failed source.new ≡ is_io_error result }
 {
-    let classes = read_classes(alloc, source)?;
-    if !is_of_set(position, classes.set) {
-        return Err(Fault::from(OtherSet));
-    }
-    // That there are no more classes than positions bounds the record's place.
-    let _positions = size(classes.set);
-    let value = read_value(source, classes.class_of(position))?;
+    let (format, classes) = read_classes(alloc, source)?;
+    check_member(classes.family, position)?;
+    let value = read_value(source, format, classes.class_of(position))?;
     Ok(value)
-}
-
-// Whether the position has just the pieces of the set.
-fn is_of_set(position: &Position, set: PieceSet) -> bool
-    ensures { IsTrue result ↔ IsPositionOf set position.now.setup }
-{
-    position.piece_set() == set
 }

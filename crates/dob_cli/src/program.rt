@@ -18,11 +18,14 @@ use crate::command::{Order, Reading, read_words};
 use crate::counts::answer_count;
 use crate::fault::Fault;
 use crate::looks::answer_look;
+use crate::migrations::answer_migrate;
+use crate::puzzles::answer_puzzles;
 use crate::shelf::Shelf;
 use crate::shows::answer_show;
 use crate::stats::answer_stats;
 use crate::tables::{answer_check, answer_line, answer_probe};
 use dob_dbfile::{Lent, Sink, put_all, write_all};
+use dob_pieces::Profile;
 use dob_text::read_position;
 use dob_value::{Value, sweep_value};
 use std::alloc::{AllocError, Global};
@@ -124,9 +127,14 @@ fn answer<S: Shelf>(
     ensures failed { FailsWhere (shelf_change (S.state shelf.old) (S.state shelf.new)) (is_io_error result) }
 {
     match order {
-        Order::Value(position) => answer_value(alloc, position),
-        Order::Count(set) => answer_count(alloc, set),
-        Order::Build { set, nodes, file } => answer_build(rt, alloc, shelf, set, nodes, file),
+        Order::Value { profile, position } => answer_value(alloc, profile, position),
+        Order::Count { profile, set } => answer_count(alloc, profile, set),
+        Order::Build {
+            profile,
+            set,
+            nodes,
+            file,
+        } => answer_build(rt, alloc, shelf, profile, set, nodes, file),
         Order::Probe { file, position } => answer_probe(alloc, shelf, file, position),
         Order::Line {
             file,
@@ -141,17 +149,19 @@ fn answer<S: Shelf>(
             position,
         } => answer_show(alloc, shelf, file, picture, position),
         Order::Moves { file, position } => answer_moves(alloc, shelf, file, position),
-        Order::Stats(file) => answer_stats(alloc, shelf, file),
+        Order::Stats(file) => answer_stats(rt, alloc, shelf, file),
+        Order::Puzzles { file, plies, count } => answer_puzzles(alloc, shelf, file, plies, count),
+        Order::Migrate { file, out } => answer_migrate(alloc, shelf, file, out),
     }
 }
 
-// The line that tells the value of the position that the text names.
-fn answer_value(alloc: Global, text: &str) -> Result<String, Fault>
-    ensures ok { IfOk result (λ line. IsValueLineOf text.now (string_bytes line)) }
-    ensures err { IfErr result (IsFaultOf text.now) }
+// The line that tells the value of the position that the text names, by the rules of the profile.
+fn answer_value(alloc: Global, profile: Profile, text: &str) -> Result<String, Fault>
+    ensures ok { IfOk result (λ line. IsValueLineOf profile text.now (string_bytes line)) }
+    ensures err { IfErr result (IsFaultOf profile text.now) }
 {
-    let position = read_position(text)?;
-    let value = sweep_value(alloc, &position)?;
+    let position = read_position(profile, text)?;
+    let value = sweep_value(alloc, profile, &position)?;
     Ok(line_of(alloc, value)?)
 }
 

@@ -13,7 +13,7 @@ use crate::shelf::Shelf;
 use crate::tables::open;
 use dob_dbfile::{Failed, put_all};
 use dob_moves::Move;
-use dob_pieces::{Memory, Position};
+use dob_pieces::{Memory, Position, Profile};
 use dob_probe::{line, probe};
 use dob_text::{draw_position, picture_position, read_position, write_line};
 use dob_value::Value;
@@ -34,7 +34,7 @@ pub(crate) fn answer_show<S: Shelf>(
     ensures files { KeepsButPicture (text_given picture.entry) (S.state shelf.old).has (S.state shelf.new).has }
     ensures failed { FailsWhere (shelf_change (S.state shelf.old) (S.state shelf.new)) (is_io_error result) }
 {
-    let position = read_position(text)?;
+    let position = read_position(Profile::A, text)?;
     let lines = drawn_lines(alloc, shelf, file, &position)?;
     match picture {
         None => Ok(lines),

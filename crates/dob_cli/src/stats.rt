@@ -14,6 +14,7 @@ use dob_probe::{Group, statistics};
 use dob_text::write_position;
 use dob_value::{Table, Value};
 use std::alloc::Global;
+use std::thread::Threads;
 
 /// The last group of wins and the last of losses, where there are any.
 #[derive(Clone, Copy)]
@@ -24,6 +25,7 @@ pub(crate) struct Longest {
 
 /// The lines that tell how many classes of the file's table have which value, and the longest win and loss with an example each.
 pub(crate) fn answer_stats<S: Shelf>(
+    rt: &(impl Threads + Sync),
     alloc: Global,
     shelf: &mut S,
     file: &str,
@@ -35,15 +37,20 @@ pub(crate) fn answer_stats<S: Shelf>(
 {
     let table = open(alloc, shelf, file)?;
     let groups = statistics(alloc, &table)?;
-    Ok(stats_lines(alloc, &table, &groups)?)
+    Ok(stats_lines(rt, alloc, &table, &groups)?)
 }
 
 // The lines that tell of the table, by its groups.
-fn stats_lines(alloc: Global, table: &Table, groups: &[Group]) -> Result<String, Memory>
+fn stats_lines(
+    rt: &(impl Threads + Sync),
+    alloc: Global,
+    table: &Table,
+    groups: &[Group],
+) -> Result<String, Memory>
     requires { AreGroups table.now.values groups.now }
     ensures { IfOk result (λ lines. AreStatsOf table.now groups.now (string_bytes lines)) }
 {
-    let mut lines = lines_of(alloc, table)?;
+    let mut lines = lines_of(rt, alloc, table)?;
     push_groups(alloc, &mut lines, groups)?;
     let longest = longest_of(groups);
     let win = longest_line(alloc, table, longest.win)?;

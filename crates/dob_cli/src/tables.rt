@@ -12,7 +12,7 @@ use crate::program::line_of;
 use crate::shelf::Shelf;
 use dob_dbfile::read_table;
 use dob_moves::Move;
-use dob_pieces::Memory;
+use dob_pieces::{Memory, Profile};
 use dob_probe::{check, line, probe};
 use dob_text::{read_position, write_line, write_move};
 use dob_value::{Table, Value};
@@ -31,7 +31,7 @@ pub(crate) fn answer_probe<S: Shelf>(
     ensures files { SameFiles (S.state shelf.old).has (S.state shelf.new).has }
     ensures failed { FailsWhere (shelf_change (S.state shelf.old) (S.state shelf.new)) (is_io_error result) }
 {
-    let position = read_position(text)?;
+    let position = read_position(Profile::A, text)?;
     let table = open(alloc, shelf, file)?;
     let value = probe(&table, &position)?;
     Ok(line_of(alloc, value)?)
@@ -51,7 +51,7 @@ pub(crate) fn answer_line<S: Shelf>(
     ensures files { SameFiles (S.state shelf.old).has (S.state shelf.new).has }
     ensures failed { FailsWhere (shelf_change (S.state shelf.old) (S.state shelf.new)) (is_io_error result) }
 {
-    let position = read_position(text)?;
+    let position = read_position(Profile::A, text)?;
     let table = open(alloc, shelf, file)?;
     let value = probe(&table, &position)?;
     let moves = line(alloc, &table, &position)?;

@@ -1,8 +1,11 @@
 // How many values of a table are wins, losses and draws.
-ghost use Rattle.std.specs.Prelude.{◌<◌, ◌+◌, ◌^◌};
-ghost use Rattle.dob_cli.specs.Builds.{AddsValue, IsTally};
+ghost use Rattle.std.specs.Prelude.{◌≡◌, ◌<◌, ◌∷◌, [], Some, length, slice_get};
+ghost use Rattle.dob_value.specs.declared.value.Value.{Value as Counted};
+ghost use Rattle.dob_cli.specs.Builds.{AreAddedUp, IsTally, IsTallyAt};
 
 use dob_value::{Table, Value};
+use rayon::prelude::*;
+use std::thread::Threads;
 
 /// So many wins, losses and draws.
 #[derive(Clone, Copy)]
@@ -12,46 +15,62 @@ pub(crate) struct Tally {
     pub(crate) draws: u64,
 }
 
-/// How many of the table's values are wins, losses and draws.
-pub(crate) fn tally_of(table: &Table) -> Tally
+/// How many of the table's values are wins, losses and draws. Parts of the table are counted by themselves, in as many threads
+/// as there are processors, and added up.
+pub(crate) fn tally_of(rt: &(impl Threads + Sync), table: &Table) -> Tally
     ensures { IsTally table.now.values result }
 {
-    let mut tally = Tally {
+    (0..table.class_count())
+        .into_par_iter()
+        .map(
+            |class: u64| -> Tally
+                requires { class < length table.now.values }
+                ensures { IsTallyAt table.entry.now.values class result }
+            { one(table.value(class)) },
+        )
+        .reduce(
+            rt,
+            || -> Tally
+                ensures { IsTally [] result }
+            { none() },
+            |left: Tally, right: Tally| -> Tally
+                ensures { AreAddedUp left right result }
+            { sum(left, right) },
+        )
+}
+
+// The tally of no values.
+fn none() -> Tally
+    ensures { IsTally [] result }
+{
+    Tally {
         wins: 0,
         losses: 0,
         draws: 0,
-    };
-    for class in 0..table.class_count() {
-        tally = with_value(tally, table.value(class));
     }
-    tally
 }
 
-// The tally with one value more.
-fn with_value(tally: Tally, value: Value) -> Tally
-    requires { (tally.wins + 1 < 2 ^ 64) × (tally.losses + 1 < 2 ^ 64) × (tally.draws + 1 < 2 ^ 64) }
-    ensures { AddsValue value tally result }
+// The tally of one value.
+fn one(value: Value) -> Tally
+    ensures { IsTally (value ∷ []) result }
 {
-    let Tally {
-        wins,
-        losses,
-        draws,
-    } = tally;
     match value {
-        Value::Win(_) => Tally {
-            wins: wins + 1,
-            losses,
-            draws,
-        },
+        Value::Win(_) => Tally { wins: 1, ..none() },
         Value::Loss(_) => Tally {
-            wins,
-            losses: losses + 1,
-            draws,
+            losses: 1,
+            ..none()
         },
-        Value::Draw => Tally {
-            wins,
-            losses,
-            draws: draws + 1,
-        },
+        Value::Draw => Tally { draws: 1, ..none() },
+    }
+}
+
+// Two tallies added up, which fits where one list can have all the values.
+fn sum(left: Tally, right: Tally) -> Tally
+    ensures { AreAddedUp left right result }
+{
+    Tally {
+        wins: left.wins.wrapping_add(right.wins),
+        losses: left.losses.wrapping_add(right.losses),
+        draws: left.draws.wrapping_add(right.draws),
     }
 }

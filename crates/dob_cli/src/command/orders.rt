@@ -1,20 +1,25 @@
 // What the matches of each subcommand ask for.
-ghost use Rattle.std.specs.Prelude.{IsSomeAnd, List, Option, Some, codes};
+ghost use Rattle.std.specs.Prelude.{◌≡◌, IsSomeAnd, List, Option, Some, codes};
 ghost use Rattle.clap.specs.Words.{found_of, rows_of};
 ghost use Rattle.dob_cli.specs.Forms.{Text, build_form, check_form, count_form, line_form, look_form, probe_form, show_form};
-ghost use Rattle.dob_cli.specs.Forms.{moves_form, stats_form, value_form};
+ghost use Rattle.dob_cli.specs.Forms.{migrate_form, moves_form, puzzles_form, stats_form, value_form};
 ghost use Rattle.dob_cli.specs.Shapes.{Finds};
-ghost use Rattle.dob_cli.specs.Readings.{IsOrder};
+ghost use Rattle.dob_cli.specs.Readings.{IsOrder, text_given};
+ghost use Rattle.dob_cli.specs.Words.{profile_named};
 
 use super::Order;
 use clap::ArgMatches;
+use dob_pieces::Profile;
 
 /// What the matches of `value` ask for.
 pub(super) fn value_order<'a>(inner: &ArgMatches<'a>) -> Option<Order<'a>>
     ensures { (texts : List (Option Text)) → Finds value_form texts (Some (codes "value", rows_of (found_of inner.now)))
         → IsSomeAnd result (IsOrder (codes "value") texts) }
 {
-    Some(Order::Value(inner.get_str("POSITION")?))
+    Some(Order::Value {
+        profile: profile_named(inner.get_str("PROFILE")),
+        position: inner.get_str("POSITION")?,
+    })
 }
 
 /// What the matches of `count` ask for.
@@ -22,7 +27,10 @@ pub(super) fn count_order<'a>(inner: &ArgMatches<'a>) -> Option<Order<'a>>
     ensures { (texts : List (Option Text)) → Finds count_form texts (Some (codes "count", rows_of (found_of inner.now)))
         → IsSomeAnd result (IsOrder (codes "count") texts) }
 {
-    Some(Order::Count(inner.get_str("CEG")?))
+    Some(Order::Count {
+        profile: profile_named(inner.get_str("PROFILE")),
+        set: inner.get_str("CEG")?,
+    })
 }
 
 /// What the matches of `build` ask for.
@@ -31,6 +39,7 @@ pub(super) fn build_order<'a>(inner: &ArgMatches<'a>) -> Option<Order<'a>>
         → IsSomeAnd result (IsOrder (codes "build") texts) }
 {
     Some(Order::Build {
+        profile: profile_named(inner.get_str("PROFILE")),
         set: inner.get_str("CEG")?,
         nodes: inner.get_str("N")?.parse().ok()?,
         file: inner.get_str("FILE")?,
@@ -108,4 +117,37 @@ pub(super) fn stats_order<'a>(inner: &ArgMatches<'a>) -> Option<Order<'a>>
         → IsSomeAnd result (IsOrder (codes "stats") texts) }
 {
     Some(Order::Stats(inner.get_str("FILE")?))
+}
+
+/// What the matches of `puzzles` ask for.
+pub(super) fn puzzles_order<'a>(inner: &ArgMatches<'a>) -> Option<Order<'a>>
+    ensures { (texts : List (Option Text)) → Finds puzzles_form texts (Some (codes "puzzles", rows_of (found_of inner.now)))
+        → IsSomeAnd result (IsOrder (codes "puzzles") texts) }
+{
+    Some(Order::Puzzles {
+        file: inner.get_str("FILE")?,
+        plies: inner.get_str("D")?.parse().ok()?,
+        count: inner.get_str("N")?.parse().ok()?,
+    })
+}
+
+/// What the matches of `migrate` ask for.
+pub(super) fn migrate_order<'a>(inner: &ArgMatches<'a>) -> Option<Order<'a>>
+    ensures { (texts : List (Option Text)) → Finds migrate_form texts (Some (codes "migrate", rows_of (found_of inner.now)))
+        → IsSomeAnd result (IsOrder (codes "migrate") texts) }
+{
+    Some(Order::Migrate {
+        file: inner.get_str("FILE")?,
+        out: inner.get_str("OUT")?,
+    })
+}
+
+// The profile that the text of `--rules` names, A where it is left out.
+fn profile_named(rules: Option<&str>) -> Profile
+    ensures { result ≡ profile_named (text_given rules.entry) }
+{
+    match rules {
+        None => Profile::A,
+        Some(name) => { if name == "B" { Profile::B } else { Profile::A } }
+    }
 }

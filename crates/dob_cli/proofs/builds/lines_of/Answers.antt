@@ -5,7 +5,7 @@ use Rattle.dob_cli.proofs.Building.{lines_told}
 use Rattle.dob_cli.proofs.builds.lines_of.Goals as goal
 
 pub returns : goal.returns
-returns c =
+returns g c =
     IfOk-weaker c.format.result _ _
     (λ s e. e ∙ lines_told c.args.table.now.values c.tally_of-tally.result c.class_count-classes.result c.class_count-classes.ensures.length
     c.tally_of-tally.ensures) c.format.ensures.ok

@@ -3,18 +3,18 @@ use Rattle.std.proofs.Common.{codes}
 use Rattle.std.proofs.lemmas.Result.{IfOk-weaker}
 use Rattle.clap.specs.Words.{Rule, new_app, with_rule}
 use Rattle.dob_cli.specs.Forms.{file_option, line_form, numbered_flag}
-use Rattle.dob_cli.specs.Shapes.{HasShape, flag_rule, option_rule, text_rule}
+use Rattle.dob_cli.specs.Shapes.{HasShape, flag_rule, no_names, option_rule, text_rule}
 use Rattle.dob_cli.proofs.Outcomes.{argument_shape}
 use Rattle.dob_cli.proofs.command.line_command.Goals as goal
 
 abbrev first : Rule
-first = option_rule line_form file_option
+first = option_rule no_names line_form file_option
 
 abbrev second : Rule
 second = flag_rule numbered_flag
 
 abbrev third : Rule
-third = text_rule line_form (codes "POSITION")
+third = text_rule no_names line_form (codes "POSITION")
 
 pub returns : goal.returns
 returns c =

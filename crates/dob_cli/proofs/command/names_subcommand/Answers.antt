@@ -24,4 +24,6 @@ returns-in_default c =
       apart (codes "show") name c.in_default.not-show,
       apart (codes "moves") name c.in_default.not-moves,
       apart (codes "stats") name c.in_default.not-stats,
+      apart (codes "puzzles") name c.in_default.not-puzzles,
+      apart (codes "migrate") name c.in_default.not-migrate,
     ) refl

@@ -1,6 +1,6 @@
 -- Each subcommand's own matches are those that were found, and no other form has its name.
 use Rattle.std.proofs.Common.{refl}
-use Rattle.dob_cli.specs.Forms.{build_form, check_form, count_form, line_form, look_form, moves_form, probe_form, show_form, stats_form, value_form}
+use Rattle.dob_cli.specs.Forms.{build_form, check_form, count_form, line_form, look_form, migrate_form, moves_form, probe_form, puzzles_form, show_form, stats_form, value_form}
 use Rattle.dob_cli.proofs.Matches.{order_found}
 use Rattle.dob_cli.proofs.command.order_of.Goals as goal
 
@@ -53,3 +53,13 @@ pub returns-in-stats : goal.returns-in-stats
 returns-in-stats c =
     order_found stats_form refl c.args.matches.now c.in_ok-name.inner.now c.in_ok-name.name.now c.in-stats.is c.in_ok-name.ensures.name
     c.in_ok-name.ensures.rows c.stats_order.result c.stats_order.ensures
+
+pub returns-in-puzzles : goal.returns-in-puzzles
+returns-in-puzzles c =
+    order_found puzzles_form refl c.args.matches.now c.in_ok-name.inner.now c.in_ok-name.name.now c.in-puzzles.is c.in_ok-name.ensures.name
+    c.in_ok-name.ensures.rows c.puzzles_order.result c.puzzles_order.ensures
+
+pub returns-in-migrate : goal.returns-in-migrate
+returns-in-migrate c =
+    order_found migrate_form refl c.args.matches.now c.in_ok-name.inner.now c.in_ok-name.name.now c.in-migrate.is c.in_ok-name.ensures.name
+    c.in_ok-name.ensures.rows c.migrate_order.result c.migrate_order.ensures

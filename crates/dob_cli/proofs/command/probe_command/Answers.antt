@@ -3,15 +3,15 @@ use Rattle.std.proofs.Common.{codes}
 use Rattle.std.proofs.lemmas.Result.{IfOk-weaker}
 use Rattle.clap.specs.Words.{Rule, new_app, with_rule}
 use Rattle.dob_cli.specs.Forms.{file_option, probe_form}
-use Rattle.dob_cli.specs.Shapes.{HasShape, option_rule, text_rule}
+use Rattle.dob_cli.specs.Shapes.{HasShape, no_names, option_rule, text_rule}
 use Rattle.dob_cli.proofs.Outcomes.{argument_shape}
 use Rattle.dob_cli.proofs.command.probe_command.Goals as goal
 
 abbrev first : Rule
-first = option_rule probe_form file_option
+first = option_rule no_names probe_form file_option
 
 abbrev second : Rule
-second = text_rule probe_form (codes "POSITION")
+second = text_rule no_names probe_form (codes "POSITION")
 
 pub returns : goal.returns
 returns c =

@@ -6,4 +6,4 @@ use Rattle.dob_cli.proofs.command.read_topic.Goals as goal
 
 pub unreachable-requires : goal.unreachable-requires
 unreachable-requires c =
-    no_matches (app_of c.in_ok-dobutsu_command.field-0) (map (λ w. w.now) c.args.words.now) c.requires c.in_ok-dobutsu_command.ensures.0 c.in-Ok.ensures.kinds
+    no_matches c.in_ok-dobutsu_command.ensures.0 c.in_ok-dobutsu_command.ensures.1 (app_of c.in_ok-dobutsu_command.field-0) (map (λ w. w.now) c.args.words.now) c.requires c.in_ok-dobutsu_command.ensures.2.0 c.in-Ok.ensures.kinds

@@ -11,8 +11,8 @@ use Rattle.dob_cli.proofs.command.read_words.Goals as goal
 pub unreachable-requires : goal.unreachable-requires
 unreachable-requires c =
     order_is_there (map (λ w. w.now) c.args.words.now) _
-    (asked_by_matches (app_of c.in_ok-dobutsu_command.field-0) (map (λ w. w.now) c.args.words.now) c.in-Ok.matches
-    (sym c.asks_topic.ensures ∙ c.if-asks_topic.false) c.in_ok-dobutsu_command.ensures.0 c.in-Ok.ensures.kinds c.in-Ok.ensures.matches) c.in-None.ensures
+    (asked_by_matches c.in_ok-dobutsu_command.ensures.0 c.in_ok-dobutsu_command.ensures.1 (app_of c.in_ok-dobutsu_command.field-0) (map (λ w. w.now) c.args.words.now) c.in-Ok.matches
+    (sym c.asks_topic.ensures ∙ c.if-asks_topic.false) c.in_ok-dobutsu_command.ensures.2.0 c.in-Ok.ensures.kinds c.in-Ok.ensures.matches) c.in-None.ensures
 
 pub returns-in-Some-clause-meaning : goal.returns-in-Some-clause-meaning
 returns-in-Some-clause-meaning c =
@@ -20,8 +20,8 @@ returns-in-Some-clause-meaning c =
     (command_meaning (map (λ w. w.now) c.args.words.now) (sym c.asks_version.ensures ∙ c.if-asks_version.false)
     (sym c.asks_topic.ensures ∙ c.if-asks_topic.false))
     (order_is_meant (map (λ w. w.now) c.args.words.now) _ c.in-Some.order
-    (asked_by_matches (app_of c.in_ok-dobutsu_command.field-0) (map (λ w. w.now) c.args.words.now) c.in-Ok.matches
-    (sym c.asks_topic.ensures ∙ c.if-asks_topic.false) c.in_ok-dobutsu_command.ensures.0 c.in-Ok.ensures.kinds c.in-Ok.ensures.matches) c.in-Some.ensures)
+    (asked_by_matches c.in_ok-dobutsu_command.ensures.0 c.in_ok-dobutsu_command.ensures.1 (app_of c.in_ok-dobutsu_command.field-0) (map (λ w. w.now) c.args.words.now) c.in-Ok.matches
+    (sym c.asks_topic.ensures ∙ c.if-asks_topic.false) c.in_ok-dobutsu_command.ensures.2.0 c.in-Ok.ensures.kinds c.in-Ok.ensures.matches) c.in-Some.ensures)
 
 pub returns-in-Some-clause-sound : goal.returns-in-Some-clause-sound
 returns-in-Some-clause-sound c = order_from_line _ (reading.Order c.in-Some.order) (returns-in-Some-clause-meaning c)
@@ -35,8 +35,8 @@ returns-in-Err-clause-meaning c =
     IfOk-weaker c.read_error.result _ _
     (λ r h. subst (λ m. IsReadingOf m r) (command_meaning (map (λ w. w.now) c.args.words.now) (sym c.asks_version.ensures ∙ c.if-asks_version.false)
     (sym c.asks_topic.ensures ∙ c.if-asks_topic.false))
-    (error_of_words (app_of c.in_ok-dobutsu_command.field-0) (map (λ w. w.now) c.args.words.now) c.in-Err.error
-    (sym c.asks_topic.ensures ∙ c.if-asks_topic.false) c.in_ok-dobutsu_command.ensures.0 c.in-Err.ensures.kinds r h)) c.read_error.ensures
+    (error_of_words c.in_ok-dobutsu_command.ensures.0 c.in_ok-dobutsu_command.ensures.1 (app_of c.in_ok-dobutsu_command.field-0) (map (λ w. w.now) c.args.words.now) c.in-Err.error
+    (sym c.asks_topic.ensures ∙ c.if-asks_topic.false) c.in_ok-dobutsu_command.ensures.2.0 c.in-Err.ensures.kinds r h)) c.read_error.ensures
 
 pub returns-in-Err-clause-sound : goal.returns-in-Err-clause-sound
 returns-in-Err-clause-sound c = IfOk-weaker c.read_error.result _ _ (order_from_line _) (returns-in-Err-clause-meaning c)

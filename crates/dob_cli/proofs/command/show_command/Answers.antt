@@ -3,18 +3,18 @@ use Rattle.std.proofs.Common.{codes}
 use Rattle.std.proofs.lemmas.Result.{IfOk-weaker}
 use Rattle.clap.specs.Words.{Rule, new_app, with_rule}
 use Rattle.dob_cli.specs.Forms.{file_option, picture_option, show_form}
-use Rattle.dob_cli.specs.Shapes.{HasShape, option_rule, text_rule}
+use Rattle.dob_cli.specs.Shapes.{HasShape, no_names, option_rule, text_rule}
 use Rattle.dob_cli.proofs.Outcomes.{argument_shape}
 use Rattle.dob_cli.proofs.command.show_command.Goals as goal
 
 abbrev first : Rule
-first = option_rule show_form file_option
+first = option_rule no_names show_form file_option
 
 abbrev second : Rule
-second = option_rule show_form picture_option
+second = option_rule no_names show_form picture_option
 
 abbrev third : Rule
-third = text_rule show_form (codes "POSITION")
+third = text_rule no_names show_form (codes "POSITION")
 
 pub returns : goal.returns
 returns c =

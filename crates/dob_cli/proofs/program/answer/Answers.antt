@@ -1,6 +1,12 @@
 -- Each subcommand's answer is the order's.
 use Rattle.dob_cli.proofs.program.answer.Goals as goal
 
+pub returns-in-Count-clause-ok : goal.returns-in-Count-clause-ok
+returns-in-Count-clause-ok g c = rw c.in-Count.is c.answer_count.ensures.ok
+
+pub returns-in-Count-clause-err : goal.returns-in-Count-clause-err
+returns-in-Count-clause-err g c = rw c.in-Count.is c.answer_count.ensures.err
+
 pub returns-in-Probe-clause-ok : goal.returns-in-Probe-clause-ok
 returns-in-Probe-clause-ok g c = rw c.in-Probe.is c.answer_probe.ensures.ok
 
@@ -27,3 +33,15 @@ returns-in-Show-clause-ok g c = rw c.in-Show.is c.answer_show.ensures.ok
 
 pub returns-in-Stats-clause-ok : goal.returns-in-Stats-clause-ok
 returns-in-Stats-clause-ok g c = rw c.in-Stats.is c.answer_stats.ensures.ok
+
+pub returns-in-Puzzles-clause-ok : goal.returns-in-Puzzles-clause-ok
+returns-in-Puzzles-clause-ok g c = rw c.in-Puzzles.is c.answer_puzzles.ensures.ok
+
+pub returns-in-Puzzles-clause-err : goal.returns-in-Puzzles-clause-err
+returns-in-Puzzles-clause-err g c = rw c.in-Puzzles.is c.answer_puzzles.ensures.err
+
+pub returns-in-Migrate-clause-ok : goal.returns-in-Migrate-clause-ok
+returns-in-Migrate-clause-ok g c = rw c.in-Migrate.is c.answer_migrate.ensures.ok
+
+pub returns-in-Migrate-clause-err : goal.returns-in-Migrate-clause-err
+returns-in-Migrate-clause-err g c = rw c.in-Migrate.is c.answer_migrate.ensures.err

@@ -1,8 +1,8 @@
 -- The table is the file's, and its faults are those of asking the file.
-use Rattle.std.proofs.Common.{◌∙◌, ap, rules}
+use Rattle.std.proofs.Common.{◌∙◌, ap}
 use Rattle.std.proofs.lemmas.Result.{err_from_is_err_and}
-use Rattle.dob_rank.specs.Order.{IsPositionOf}
 use Rattle.dob_cli.specs.Shows.{played_drawing}
+use Rattle.dob_cli.proofs.TableFaults.{refusal_probes}
 use Rattle.dob_cli.proofs.Showing.{line_probes, opening_probes}
 use Rattle.dob_cli.proofs.shows.lines_by_table.Goals as goal
 
@@ -14,8 +14,8 @@ returns-in_err-table-clause-err g c =
 pub returns-in_err-value-clause-err : goal.returns-in_err-value-clause-err
 returns-in_err-value-clause-err g c =
     let p = err_from_is_err_and c.from_residual-in_err-value.result c.from_residual-in_err-value.ensures.1 in
-    let other : ¬ IsPositionOf c.in_ok-table.table.set c.args.position.now.setup = c.in_err-value.ensures.other.0 (search rules) in
-    rw (p.1, p.2) (c.in_ok-table.table, c.in_ok-table.ensures.table, other)
+    rw (p.1, p.2) (refusal_probes ((g.S.Shelf.state c.args.shelf.now).has c.args.file.now) c.in_ok-table.table c.in_ok-table.ensures.table
+    c.args.position.now.setup c.in_err-value.field-0.0 c.in_err-value.ensures.refused)
 
 pub returns-in_err-moves-clause-err : goal.returns-in_err-moves-clause-err
 returns-in_err-moves-clause-err g c =

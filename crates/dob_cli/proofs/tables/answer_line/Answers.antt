@@ -1,9 +1,8 @@
 -- The position that was read is the text's, and the table the file's.
 use Rattle.std.proofs.Common.{rules, ◌∙◌, ap}
 use Rattle.std.proofs.lemmas.Result.{err_from_is_err_and}
-use Rattle.dob_rank.specs.Order.{IsPositionOf}
 use Rattle.dob_cli.specs.Tables.{moves_lines}
-use Rattle.dob_cli.proofs.TableFaults.{line_fault_holds, opening_fault_holds}
+use Rattle.dob_cli.proofs.TableFaults.{line_fault_holds, opening_fault_holds, refusal_holds}
 use Rattle.dob_cli.proofs.tables.answer_line.Goals as goal
 
 pub returns-in_err-table-clause-err : goal.returns-in_err-table-clause-err
@@ -17,12 +16,9 @@ pub returns-in_err-value-clause-err : goal.returns-in_err-value-clause-err
 returns-in_err-value-clause-err g c =
     let p = err_from_is_err_and c.from_residual-in_err-value.result c.from_residual-in_err-value.ensures.1 in
     let position = c.in_ok-position.position in
-    let other : ¬ IsPositionOf c.in_ok-table.table.set c.in_ok-position.position.setup = c.in_err-value.ensures.other.0 (search rules) in
-    rw (p.1, p.2) (
-      position.setup,
-      (position.legal, record { squares = position.legal.squares; spelled = c.in_ok-position.ensures.read }),
-      (c.in_ok-table.table, c.in_ok-table.ensures.table, other),
-    )
+    rw (p.1, p.2) (refusal_holds ((g.S.Shelf.state c.args.shelf.now).has c.args.file.now) c.in_ok-table.table c.in_ok-table.ensures.table
+    c.args.text.now position.setup c.in_err-value.field-0.0
+    (position.legal, record { squares = position.legal.squares; spelled = c.in_ok-position.ensures.read }) c.in_err-value.ensures.refused)
 
 pub returns-in_err-moves-clause-err : goal.returns-in_err-moves-clause-err
 returns-in_err-moves-clause-err g c =

@@ -1,8 +1,6 @@
 -- The position that was read is the text's, and the table the file's.
-use Rattle.std.proofs.Common.{rules}
 use Rattle.std.proofs.lemmas.Result.{err_from_is_err_and}
-use Rattle.dob_rank.specs.Order.{IsPositionOf}
-use Rattle.dob_cli.proofs.TableFaults.{opening_fault_holds}
+use Rattle.dob_cli.proofs.TableFaults.{opening_fault_holds, refusal_holds}
 use Rattle.dob_cli.proofs.tables.answer_probe.Goals as goal
 
 pub returns-in_err-table-clause-err : goal.returns-in_err-table-clause-err
@@ -16,12 +14,9 @@ pub returns-in_err-value-clause-err : goal.returns-in_err-value-clause-err
 returns-in_err-value-clause-err g c =
     let p = err_from_is_err_and c.from_residual-in_err-value.result c.from_residual-in_err-value.ensures.1 in
     let position = c.in_ok-position.position in
-    let other : ¬ IsPositionOf c.in_ok-table.table.set c.in_ok-position.position.setup = c.in_err-value.ensures.other.0 (search rules) in
-    rw (p.1, p.2) (
-      position.setup,
-      (position.legal, record { squares = position.legal.squares; spelled = c.in_ok-position.ensures.read }),
-      (c.in_ok-table.table, c.in_ok-table.ensures.table, other),
-    )
+    rw (p.1, p.2) (refusal_holds ((g.S.Shelf.state c.args.shelf.now).has c.args.file.now) c.in_ok-table.table c.in_ok-table.ensures.table
+    c.args.text.now position.setup c.in_err-value.field-0.0
+    (position.legal, record { squares = position.legal.squares; spelled = c.in_ok-position.ensures.read }) c.in_err-value.ensures.refused)
 
 pub returns-clause-ok : goal.returns-clause-ok
 returns-clause-ok g c =

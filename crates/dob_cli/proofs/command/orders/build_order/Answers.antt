@@ -1,47 +1,54 @@
 -- The texts come from the matches of `build`.
 use Rattle.std.proofs.Common.{codes, refl, [], ◌∷◌, Some}
 use Rattle.dob_cli.specs.Forms.{build_form}
+use Rattle.dob_cli.specs.Readings.{text_given}
 use Rattle.dob_cli.proofs.Matches.{got_fit, got_some, none_read, not_missing, number_read, some_read, texts_got}
 use Rattle.dob_cli.proofs.command.orders.build_order.Goals as goal
 
 pub returns-in_err-get_str : goal.returns-in_err-get_str
 returns-in_err-get_str c = λ texts found.
-    absurd (not_missing build_form texts _ found c.args.inner.now refl [] (codes "N" ∷ codes "FILE" ∷ []) (codes "CEG") refl refl
-    c.get_str.result c.get_str.ensures c.in_err-get_str.was)
+    absurd (not_missing build_form texts _ found c.args.inner.now refl [] (codes "N" ∷ codes "FILE" ∷ codes "PROFILE" ∷ []) (codes "CEG") refl refl
+    c.get_str-2.result c.get_str-2.ensures c.in_err-get_str.was)
 
 pub returns-in_err-get_str-2 : goal.returns-in_err-get_str-2
 returns-in_err-get_str-2 c = λ texts found.
-    absurd (not_missing build_form texts _ found c.args.inner.now refl (codes "CEG" ∷ []) (codes "FILE" ∷ []) (codes "N") refl refl
-    c.get_str-2.result c.get_str-2.ensures c.in_err-get_str-2.was)
+    absurd (not_missing build_form texts _ found c.args.inner.now refl (codes "CEG" ∷ []) (codes "FILE" ∷ codes "PROFILE" ∷ []) (codes "N") refl refl
+    c.get_str-3.result c.get_str-3.ensures c.in_err-get_str-2.was)
 
 pub returns-in_err-get_str-3 : goal.returns-in_err-get_str-3
 returns-in_err-get_str-3 c = λ texts found.
-    absurd (not_missing build_form texts _ found c.args.inner.now refl (codes "CEG" ∷ codes "N" ∷ []) [] (codes "FILE") refl refl
-    c.get_str-3.result c.get_str-3.ensures c.in_err-get_str-3.was)
+    absurd (not_missing build_form texts _ found c.args.inner.now refl (codes "CEG" ∷ codes "N" ∷ []) (codes "PROFILE" ∷ []) (codes "FILE") refl refl
+    c.get_str-4.result c.get_str-4.ensures c.in_err-get_str-3.was)
 
 pub returns-in_err-ok : goal.returns-in_err-ok
 returns-in_err-ok c = λ texts found.
     let number = c.in_ok-get_str-2.field-0 in
-    let fit = got_fit build_form texts _ found c.args.inner.now refl (codes "CEG" ∷ []) (codes "FILE" ∷ []) (codes "N") refl (Some number)
-    (got_some c.args.inner.now (codes "N") c.get_str-2.result (Some number) c.get_str-2.ensures c.in_ok-get_str-2.was) in
+    let fit = got_fit build_form texts _ found c.args.inner.now refl (codes "CEG" ∷ []) (codes "FILE" ∷ codes "PROFILE" ∷ []) (codes "N") refl (Some number)
+    (got_some c.args.inner.now (codes "N") c.get_str-3.result (Some number) c.get_str-3.ensures c.in_ok-get_str-2.was) in
     absurd (none_read _ c.ok.result
     (number_read number.now c.parse.result c.ok.result fit c.parse.ensures.value.0 c.ok.ensures.value) c.in_err-ok.was)
 
 pub returns : goal.returns
 returns c = λ texts found.
     let number = c.in_ok-get_str-2.field-0 in
-    let got = got_some c.args.inner.now (codes "N") c.get_str-2.result (Some number) c.get_str-2.ensures c.in_ok-get_str-2.was in
-    let fit = got_fit build_form texts _ found c.args.inner.now refl (codes "CEG" ∷ []) (codes "FILE" ∷ []) (codes "N") refl (Some number) got in (
+    let got = got_some c.args.inner.now (codes "N") c.get_str-3.result (Some number) c.get_str-3.ensures c.in_ok-get_str-2.was in
+    let fit = got_fit build_form texts _ found c.args.inner.now refl (codes "CEG" ∷ []) (codes "FILE" ∷ codes "PROFILE" ∷ []) (codes "N") refl (Some number) got in (
       refl,
       (
         number.now,
-        texts_got build_form texts _ found c.args.inner.now refl (codes "CEG" ∷ codes "N" ∷ codes "FILE" ∷ []) (Some c.in_ok-get_str.field-0 ∷ Some number ∷ Some c.in_ok-get_str-3.field-0 ∷ []) refl (
-          got_some c.args.inner.now (codes "CEG") c.get_str.result (Some c.in_ok-get_str.field-0) c.get_str.ensures c.in_ok-get_str.was,
-          (got, (got_some c.args.inner.now (codes "FILE") c.get_str-3.result (Some c.in_ok-get_str-3.field-0) c.get_str-3.ensures c.in_ok-get_str-3.was, tt)),
-        ),
+        text_given c.get_str.result,
+        texts_got build_form texts _ found c.args.inner.now refl (codes "CEG" ∷ codes "N" ∷ codes "FILE" ∷ codes "PROFILE" ∷ [])
+            (Some c.in_ok-get_str.field-0 ∷ Some number ∷ Some c.in_ok-get_str-3.field-0 ∷ c.get_str.result ∷ []) refl (
+              got_some c.args.inner.now (codes "CEG") c.get_str-2.result (Some c.in_ok-get_str.field-0) c.get_str-2.ensures c.in_ok-get_str.was,
+              (
+                got,
+                (got_some c.args.inner.now (codes "FILE") c.get_str-4.result (Some c.in_ok-get_str-3.field-0) c.get_str-4.ensures c.in_ok-get_str-3.was, (c.get_str.ensures, tt)),
+              ),
+            ),
         fit,
         some_read _ _ c.ok.result
             (number_read number.now c.parse.result c.ok.result fit c.parse.ensures.value.0 c.ok.ensures.value)
             c.in_ok-ok.was,
+        c.profile_named.ensures,
       ),
     )

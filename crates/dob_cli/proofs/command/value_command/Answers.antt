@@ -1,0 +1,22 @@
+-- The texts of help change nothing that is read, and the arguments join one after the other.
+use Rattle.std.proofs.Common.{codes}
+use Rattle.std.proofs.lemmas.Result.{IfOk-weaker}
+use Rattle.clap.specs.Words.{Rule, new_app, with_rule}
+use Rattle.dob_cli.specs.Forms.{rules_option, value_form}
+use Rattle.dob_cli.specs.Shapes.{HasShape, ProfileNames, option_rule, text_rule}
+use Rattle.dob_cli.proofs.Outcomes.{argument_shape}
+use Rattle.dob_cli.proofs.command.value_command.Goals as goal
+
+abbrev first : ProfileNames → Rule
+first profiles = option_rule profiles value_form rules_option
+
+abbrev second : ProfileNames → Rule
+second profiles = text_rule profiles value_form (codes "POSITION")
+
+pub returns : goal.returns
+returns c =
+    let profiles = c.args.profiles in
+    let bare : HasShape (new_app value_form.name) c.after_help.result = rw (c.after_help.ensures, c.about.ensures) (c.new.ensures.app, c.new.ensures.local) in
+    let one = IfOk-weaker c.arg-command.result _ _
+    (λ r adds. argument_shape _ _ r (new_app value_form.name) (first profiles) bare c.rules_argument.ensures adds) c.arg-command.ensures in
+    c.add_argument.ensures (with_rule (new_app value_form.name) (first profiles)) (second profiles) one c.position_argument.ensures
