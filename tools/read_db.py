@@ -8,8 +8,8 @@
     db.stats()                          # how many classes have which value, and the longest ends
 
 Written from docs/FORMAT.md and docs/RULES.md alone, with the standard library alone. The file is mapped into memory and
-class numbers are computed, so that a value of a file of any set takes milliseconds. The digest is read through once when
-a file is opened; `open_db(path, check=False)` leaves it out. The program prints `win D`, `loss D` or `draw` for each
+class numbers are computed, so that a value of a file of any set takes milliseconds. Files of both formats and both profiles
+are read. The digest is read through once when a file is opened; `open_db(path, check=False)` leaves it out. The program prints `win D`, `loss D` or `draw` for each
 position, or what is wrong with the file or a text on standard error, with status 1.
 """
 import collections
@@ -20,8 +20,8 @@ import math
 import mmap
 import sys
 
+PROFILES = "AB"
 KINDS = "CEG"  # chicks (hens counted with them), elephants, giraffes
-FORMS = {"C": 0, "H": 1, "c": 2, "h": 3, "E": 0, "e": 1, "G": 0, "g": 1}
 FORMS_OF = {"C": "CHch", "E": "Ee", "G": "Gg"}
 STEPS = {  # columns to the right and rows forward, of the mover
     "L": [(-1, -1), (0, -1), (1, -1), (-1, 0), (1, 0), (-1, 1), (0, 1), (1, 1)],
@@ -98,6 +98,11 @@ def set_of(position):
     return tuple(len(places(squares, kind)) + mover[i] + enemy[i] for i, kind in enumerate(KINDS))
 
 
+def may_stand(profile, letter, square):
+    """In profile B no chick stands on its own far row."""
+    return profile == "A" or not (letter == "C" and square >= 9 or letter == "c" and square < 3)
+
+
 # ---- moves: (letter, from-square or None, to-square), in move order
 
 
@@ -110,18 +115,18 @@ def steps_from(squares, start):
                 yield letter, start, end
 
 
-def all_moves(position):
+def all_moves(profile, position):
     """The steps, those onto the enemy's lion too, and the drops."""
     squares, mover, _enemy = position
     steps = [move for s in range(12) if squares[s].isupper() for move in sorted(steps_from(squares, s))]
-    drops = [(KINDS[i], None, s) for i in range(3) if mover[i] for s in range(12) if squares[s] == "."]
-    return steps, drops
+    drops = [(KINDS[i], None, s) for i in range(3) if mover[i] for s in range(12)]
+    return steps, [move for move in drops if squares[move[2]] == "." and may_stand(profile, move[0], move[2])]
 
 
-def status_and_moves(position):
+def status_and_moves(profile, position):
     """The status, and the moves: just the first catch at `caught`, none at `tried` and `stuck`."""
     squares = position[0]
-    steps, drops = all_moves(position)
+    steps, drops = all_moves(profile, position)
     catches = [move for move in steps if squares[move[2]] == "l"]
     if catches:
         return "caught", catches[:1]
@@ -174,105 +179,123 @@ def choices(squares, number):
     return listed, {chosen: i for i, chosen in enumerate(listed)}
 
 
+@functools.cache
+def forms(profile, kind, squares):
+    """The forms that pieces of the kind may have on those squares, in order, with the number of each."""
+    letters = [[letter for letter in FORMS_OF[kind] if may_stand(profile, letter, square)] for square in squares]
+    listed = list(itertools.product(*letters))
+    return listed, {chosen: i for i, chosen in enumerate(listed)}
+
+
 class Run:
     """The places of the runs with these numbers on the board and these lions."""
 
-    def __init__(self, on, lions):
-        self.on, self.lions = on, lions
-        free = [10, 10 - on[0], 10 - on[0] - on[1]]
-        bases = [math.comb(free[i], on[i]) for i in range(3)] + [4 ** on[0], 2 ** on[1], 2 ** on[2]]
-        self.bases = bases
-        self.sizes = [math.prod(bases[i:]) for i in range(7)]
+    def __init__(self, profile, on, lions):
+        self.profile, self.on, self.lions = profile, on, lions
         own, other = lions
         image = mirrored_square(own), mirrored_square(other)
         self.order = (lions > image) - (lions < image)  # -1: each is the earlier one, 1: the later one, 0: mixed
+        free = [10, 10 - on[0], 10 - on[0] - on[1]]
+        # how many ways there are from a digit on, but for what the chicks have
+        bases = [1, math.comb(free[1], on[1]), math.comb(free[2], on[2]), 1, 2 ** on[1], 2 ** on[2]]
+        self.others = [math.prod(bases[digit:]) for digit in range(7)]
 
-    def free(self, chosen):
-        taken = set(self.lions).union(*chosen)
-        return tuple(s for s in range(12) if s not in taken)
-
-    def image(self, chosen, digit, value):
-        """The image's digit, where the digits before are those of the image. And what the digit chooses."""
+    def options(self, chosen, digit):
+        """What may be chosen next, with the number of each: squares, and then their forms."""
         if digit < 3:
-            listed, numbers = choices(self.free(chosen), self.on[digit])
-            return numbers[tuple(sorted(mirrored_square(s) for s in listed[value]))], listed[value]
-        squares, base = chosen[digit - 3], 4 if digit == 3 else 2
-        forms = [value // base ** (len(squares) - 1 - i) % base for i in range(len(squares))]
-        seen = sorted((mirrored_square(s), form) for s, form in zip(squares, forms))
-        return sum(form * base ** (len(squares) - 1 - i) for i, (_, form) in enumerate(seen)), ()
+            taken = set(self.lions).union(*chosen)
+            return choices(tuple(s for s in range(12) if s not in taken), self.on[digit])
+        return forms(self.profile, KINDS[digit - 3], chosen[digit - 3])
 
+    @functools.cached_property
+    def size(self):
+        """How many places there are."""
+        return sum(self.ways((squares,), 1) for squares in self.options((), 0)[0])
+
+    def ways(self, chosen, digit):
+        """How many ways there are to go on."""
+        if digit == 0:
+            return self.size
+        return self.others[digit] * (len(forms(self.profile, "C", chosen[0])[0]) if digit <= 3 else 1)
+
+    def image(self, chosen, digit, option):
+        """The number of the image's option, where the digits before are those of the image."""
+        numbers = self.options(chosen, digit)[1]
+        if digit < 3:
+            return numbers[tuple(sorted(mirrored_square(s) for s in option))]
+        seen = sorted((mirrored_square(s), form) for s, form in zip(chosen[digit - 3], option))
+        return numbers[tuple(form for _, form in seen)]
+
+    @functools.cache
     def fixed(self, chosen, digit):
         """How many ways to go on are their own images."""
         if digit == 6:
             return 1
-        total = 0
-        for value in range(self.bases[digit]):
-            image, more = self.image(chosen, digit, value)
-            if image == value:
-                total += self.fixed(chosen + (more,), digit + 1)
-        return total
+        listed = enumerate(self.options(chosen, digit)[0])
+        return sum(self.fixed(chosen + (option,), digit + 1) for i, option in listed if self.image(chosen, digit, option) == i)
 
-    def earlier(self, chosen, digit):
-        """How many ways to go on are no later than their images."""
-        return (self.sizes[digit] + self.fixed(chosen, digit)) // 2
+    def earlier(self, chosen, digit, number, option):
+        """How many ways to go on from the option of that number are no later than their images."""
+        image = self.image(chosen, digit, option)
+        chosen += (option,)
+        if image == number:
+            return (self.ways(chosen, digit + 1) + self.fixed(chosen, digit + 1)) // 2
+        return self.ways(chosen, digit + 1) if image > number else 0
 
     @functools.cached_property
     def count(self):
-        return {-1: self.sizes[0], 1: 0}.get(self.order) if self.order else self.earlier((), 0)
+        if self.order:
+            return self.size if self.order < 0 else 0
+        return (self.size + self.fixed((), 0)) // 2
 
-    def number(self, digits):
+    def number(self, options, digit):
+        """How many places with the same options before a digit come before that one."""
         total = 0
-        for base, digit in zip(self.bases, digits):
-            total = total * base + digit
+        for at in range(digit, 6):
+            listed, numbers = self.options(options[:at], at)
+            total += sum(self.ways(options[:at] + (option,), at + 1) for option in listed[: numbers[options[at]]])
         return total
 
-    def before(self, digits, chosen=(), digit=0):
-        """How many representatives of the run come before that place."""
+    def before(self, options, digit=0):
+        """How many representatives of the run with the same options before a digit come before that place."""
         if self.order:
-            return self.number(digits) if self.order < 0 else 0
+            return self.number(options, 0) if self.order < 0 else 0
         if digit == 6:
             return 0
-        total = 0
-        for value in range(digits[digit]):
-            image, more = self.image(chosen, digit, value)
-            total += self.sizes[digit + 1] if image > value else 0 if image < value else self.earlier(chosen + (more,), digit + 1)
-        image, more = self.image(chosen, digit, digits[digit])
-        if image > digits[digit]:
-            return total + self.number([0] * (digit + 1) + digits[digit + 1 :])
-        return total if image < digits[digit] else total + self.before(digits, chosen + (more,), digit + 1)
+        chosen = options[:digit]
+        listed, numbers = self.options(chosen, digit)
+        number, image = numbers[options[digit]], self.image(chosen, digit, options[digit])
+        total = sum(self.earlier(chosen, digit, i, option) for i, option in enumerate(listed[:number]))
+        if image == number:
+            return total + self.before(options, digit + 1)
+        return total + self.number(options, digit + 1) if image > number else total
 
-    def plain(self, number, digit):
-        """The digits from one on of the place of that number."""
-        return [number // self.sizes[i + 1] % self.bases[i] for i in range(digit, 6)]
-
-    def digits_at(self, number, chosen=(), digit=0):
-        """The digits of the representative with so many before it in the run."""
-        if self.order:
-            return self.plain(number, 0)
-        if digit == 6:
-            return []
-        for value in range(self.bases[digit]):
-            image, more = self.image(chosen, digit, value)
-            some = self.sizes[digit + 1] if image > value else 0 if image < value else self.earlier(chosen + (more,), digit + 1)
-            if number < some:
-                rest = self.plain(number, digit + 1) if image > value else self.digits_at(number, chosen + (more,), digit + 1)
-                return [value] + rest
-            number -= some
-        raise IndexError(number)
+    def options_at(self, number):
+        """The place of the representative with so many before it in the run."""
+        chosen, is_mixed = (), not self.order
+        for digit in range(6):
+            for i, option in enumerate(self.options(chosen, digit)[0]):
+                some = self.earlier(chosen, digit, i, option) if is_mixed else self.ways(chosen + (option,), digit + 1)
+                if number < some:
+                    break
+                number -= some
+            is_mixed = is_mixed and self.image(chosen, digit, option) == i
+            chosen += (option,)
+        return chosen
 
 
 LIONS = [(own, other) for own in range(9) for other in range(12) if own != other]
 
 
 @functools.cache
-def run_of(on, lions):
-    return Run(on, lions)
+def run_of(profile, on, lions):
+    return Run(profile, on, lions)
 
 
 @functools.cache
-def in_hand(on):
+def in_hand(profile, on):
     """How many representatives the runs of one hand have."""
-    return sum(run_of(on, lions).count for lions in LIONS)
+    return sum(run_of(profile, on, lions).count for lions in LIONS)
 
 
 def hands_of(pieces, on):
@@ -284,53 +307,51 @@ def boards_of(pieces):
 
 
 @functools.cache
-def class_count(pieces):
-    return sum(len(hands_of(pieces, on)) * in_hand(on) for on in boards_of(pieces))
+def class_count(profile, pieces):
+    return sum(len(hands_of(pieces, on)) * in_hand(profile, on) for on in boards_of(pieces))
 
 
-def digits_of(position):
+def place_of(profile, position):
+    """The run of a position and its place there, with the number of each option."""
     squares = position[0]
-    on = [tuple(places(squares, kind)) for kind in KINDS]
-    run = run_of(tuple(map(len, on)), (squares.index("L"), squares.index("l")))
-    where = [choices(run.free(tuple(on[:i])), len(on[i]))[1][on[i]] for i in range(3)]
-    forms = [functools.reduce(lambda n, s: n * len(FORMS_OF[kind]) + FORMS[squares[s]], on[i], 0) for i, kind in enumerate(KINDS)]
-    return run, where + forms
+    on = tuple(tuple(places(squares, kind)) for kind in KINDS)
+    run = run_of(profile, tuple(map(len, on)), (squares.index("L"), squares.index("l")))
+    options = on + tuple(tuple(squares[s] for s in on[i]) for i in range(3))
+    return run, options, [run.options(options[:digit], digit)[1][options[digit]] for digit in range(6)]
 
 
-def class_number(position):
+def class_number(profile, position):
     """How many representatives stand before that of the position."""
     pieces, mover = set_of(position), position[1]
-    run, digits = digits_of(position)
-    image_run, image_digits = digits_of(mirrored(position))
+    run, options, digits = place_of(profile, position)
+    image_run, image_options, image_digits = place_of(profile, mirrored(position))
     if (image_run.lions, image_digits) < (run.lions, digits):
-        run, digits = image_run, image_digits
-    total = sum(len(hands_of(pieces, on)) * in_hand(on) for on in boards_of(pieces) if on < run.on)
-    total += hands_of(pieces, run.on).index(mover) * in_hand(run.on)
-    total += sum(run_of(run.on, lions).count for lions in LIONS if lions < run.lions)
-    return total + run.before(digits)
+        run, options = image_run, image_options
+    total = sum(len(hands_of(pieces, on)) * in_hand(profile, on) for on in boards_of(pieces) if on < run.on)
+    total += hands_of(pieces, run.on).index(mover) * in_hand(profile, run.on)
+    total += sum(run_of(profile, run.on, lions).count for lions in LIONS if lions < run.lions)
+    return total + run.before(options)
 
 
-def position_at(pieces, number):
+def position_at(profile, pieces, number):
     """The representative of the class of that number."""
     for on in boards_of(pieces):
         hands = hands_of(pieces, on)
-        if number < len(hands) * in_hand(on):
+        if number < len(hands) * in_hand(profile, on):
             break
-        number -= len(hands) * in_hand(on)
-    hand, number = divmod(number, in_hand(on))
+        number -= len(hands) * in_hand(profile, on)
+    hand, number = divmod(number, in_hand(profile, on))
     for lions in LIONS:
-        run = run_of(on, lions)
+        run = run_of(profile, on, lions)
         if number < run.count:
             break
         number -= run.count
-    digits = run.digits_at(number)
-    squares, chosen = ["."] * 12, ()
+    options = run.options_at(number)
+    squares = ["."] * 12
     squares[lions[0]], squares[lions[1]] = "L", "l"
-    for i, kind in enumerate(KINDS):
-        chosen += (choices(run.free(chosen), on[i])[0][digits[i]],)
-        base = len(FORMS_OF[kind])
-        for j, square in enumerate(chosen[i]):
-            squares[square] = FORMS_OF[kind][digits[3 + i] // base ** (on[i] - 1 - j) % base]
+    for i in range(3):
+        for square, letter in zip(options[i], options[3 + i]):
+            squares[square] = letter
     mover = hands[hand]
     return "".join(squares), mover, tuple(n - m - h for n, m, h in zip(pieces, on, mover))
 
@@ -363,15 +384,22 @@ class Db:
         """The tests are made in the order of docs/FORMAT.md; the digest is left out unless it is to be checked."""
         if len(data) < 20:
             raise Wrong("E15 Truncated")
-        if data[:8] != b"DOBUTSU1":
+        if data[:8] not in (b"DOBUTSU1", b"DOBUTSU2"):
             raise Wrong("E16 Magic")
         self.pieces = tuple(data[8:11])
         if max(self.pieces) > 2 or data[11] != 2:
             raise Wrong("E17 SetByte")
-        self.count = int.from_bytes(data[12:20], "little")
-        if self.count != class_count(self.pieces):
+        self.profile, self.start = "A", 20
+        if data[7:8] == b"2":
+            if len(data) < 21:
+                raise Wrong("E15 Truncated")
+            if data[12] > 1:
+                raise Wrong("E27 ProfileByte")
+            self.profile, self.start = PROFILES[data[12]], 21
+        self.count = int.from_bytes(data[self.start - 8 : self.start], "little")
+        if self.count != class_count(self.profile, self.pieces):
             raise Wrong("E18 ClassCount")
-        end = 20 + 2 * self.count
+        end = self.start + 2 * self.count
         if len(data) < end + 32:
             raise Wrong("E15 Truncated")
         if len(data) > end + 32:
@@ -385,9 +413,11 @@ class Db:
         self.data = data
 
     def record(self, position):
+        if not all(may_stand(self.profile, letter, square) for square, letter in enumerate(position[0])):
+            raise Wrong("E26 FarChick")
         if set_of(position) != self.pieces:
             raise Wrong("E7 OtherSet")
-        place = 20 + 2 * class_number(position)
+        place = self.start + 2 * class_number(self.profile, position)
         return int.from_bytes(self.data[place : place + 2], "little")
 
     def value(self, text):
@@ -398,7 +428,7 @@ class Db:
         """Each move of the position with its value for the side that makes it, best first, equal ones in move order."""
         position = read_position(text)
         self.record(position)
-        status, moves = status_and_moves(position)
+        status, moves = status_and_moves(self.profile, position)
         if status == "caught":
             return [(move_text(position, moves[0]), "win 1")]
         valued = [(move_text(position, move), after_move(self.record(apply(position, move)))) for move in moves]
@@ -409,7 +439,8 @@ class Db:
         counts, first = collections.Counter(), {}
         for start in range(0, self.count, 1 << 16):
             many = min(1 << 16, self.count - start)
-            records = memoryview(self.data[20 + 2 * start : 20 + 2 * (start + many)]).cast("H")
+            place = self.start + 2 * start
+            records = memoryview(self.data[place : place + 2 * many]).cast("H")
             for record, number in collections.Counter(records).items():
                 counts[record] += number
                 if record not in first:
@@ -419,7 +450,7 @@ class Db:
             if record:
                 kind, distance = value_text(record).split(" ")
                 told[kind][int(distance)] = counts[record]
-                told["longest"][kind] = int(distance), write_position(position_at(self.pieces, first[record]))
+                told["longest"][kind] = int(distance), write_position(position_at(self.profile, self.pieces, first[record]))
         return told
 
 

@@ -1,0 +1,112 @@
+-- At most one fault holds, none where the position is one of the file's family, and a position is given one value.
+use Rattle.std.proofs.Common.{◌≡◌, ◌≢◌, ◌∙◌, ◌<◌, ℕ, List, refl, sym, subst, ap}
+use Rattle.dob_pieces.specs.declared.profile.Family.{Family}
+use Rattle.dob_pieces.specs.declared.profile.Profile.TheVariants.{A}
+use Rattle.dob_pieces.specs.declared.setup.Setup.{Setup}
+use Rattle.dob_text.specs.declared.fault.TextFault.{TextFault}
+use Rattle.dob_text.specs.Faults.{HasTextFault}
+use Rattle.dob_text.proofs.Verdicts as texts
+use Rattle.dob_text.proofs.Whole.{same_spelled}
+use Rattle.dob_pieces.specs.Profiles.{IsAllowed}
+use Rattle.dob_rank.specs.Families.{IsPositionOf, IsInClass, classes_of, class_number}
+use Rattle.dob_rank.specs.Order.{IsPositionOfSet}
+use Rattle.dob_rank.proofs.FamilyNumbers.{class_number-below, IsInClass-class_number}
+use Rattle.dob_rank.proofs.FamilyRepresentatives.{one_class}
+use Rattle.dob_value.specs.Follows.{ClassTable, IsValueTable}
+use Rattle.dob_value.specs.Values.{HasValue}
+use Rattle.dob_dbfile.specs.Format.{IsFile}
+use Rattle.dob_value.specs.declared.value.Value.{Value}
+use Rattle.dob_dbfile.specs.declared.fault.Fault.{Fault as FileFault}
+use Rattle.dob_dbfile.specs.declared.fault.Fault.TheVariants as file_fault
+use Rattle.dob_dbfile.specs.declared.header.Format.{Format}
+use Rattle.dob_dbfile.specs.Devices.{whole}
+use Rattle.dob_dbfile.specs.Faults.{HasReadFault, IsNoLonger}
+use Rattle.dob_dbfile.specs.Looking.{HasRecord}
+use Rattle.dob_dbfile.proofs.Looked.{one_record, table_family, table_record}
+use Rattle.dob_dbfile.proofs.Places as files
+use Rattle.dobutsu_c.specs.declared.fault.Fault.{Fault}
+use Rattle.dobutsu_c.specs.declared.fault.Fault.TheVariants.{Text, File, FarChick, OtherSet}
+use Rattle.dobutsu_c.specs.Probes.{IsTextOf, AreRead, IsAsked, IsGiven, IsTold, HasProbeFault}
+
+-- ---- one position, one format, one family
+
+no_text_fault : (text : List ℕ) (setup : Setup) (fault : TextFault) → IsTextOf text setup → HasTextFault A text fault → ⊥
+no_text_fault text setup fault is wrong = texts.no_fault A text setup fault is.0 refl is.1 wrong
+
+no_file_fault : (file : List ℕ) (format : Format) (family : Family) (fault : FileFault) → IsNoLonger format family (whole file)
+    → HasReadFault (whole file) fault → fault ≢ file_fault.Digest → ⊥
+no_file_fault file format family fault is wrong known = known (files.only_digest (whole file) fault format family (is, refl) wrong)
+
+-- what holds of the format, the family and the position that are read holds of those that they are found to be
+by_read : (file text : List ℕ) (f g : Format) (p q : Family) (s t : Setup) (P : Format → Family → Setup → Type 0)
+    → AreRead file text f p s → AreRead file text g q t → P f p s → P g q t
+by_read file text f g p q s t P at_s at_t holds =
+    let head = files.same_head f g p q file at_s.1.0.0.0 at_t.1.0.0.0 in
+    let setup : s ≡ t = same_spelled text s t at_s.0.1 at_t.0.1 in
+    subst (λ (h : Format). P h q t) head.0 (subst (λ (r : Family). P f r t) head.1 (subst (P f p) setup holds))
+
+-- ---- faults
+
+pub no_fault : (file text : List ℕ) (format : Format) (family : Family) (setup : Setup) (fault : Fault) → IsAsked file text format family setup
+    → HasProbeFault file text fault → ⊥
+no_fault file text format family setup (Text fault) asked wrong = no_text_fault text setup fault asked.0.0 wrong
+no_fault file text format family setup (File fault) asked wrong = no_file_fault file format family fault asked.0.1 wrong.2 wrong.3
+no_fault file text format family setup FarChick asked wrong =
+    wrong.4 (by_read file text format wrong.0 family wrong.1 setup wrong.2 (λ (f : Format) (p : Family) (s : Setup). IsAllowed p.profile s)
+    asked.0 wrong.3 asked.1.allowed)
+no_fault file text format family setup OtherSet asked wrong =
+    wrong.5 (by_read file text format wrong.0 family wrong.1 setup wrong.2 (λ (f : Format) (p : Family) (s : Setup). IsPositionOfSet p.set s)
+    asked.0 wrong.3 asked.1.of_set)
+
+pub one_fault : (file text : List ℕ) (f g : Fault) → HasProbeFault file text f → HasProbeFault file text g → f ≡ g
+one_fault file text (Text f) (Text g) at_f at_g = ap (λ (h : TextFault). let fault : Fault = Text h in fault) (texts.one_fault A text f g at_f at_g)
+one_fault file text (Text f) (File g) at_f at_g = absurd (no_text_fault text at_g.0 f at_g.1 at_f)
+one_fault file text (Text f) FarChick at_f at_g = absurd (no_text_fault text at_g.2 f at_g.3.0 at_f)
+one_fault file text (Text f) OtherSet at_f at_g = absurd (no_text_fault text at_g.2 f at_g.3.0 at_f)
+one_fault file text (File f) (Text g) at_f at_g = absurd (no_text_fault text at_f.0 g at_f.1 at_g)
+one_fault file text (File f) (File g) at_f at_g = ap (λ (h : FileFault). let fault : Fault = File h in fault) (files.one_fault (whole file) f g at_f.2 at_g.2)
+one_fault file text (File f) FarChick at_f at_g = absurd (no_file_fault file at_g.0 at_g.1 f at_g.3.1 at_f.2 at_f.3)
+one_fault file text (File f) OtherSet at_f at_g = absurd (no_file_fault file at_g.0 at_g.1 f at_g.3.1 at_f.2 at_f.3)
+one_fault file text FarChick (Text g) at_f at_g = absurd (no_text_fault text at_f.2 g at_f.3.0 at_g)
+one_fault file text FarChick (File g) at_f at_g = absurd (no_file_fault file at_f.0 at_f.1 g at_f.3.1 at_g.2 at_g.3)
+one_fault file text FarChick FarChick at_f at_g = refl
+one_fault file text FarChick OtherSet at_f at_g =
+    absurd (at_f.4 (by_read file text at_g.0 at_f.0 at_g.1 at_f.1 at_g.2 at_f.2 (λ (f : Format) (p : Family) (s : Setup). IsAllowed p.profile s)
+    at_g.3 at_f.3 at_g.4))
+one_fault file text OtherSet (Text g) at_f at_g = absurd (no_text_fault text at_f.2 g at_f.3.0 at_g)
+one_fault file text OtherSet (File g) at_f at_g = absurd (no_file_fault file at_f.0 at_f.1 g at_f.3.1 at_g.2 at_g.3)
+one_fault file text OtherSet FarChick at_f at_g =
+    absurd (at_g.4 (by_read file text at_f.0 at_g.0 at_f.1 at_g.1 at_f.2 at_g.2 (λ (f : Format) (p : Family) (s : Setup). IsAllowed p.profile s)
+    at_f.3 at_g.3 at_f.4))
+one_fault file text OtherSet OtherSet at_f at_g = refl
+
+-- ---- values
+
+pub one_given : (file : List ℕ) (format : Format) (family : Family) (setup : Setup) (v w : Value) → IsGiven file format family setup v
+    → IsGiven file format family setup w → v ≡ w
+one_given file format family setup v w at_v at_w =
+    one_record (whole file) format at_w.0 v w
+    (subst (λ (class : ℕ). HasRecord (whole file) format class v) (one_class family setup at_v.0 at_w.0 at_v.1 at_w.1) at_v.2) at_w.2
+
+pub one_told : (file text : List ℕ) (v w : Value) → IsTold file text v → IsTold file text w → v ≡ w
+one_told file text v w at_v at_w =
+    one_given file at_w.0 at_w.1 at_w.2 v w
+    (by_read file text at_v.0 at_w.0 at_v.1 at_w.1 at_v.2 at_w.2 (λ (f : Format) (p : Family) (s : Setup). IsGiven file f p s v) at_v.3.0 at_w.3.0 at_v.4)
+    at_w.4
+
+-- ---- by the file of the value table
+
+pub told_right : (file text : List ℕ) (table : ClassTable) (setup : Setup) (value : Value) → IsFile file table → IsValueTable table.family table.values
+    → IsTextOf text setup → IsTold file text value → HasValue table.family.profile setup value
+told_right file text table setup value is right named told =
+    let counts = told.3.0.1.0.0 in
+    let family : told.1 ≡ table.family = table_family table file told.0 told.1 right.table is counts in
+    let same : told.2 ≡ setup = same_spelled text told.2 setup told.3.0.0.1 named.1 in
+    let member : IsPositionOf table.family setup = subst (IsPositionOf table.family) same (subst (λ (f : Family). IsPositionOf f told.2) family told.3.1) in
+    let stands : IsInClass table.family setup told.4.0 =
+    subst (λ (p : Setup). IsInClass table.family p told.4.0) same (subst (λ (f : Family). IsInClass f told.2 told.4.0) family told.4.1) in
+    let number : told.4.0 ≡ class_number table.family setup =
+    one_class table.family setup told.4.0 (class_number table.family setup) stands (IsInClass-class_number table.family setup member) in
+    let below : told.4.0 < classes_of table.family = subst (λ (n : ℕ). n < classes_of table.family) (sym number) (class_number-below table.family setup member) in
+    right.values_are setup value member
+    (record { class = told.4.0; number = stands; entry = table_record table file told.0 told.1 told.4.0 value right.table is counts below told.4.2 })

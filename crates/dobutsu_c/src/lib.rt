@@ -1,0 +1,13 @@
+// The library for programs in other languages: exports on numbers and bytes, which `include/dobutsu.h` declares. A call keeps nothing and takes no
+// memory but where it says so; a database's file is the caller's, whole in memory or mapped there.
+#![tactic(auto)]
+
+mod asked;
+mod checks;
+mod counts;
+mod fault;
+mod moves;
+mod numbers;
+mod probes;
+mod value;
+mod version;

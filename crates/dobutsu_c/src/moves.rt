@@ -1,0 +1,211 @@
+// The moves of a position with their values by the bytes of a database's file, best first.
+ghost use Rattle.std.specs.Prelude.{◌≡◌, ◌≢◌, ◌⊎◌, ◌≤◌, List, length, IfOk};
+ghost use Rattle.dob_pieces.specs.declared.setup.Setup.{Setup};
+ghost use Rattle.dob_moves.specs.Moves.{Goes, CanGo};
+ghost use Rattle.dob_moves.specs.Statuses.{AreMoves, CanCatch, HasStatus};
+ghost use Rattle.dob_moves.specs.declared.position_status.Status.TheVariants.{Open};
+ghost use Rattle.dob_rank.specs.Families.{IsPositionOf};
+ghost use Rattle.dob_value.specs.Follows.{IsEntry};
+ghost use Rattle.dob_dbfile.specs.Devices.{whole};
+ghost use Rattle.dob_dbfile.specs.Faults.{IsNoLonger};
+ghost use Rattle.dob_probe.specs.declared.choices.ValuedMove.{ValuedMove as Valued};
+ghost use Rattle.dob_probe.specs.Choices.{AreValuedMoves};
+ghost use Rattle.dobutsu_c.specs.declared.fault.Fault.{Fault as AnyFault};
+ghost use Rattle.dobutsu_c.specs.Faults.{number_of};
+ghost use Rattle.dobutsu_c.specs.Moves.{AreToldMoves, AreWritten, shown_move, kind_number, hand_number, flag};
+ghost use Rattle.dobutsu_c.specs.Probes.{HasProbeFault, IsGiven};
+
+use crate::asked::{Asked, ask, value_of};
+use crate::numbers::MEMORY;
+use crate::value::{DobutsuValue, shown};
+use dob_moves::{Move, apply, first_catch, moves};
+use dob_pieces::{HandKind, Kind, Memory, Square};
+use dob_probe::{ValuedMove, insert_by_value, value_seen};
+use dob_value::Value;
+use std::alloc::Global;
+
+/// A move with the value that the side that makes it then has: a step of a piece of that kind from one square to another, or
+/// where it comes from 12 a drop. Chick 0, elephant 1, giraffe 2, hen 3, lion 4, as the piece was before; square a1 is 0, b1
+/// 1, c1 2, a2 3 and so on to c4, 11. `catches` is 1 where a piece is caught and `grows` where a chick becomes a hen, else 0.
+#[repr(C)]
+#[derive(Clone, Copy)]
+pub struct DobutsuMove {
+    pub kind: u32,
+    pub from: u32,
+    pub to: u32,
+    pub catches: u32,
+    pub grows: u32,
+    pub value: DobutsuValue,
+}
+
+/// The moves of the position whose text that is, each with the value that the bytes of a database's file give it, best first:
+/// wins by the least distance, draws, losses by the greatest; equal ones in the move order. Where the enemy lion can be caught
+/// there is its first catch alone, and none where the position is lost already. It answers 0, writes how many there are into
+/// `count` and the first of them into `moves`, as many as there is room for: no position was seen to have more than 38. Else
+/// it answers the number of a fault and writes nothing: the first of those of `dobutsu_probe` that holds, or 23 where memory
+/// runs out, of which it takes some thousand bytes and gives all back.
+#[unsafe(no_mangle)]
+pub extern "C" fn dobutsu_moves(
+    alloc: Global,
+    file: &[u8],
+    text: &[u8],
+    moves: &mut [DobutsuMove],
+    count: &mut u64,
+) -> u32
+    ensures moves { result ≡ 0 → (list : List Valued) × AreToldMoves file.now text.now list
+        × AreWritten list moves.old moves.new × (count.new ≡ length list) }
+    ensures refused { result ≢ 0 → (result ≡ 23) ⊎ ((fault : AnyFault) × HasProbeFault file.now text.now fault × (result ≡ number_of fault)) }
+    ensures fault { (fault : AnyFault) → HasProbeFault file.now text.now fault → result ≡ number_of fault }
+    ensures unchanged { result ≢ 0 → (moves.new ≡ moves.old) × (count.new ≡ count.old) }
+{
+    let asked = match ask(file, text) {
+        Ok(asked) => asked,
+        Err(fault) => return fault.number(),
+    };
+    match valued_moves(alloc, file, asked) {
+        Ok(list) => {
+            write_moves(moves, &list);
+            *count = list.len() as u64;
+            0
+        }
+        Err(Memory) => MEMORY,
+    }
+}
+
+// The moves with their values.
+//
+// Error: `Memory`.
+fn valued_moves(alloc: Global, file: &[u8], asked: Asked) -> Result<Vec<ValuedMove>, Memory>
+    requires held { IsNoLonger asked.format asked.family (whole file.now) }
+    requires member { IsPositionOf asked.family asked.position.setup }
+    ensures { IfOk result (λ list. AreValuedMoves asked.family.profile (IsGiven file.now asked.format asked.family) asked.position.setup list.items) }
+{
+    if let Some(choice) = first_catch(&asked.position) {
+        let mut list = Vec::new(alloc);
+        let value = Value::Win(1);
+        list.push(ValuedMove { choice, value })?;
+        return Ok(list);
+    }
+    let choices = moves(alloc, asked.family.profile, &asked.position)?;
+    moves_by_value(alloc, file, asked, &choices)
+}
+
+// Those moves with their values, best first.
+//
+// Error: `Memory`.
+fn moves_by_value(
+    alloc: Global,
+    file: &[u8],
+    asked: Asked,
+    choices: &[Move],
+) -> Result<Vec<ValuedMove>, Memory>
+    requires held { IsNoLonger asked.format asked.family (whole file.now) }
+    requires member { IsPositionOf asked.family asked.position.setup }
+    requires choices { AreMoves asked.family.profile asked.position.setup choices.now }
+    requires free { ¬ CanCatch asked.position.setup }
+    ensures { IfOk result (λ list. AreValuedMoves asked.family.profile (IsGiven file.now asked.format asked.family) asked.position.setup list.items) }
+{
+    let mut list = Vec::new(alloc);
+    for choice in choices {
+        let value = value_seen(value_to(file, &asked, *choice));
+        let valued = ValuedMove {
+            choice: *choice,
+            value,
+        };
+        insert_by_value(&mut list, valued)?;
+    }
+    Ok(list)
+}
+
+// The value that the file gives the position to which the move leads.
+fn value_to(file: &[u8], asked: &Asked, choice: Move) -> Value
+    requires held { IsNoLonger asked.now.format asked.now.family (whole file.now) }
+    requires member { IsPositionOf asked.now.family asked.now.position.setup }
+    requires open { HasStatus asked.now.family.profile asked.now.position.setup Open }
+    requires can_go { CanGo asked.now.family.profile asked.now.position.setup choice }
+    ensures given { (q : Setup) → Goes asked.now.family.profile asked.now.position.setup choice q
+        → IsGiven file.now asked.now.format asked.now.family q result }
+    ensures entry { IsEntry result }
+{
+    value_of(
+        file,
+        asked.format,
+        asked.family,
+        &apply(&asked.position, choice),
+    )
+}
+
+// Writes the first of the moves, as many as there are places.
+fn write_moves(places: &mut [DobutsuMove], list: &[ValuedMove])
+    ensures { AreWritten list.now places.old places.new }
+{
+    let count = list.len().min(places.len());
+    for place in 0..count {
+        let valued = list[place];
+        places[place] = shown_move(valued.choice, shown(valued.value));
+    }
+}
+
+// The move with its value, as it is shown.
+fn shown_move(choice: Move, value: DobutsuValue) -> DobutsuMove
+    ensures { result ≡ shown_move choice value }
+{
+    match choice {
+        Move::Step {
+            kind,
+            from,
+            to,
+            catch,
+            grows,
+        } => DobutsuMove {
+            kind: kind_number(kind),
+            from: square_number(from),
+            to: square_number(to),
+            catches: u32::from(catch),
+            grows: u32::from(grows),
+            value,
+        },
+        Move::Put { kind, to } => DobutsuMove {
+            kind: hand_number(kind),
+            from: HAND,
+            to: square_number(to),
+            catches: 0,
+            grows: 0,
+            value,
+        },
+    }
+}
+
+// The number of a square.
+fn square_number(square: Square) -> u32
+    ensures { result ≡ square }
+{
+    square.index() as u32
+}
+
+// Where a piece that is dropped comes from.
+const HAND: u32 = 12;
+
+// The number of a kind.
+fn kind_number(kind: Kind) -> u32
+    ensures { result ≡ kind_number kind }
+{
+    match kind {
+        Kind::Chick => 0,
+        Kind::Elephant => 1,
+        Kind::Giraffe => 2,
+        Kind::Hen => 3,
+        Kind::Lion => 4,
+    }
+}
+
+// The number of a kind in hand.
+fn hand_number(kind: HandKind) -> u32
+    ensures { result ≡ hand_number kind }
+{
+    match kind {
+        HandKind::Chick => 0,
+        HandKind::Elephant => 1,
+        HandKind::Giraffe => 2,
+    }
+}

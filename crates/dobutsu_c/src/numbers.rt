@@ -1,0 +1,13 @@
+// The numbers of faults, as the program prints them.
+
+/// E21: the table isn't consistent.
+pub(crate) const INCONSISTENT: u32 = 21;
+
+/// E23: memory ran out.
+pub(crate) const MEMORY: u32 = 23;
+
+/// E25: the numbers of pieces are those of no set.
+pub(crate) const SET_TEXT: u32 = 25;
+
+/// E27: the number is that of no profile.
+pub(crate) const PROFILE_BYTE: u32 = 27;
