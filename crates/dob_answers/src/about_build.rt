@@ -1,13 +1,13 @@
 // Answers about a build by one owner: how many classes of a piece set it finds won, lost and drawn.
 use dob_node::{Fault, alone};
-use dob_pieces::{Memory, PieceSet};
+use dob_pieces::{Family, Memory};
 use dob_value::{Table, Value};
 use std::alloc::{AllocError, Global};
 
 /// `win N loss N draw N`, where one node that owns all classes of the set is done after that many steps, else `none`.
 /// An error is that of the build.
-pub(crate) fn about_build(alloc: Global, set: PieceSet, limit: u64) -> Result<String, Fault> {
-    let made = alone(alloc, set, limit)?;
+pub(crate) fn about_build(alloc: Global, family: Family, limit: u64) -> Result<String, Fault> {
+    let made = alone(alloc, family, limit)?;
     Ok(tell_made(alloc, made)?)
 }
 

@@ -3,12 +3,12 @@
 // class keeps its value, `WAS>NOW` where it is settled, `E12` or `E13` where the change is refused, and `none` where
 // that is no change.
 ghost use Rattle.std.specs.Prelude.{◌≤◌};
-ghost use Rattle.dob_rank.specs.Marks.{classes_of};
+ghost use Rattle.dob_rank.specs.Families.{classes_of};
 
 use crate::opened::Opened;
 use crate::value_names::{Named, read_value};
 use dob_node::opening_in;
-use dob_pieces::{Memory, PieceSet};
+use dob_pieces::{Family, Memory};
 use dob_rank::{Classes, SegmentLength, Segments};
 use dob_share::{Item, Opening, Share, owner};
 use dob_value::{Fault, Value};
@@ -25,11 +25,11 @@ const MOST_SETTLED: u64 = 1 << 62;
 pub(crate) fn about_cell(
     alloc: Global,
     opened: &mut Opened,
-    set: PieceSet,
+    family: Family,
     class: u64,
     changes: &str,
 ) -> Result<String, Fault> {
-    let classes = opened.classes_of(alloc, set)?;
+    let classes = opened.classes_of(alloc, family)?;
     let count = classes.class_count();
     if class >= count {
         return Ok("none".to_string(alloc)?);
@@ -41,7 +41,7 @@ pub(crate) fn about_cell(
 
 /// The statuses and numbers of moves of that many first classes.
 fn openings_of(alloc: Global, classes: &Classes, count: u64) -> Result<Segments<Opening>, Memory>
-    requires { count ≤ classes_of classes.now.set }
+    requires { count ≤ classes_of classes.now.family }
 {
     let mut openings = Segments::new(alloc, SegmentLength::longest());
     for class in 0..count {

@@ -1,7 +1,7 @@
 // Answers about a build by threads: how many classes a piece set has, and how many of them it finds won, lost and drawn.
 use crate::about_build::tell_outcomes;
 use crate::about_world::Sizes;
-use dob_pieces::{Memory, PieceSet};
+use dob_pieces::{Family, Memory};
 use dob_run::{BATCH, CAPACITY, Fault, Free, run_nodes};
 use dob_value::Table;
 use std::alloc::Global;
@@ -30,13 +30,13 @@ pub(crate) fn sizes_in(text: &str) -> Option<Sizes> {
 pub(crate) fn about_crew<R: Threads + Wait + Sync>(
     rt: &R,
     alloc: Global,
-    set: PieceSet,
+    family: Family,
     sizes: Sizes,
 ) -> Result<String, Fault> {
     let built = run_nodes(
         rt,
         alloc,
-        set,
+        family,
         sizes.nodes,
         sizes.batch,
         sizes.capacity,

@@ -1,48 +1,65 @@
 // Answers about a position.
+ghost use Rattle.dob_pieces.specs.Profiles.{IsAllowed};
+ghost use Rattle.dob_rank.specs.Families.{IsPositionOf};
+
 use crate::opened::Opened;
 use crate::question::OfPosition;
-use dob_moves::{Status, apply, first_catch, moves_in, status};
-use dob_pieces::{Memory, Position, Profile};
+use dob_moves::{Status, apply, first_catch, moves, status};
+use dob_pieces::{Family, Memory, Position, Profile};
 use dob_rank::rank;
 use dob_text::{write_move, write_position};
 use dob_value::{Fault, Value};
 use std::alloc::{AllocError, Global};
 use std::fmt::Write;
 
-/// What is asked about the position by the rules of the profile; ranks and values are those of profile A. An error is that of opening or sweeping its piece set, or no memory was left.
+/// What is asked about the position by the rules of the profile, which allow it. An error is that of opening or sweeping its
+/// family, or no memory was left.
 pub(crate) fn about_position(
     alloc: Global,
     opened: &mut Opened,
     matter: OfPosition,
     profile: Profile,
     position: &Position,
-) -> Result<String, Fault> {
+) -> Result<String, Fault>
+    requires { IsAllowed profile position.now.setup }
+{
     match matter {
         OfPosition::Moves => Ok(tell_moves(alloc, profile, position)?),
         OfPosition::After(number) => Ok(tell_after(alloc, number, profile, position)?),
         OfPosition::Catch => Ok(tell_catch(alloc, position)?),
         OfPosition::Value => {
-            let table = opened.table_of(alloc, position.piece_set())?;
+            let table = opened.table_of(alloc, family_of(profile, position))?;
             Ok(tell_value(alloc, table.value_of(position))?)
         }
-        OfPosition::Rank => Ok(rank(position).to_string(alloc)?),
+        OfPosition::Rank => Ok(rank(profile, position).to_string(alloc)?),
         OfPosition::Class => {
-            let classes = opened.classes_of(alloc, position.piece_set())?;
+            let classes = opened.classes_of(alloc, family_of(profile, position))?;
             Ok(classes.class_of(position).to_string(alloc)?)
         }
     }
 }
 
+/// The positions with the same pieces that the profile allows.
+fn family_of(profile: Profile, position: &Position) -> Family
+    requires { IsAllowed profile position.now.setup }
+    ensures { IsPositionOf result position.now.setup }
+{
+    Family {
+        set: position.piece_set(),
+        profile,
+    }
+}
+
 /// `status S moves M1 M2 ..`, in move order.
 fn tell_moves(alloc: Global, profile: Profile, position: &Position) -> Result<String, Memory> {
-    let name = match status(position) {
+    let name = match status(Profile::A, position) {
         Status::Caught => "caught",
         Status::Tried => "tried",
         Status::Stuck => "stuck",
         Status::Open => "open",
     };
     let mut text = format!(in alloc; "status {name} moves")?;
-    let choices = moves_in(alloc, profile, position)?;
+    let choices = moves(alloc, profile, position)?;
     for choice in &choices {
         let word = write_move(alloc, *choice, false)?;
         write!(text, " {word}")?;
@@ -57,7 +74,7 @@ fn tell_after(
     profile: Profile,
     position: &Position,
 ) -> Result<String, Memory> {
-    let choices = moves_in(alloc, profile, position)?;
+    let choices = moves(alloc, profile, position)?;
     if number >= choices.len() {
         return Ok("none".to_string(alloc)?);
     }

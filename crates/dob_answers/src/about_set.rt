@@ -1,7 +1,7 @@
-// Answers about a piece set. Where the set has no such rank or class, the answer is `none`.
+// Answers about a piece set by the rules of a profile. Where it has no such rank or class, the answer is `none`.
 use crate::opened::Opened;
 use crate::question::{OfClasses, OfSet};
-use dob_pieces::{Memory, PieceSet};
+use dob_pieces::{Family, Memory};
 use dob_rank::{Classes, size, unrank};
 use dob_text::write_position;
 use dob_unmove::back;
@@ -14,12 +14,12 @@ pub(crate) fn about_set(
     alloc: Global,
     opened: &mut Opened,
     matter: OfSet,
-    set: PieceSet,
+    family: Family,
 ) -> Result<String, Fault> {
     match matter {
-        OfSet::Unrank(rank) => Ok(tell_unranked(alloc, set, rank)?),
+        OfSet::Unrank(rank) => Ok(tell_unranked(alloc, family, rank)?),
         OfSet::Classes(matter) => {
-            let classes = opened.classes_of(alloc, set)?;
+            let classes = opened.classes_of(alloc, family)?;
             Ok(about_classes(alloc, classes, matter)?)
         }
     }
@@ -36,16 +36,16 @@ fn about_classes(alloc: Global, classes: &Classes, matter: OfClasses) -> Result<
 }
 
 /// The text of the position of that rank.
-fn tell_unranked(alloc: Global, set: PieceSet, rank: u64) -> Result<String, Memory> {
-    if rank >= size(set) {
+fn tell_unranked(alloc: Global, family: Family, rank: u64) -> Result<String, Memory> {
+    if rank >= size(family) {
         return Ok(none(alloc)?);
     }
-    write_position(alloc, &unrank(set, rank))
+    write_position(alloc, &unrank(family, rank))
 }
 
 /// `positions N classes N`.
 fn tell_size(alloc: Global, classes: &Classes) -> Result<String, AllocError> {
-    let positions = size(classes.set);
+    let positions = size(classes.family);
     let classes = classes.class_count();
     format!(in alloc; "positions {positions} classes {classes}")
 }

@@ -7,7 +7,7 @@ ghost use Rattle.dob_world.specs.Rounds.{round_length};
 ghost use Rattle.dob_world.specs.Standing.{IsStanding, IsKept};
 
 use crate::shown::show;
-use dob_pieces::{Memory, PieceSet};
+use dob_pieces::{Family, Memory};
 use dob_world::{Event, Fault, Step, World};
 use std::alloc::Global;
 use std::fmt::Display;
@@ -54,11 +54,11 @@ impl<'a> OfWorld<'a> {
 /// What comes of it in a world of the set with those sizes. An error is the world's.
 pub(crate) fn about_world(
     alloc: Global,
-    set: PieceSet,
+    family: Family,
     sizes: Sizes,
     matter: OfWorld<'_>,
 ) -> Result<String, Fault> {
-    let world = World::open(alloc, set, sizes.nodes, sizes.batch, sizes.capacity)?;
+    let world = World::open(alloc, family, sizes.nodes, sizes.batch, sizes.capacity)?;
     match matter {
         OfWorld::Drive(rounds) => tell_drive(alloc, world, sizes.nodes, rounds),
         OfWorld::Events(events) => tell_events(alloc, world, sizes.nodes, events),

@@ -8,8 +8,8 @@ use crate::about_token::about_token;
 use crate::about_world::about_world;
 use crate::opened::Opened;
 use crate::question::{OfValues, Question};
-use dob_pieces::{Memory, PieceSet};
-use dob_text::read_position_in;
+use dob_pieces::{Family, Memory, PieceSet};
+use dob_text::read_position;
 use dob_value::Fault;
 use std::alloc::Global;
 use std::fmt::Display;
@@ -26,7 +26,7 @@ pub(crate) fn reply<R: Threads + Wait + Sync>(
     match Question::read(line) {
         None => Ok("unknown question".to_string(alloc)?),
         Some((profile, Question::Position(matter, text))) => {
-            match read_position_in(profile, text) {
+            match read_position(profile, text) {
                 Err(fault) => fault_line(alloc, fault),
                 Ok(position) => {
                     told(
@@ -36,13 +36,16 @@ pub(crate) fn reply<R: Threads + Wait + Sync>(
                 }
             }
         }
-        Some((_, Question::Set(matter, text))) => match PieceSet::read(text) {
+        Some((profile, Question::Set(matter, text))) => match PieceSet::read(text) {
             Err(fault) => fault_line(alloc, fault),
-            Ok(set) => told(alloc, about_set(alloc, opened, matter, set)),
+            Ok(set) => told(
+                alloc,
+                about_set(alloc, opened, matter, Family { set, profile }),
+            ),
         },
-        Some((_, Question::Values(matter, text))) => match PieceSet::read(text) {
+        Some((profile, Question::Values(matter, text))) => match PieceSet::read(text) {
             Err(fault) => fault_line(alloc, fault),
-            Ok(set) => about_values(rt, alloc, opened, matter, set),
+            Ok(set) => about_values(rt, alloc, opened, matter, Family { set, profile }),
         },
         Some((_, Question::Token(matter))) => Ok(about_token(alloc, matter)?),
     }
@@ -54,16 +57,16 @@ fn about_values<R: Threads + Wait + Sync>(
     alloc: Global,
     opened: &mut Opened,
     matter: OfValues<'_>,
-    set: PieceSet,
+    family: Family,
 ) -> Result<String, Memory> {
     match matter {
         OfValues::Cell(class, changes) => {
-            told(alloc, about_cell(alloc, opened, set, class, changes))
+            told(alloc, about_cell(alloc, opened, family, class, changes))
         }
-        OfValues::Build(limit) => told_build(alloc, about_build(alloc, set, limit)),
-        OfValues::Crew(sizes) => told_crew(alloc, about_crew(rt, alloc, set, sizes)),
+        OfValues::Build(limit) => told_build(alloc, about_build(alloc, family, limit)),
+        OfValues::Crew(sizes) => told_crew(alloc, about_crew(rt, alloc, family, sizes)),
         OfValues::World(sizes, matter) => {
-            told_world(alloc, about_world(alloc, set, sizes, matter))
+            told_world(alloc, about_world(alloc, family, sizes, matter))
         }
     }
 }

@@ -1,5 +1,5 @@
 // Answers questions about positions and piece sets, one a line, so that this implementation can be compared with
-// another: `moves TEXT`, `after I TEXT`, `catch TEXT`, `value TEXT`, `rank TEXT`, `class TEXT`, `unrank CEG N`,
+// another. A line that begins with `B ` asks the rest by the rules of profile B, any other one by those of profile A: `moves TEXT`, `after I TEXT`, `catch TEXT`, `value TEXT`, `rank TEXT`, `class TEXT`, `unrank CEG N`,
 // `classat CEG K`, `size CEG`, `back CEG K`, `edges CEG P Q`, `apply CEG CLASS CHANGE ..`, as about_cell.rt says,
 // `alone CEG LIMIT`, as about_build.rt says, `built CEG N [BATCH CAPACITY]`, as about_crew.rt says, about worlds of nodes, as
 // about_world.rt says, and about tokens of the ring, as about_token.rt says. A text that is no position and a set that is

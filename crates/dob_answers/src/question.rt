@@ -71,16 +71,11 @@ pub(crate) enum OfValues<'a> {
 
 impl<'a> Question<'a> {
     /// The question of a line, and the profile by whose rules it is asked: B where the line begins with `B `. None where
-    /// the line is no question, as those of profile B are yet that need ranks.
+    /// the line is no question.
     pub(crate) fn read(line: &'a str) -> Option<(Profile, Question<'a>)> {
-        let Some(line_of_b) = line.strip_prefix("B ") else {
-            return Some((Profile::A, Question::of(line)?));
-        };
-        match Question::of(line_of_b)? {
-            Question::Position(matter, text) if !matter.needs_ranks() => {
-                Some((Profile::B, Question::Position(matter, text)))
-            }
-            _ => None,
+        match line.strip_prefix("B ") {
+            Some(line_of_b) => Some((Profile::B, Question::of(line_of_b)?)),
+            None => Some((Profile::A, Question::of(line)?)),
         }
     }
 
@@ -106,14 +101,6 @@ impl<'a> Question<'a> {
 }
 
 impl OfPosition {
-    // Whether its answer needs the ranks of a piece set.
-    fn needs_ranks(self) -> bool {
-        match self {
-            OfPosition::Moves | OfPosition::After(_) | OfPosition::Catch => false,
-            OfPosition::Value | OfPosition::Rank | OfPosition::Class => true,
-        }
-    }
-
     // The question with that first word, and the text of its position; none where there is no such question.
     fn read<'a>(word: &str, rest: &'a str) -> Option<(OfPosition, &'a str)> {
         match word {

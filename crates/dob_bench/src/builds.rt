@@ -43,14 +43,14 @@ fn list_openings<R: Print + Clock + AllocGlobal>(
     )
 }
 
-// The table of the set, by one node.
+// The table of the family, by one node.
 fn build<R: Print + Clock + AllocGlobal + Files>(
     rt: &R,
     classes: &Classes,
     timed: bool,
 ) -> Result<Table> {
     let timer = Timer::start(rt, timed)?;
-    let Some(table) = alone(rt.alloc(), classes.set, u64::MAX)? else {
+    let Some(table) = alone(rt.alloc(), classes.family, u64::MAX)? else {
         bail!("the node is not done");
     };
     let Outcomes {

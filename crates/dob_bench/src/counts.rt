@@ -1,5 +1,5 @@
 // What is counted over a whole piece set.
-use dob_pieces::{Memory, PieceSet};
+use dob_pieces::{Family, Memory};
 use dob_probe::{Fault, line, probe};
 use dob_rank::{Classes, rank, size, unrank};
 use dob_unmove::{back, back_into};
@@ -7,10 +7,10 @@ use dob_value::{Table, Value};
 use std::alloc::Global;
 
 /// How many ranks are those of the positions that they give: all.
-pub(crate) fn ranks_found(set: PieceSet) -> u64 {
+pub(crate) fn ranks_found(family: Family) -> u64 {
     let mut found = 0;
-    for number in 0..size(set) {
-        if rank(&unrank(set, number)) == number {
+    for number in 0..size(family) {
+        if rank(family.profile, &unrank(family, number)) == number {
             found += 1;
         }
     }

@@ -8,7 +8,7 @@ use crate::measure;
 use crate::timer::{Timer, tell_seconds};
 use crate::watch::Watch;
 use anyhow::Result;
-use dob_pieces::{Memory, PieceSet};
+use dob_pieces::{Family, Memory};
 use dob_rank::{Classes, SegmentLength};
 use dob_run::{BATCH, Built, run_nodes, scan};
 use dob_unmove::back_into;
@@ -22,16 +22,16 @@ use std::time::Instant;
 /// Measures a build of the set by so many nodes, with inboxes for so many batches.
 pub(crate) fn run<R: Print + Clock + AllocGlobal + Files + Threads + Wait + Sync>(
     rt: &R,
-    set: PieceSet,
+    family: Family,
     nodes: usize,
     capacity: usize,
 ) -> Result<()> {
     let start = Instant::now(rt)?;
     let watch = Watch::new(rt, start);
-    let built = run_nodes(rt, rt.alloc(), set, nodes, BATCH, capacity, &watch)?;
+    let built = run_nodes(rt, rt.alloc(), family, nodes, BATCH, capacity, &watch)?;
     let seconds = start.elapsed(rt)?.as_secs_f64();
     tell_build(rt, &built, nodes, &watch, seconds)?;
-    measure_parts(rt, set, &built.table, nodes, seconds)
+    measure_parts(rt, family, &built.table, nodes, seconds)
 }
 
 // What the build by so many nodes found, the seconds that it took and what it cost.
@@ -59,12 +59,12 @@ fn tell_costs<R: Print + Clock + AllocGlobal + Files>(rt: &R, built: &Built) -> 
 // The parts of a build that gave the table in so many seconds.
 fn measure_parts<R: Print + Clock + AllocGlobal + Threads + Sync>(
     rt: &R,
-    set: PieceSet,
+    family: Family,
     table: &Table,
     nodes: usize,
     seconds: f64,
 ) -> Result<()> {
-    let classes = measure::open(rt, set, true)?;
+    let classes = measure::open(rt, family, true)?;
     list_openings(rt, &classes)?;
     tell_needed(rt, &classes, table, nodes)?;
     tell_ratio(rt, &classes, seconds)

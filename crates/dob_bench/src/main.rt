@@ -1,8 +1,9 @@
 // Measures what the builder rests on, and prints what it did and seconds, for short work those of the fastest of four rounds. The
-// words are a piece set, as `111`, and the name of a file for its table, or neither; with no word it goes over lions alone and
-// prints no times, so that what it prints is the same on each machine. With `--plain` in place of a file's name it measures the
-// plain programs of the rules and of the predecessors, each beside the body that goes by masks. `build`, a piece set and a number
-// of nodes measure a build by threads, with inboxes for as many batches as a last number says, or as the program has them.
+// words are a piece set, as `111`, or `111B` by the rules of profile B, and the name of a file for its table, or neither; with no
+// word it goes over lions alone and prints no times, so that what it prints is the same on each machine. With `--plain` in place
+// of a file's name it measures the plain programs of the rules and of the predecessors, each beside the body that goes by masks.
+// `build`, a piece set and a number of nodes measure a build by threads, with inboxes for as many batches as a last number says,
+// or as the program has them.
 #![tactic(auto)]
 
 mod builds;
@@ -15,27 +16,29 @@ mod timer;
 mod watch;
 
 use anyhow::{Result, bail};
-use dob_pieces::PieceSet;
-use dob_rank::is_too_large;
+use dob_pieces::{Family, PieceSet, Profile};
 use dob_run::CAPACITY;
 use std::rt::{Clock, Files};
 use std::sync::Wait;
 use std::thread::Threads;
 
-const LIONS_ALONE: PieceSet = PieceSet {
-    chicks: 0,
-    elephants: 0,
-    giraffes: 0,
+const LIONS_ALONE: Family = Family {
+    set: PieceSet {
+        chicks: 0,
+        elephants: 0,
+        giraffes: 0,
+    },
+    profile: Profile::A,
 };
 
-const USAGE: &str = "usage: dob_bench [CEG [FILE | --plain] | build CEG NODES [CAPACITY]]";
+const USAGE: &str = "usage: dob_bench [CEG[B] [FILE | --plain] | build CEG[B] NODES [CAPACITY]]";
 
 fn main(rt: HostRuntime) -> Result<()> {
     let words: Vec<String> = std::env::args(&rt)?.skip(1).collect(rt.alloc())?;
     match words.as_slice() {
         [] => measure_lions(&rt),
         [text] => measure_set(&rt, text.as_str()),
-        [text, word] if word.as_str() == "--plain" => plain::run(&rt, small_set(text.as_str())?),
+        [text, word] if word.as_str() == "--plain" => plain::run(&rt, family_of(text.as_str())?),
         [text, name] => write_table(&rt, text.as_str(), name.as_str()),
         [word, text, nodes] if word.as_str() == "build" => {
             measure_build(&rt, text.as_str(), nodes.as_str(), CAPACITY)
@@ -59,7 +62,7 @@ fn measure_set<R: Print + Clock + AllocGlobal + Files + Threads + Sync>(
     rt: &R,
     text: &str,
 ) -> Result<()> {
-    measure::run(rt, small_set(text)?, true)?;
+    measure::run(rt, family_of(text)?, true)?;
     Ok(())
 }
 
@@ -69,7 +72,7 @@ fn write_table<R: Print + Clock + AllocGlobal + Files + Threads + Sync>(
     text: &str,
     name: &str,
 ) -> Result<()> {
-    let bytes = measure::run(rt, small_set(text)?, true)?;
+    let bytes = measure::run(rt, family_of(text)?, true)?;
     std::fs::write(rt, name, &bytes)?;
     Ok(())
 }
@@ -81,7 +84,7 @@ fn measure_build<R: Print + Clock + AllocGlobal + Files + Threads + Wait + Sync>
     nodes: &str,
     capacity: usize,
 ) -> Result<()> {
-    crews::run(rt, small_set(text)?, number(nodes)?, capacity)
+    crews::run(rt, family_of(text)?, number(nodes)?, capacity)
 }
 
 // The number of that text.
@@ -92,10 +95,14 @@ fn number(text: &str) -> Result<usize> {
     Ok(number)
 }
 
-// The piece set of that text, if its classes can be opened.
-fn small_set(text: &str) -> Result<PieceSet> {
-    match PieceSet::read(text) {
-        Ok(set) if !is_too_large(set) => Ok(set),
+// The family of that text: a piece set, and behind it the letter of the rules where they are those of profile B.
+fn family_of(text: &str) -> Result<Family> {
+    let (digits, profile) = match text.strip_suffix("B") {
+        Some(digits) => (digits, Profile::B),
+        None => (text, Profile::A),
+    };
+    match PieceSet::read(digits) {
+        Ok(set) => Ok(Family { set, profile }),
         _ => bail!("no piece set, as 111\n{USAGE}"),
     }
 }

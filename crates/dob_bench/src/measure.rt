@@ -1,25 +1,25 @@
-// What is measured of one piece set, a function for each thing. Each prints what was done and then, where `timed`, how
+// What is measured of one family, a function for each thing. Each prints what was done and then, where `timed`, how
 // long it took.
 use crate::counts::{self, Edges, Lines, Outcomes};
 use crate::timer::{Rounds, Timer};
 use crate::{builds, rules};
 use anyhow::Result;
 use dob_dbfile::{MemSink, MemSource, read_table, write_table};
-use dob_pieces::PieceSet;
+use dob_pieces::Family;
 use dob_probe::check;
 use dob_rank::{Classes, size};
 use dob_value::{Table, sweep_table};
 use std::rt::{Clock, Files};
 use std::thread::Threads;
 
-/// Measures everything over the set, and gives the bytes of its table's file.
+/// Measures everything over the family, and gives the bytes of its table's file.
 pub(crate) fn run<R: Print + Clock + AllocGlobal + Files + Threads + Sync>(
     rt: &R,
-    set: PieceSet,
+    family: Family,
     timed: bool,
 ) -> Result<Vec<u8>> {
-    measure_classes(rt, set, timed)?;
-    let swept = sweep(rt, set, timed)?;
+    measure_classes(rt, family, timed)?;
+    let swept = sweep(rt, family, timed)?;
     let bytes = write(rt, &swept, timed)?;
     let table = read(rt, bytes.clone()?, timed)?;
     measure_table(rt, &table, timed)?;
@@ -29,11 +29,11 @@ pub(crate) fn run<R: Print + Clock + AllocGlobal + Files + Threads + Sync>(
 // What needs no table.
 fn measure_classes<R: Print + Clock + AllocGlobal + Files>(
     rt: &R,
-    set: PieceSet,
+    family: Family,
     timed: bool,
 ) -> Result<()> {
-    let classes = open(rt, set, timed)?;
-    find_ranks(rt, set, timed)?;
+    let classes = open(rt, family, timed)?;
+    find_ranks(rt, family, timed)?;
     find_classes(rt, &classes, timed)?;
     // before the positions are listed, since it tells of the most memory held so far
     builds::run(rt, &classes, timed)?;
@@ -65,12 +65,12 @@ fn measure_table<R: Print + Clock + AllocGlobal + Threads + Sync>(
 /// Opens the classes of the set.
 pub(crate) fn open<R: Print + Clock + AllocGlobal>(
     rt: &R,
-    set: PieceSet,
+    family: Family,
     timed: bool,
 ) -> Result<Classes> {
     let timer = Timer::start(rt, timed)?;
-    let classes = Classes::open(rt.alloc(), set)?;
-    let (positions, count) = (size(set), classes.class_count());
+    let classes = Classes::open(rt.alloc(), family)?;
+    let (positions, count) = (size(family), classes.class_count());
     timer.tell(
         rt,
         format_args!("opened {count} classes of {positions} positions"),
@@ -80,8 +80,8 @@ pub(crate) fn open<R: Print + Clock + AllocGlobal>(
 }
 
 // From each rank to its position and back.
-fn find_ranks<R: Print + Clock>(rt: &R, set: PieceSet, timed: bool) -> Result<()> {
-    let rounds = Rounds::of(rt, timed, || Ok(counts::ranks_found(set)))?;
+fn find_ranks<R: Print + Clock>(rt: &R, family: Family, timed: bool) -> Result<()> {
+    let rounds = Rounds::of(rt, timed, || Ok(counts::ranks_found(family)))?;
     rounds.tell(
         rt,
         format_args!("found {} ranks again", rounds.found),
@@ -137,9 +137,9 @@ pub(crate) fn list_into_one<R: Print + Clock + AllocGlobal>(
 }
 
 // The values of all classes.
-fn sweep<R: Print + Clock + AllocGlobal>(rt: &R, set: PieceSet, timed: bool) -> Result<Table> {
+fn sweep<R: Print + Clock + AllocGlobal>(rt: &R, family: Family, timed: bool) -> Result<Table> {
     let timer = Timer::start(rt, timed)?;
-    let table = sweep_table(rt.alloc(), set)?;
+    let table = sweep_table(rt.alloc(), family)?;
     let Outcomes {
         wins,
         losses,

@@ -3,15 +3,15 @@ use crate::timer::{Rounds, Timer};
 use crate::{measure, rules};
 use anyhow::Result;
 use dob_moves::{Status, plain as plain_rules};
-use dob_pieces::{Memory, PieceSet, Position};
+use dob_pieces::{Family, Memory, Position};
 use dob_rank::Classes;
 use dob_unmove::plain as plain_back;
 use std::alloc::Global;
 use std::rt::Clock;
 
 /// Measures both over the classes of the set.
-pub(crate) fn run<R: Print + Clock + AllocGlobal>(rt: &R, set: PieceSet) -> Result<()> {
-    let classes = Classes::open(rt.alloc(), set)?;
+pub(crate) fn run<R: Print + Clock + AllocGlobal>(rt: &R, family: Family) -> Result<()> {
+    let classes = Classes::open(rt.alloc(), family)?;
     compare_rules(rt, &classes)?;
     measure::list_into_one(rt, &classes, true)?;
     list_plain_edges(rt, &classes)

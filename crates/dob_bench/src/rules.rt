@@ -3,7 +3,7 @@
 use crate::timer::Rounds;
 use anyhow::Result;
 use dob_moves::{Status, count_moves, moves, moves_into, status};
-use dob_pieces::{Memory, Position};
+use dob_pieces::{Memory, Position, Profile};
 use dob_rank::Classes;
 use std::alloc::Global;
 use std::rt::Clock;
@@ -91,7 +91,7 @@ pub(crate) fn list<R: Print + Clock + AllocGlobal>(
 fn open_positions(positions: &[Position]) -> u64 {
     let mut found: u64 = 0;
     for position in positions {
-        if status(position) == Status::Open {
+        if status(Profile::A, position) == Status::Open {
             found = found.saturating_add(1);
         }
     }
@@ -102,7 +102,7 @@ fn open_positions(positions: &[Position]) -> u64 {
 fn moves_counted(positions: &[Position]) -> u64 {
     let mut count: u64 = 0;
     for position in positions {
-        count = count.saturating_add(count_moves(position) as u64);
+        count = count.saturating_add(count_moves(Profile::A, position) as u64);
     }
     count
 }
@@ -112,7 +112,7 @@ fn moves_into_one_list(alloc: Global, positions: &[Position]) -> Result<u64, Mem
     let mut count: u64 = 0;
     let mut listed = Vec::new(alloc);
     for position in positions {
-        moves_into(&mut listed, position)?;
+        moves_into(Profile::A, &mut listed, position)?;
         count = count.saturating_add(listed.len() as u64);
     }
     Ok(count)
@@ -131,7 +131,7 @@ fn moves_listed(alloc: Global, positions: &[Position]) -> Result<Moves, Memory> 
     let mut in_all: u64 = 0;
     let mut most = 0;
     for position in positions {
-        let count = moves(alloc, position)?.len() as u64;
+        let count = moves(alloc, Profile::A, position)?.len() as u64;
         in_all = in_all.saturating_add(count);
         most = most.max(count);
     }

@@ -70,6 +70,6 @@ fn tells_failure(rt: &(impl Abort + Threads + Wait + Sync), alloc: Global, room:
 fn a_full_disk(rt: HostRuntime) {
     tells_failure(&rt, rt.alloc(), None);
     tells_failure(&rt, rt.alloc(), Some(0));
-    tells_failure(&rt, rt.alloc(), Some(159));
     tells_failure(&rt, rt.alloc(), Some(160));
+    tells_failure(&rt, rt.alloc(), Some(161));
 }

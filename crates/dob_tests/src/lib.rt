@@ -17,6 +17,8 @@ mod ranks;
 #[cfg(test)]
 mod rows;
 #[cfg(test)]
+mod rules;
+#[cfg(test)]
 mod sets;
 #[cfg(test)]
 mod shelves;

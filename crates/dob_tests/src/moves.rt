@@ -1,7 +1,7 @@
 // Statuses, moves and what they lead to, in positions that were worked out by hand.
 use crate::positions::position;
 use crate::units::text::writes;
-use dob_moves::{Status, apply, first_catch, moves, moves_in, status, status_and_count_in};
+use dob_moves::{Status, apply, first_catch, moves, status, status_and_count};
 use dob_pieces::{Memory, Position, Profile};
 use std::alloc::Global;
 use std::process::Abort;
@@ -71,8 +71,8 @@ const MOVES_OF_B: [(&str, Status, &[&str]); 3] = [
 
 // The position has just those moves by the rules of the profile, in their order.
 fn lists(rt: &impl Abort, alloc: Global, profile: Profile, position: &Position, texts: &[&str]) {
-    let choices = moves_in(alloc, profile, position).expect(rt, "memory");
-    let (_, count) = status_and_count_in(profile, position);
+    let choices = moves(alloc, profile, position).expect(rt, "memory");
+    let (_, count) = status_and_count(profile, position);
     assert!(rt; usize::from(count) == choices.len());
     assert!(rt; choices.len() == texts.len());
     for place in 0..texts.len() {
@@ -90,7 +90,7 @@ fn has_moves(
     texts: &[&str],
 ) {
     let position = position(rt, text);
-    assert!(rt; status(&position) == found, "{text}");
+    assert!(rt; status(Profile::A, &position) == found, "{text}");
     lists(rt, alloc, profile, &position, texts);
 }
 
@@ -113,7 +113,7 @@ fn first_catch_is_by_square(rt: HostRuntime) {
 
 // What the move of that number leads to, seen from the side to move then.
 fn outcome(alloc: Global, number: usize, position: &Position) -> Result<Option<Position>, Memory> {
-    let choices = moves(alloc, position)?;
+    let choices = moves(alloc, Profile::A, position)?;
     if number >= choices.len() {
         return Ok(None);
     }

@@ -2,8 +2,8 @@
 ghost use Rattle.std.specs.Prelude.{◌<◌};
 
 use crate::positions::position;
-use crate::sets::set_of;
-use dob_pieces::Position;
+use crate::sets::family_of;
+use dob_pieces::{Family, Position, Profile};
 use dob_rank::{Classes, rank, representative, size, unrank};
 use std::alloc::Global;
 use std::process::Abort;
@@ -33,11 +33,11 @@ const RANKS: [(&str, u64, &str); 19] = [
 
 // The position has that rank in the set of that name.
 fn has_rank(rt: &impl Abort, name: &str, number: u64, text: &str) {
-    let set = set_of(rt, name);
-    assert!(rt; number < size(set));
+    let family = family_of(rt, name);
+    assert!(rt; number < size(family));
     let seen = position(rt, text);
-    assert!(rt; unrank(set, number) == seen, "{text}");
-    assert!(rt; rank(&seen) == number, "{text}");
+    assert!(rt; unrank(family, number) == seen, "{text}");
+    assert!(rt; rank(Profile::A, &seen) == number, "{text}");
 }
 
 #[test]
@@ -49,11 +49,15 @@ fn positions_of_ranks(rt: HostRuntime) {
 
 // The position is of that class of its set.
 fn is_of_class(rt: &impl Abort, alloc: Global, seen: &Position, number: u64) {
-    let classes = Classes::open(alloc, seen.piece_set()).expect(rt, "classes");
+    let family = Family {
+        set: seen.piece_set(),
+        profile: Profile::A,
+    };
+    let classes = Classes::open(alloc, family).expect(rt, "classes");
     assert!(rt; classes.class_of(seen) == number, "class {number}");
     assert!(rt; number < classes.class_count());
     assert!(rt;
-        classes.class_at(number) == representative(seen),
+        classes.class_at(number) == representative(Profile::A, seen),
         "class {number}"
     );
 }

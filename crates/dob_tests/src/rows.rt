@@ -1,7 +1,7 @@
 // What the program prints for its words over files in memory: the rows that users rely on, a line each.
 use crate::program::Narrow;
 use crate::shelves::{has, put};
-use crate::units::dbfile::files::file;
+use crate::units::dbfile::files::{file, first_file};
 use dob_cli::{MemShelf, Shelf, run_words};
 use std::alloc::Global;
 use std::process::Abort;
@@ -9,7 +9,7 @@ use std::sync::Wait;
 use std::thread::Threads;
 
 /// Words, with the exit status, the standard output and the standard error that are their answer.
-type Row = (&'static [&'static str], u8, &'static str, &'static str);
+pub(crate) type Row = (&'static [&'static str], u8, &'static str, &'static str);
 
 const WIN_3: &str = "..l/.../L../... - -";
 
@@ -137,6 +137,34 @@ const FURTHER_ROWS: &[Row] = &[
         1,
         "",
         "dobutsu: E18 ClassCount\n",
+    ),
+    (
+        &[
+            "puzzles", "--db", "lions.db", "--plies", "3", "--count", "2",
+        ],
+        0,
+        ".../..l/L../... - -  La2-a3\n..l/.../L../... - -  La2-a3\n",
+        "",
+    ),
+    (
+        &[
+            "puzzles", "--db", "lions.db", "--plies", "9", "--count", "2",
+        ],
+        0,
+        "none\n",
+        "",
+    ),
+    (
+        &["puzzles", "--db", "none.db", "--plies", "4", "--count", "2"],
+        2,
+        "",
+        "dobutsu: --plies is an odd number of at least 3\n",
+    ),
+    (
+        &["puzzles", "--db", "none.db", "--plies", "3", "--count", "2"],
+        3,
+        "",
+        "dobutsu: E24 Io\n",
     ),
     (&["show", SHOWN], 0, DRAWN, ""),
     (&["show", CATCH, "--db", "lions.db"], 0, PLAYED, ""),
@@ -394,22 +422,22 @@ const ROWS: &[Row] = &[
     (&["check", "--db", "cut.db"], 0, "consistent\n", ""),
 ];
 
-// A shelf with the file of lions alone, whole and spoilt.
+// A shelf with the file of lions alone in the first format, whole and spoilt.
 fn shelf(rt: &(impl Abort + AllocGlobal)) -> MemShelf {
     let mut shelf = MemShelf::new(rt.alloc());
-    assert!(rt; put(&mut shelf, "lions.db", &file(rt)));
+    assert!(rt; put(&mut shelf, "lions.db", &first_file(rt)));
     assert!(rt; put(&mut shelf, "empty.db", &[]));
-    let mut cut = file(rt);
+    let mut cut = first_file(rt);
     assert!(rt; cut.pop().is_some());
     assert!(rt; put(&mut shelf, "cut.db", &cut));
-    let mut short = file(rt);
+    let mut short = first_file(rt);
     short.truncate(77);
     assert!(rt; put(&mut shelf, "short.db", &short));
     spoils(rt, &mut shelf, "magic.db", 0);
     spoils(rt, &mut shelf, "set.db", 11);
     spoils(rt, &mut shelf, "count.db", 12);
     spoils(rt, &mut shelf, "digest.db", 20);
-    let mut longer = file(rt);
+    let mut longer = first_file(rt);
     assert!(rt; longer.push(0).is_ok());
     assert!(rt; put(&mut shelf, "longer.db", &longer));
     shelf
@@ -417,15 +445,15 @@ fn shelf(rt: &(impl Abort + AllocGlobal)) -> MemShelf {
 
 // Puts the file with another byte at that place under the name.
 fn spoils(rt: &(impl Abort + AllocGlobal), shelf: &mut MemShelf, name: &str, place: usize) {
-    let mut bytes = file(rt);
+    let mut bytes = first_file(rt);
     if let Some(byte) = bytes.get_mut(place) {
         *byte = !*byte;
     }
     assert!(rt; put(shelf, name, &bytes));
 }
 
-// The program answers the row so.
-fn answers<S: Shelf>(
+/// The program answers the row so.
+pub(crate) fn answers<S: Shelf>(
     rt: &(impl Abort + Threads + Wait + Sync),
     alloc: Global,
     shelf: &mut S,

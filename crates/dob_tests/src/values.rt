@@ -1,6 +1,6 @@
 // Values of positions that were worked out by hand or by another program, and of their mirror images.
 use crate::positions::position;
-use dob_pieces::Position;
+use dob_pieces::{Family, Position, Profile};
 use dob_probe::probe;
 use dob_value::{Table, Value, sweep_table, sweep_value};
 use std::alloc::Global;
@@ -35,13 +35,17 @@ const VALUES: [(&str, Value); 17] = [
 
 // Whether that value is the position's, by itself and in the table.
 fn has_value(alloc: Global, table: &Table, seen: &Position, value: Value) -> bool {
-    sweep_value(alloc, seen) == Ok(value) && probe(table, seen) == Ok(value)
+    sweep_value(alloc, Profile::A, seen) == Ok(value) && probe(table, seen) == Ok(value)
 }
 
 // That value is the one of the position of that text, and of its mirror image.
 fn both_have_value(rt: &impl Abort, alloc: Global, text: &str, value: Value) {
     let seen = position(rt, text);
-    let table = sweep_table(alloc, seen.piece_set()).expect(rt, "a table");
+    let family = Family {
+        set: seen.piece_set(),
+        profile: Profile::A,
+    };
+    let table = sweep_table(alloc, family).expect(rt, "a table");
     assert!(rt; has_value(alloc, &table, &seen, value), "{text}");
     assert!(rt;
         has_value(alloc, &table, &seen.mirrored(), value),

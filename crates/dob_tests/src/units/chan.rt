@@ -28,7 +28,7 @@ fn cut(rt: &impl Abort, outbox: &mut Outbox) -> Result<Batch, Memory> {
 // So many batches of an owner, the last one first.
 fn batches(rt: &impl Abort, alloc: Global, from: usize, count: u64) -> Result<Vec<Batch>, Memory> {
     let classes = classes_of(rt, alloc, "000");
-    let mut outbox = Outbox::new(alloc, classes.set, 2, from, 1);
+    let mut outbox = Outbox::new(alloc, classes.family, 2, from, 1);
     for number in 0..count {
         add(rt, alloc, &classes, &mut outbox, won(number, CLASS))?;
     }

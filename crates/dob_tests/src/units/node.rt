@@ -5,10 +5,10 @@ ghost use Rattle.dob_node.specs.Nodes.{IsSound};
 mod segments;
 
 use crate::openings::listed;
-use crate::sets::{classes_of, is_same_table, set_of};
+use crate::sets::{classes_of, family_of, is_same_table};
 use dob_moves::{Status, status_and_count};
 use dob_node::{Node, Opening, alone, opening};
-use dob_pieces::{Hand, Hands, Kind, Piece, PieceSet, Position, Side};
+use dob_pieces::{Family, Hand, Hands, Kind, Piece, Position, Profile, Side};
 use dob_rank::{Classes, SegmentLength};
 use dob_share::{Fault, Item, Share};
 use dob_update::Batch;
@@ -33,14 +33,14 @@ fn lions_alone_open(rt: HostRuntime) {
 
 #[test]
 fn one_node_makes_the_table_of_lions_alone(rt: HostRuntime) {
-    let set = set_of(&rt, "000");
-    let Ok(None) = alone(rt.alloc(), set, 0) else {
+    let family = family_of(&rt, "000");
+    let Ok(None) = alone(rt.alloc(), family, 0) else {
         panic!(rt; "something is left to do at the opening");
     };
-    let Ok(Some(table)) = alone(rt.alloc(), set, 100_000) else {
+    let Ok(Some(table)) = alone(rt.alloc(), family, 100_000) else {
         panic!(rt; "no table");
     };
-    let Ok(swept) = sweep_table(rt.alloc(), set) else {
+    let Ok(swept) = sweep_table(rt.alloc(), family) else {
         panic!(rt; "no table swept");
     };
     assert!(rt; table.class_count() == 54);
@@ -77,7 +77,7 @@ fn enemy_lion() -> Option<Piece> {
 
 // The cell of a class with that representative is settled as lost, and takes no item.
 fn is_lost_at_once<A: Abort>(rt: &A, alloc: Global, position: &Position) {
-    let (status, moves) = status_and_count(position);
+    let (status, moves) = status_and_count(Profile::A, position);
     assert!(rt; status == Status::Stuck);
     assert!(rt; moves == 0);
     let list = listed(rt, alloc, &[Opening { status, moves }]);
@@ -141,12 +141,12 @@ fn one_of_two<A: Abort>(rt: &A, alloc: Global, classes: &Classes, id: usize) -> 
     requires { id < 2 }
     ensures sound { IsSound result }
     ensures going { result.failed ≡ None }
-    ensures set { result.set ≡ classes.now.set }
+    ensures family { result.family ≡ classes.now.family }
     ensures id { result.id ≡ id }
     ensures n { result.n ≡ 2 }
 {
     let openings = opening(alloc, classes, SegmentLength::longest()).expect(rt, "openings");
-    Node::open(alloc, &openings, classes.set, id, 2).expect(rt, "a node")
+    Node::open(alloc, &openings, classes.family, id, 2).expect(rt, "a node")
 }
 
 // What a node sends of one class's settlements: the classes told, and how many items each batch leaves out.
@@ -201,12 +201,12 @@ fn send<A: Abort>(
     requires at_most { size ≤ 4096 }
     requires sound { IsSound node.old × IsSound receiver.old }
     requires going { (node.old.failed ≡ None) × (receiver.old.failed ≡ None) }
-    requires set { node.old.set ≡ receiver.old.set }
+    requires family { node.old.family ≡ receiver.old.family }
     requires n { (node.old.n ≡ 2) × (receiver.old.n ≡ 2) }
     requires id { receiver.old.id ≡ to }
     ensures sound { IsSound node.new × IsSound receiver.new }
     ensures going { (node.new.failed ≡ None) × (receiver.new.failed ≡ None) }
-    ensures set { (node.new.set ≡ node.old.set) × (receiver.new.set ≡ receiver.old.set) }
+    ensures family { (node.new.family ≡ node.old.family) × (receiver.new.family ≡ receiver.old.family) }
     ensures n { (node.new.n ≡ 2) × (receiver.new.n ≡ 2) }
     ensures id { (node.new.id ≡ node.old.id) × (receiver.new.id ≡ to) }
 {
@@ -234,12 +234,12 @@ fn step<A: Abort>(
     requires at_most { size ≤ 4096 }
     requires sound { IsSound node.old × IsSound receiver.old }
     requires going { (node.old.failed ≡ None) × (receiver.old.failed ≡ None) }
-    requires set { (node.old.set ≡ classes.now.set) × (receiver.old.set ≡ classes.now.set) }
+    requires family { (node.old.family ≡ classes.now.family) × (receiver.old.family ≡ classes.now.family) }
     requires n { (node.old.n ≡ 2) × (receiver.old.n ≡ 2) }
     requires id { receiver.old.id ≡ to }
     ensures sound { IsSound node.new × IsSound receiver.new }
     ensures going { (node.new.failed ≡ None) × (receiver.new.failed ≡ None) }
-    ensures set { (node.new.set ≡ classes.now.set) × (receiver.new.set ≡ classes.now.set) }
+    ensures family { (node.new.family ≡ classes.now.family) × (receiver.new.family ≡ classes.now.family) }
     ensures n { (node.new.n ≡ 2) × (receiver.new.n ≡ 2) }
     ensures id { (node.new.id ≡ node.old.id) × (receiver.new.id ≡ to) }
 {
@@ -271,7 +271,7 @@ fn run<A: Abort>(
     requires at_most { size ≤ 4096 }
     requires sound { IsSound first.old × IsSound second.old }
     requires going { (first.old.failed ≡ None) × (second.old.failed ≡ None) }
-    requires set { (first.old.set ≡ classes.now.set) × (second.old.set ≡ classes.now.set) }
+    requires family { (first.old.family ≡ classes.now.family) × (second.old.family ≡ classes.now.family) }
     requires n { (first.old.n ≡ 2) × (second.old.n ≡ 2) }
     requires id { (first.old.id ≡ 0) × (second.old.id ≡ 1) }
     ensures sound { IsSound first.new × IsSound second.new }
@@ -310,10 +310,10 @@ fn items_of_one_settlement_go_in_batches(rt: HostRuntime) {
 }
 
 // The two nodes of a set of 2124 classes have the values of its sweep.
-fn have_swept_values<A: Abort>(rt: &A, alloc: Global, set: PieceSet, first: Node, second: Node)
+fn have_swept_values<A: Abort>(rt: &A, alloc: Global, family: Family, first: Node, second: Node)
     requires sound { IsSound first × IsSound second }
 {
-    let swept = sweep_table(alloc, set).expect(rt, "a table");
+    let swept = sweep_table(alloc, family).expect(rt, "a table");
     let evens = first.into_part().expect(rt, "a part").values;
     let odds = second.into_part().expect(rt, "a part").values;
     assert!(rt; swept.class_count() == 2124);
@@ -335,5 +335,5 @@ fn two_nodes_improve_values(rt: HostRuntime) {
     run(&rt, &classes, &mut first, &mut second, 1, false, &mut log);
     assert!(rt; first.is_idle() && second.is_idle());
     assert!(rt; improves(&first) || improves(&second));
-    have_swept_values(&rt, alloc, classes.set, first, second);
+    have_swept_values(&rt, alloc, classes.family, first, second);
 }

@@ -29,10 +29,10 @@ pub(super) fn add(
     outbox: &mut Outbox,
     settlement: Settlement,
 ) -> Result<(), Memory>
-    requires set { outbox.old.set ≡ classes.now.set }
+    requires family { outbox.old.family ≡ classes.now.family }
     requires n { outbox.old.n ≡ 2 }
     requires to { outbox.old.to ≡ 1 }
-    ensures set { OnOk result (outbox.new.set ≡ classes.now.set) }
+    ensures family { OnOk result (outbox.new.family ≡ classes.now.family) }
     ensures n { OnOk result (outbox.new.n ≡ 2) }
     ensures to { OnOk result (outbox.new.to ≡ 1) }
 {
@@ -46,7 +46,7 @@ pub(super) fn add(
 /// An outbox with the five items of one settlement.
 pub(super) fn filled(rt: &impl Abort, alloc: Global) -> Result<Outbox, Memory> {
     let classes = classes_of(rt, alloc, "000");
-    let mut outbox = Outbox::new(alloc, classes.set, 2, 0, 1);
+    let mut outbox = Outbox::new(alloc, classes.family, 2, 0, 1);
     add(rt, alloc, &classes, &mut outbox, won(0, 16))?;
     Ok(outbox)
 }

@@ -3,8 +3,8 @@
 ghost use Rattle.std.specs.Prelude.{◌<◌};
 
 use crate::positions::position as position_of;
-use dob_pieces::{PieceSet, Position};
-use dob_probe::{Fault, OtherSet, check, line, probe, statistics, valued_moves};
+use dob_pieces::{Family, PieceSet, Position, Profile};
+use dob_probe::{Fault, check, line, probe, statistics, valued_moves};
 use dob_rank::{size, unrank};
 use dob_text::write_move;
 use dob_value::{Table, Value, sweep_table, sweep_value};
@@ -12,22 +12,28 @@ use std::alloc::Global;
 use std::process::Abort;
 use std::test::Fail;
 
-const NO_PIECES: PieceSet = PieceSet {
-    chicks: 0,
-    elephants: 0,
-    giraffes: 0,
+const NO_PIECES: Family = Family {
+    set: PieceSet {
+        chicks: 0,
+        elephants: 0,
+        giraffes: 0,
+    },
+    profile: Profile::A,
 };
 
-const ONE_CHICK: PieceSet = PieceSet {
-    chicks: 1,
-    elephants: 0,
-    giraffes: 0,
+const ONE_CHICK: Family = Family {
+    set: PieceSet {
+        chicks: 1,
+        elephants: 0,
+        giraffes: 0,
+    },
+    profile: Profile::A,
 };
 
-// The set's position of that rank.
-fn position(rt: &impl Abort, set: PieceSet, rank: u64) -> Position {
-    assert!(rt; rank < size(set));
-    unrank(set, rank)
+// The family's position of that rank.
+fn position(rt: &impl Abort, family: Family, rank: u64) -> Position {
+    assert!(rt; rank < size(family));
+    unrank(family, rank)
 }
 
 #[test]
@@ -35,7 +41,7 @@ fn values_of_all_positions(rt: HostRuntime) -> Result<(), Fail> {
     let table = sweep_table(rt.alloc(), NO_PIECES)?;
     for rank in 0..99 {
         let position = position(&rt, NO_PIECES, rank);
-        let value = sweep_value(rt.alloc(), &position)?;
+        let value = sweep_value(rt.alloc(), Profile::A, &position)?;
         assert!(rt; probe(&table, &position) == Ok(value), "of rank {rank}");
     }
     Ok(())
@@ -45,15 +51,35 @@ fn values_of_all_positions(rt: HostRuntime) -> Result<(), Fail> {
 fn other_sets_are_refused(rt: HostRuntime) -> Result<(), Fail> {
     let table = sweep_table(rt.alloc(), NO_PIECES)?;
     let position = position(&rt, ONE_CHICK, 0);
-    assert!(rt; probe(&table, &position) == Err(OtherSet));
+    assert!(rt; probe(&table, &position) == Err(Fault::OtherSet));
     assert!(rt; matches!(line(rt.alloc(), &table, &position), Err(Fault::OtherSet)));
+    Ok(())
+}
+
+// A chick on its own far row is refused by rules B before its set is.
+#[test]
+fn far_chicks_are_refused_first(rt: HostRuntime) -> Result<(), Fail> {
+    let by_b = Family {
+        profile: Profile::B,
+        ..NO_PIECES
+    };
+    let table = sweep_table(rt.alloc(), by_b)?;
+    let position = position_of(&rt, "C.l/.../.../L.. - -");
+    assert!(rt; probe(&table, &position) == Err(Fault::FarChick));
+    assert!(rt; matches!(line(rt.alloc(), &table, &position), Err(Fault::FarChick)));
+    assert!(rt;
+        matches!(
+            valued_moves(rt.alloc(), &table, &position),
+            Err(Fault::FarChick)
+        )
+    );
     Ok(())
 }
 
 #[test]
 fn value_tables_are_passed(rt: HostRuntime) -> Result<(), Fail> {
-    for set in [NO_PIECES, ONE_CHICK] {
-        let table = sweep_table(rt.alloc(), set)?;
+    for family in [NO_PIECES, ONE_CHICK] {
+        let table = sweep_table(rt.alloc(), family)?;
         assert!(rt; check(&rt, rt.alloc(), &table).is_ok());
     }
     Ok(())

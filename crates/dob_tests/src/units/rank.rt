@@ -10,9 +10,9 @@ mod plain;
 
 use self::key::{is_first, key};
 use self::plain::starts;
-use crate::sets::{classes_of, set_of};
-use dob_pieces::{Family, Kind, Piece, PieceSet, Position, Profile, Side};
-use dob_rank::{Classes, count_classes, rank, representative, size, size_in, unrank};
+use crate::sets::{classes_of, family, family_of};
+use dob_pieces::{Family, Kind, Piece, Position, Profile, Side};
+use dob_rank::{Classes, count_classes, rank, representative, size, unrank};
 use std::alloc::{AllocError, Global};
 use std::process::Abort;
 use std::test::Fail;
@@ -51,14 +51,11 @@ const SETS: [(&str, u64, u64, u64); 27] = [
 #[test]
 fn sets_have_their_sizes_and_classes(rt: HostRuntime) {
     for (text, positions, classes, far) in &SETS {
-        let set = set_of(&rt, text);
-        assert!(rt; size(set) == *positions, "positions of {text}");
-        assert!(rt; count_classes(set) == *classes, "classes of {text}");
-        let family = Family {
-            set,
-            profile: Profile::B,
-        };
-        assert!(rt; size_in(family) == *far, "positions of {text} in B");
+        let in_a = family(&rt, text, Profile::A);
+        assert!(rt; size(in_a) == *positions, "positions of {text}");
+        assert!(rt; count_classes(in_a) == *classes, "classes of {text}");
+        let in_b = family(&rt, text, Profile::B);
+        assert!(rt; size(in_b) == *far, "positions of {text} in B");
     }
 }
 
@@ -139,11 +136,11 @@ fn has_lions_of(rt: &impl Abort, position: &Position, class: usize) {
 
 #[test]
 fn classes_of_lions_alone(rt: HostRuntime) {
-    let set = set_of(&rt, "000");
+    let family = family_of(&rt, "000");
     let mut classes = 0usize;
-    for number in 0..size(set) {
-        let position = unrank(set, number);
-        if rank(&representative(&position)) == number {
+    for number in 0..size(family) {
+        let position = unrank(family, number);
+        if rank(Profile::A, &representative(Profile::A, &position)) == number {
             has_lions_of(&rt, &position, classes);
             classes = classes.saturating_add(1);
         }
@@ -173,19 +170,19 @@ fn classes_are_counted(rt: HostRuntime) {
 fn agrees_with_walk(rt: &impl Abort, alloc: Global, text: &str, step: u64) -> Result<(), Fail>
     requires { 0 < step }
 {
-    let set = PieceSet::read(text)?;
-    let classes = Classes::open(alloc, set)?;
+    let family = family_of(rt, text);
+    let classes = Classes::open(alloc, family)?;
     let mut walk = Walk {
         last: Vec::new(alloc),
         walked: 0,
         representatives: 0,
     };
-    for start in starts(alloc, set)? {
+    for start in starts(alloc, family.set)? {
         for position in start.positions(alloc)? {
             walk.pass(rt, alloc, &classes, &position, step)?;
         }
     }
-    assert!(rt; size(set) == walk.walked, "of {text}");
+    assert!(rt; size(family) == walk.walked, "of {text}");
     assert!(rt; classes.class_count() == walk.representatives, "of {text}");
     Ok(())
 }
@@ -218,7 +215,7 @@ impl Walk {
         );
         self.last = next;
         if self.walked % step == 0 {
-            has_rank(rt, position, classes.set, self.walked);
+            has_rank(rt, position, classes.family, self.walked);
         }
         self.walked = self.walked.saturating_add(1);
         if is_first(alloc, position)? {
@@ -232,10 +229,10 @@ impl Walk {
 }
 
 // The position is the one of that rank.
-fn has_rank(rt: &impl Abort, position: &Position, set: PieceSet, number: u64) {
-    assert!(rt; number < size(set));
-    assert!(rt; rank(position) == number);
-    assert!(rt; unrank(set, number) == *position, "rank {number}");
+fn has_rank(rt: &impl Abort, position: &Position, family: Family, number: u64) {
+    assert!(rt; number < size(family));
+    assert!(rt; rank(Profile::A, position) == number);
+    assert!(rt; unrank(family, number) == *position, "rank {number}");
 }
 
 // The position is the representative of that class, to which its mirror image belongs too.
@@ -254,10 +251,13 @@ fn has_member(
     number: u64,
     member: &Position,
 ) {
-    assert!(rt; representative(member) == *position, "class {number}");
-    let own = rank(member);
-    assert!(rt; own < size(classes.set));
-    let ranked = unrank(classes.set, own);
+    assert!(rt;
+        representative(Profile::A, member) == *position,
+        "class {number}"
+    );
+    let own = rank(Profile::A, member);
+    assert!(rt; own < size(classes.family));
+    let ranked = unrank(classes.family, own);
     assert!(rt; classes.class_of(&ranked) == number);
     let named = if member == position {
         Some(number)

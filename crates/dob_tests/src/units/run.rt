@@ -4,10 +4,10 @@ ghost use Rattle.dob_safra.specs.Laws.{IsSize};
 mod builds;
 mod turns;
 
-use crate::sets::classes_of;
+use crate::sets::{classes_of, family_of};
 use dob_chan::Rejoined;
 use dob_node::{Cause, Opening, opening};
-use dob_pieces::PieceSet;
+use dob_pieces::Family;
 use dob_rank::{SegmentLength, Segments};
 use dob_run::{Built, Fault, Gate, Turned, Worker, run_turns, scan};
 use dob_value::{Table, Value};
@@ -17,9 +17,9 @@ use std::sync::Wait;
 use std::sync::atomic::{AtomicU64, Ordering};
 use std::thread::{self, Threads};
 
-// The set of the two lions alone.
-fn lions(rt: &impl Abort) -> PieceSet {
-    PieceSet::read("000").expect(rt, "a set")
+// The family of the two lions alone.
+fn lions(rt: &impl Abort) -> Family {
+    family_of(rt, "000")
 }
 
 // How many classes are won, lost and drawn.

@@ -5,7 +5,7 @@ mod drawings;
 
 use dob_moves::Move;
 use dob_pieces::{Hand, HandKind, Kind, Memory, Piece, Profile, Side, Square};
-use dob_text::{TextFault, read_position, read_position_in, write_move, write_position};
+use dob_text::{TextFault, read_position, write_move, write_position};
 use std::alloc::Global;
 use std::process::Abort;
 use std::str;
@@ -187,7 +187,7 @@ const BEFORE_FAR_CHICK: [(&str, TextFault); 4] = [
 
 /// The text is refused so.
 fn refuses(rt: &impl Abort, text: &str, fault: TextFault) {
-    assert!(rt; read_position(text) == Err(fault), "{text}");
+    assert!(rt; read_position(Profile::A, text) == Err(fault), "{text}");
 }
 
 /// Each of the texts is refused so.
@@ -240,7 +240,7 @@ fn refuses_spoilt(rt: &impl Abort, place: usize, byte: u8, fault: TextFault)
 
 /// The text is read, and written back as it was.
 fn is_written_back(rt: &impl Abort, alloc: Global, text: &str) {
-    let position = read_position(text).expect(rt, "a position's text");
+    let position = read_position(Profile::A, text).expect(rt, "a position's text");
     let written = write_position(alloc, &position).expect(rt, "memory");
     assert!(rt; written.as_str() == text, "{text}");
 }
@@ -295,7 +295,9 @@ fn reads_and_writes_back(rt: HostRuntime) {
 
 #[test]
 fn reads_the_start(rt: HostRuntime) {
-    let setup = read_position(START).expect(&rt, "the start").setup;
+    let setup = read_position(Profile::A, START)
+        .expect(&rt, "the start")
+        .setup;
     let mover = |kind| Some(Piece {
         side: Side::Mover,
         kind,
@@ -323,7 +325,10 @@ fn reads_the_start(rt: HostRuntime) {
 
 #[test]
 fn reads_hands(rt: HostRuntime) {
-    let position = read_position("..l/.../.../L.. CEEG cg").expect(&rt, "a position's text");
+    let position = read_position(Profile::A, "..l/.../.../L.. CEEG cg").expect(
+        &rt,
+        "a position's text",
+    );
     let hands = position.setup.hands;
     let mover = Hand {
         chicks: 1,
@@ -353,25 +358,18 @@ fn refuses_texts(rt: HostRuntime) {
 fn refuses_far_chicks_in_profile_b(rt: HostRuntime) {
     for text in &FAR_CHICK {
         assert!(rt;
-            read_position_in(Profile::B, *text) == Err(TextFault::FarChick),
+            read_position(Profile::B, *text) == Err(TextFault::FarChick),
             "{text}"
         );
-        assert!(rt;
-            read_position_in(Profile::A, *text) == read_position(*text),
-            "{text}"
-        );
-        assert!(rt; read_position(*text).is_ok(), "{text}");
+        assert!(rt; read_position(Profile::A, *text).is_ok(), "{text}");
     }
     for (text, fault) in &BEFORE_FAR_CHICK {
-        assert!(rt;
-            read_position_in(Profile::B, *text) == Err(*fault),
-            "{text}"
-        );
-        assert!(rt; read_position(*text) == Err(*fault), "{text}");
+        assert!(rt; read_position(Profile::B, *text) == Err(*fault), "{text}");
+        assert!(rt; read_position(Profile::A, *text) == Err(*fault), "{text}");
     }
     for text in &READ {
         assert!(rt;
-            read_position_in(Profile::B, *text) == read_position(*text),
+            read_position(Profile::B, *text) == read_position(Profile::A, *text),
             "{text}"
         );
     }

@@ -1,4 +1,5 @@
 // Predecessors against lists of another program, and against the moves of whole small sets.
+ghost use Rattle.dob_pieces.specs.declared.profile.Profile.TheVariants.{A};
 ghost use Rattle.dob_moves.specs.Statuses.{AreMoves};
 
 mod plain_rules;
@@ -6,7 +7,7 @@ mod plain_walk;
 
 use crate::sets::classes_of;
 use dob_moves::{Move, apply, moves};
-use dob_pieces::{Hand, Hands, Kind, Memory, Piece, Position, Side, Square};
+use dob_pieces::{Hand, Hands, Kind, Memory, Piece, Position, Profile, Side, Square};
 use dob_rank::Classes;
 use dob_unmove::{back, back_into};
 use std::alloc::Global;
@@ -46,12 +47,12 @@ fn class_of(rt: &impl Abort, classes: &Classes, rows: &[u8; 15], mover: Hand, en
     class_in(rt, classes, &position)
 }
 
-// The class of a position of the set.
+// The class of a position of the family.
 fn class_in(rt: &impl Abort, classes: &Classes, position: &Position) -> u64 {
     let own = position.piece_set();
-    let set = classes.set;
-    let same = own.chicks == set.chicks && own.elephants == set.elephants;
-    assert!(rt; same && own.giraffes == set.giraffes);
+    let family = classes.family;
+    let same = own.chicks == family.set.chicks && own.elephants == family.set.elephants;
+    assert!(rt; same && own.giraffes == family.set.giraffes && position.is_allowed(family.profile));
     classes.class_of(position)
 }
 
@@ -167,7 +168,7 @@ fn push_made(
     position: &Position,
     choices: &[Move],
 ) -> Result<(), Memory>
-    requires { AreMoves position.now.setup choices.now }
+    requires { AreMoves A position.now.setup choices.now }
 {
     for choice in choices {
         let after = class_in(rt, classes, &apply(position, *choice));
@@ -185,7 +186,7 @@ fn pairs_made(
     let mut pairs = Vec::new(alloc);
     for class in 0..classes.class_count() {
         let position = classes.class_at(class);
-        let choices = moves(alloc, &position)?;
+        let choices = moves(alloc, Profile::A, &position)?;
         push_made(rt, &mut pairs, classes, class, &position, &choices)?;
     }
     pairs.sort_unstable();

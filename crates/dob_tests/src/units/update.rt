@@ -1,6 +1,6 @@
 // Batches of the items of settlements in the set of lions alone, from owner 0 to owner 1 of two.
 ghost use Rattle.std.specs.Prelude.{◌≡◌, OnOk};
-ghost use Rattle.dob_pieces.specs.declared.piece_set.PieceSet.{PieceSet as Set};
+ghost use Rattle.dob_pieces.specs.declared.profile.Family.{Family as Set};
 ghost use Rattle.dob_update.specs.Batches.{OutboxView};
 
 use super::outboxes::{add, filled, won};
@@ -22,7 +22,7 @@ fn add_and_take_back(
     outbox: &mut Outbox,
     settlement: Settlement,
 ) -> Result<(), Memory>
-    requires set { outbox.old.set ≡ classes.now.set }
+    requires family { outbox.old.family ≡ classes.now.family }
     requires n { outbox.old.n ≡ 2 }
     requires to { outbox.old.to ≡ 1 }
     ensures { OnOk result (outbox.new ≡ outbox.old) }
@@ -106,7 +106,7 @@ fn one_settlement_in_three_batches(rt: HostRuntime) -> Result<(), Memory> {
 // An outbox with the items of three settlements, five, one and two.
 fn filled_thrice(rt: &impl Abort, alloc: Global) -> Result<Outbox, Memory> {
     let classes = classes_of(rt, alloc, "000");
-    let mut outbox = Outbox::new(alloc, classes.set, 2, 0, 1);
+    let mut outbox = Outbox::new(alloc, classes.family, 2, 0, 1);
     add(rt, alloc, &classes, &mut outbox, won(0, 16))?;
     add(rt, alloc, &classes, &mut outbox, won(1, 0))?;
     add(rt, alloc, &classes, &mut outbox, won(2, 15))?;
@@ -141,7 +141,7 @@ fn batches_over_settlements(rt: HostRuntime) -> Result<(), Memory> {
 fn taken_back(rt: HostRuntime) -> Result<(), Memory> {
     let alloc = rt.alloc();
     let classes = classes_of(&rt, alloc, "000");
-    let mut outbox = Outbox::new(alloc, classes.set, 2, 0, 1);
+    let mut outbox = Outbox::new(alloc, classes.family, 2, 0, 1);
     add_and_take_back(&rt, alloc, &classes, &mut outbox, won(0, 16))?;
     assert!(rt; outbox.is_empty());
     add(&rt, alloc, &classes, &mut outbox, won(0, 16))?;

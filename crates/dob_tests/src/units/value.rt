@@ -1,18 +1,24 @@
 // Tables of values by another program, and the codes.
-use crate::sets::set_of;
-use dob_pieces::PieceSet;
+use crate::sets::family_of;
+use dob_pieces::{Family, PieceSet, Profile};
 use dob_value::{Fault, MAX_DISTANCE, Table, Value, code_of_value, sweep_table, value_of_code};
 
-const NO_PIECES: PieceSet = PieceSet {
-    chicks: 0,
-    elephants: 0,
-    giraffes: 0,
+const NO_PIECES: Family = Family {
+    set: PieceSet {
+        chicks: 0,
+        elephants: 0,
+        giraffes: 0,
+    },
+    profile: Profile::A,
 };
 
-const ONE_CHICK: PieceSet = PieceSet {
-    chicks: 1,
-    elephants: 0,
-    giraffes: 0,
+const ONE_CHICK: Family = Family {
+    set: PieceSet {
+        chicks: 1,
+        elephants: 0,
+        giraffes: 0,
+    },
+    profile: Profile::A,
 };
 
 // The codes of the values of lions alone, in the order of the classes.
@@ -57,7 +63,7 @@ fn census(table: &Table) -> (u64, u64, u64, u16) {
 #[test]
 fn table_of_one_chick(rt: HostRuntime) -> Result<(), Fault> {
     let table = sweep_table(rt.alloc(), ONE_CHICK)?;
-    assert!(rt; table.set() == ONE_CHICK);
+    assert!(rt; table.family() == ONE_CHICK);
     assert!(rt; census(&table) == (1553, 527, 44, 19));
     Ok(())
 }

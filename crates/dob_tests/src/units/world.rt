@@ -6,8 +6,8 @@ mod ring;
 mod schedules;
 mod stops;
 
-use crate::sets::{is_same_table, set_of};
-use dob_pieces::PieceSet;
+use crate::sets::{family_of, is_same_table};
+use dob_pieces::Family;
 use dob_share::Item;
 use dob_value::{Table, Value, sweep_table};
 use dob_world::{Event, Fault, Step, World, run};
@@ -27,13 +27,13 @@ fn opened(rt: &impl Abort, alloc: Global, n: usize) -> World
     ensures going { result.failed ≡ None }
     ensures n { result.n ≡ n }
 {
-    world_of(rt, alloc, set_of(rt, "000"), n, 1, 1)
+    world_of(rt, alloc, family_of(rt, "000"), n, 1, 1)
 }
 
 fn world_of(
     rt: &impl Abort,
     alloc: Global,
-    set: PieceSet,
+    family: Family,
     n: usize,
     batch: usize,
     capacity: usize,
@@ -43,7 +43,7 @@ fn world_of(
     ensures going { result.failed ≡ None }
     ensures n { result.n ≡ n }
 {
-    let Ok(world) = World::open(alloc, set, n, batch, capacity) else {
+    let Ok(world) = World::open(alloc, family, n, batch, capacity) else {
         panic!(rt; "no world");
     };
     world
@@ -133,8 +133,8 @@ fn refused(
     batch: usize,
     capacity: usize,
 ) -> Option<Fault> {
-    let set = set_of(rt, "000");
-    run(alloc, set, n, batch, capacity, &[Event::Own(16)]).err()
+    let family = family_of(rt, "000");
+    run(alloc, family, n, batch, capacity, &[Event::Own(16)]).err()
 }
 
 #[test]
@@ -173,7 +173,7 @@ fn makes_the_table(
     capacity: usize,
     swept: &Table,
 ) -> Result<(), Fail> {
-    let mut world = world_of(rt, alloc, set_of(rt, "000"), n, batch, capacity);
+    let mut world = world_of(rt, alloc, family_of(rt, "000"), n, batch, capacity);
     finish(rt, &mut world, n);
     for node in 0..n {
         settles_within(rt, &world, node, 54);
@@ -186,7 +186,7 @@ fn makes_the_table(
 
 #[test]
 fn worlds_of_lions_alone_make_the_table(rt: HostRuntime) -> Result<(), Fail> {
-    let swept = sweep_table(rt.alloc(), set_of(&rt, "000")).expect(&rt, "a table");
+    let swept = sweep_table(rt.alloc(), family_of(&rt, "000")).expect(&rt, "a table");
     for n in &NODES {
         for (batch, capacity) in &SIZES {
             makes_the_table(&rt, rt.alloc(), *n, *batch, *capacity, &swept)?;

@@ -4,7 +4,9 @@ ghost use Rattle.std.specs.Prelude.{◌≡◌, IfOk};
 
 use super::files::{FILE_LEN, file, table};
 use crate::sets::is_same_table;
-use dob_dbfile::{Failed, Fault, Lent, Sink, Source, Std, read_table, read_value, write_table};
+use dob_dbfile::{
+    Failed, Fault, Format, Lent, Sink, Source, Std, read_table, read_value, write_table,
+};
 use std::io::{self, ErrorKind, Read, Seek, SeekFrom, Write};
 use std::process::Abort;
 
@@ -286,6 +288,6 @@ impl Seek for Still {
 #[test]
 fn a_reader_that_stays(rt: HostRuntime) {
     let mut source = Std::new(Still);
-    assert!(rt; read_value(&mut source, 4) == Err(Fault::Io(28)));
+    assert!(rt; read_value(&mut source, Format::Second, 4) == Err(Fault::Io(29)));
     assert!(rt; Source::failed(&source));
 }

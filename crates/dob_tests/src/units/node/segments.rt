@@ -7,14 +7,14 @@ ghost use Rattle.dob_node.specs.Openings.{AreOpenings};
 use super::{Log, run};
 use crate::sets::classes_of;
 use dob_node::{Node, Opening, Part, opening};
-use dob_pieces::PieceSet;
+use dob_pieces::Family;
 use dob_rank::{Classes, SegmentLength, Segments};
 use std::alloc::Global;
 use std::process::Abort;
 
 // The openings of the classes in segments of so many items.
 fn openings_of<A: Abort>(rt: &A, alloc: Global, classes: &Classes, items: u32) -> Segments<Opening>
-    ensures { AreOpenings classes.now.set result }
+    ensures { AreOpenings classes.now.family result }
 {
     let length = SegmentLength::of(items).expect(rt, "a length");
     if let Ok(openings) = opening(alloc, classes, length) {
@@ -28,28 +28,28 @@ fn open_node<A: Abort>(
     rt: &A,
     alloc: Global,
     openings: &Segments<Opening>,
-    set: PieceSet,
+    family: Family,
     id: usize,
 ) -> Node
-    requires openings { AreOpenings set openings.now }
+    requires openings { AreOpenings family openings.now }
     requires id { id < 2 }
     ensures sound { IsSound result }
     ensures going { result.failed ≡ None }
-    ensures set { result.set ≡ set }
+    ensures family { result.family ≡ family }
     ensures id { result.id ≡ id }
     ensures n { result.n ≡ 2 }
 {
-    if let Ok(node) = Node::open(alloc, openings, set, id, 2) {
+    if let Ok(node) = Node::open(alloc, openings, family, id, 2) {
         return node;
     }
-    Node::open(alloc, openings, set, id, 2).expect(rt, "a node")
+    Node::open(alloc, openings, family, id, 2).expect(rt, "a node")
 }
 
 // The parts of two nodes that went on until they had nothing to do, with lists in segments of so many items.
 fn parts_of<A: Abort>(rt: &A, alloc: Global, classes: &Classes, items: u32) -> (Part, Part) {
     let openings = openings_of(rt, alloc, classes, items);
-    let mut first = open_node(rt, alloc, &openings, classes.set, 0);
-    let mut second = open_node(rt, alloc, &openings, classes.set, 1);
+    let mut first = open_node(rt, alloc, &openings, classes.family, 0);
+    let mut second = open_node(rt, alloc, &openings, classes.family, 1);
     let mut log = Log::new(alloc, 0);
     run(rt, classes, &mut first, &mut second, 3, false, &mut log);
     let evens = first.into_part().expect(rt, "a part");

@@ -2,7 +2,7 @@
 use crate::positions::position;
 use crate::sets::set_of;
 use dob_pieces::{Family, Profile};
-use dob_rank::{rank_in, size_in, unrank_in};
+use dob_rank::{rank, size, unrank};
 use std::process::Abort;
 
 // Positions with a chick or two on the board, each with its rank in profile B.
@@ -44,7 +44,7 @@ fn positions_have_their_ranks_in_profile_b(rt: HostRuntime) {
 fn has_rank_in_b(rt: &impl Abort, text: &str, want: u64) {
     let position = position(rt, text);
     assert!(rt; position.is_allowed(Profile::B), "{text}");
-    assert!(rt; rank_in(Profile::B, &position) == want, "rank of {text}");
+    assert!(rt; rank(Profile::B, &position) == want, "rank of {text}");
 }
 
 // Sets with ranks in profile B, and the position of each.
@@ -91,9 +91,9 @@ fn has_position_in_b(rt: &impl Abort, set: &str, number: u64, text: &str) {
         set: set_of(rt, set),
         profile: Profile::B,
     };
-    assert!(rt; number < size_in(family));
+    assert!(rt; number < size(family));
     assert!(rt;
-        unrank_in(family, number) == position(rt, text),
+        unrank(family, number) == position(rt, text),
         "rank {number} of {set}"
     );
 }

@@ -2,7 +2,7 @@
 use crate::positions::position;
 use crate::sets::set_of;
 use dob_pieces::{Family, Position, Profile};
-use dob_rank::{FamilyClasses, count_classes_in, representative};
+use dob_rank::{Classes, class_number, count_classes, representative};
 use std::alloc::Global;
 use std::process::Abort;
 
@@ -44,7 +44,7 @@ fn families_have_their_numbers_of_classes(rt: HostRuntime) {
             set: set_of(&rt, text),
             profile: Profile::B,
         };
-        assert!(rt; count_classes_in(family) == *want, "classes of {text}");
+        assert!(rt; count_classes(family) == *want, "classes of {text}");
     }
 }
 
@@ -84,12 +84,13 @@ fn has_class_in_b(rt: &impl Abort, alloc: Global, seen: &Position, want: u64) {
         set: seen.piece_set(),
         profile: Profile::B,
     };
-    let classes = FamilyClasses::open(alloc, family).expect(rt, "classes");
+    let classes = Classes::open(alloc, family).expect(rt, "classes");
     assert!(rt; seen.is_allowed(Profile::B), "class {want}");
     assert!(rt; classes.class_of(seen) == want, "class {want}");
+    assert!(rt; class_number(family, seen) == want, "class {want}");
     assert!(rt; want < classes.class_count());
     let first = classes.class_at(want);
-    assert!(rt; first == representative(seen), "class {want}");
+    assert!(rt; first == representative(Profile::A, seen), "class {want}");
     assert!(rt; classes.class_of_representative(&first) == Some(want));
 }
 
@@ -128,7 +129,7 @@ fn has_representative_in_b(rt: &impl Abort, alloc: Global, set: &str, class: u64
         set: set_of(rt, set),
         profile: Profile::B,
     };
-    let classes = FamilyClasses::open(alloc, family).expect(rt, "classes");
+    let classes = Classes::open(alloc, family).expect(rt, "classes");
     assert!(rt; class < classes.class_count());
     assert!(rt;
         classes.class_at(class) == position(rt, text),

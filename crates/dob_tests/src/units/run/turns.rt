@@ -1,6 +1,5 @@
 // Runners that are turned by hand, one after the other, in one thread.
 ghost use Rattle.std.specs.Prelude.{◌≡◌, IfOk, OnOk, None, ◌∷◌, []};
-ghost use Rattle.dob_rank.specs.Limits.{IsSmall};
 ghost use Rattle.dob_run.specs.CrewRunners.{IsNewCrew};
 ghost use Rattle.dob_run.specs.Runners.{KeepsRunner};
 
@@ -15,16 +14,19 @@ use std::process::Abort;
 use std::sync::Wait;
 use std::sync::atomic::{AtomicUsize, Ordering};
 use std::test::Fail;
+use std::thread::Threads;
 
 // The classes of lions alone, and a crew of two nodes that own them, with batches of one item and inboxes for one batch.
-fn two_runners(rt: &(impl Wait + Abort), alloc: Global) -> (Classes, Board, Runner, Runner)
-    ensures small { IsSmall result.0.set }
-    ensures first { result.0.set ≡ result.2.set }
-    ensures second { result.0.set ≡ result.3.set }
-    ensures crew { IsNewCrew result.0.set 2 1 1 result.1 (result.2 ∷ result.3 ∷ []) }
+fn two_runners(
+    rt: &(impl Threads + Wait + Abort + Sync),
+    alloc: Global,
+) -> (Classes, Board, Runner, Runner)
+    ensures first { result.0.family ≡ result.2.family }
+    ensures second { result.0.family ≡ result.3.family }
+    ensures crew { IsNewCrew result.0.family 2 1 1 result.1 (result.2 ∷ result.3 ∷ []) }
 {
     let classes = Classes::open(alloc, lions(rt)).expect(rt, "classes");
-    let (board, mut runners) = crew(alloc, &classes, 2, 1, 1).expect(rt, "a crew");
+    let (board, mut runners) = crew(rt, alloc, &classes, 2, 1, 1).expect(rt, "a crew");
     let second = runners.pop().expect(rt, "the second runner");
     let first = runners.pop().expect(rt, "the first runner");
     assert!(rt; runners.is_empty());
@@ -48,9 +50,9 @@ fn turn_once<G: Gate>(
     classes: &Classes,
     gate: &G,
 ) -> Result<Halt, Cause>
-    requires { classes.now.set ≡ runner.old.set }
+    requires { classes.now.family ≡ runner.old.family }
     ensures keeps { KeepsRunner runner.old runner.new }
-    ensures set { classes.now.set ≡ runner.new.set }
+    ensures family { classes.now.family ≡ runner.new.family }
     ensures going { OnOk result (runner.new.failed ≡ None) }
 {
     assert!(rt; !runner.stopped());
@@ -65,11 +67,11 @@ fn turn_to_the_end(
     second: &mut Runner,
     classes: &Classes,
 ) -> Result<Halt, Cause>
-    requires first { classes.now.set ≡ first.old.set }
-    requires second { classes.now.set ≡ second.old.set }
+    requires first { classes.now.family ≡ first.old.family }
+    requires second { classes.now.family ≡ second.old.family }
     ensures first { KeepsRunner first.old first.new }
     ensures second { KeepsRunner second.old second.new }
-    ensures set { classes.now.set ≡ second.new.set }
+    ensures family { classes.now.family ≡ second.new.family }
     ensures going { OnOk result (first.new.failed ≡ None) }
 {
     for _ in 0..20_000 {
@@ -133,8 +135,8 @@ fn answers<G: Gate>(
     gate: &G,
     expected: Result<Halt, Cause>,
 )
-    requires { classes.now.set ≡ runner.old.set }
-    ensures { classes.now.set ≡ runner.new.set }
+    requires { classes.now.family ≡ runner.old.family }
+    ensures { classes.now.family ≡ runner.new.family }
 {
     assert!(rt; turn_once(rt, runner, classes, gate) == expected);
 }
@@ -147,8 +149,8 @@ fn sees_the_hold(
     classes: &Classes,
     gate: &Counting,
 )
-    requires first { classes.now.set ≡ first.old.set }
-    requires second { classes.now.set ≡ second.old.set }
+    requires first { classes.now.family ≡ first.old.family }
+    requires second { classes.now.family ≡ second.old.family }
 {
     answers(rt, first, classes, gate, Ok(Halt::Running));
     answers(rt, second, classes, gate, Ok(Halt::Running));

@@ -3,19 +3,19 @@ ghost use Rattle.std.specs.Prelude.{◌<◌};
 
 use crate::sets::classes_of;
 use dob_moves::{Move, count_moves, first_catch, moves, moves_into, plain, status};
-use dob_pieces::{Memory, Position};
+use dob_pieces::{Memory, Position, Profile};
 use std::alloc::Global;
 use std::process::Abort;
 
 // Both programs say the same of the position.
 fn agree_on(rt: &impl Abort, alloc: Global, position: &Position) -> Result<(), Memory> {
-    assert!(rt; status(position) == plain::status(position));
+    assert!(rt; status(Profile::A, position) == plain::status(position));
     assert!(rt; first_catch(position) == plain::first_catch(position));
     let expected = plain::moves(alloc, position)?;
-    let mut listed = moves(alloc, position)?;
+    let mut listed = moves(alloc, Profile::A, position)?;
     has_moves(rt, position, &listed, &expected);
-    let found = moves_into(&mut listed, position)?;
-    assert!(rt; found == status(position));
+    let found = moves_into(Profile::A, &mut listed, position)?;
+    assert!(rt; found == status(Profile::A, position));
     has_moves(rt, position, &listed, &expected);
     Ok(())
 }
@@ -23,7 +23,7 @@ fn agree_on(rt: &impl Abort, alloc: Global, position: &Position) -> Result<(), M
 // What was listed are the moves that were expected, and so many are counted.
 fn has_moves(rt: &impl Abort, position: &Position, listed: &[Move], expected: &[Move]) {
     assert!(rt; listed == expected);
-    assert!(rt; usize::from(count_moves(position)) == expected.len());
+    assert!(rt; usize::from(count_moves(Profile::A, position)) == expected.len());
 }
 
 // On each of the classes of the set of that name whose number the stride divides.

@@ -3,14 +3,14 @@ ghost use Rattle.std.specs.Prelude.{◌≡◌, None};
 ghost use Rattle.dob_world.specs.Standing.{IsStanding, IsKept};
 
 use super::{NODES, SIZES, does, finish, make, opened, skips, world_of};
-use crate::sets::set_of;
+use crate::sets::family_of;
 use dob_world::{Event, World};
 use std::alloc::Global;
 use std::process::Abort;
 
 // A world of lions alone, driven until no event is done, is announced; and no event of a further round is done.
 fn ends_announced(rt: &impl Abort, alloc: Global, n: usize, batch: usize, capacity: usize) {
-    let mut world = world_of(rt, alloc, set_of(rt, "000"), n, batch, capacity);
+    let mut world = world_of(rt, alloc, family_of(rt, "000"), n, batch, capacity);
     assert!(rt; !world.announced());
     finish(rt, &mut world, n);
     assert!(rt; world.announced());

@@ -3,8 +3,8 @@ ghost use Rattle.std.specs.Prelude.{◌≡◌, ◌<◌, None};
 ghost use Rattle.dob_world.specs.Standing.{IsStanding, IsKept};
 
 use super::{finish, make, world_of};
-use crate::sets::{classes_of, is_same_table, set_of};
-use dob_pieces::{Memory, PieceSet};
+use crate::sets::{classes_of, family_of, is_same_table};
+use dob_pieces::{Family, Memory};
 use dob_rank::Classes;
 use dob_share::{Item, Settlement, owner};
 use dob_unmove::back;
@@ -48,8 +48,8 @@ impl Dice {
     }
 }
 
-// A world of the set with so many nodes, before its first event.
-fn open(rt: &impl Abort, alloc: Global, set: PieceSet, n: usize, dice: &mut Dice) -> World
+// A world of the family with so many nodes, before its first event.
+fn open(rt: &impl Abort, alloc: Global, family: Family, n: usize, dice: &mut Dice) -> World
     ensures standing { IsStanding result }
     ensures kept { IsKept result }
     ensures going { result.failed ≡ None }
@@ -64,7 +64,7 @@ fn open(rt: &impl Abort, alloc: Global, set: PieceSet, n: usize, dice: &mut Dice
         0 => 1,
         _ => 4,
     };
-    world_of(rt, alloc, set, n, batch, capacity)
+    world_of(rt, alloc, family, n, batch, capacity)
 }
 
 // Makes so many events in the world of so many nodes.
@@ -213,7 +213,7 @@ fn try_schedules(
     requires { 0 < events }
 {
     let classes = classes_of(rt, alloc, name);
-    let swept = sweep_table(alloc, classes.set).expect(rt, "a table");
+    let swept = sweep_table(alloc, classes.family).expect(rt, "a table");
     let mut improved: u64 = 0;
     for schedule in 0..schedules {
         let mut dice = Dice(schedule);
@@ -233,7 +233,7 @@ fn try_schedule(
     swept: &Table,
 ) -> Result<u64, Memory> {
     let n = 1 + dice.roll(16) as usize;
-    let mut world = open(rt, alloc, classes.set, n, dice);
+    let mut world = open(rt, alloc, classes.family, n, dice);
     happen(rt, &mut world, n, dice, events);
     lists_are_beginnings(rt, alloc, classes, &world, n)?;
     finish(rt, &mut world, n);
@@ -244,7 +244,7 @@ fn try_schedule(
 
 #[test]
 fn sixteen_nodes_improve_values(rt: HostRuntime) {
-    let mut world = world_of(&rt, rt.alloc(), set_of(&rt, "100"), 16, 2, 2);
+    let mut world = world_of(&rt, rt.alloc(), family_of(&rt, "100"), 16, 2, 2);
     finish(&rt, &mut world, 16);
     assert!(rt; improvements(&world, 16) == 43);
 }

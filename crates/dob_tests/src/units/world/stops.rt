@@ -3,7 +3,7 @@
 ghost use Rattle.std.specs.Prelude.{◌≡◌, ◌<◌};
 ghost use Rattle.dob_world.specs.Standing.{IsKept};
 
-use crate::sets::set_of;
+use crate::sets::family_of;
 use dob_node::Cause;
 use dob_world::{Event, Fault, History, World};
 use std::process::Abort;
@@ -57,7 +57,7 @@ fn stop_in(rt: &impl Abort, world: &mut World, events: usize) -> Option<Fault>
 
 #[test]
 fn a_stopped_world_stays(rt: HostRuntime) {
-    let Ok(mut world) = World::open(rt.alloc(), set_of(&rt, "000"), 2, 2, 1) else {
+    let Ok(mut world) = World::open(rt.alloc(), family_of(&rt, "000"), 2, 2, 1) else {
         return;
     };
     match stop_in(&rt, &mut world, 11_000) {
@@ -139,10 +139,10 @@ fn answers_the_same(rt: &impl Abort, world: &mut World, fault: Fault)
 // At each growth that is refused: the same lists as those of a world to which the same has happened, but for that event.
 #[test]
 fn a_stopped_world_is_as_before(rt: HostRuntime) {
-    let Ok(mut world) = World::open(rt.alloc(), set_of(&rt, "000"), 2, 2, 1) else {
+    let Ok(mut world) = World::open(rt.alloc(), family_of(&rt, "000"), 2, 2, 1) else {
         return;
     };
-    let Ok(mut twin) = World::open(rt.alloc(), set_of(&rt, "000"), 2, 2, 1) else {
+    let Ok(mut twin) = World::open(rt.alloc(), family_of(&rt, "000"), 2, 2, 1) else {
         return;
     };
     for number in 0..11_000 {

@@ -8,7 +8,7 @@ pub take_back-requires : goal.take_back-requires
 take_back-requires g c =
     let before = c.args.outbox.now in
     let items = c.deref-3.result.now in
-    let are : items ≡ items_of (predecessors before.set) before.n before.to c.args.settlement = search rules in
+    let are : items ≡ items_of (predecessors before.family) before.n before.to c.args.settlement = search rules in
     let many : length items ≡ c.len-2.result = search rules in
     (before, record { settlement = c.args.settlement; items = items; items_are = are; many = many; outbox_is = c.in_ok-add.ensures.ok })
 
@@ -16,6 +16,6 @@ pub returns : goal.returns
 returns g c =
     let before = c.args.outbox.now in
     let items = c.deref-3.result.now in
-    let are : items ≡ items_of (predecessors before.set) before.n before.to c.args.settlement = search rules in
+    let are : items ≡ items_of (predecessors before.family) before.n before.to c.args.settlement = search rules in
     let many : length items ≡ c.len-2.result = search rules in
     c.take_back.ensures before (record { settlement = c.args.settlement; items = items; items_are = are; many = many; outbox_is = c.in_ok-add.ensures.ok })

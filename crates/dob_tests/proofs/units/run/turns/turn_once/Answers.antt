@@ -1,4 +1,4 @@
--- A turn keeps the runner's place in its crew, and its set, which is still that of the classes.
+-- A turn keeps the runner's place in its crew, and its family, which is still that of the classes.
 use Rattle.std.proofs.Common.{◌≡◌, Result, Ok, Err, None, sym, ◌∙◌}
 use Rattle.std.specs.Prelude.{MatchResult, OnOk}
 use Rattle.dob_board.specs.declared.halt.Halt.{Halt}
@@ -11,9 +11,9 @@ use Rattle.dob_tests.proofs.units.run.turns.turn_once.Goals as goal
 pub returns-clause-keeps : goal.returns-clause-keeps
 returns-clause-keeps g c = turn_keeps c.args.runner.now c.turn.new.self c.turn.result c.turn.ensures.turned
 
-pub returns-clause-set : goal.returns-clause-set
-returns-clause-set g c =
-    c.requires ∙ sym (turn_keeps c.args.runner.now c.turn.new.self c.turn.result c.turn.ensures.turned).set
+pub returns-clause-family : goal.returns-clause-family
+returns-clause-family g c =
+    c.requires ∙ sym (turn_keeps c.args.runner.now c.turn.new.self c.turn.result c.turn.ensures.turned).family
 
 -- a turn that is answered is one of a runner that hasn't failed
 still_going : (old new : Runner) (result : Result Halt Cause) → MatchResult result (HasTurned old new) (HasFailed old new) → OnOk result (new.failed ≡ None)

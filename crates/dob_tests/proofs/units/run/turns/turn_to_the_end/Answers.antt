@@ -6,7 +6,7 @@ pub loop-preserved : goal.loop-preserved
 loop-preserved g c = record {
   one = runner_trans c.args.first.now c.loop.first c.turn_once-halt.new.runner c.loop.invariant.one c.turn_once-halt.ensures.keeps;
   other = runner_trans c.args.second.now c.loop.second c.turn_once.new.runner c.loop.invariant.other c.turn_once.ensures.keeps;
-  sets = (c.turn_once-halt.ensures.set, c.turn_once.ensures.set);
+  families = (c.turn_once-halt.ensures.family, c.turn_once.ensures.family);
 }
 
 pub returns-then-eq-clause-first : goal.returns-then-eq-clause-first

@@ -1,4 +1,4 @@
--- Both runners keep their places so far, and are of the classes' set.
+-- Both runners keep their places so far, and are of the classes' family.
 use Rattle.std.proofs.Common.{◌≡◌}
 use Rattle.dob_run.specs.Runners.{KeepsRunner}
 use Rattle.dob_tests.proofs.units.run.turns.turn_to_the_end.Given as goal
@@ -7,5 +7,5 @@ abbrev pub invariant-loop : goal.invariant-loop
 invariant-loop g l = record {
   one : KeepsRunner l.fn.first l.first;
   other : KeepsRunner l.fn.second l.second;
-  sets : (l.classes.set ≡ l.first.set) × (l.classes.set ≡ l.second.set);
+  families : (l.classes.family ≡ l.first.family) × (l.classes.family ≡ l.second.family);
 }
