@@ -13,7 +13,7 @@ mod probes;
 mod puzzles;
 mod successors;
 
-pub use checks::{check, check_alone};
+pub use checks::{Watch, check, check_alone, check_watched};
 pub use choices::{ValuedMove, insert_by_value, value_seen, valued_moves};
 pub use fault::Fault;
 pub use groups::{Group, statistics};
