@@ -355,6 +355,13 @@ impl Node {
         self.expanded == self.history.len()
     }
 
+    /// How many settlements it has expanded, the first ones of its history.
+    pub fn expanded(&self) -> u64
+        ensures { result ≡ self.now.expanded }
+    {
+        self.expanded
+    }
+
     /// How many items it has to send to the node `to`.
     pub fn left_for(&self, to: usize) -> usize
         requires sound { IsSound self.now }
