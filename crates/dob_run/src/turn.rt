@@ -85,7 +85,7 @@ impl Runner {
         let Halt::Running = halt else {
             return Ok(halt);
         };
-        let did = self.work(rt, classes)?;
+        let did = self.work_and_tell(rt, classes, gate)?;
         self.ends_turn(did);
         Ok(self.endpoint.seat.halt)
     }
@@ -110,6 +110,24 @@ impl Runner {
         } else {
             self.rest();
         }
+    }
+
+    /// A turn's work, after which the gate is told how many settlements it has expanded, also where it has failed.
+    pub(crate) fn work_and_tell<R: Wait, G: Gate>(
+        &mut self,
+        rt: &R,
+        classes: &Classes,
+        gate: &G,
+    ) -> Result<bool, Cause>
+        requires unfailed { self.old.failed ≡ None }
+        requires family { classes.now.family ≡ self.old.family }
+        ensures { StepsBy Works self.old self.new result }
+    {
+        let before = self.node.expanded();
+        let did = self.work(rt, classes);
+        let expanded = self.node.expanded().saturating_sub(before);
+        gate.worked(self.endpoint.seat.node, expanded);
+        did
     }
 
     /// A turn's work: at most one batch is applied; settlements are expanded until as many items are made as

@@ -92,6 +92,6 @@ impl Runner {
             self.abandon(Cause::Held);
             return Err(Cause::Held);
         }
-        self.work(rt, classes)
+        self.work_and_tell(rt, classes, gate)
     }
 }

@@ -6,25 +6,25 @@ use Rattle.dob_run.proofs.Keeping.{runner_trans, turn_failed, unheld_on, reason_
 use Rattle.dob_run.proofs.runner.Runner.turn.Goals as goal
 
 pub returns-in_err-did-clause-turned : goal.returns-in_err-did-clause-turned
-returns-in_err-did-clause-turned g c = turn_failed c.args.self.now c.looks-halt.new.self c.work.new.self c.from_residual.result c.in_err-did.field-0.0 c.from_residual.ensures.1
+returns-in_err-did-clause-turned g c = turn_failed c.args.self.now c.looks-halt.new.self c.work_and_tell.new.self c.from_residual.result c.in_err-did.field-0.0 c.from_residual.ensures.1
     c.looks-halt.ensures.goes.keeps c.in_err-did.ensures.failed
 
 pub returns-in_err-did-clause-held : goal.returns-in_err-did-clause-held
 returns-in_err-did-clause-held g c =
-    unheld_on c.from_residual.result c.in_err-did.field-0.0 c.from_residual.ensures.1 (reason_unheld c.work.new.self c.in_err-did.field-0.0 c.in_err-did.ensures.reason)
+    unheld_on c.from_residual.result c.in_err-did.field-0.0 c.from_residual.ensures.1 (reason_unheld c.work_and_tell.new.self c.in_err-did.field-0.0 c.in_err-did.ensures.reason)
 
 pub returns-in_err-did-clause-reason : goal.returns-in_err-did-clause-reason
 returns-in_err-did-clause-reason g c =
-    reason_on (says_no (g.G.Gate.says c.args.gate.now)) c.work.new.self c.from_residual.result c.in_err-did.field-0.0 c.from_residual.ensures.1 c.in_err-did.ensures.reason
+    reason_on (says_no (g.G.Gate.says c.args.gate.now)) c.work_and_tell.new.self c.from_residual.result c.in_err-did.field-0.0 c.from_residual.ensures.1 c.in_err-did.ensures.reason
 
 pub returns-clause-turned : goal.returns-clause-turned
 returns-clause-turned g c =
-    let worked : GoesOn c.looks-halt.new.self c.work.new.self = c.in_ok-did.ensures.goes in
-    let ended : GoesRound c.work.new.self c.ends_turn.new.self = c.ends_turn.ensures in
+    let worked : GoesOn c.looks-halt.new.self c.work_and_tell.new.self = c.in_ok-did.ensures.goes in
+    let ended : GoesRound c.work_and_tell.new.self c.ends_turn.new.self = c.ends_turn.ensures in
     let goes_on : c.looks-halt.result ≡ Running = c.in-Running.is in
     record {
-      keeps = runner_trans c.args.self.now c.work.new.self c.ends_turn.new.self
-          (runner_trans c.args.self.now c.looks-halt.new.self c.work.new.self c.looks-halt.ensures.goes.keeps worked.keeps) ended.keeps;
+      keeps = runner_trans c.args.self.now c.work_and_tell.new.self c.ends_turn.new.self
+          (runner_trans c.args.self.now c.looks-halt.new.self c.work_and_tell.new.self c.looks-halt.ensures.goes.keeps worked.keeps) ended.keeps;
       unfailed = ended.unfailed;
       halt_is = refl;
       looked = c.looks-halt.new.self.endpoint.seat;
