@@ -2,7 +2,7 @@
 ghost use Rattle.std.specs.Prelude.{false};
 
 use crate::program::{FILE, run_on};
-use dob_cli::{Shelf, ShelfFault};
+use dob_cli::{Console, Shelf, ShelfFault};
 use dob_dbfile::{Failed, MemSink, MemSource, Sink, Source};
 use std::alloc::Global;
 use std::process::Abort;
@@ -56,7 +56,11 @@ impl Shelf for FullShelf {
 }
 
 // A build with so much room for its file tells that it failed.
-fn tells_failure(rt: &(impl Abort + Threads + Wait + Sync), alloc: Global, room: Option<usize>) {
+fn tells_failure(
+    rt: &(impl Abort + Threads + Wait + Sync + Console),
+    alloc: Global,
+    room: Option<usize>,
+) {
     let mut shelf = FullShelf {
         alloc,
         room,

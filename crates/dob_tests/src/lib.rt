@@ -13,6 +13,8 @@ mod positions;
 #[cfg(test)]
 mod program;
 #[cfg(test)]
+mod progress;
+#[cfg(test)]
 mod ranks;
 #[cfg(test)]
 mod rows;

@@ -2,7 +2,7 @@
 // line for each list of words, and `./test` asks the built program for the same and more.
 use crate::shelves::put;
 use crate::units::dbfile::files::forged;
-use dob_cli::{MemShelf, Shelf, run_given, run_over, run_words};
+use dob_cli::{Console, MemShelf, Shelf, run_given, run_over, run_words};
 use dob_dbfile::MemSink;
 use std::alloc::Global;
 use std::env::Args;
@@ -40,7 +40,7 @@ fn shelf_with(rt: &impl Abort, alloc: Global, bytes: &[u8]) -> MemShelf {
 
 /// What the program does over the shelf.
 pub(crate) fn run_on<S: Shelf>(
-    rt: &(impl Threads + Wait + Sync),
+    rt: &(impl Threads + Wait + Sync + Console),
     alloc: Global,
     shelf: &mut S,
     words: &[&str],
@@ -91,7 +91,7 @@ impl Write for Narrow {
 
 // What the program answers to the words over those streams, where there are no files.
 fn run_into(
-    rt: &(impl Threads + Wait + Sync),
+    rt: &(impl Threads + Wait + Sync + Console),
     alloc: Global,
     words: &[&str],
     out: &mut Narrow,
@@ -103,7 +103,7 @@ fn run_into(
 
 // Over such a standard output the program ends as one that failed, which has written that there and tells the failure.
 fn fails_to_tell(
-    rt: &(impl Abort + Threads + Wait + Sync),
+    rt: &(impl Abort + Threads + Wait + Sync + Console),
     alloc: Global,
     mut out: Narrow,
     written: &[u8],
@@ -132,7 +132,7 @@ fn standard_output_that_cannot_be_flushed(rt: HostRuntime) {
 
 // The program says what it can of the fault of a text, and ends with its status.
 fn fails_to_say(
-    rt: &(impl Abort + Threads + Wait + Sync),
+    rt: &(impl Abort + Threads + Wait + Sync + Console),
     alloc: Global,
     room: usize,
     said: &[u8],
@@ -159,7 +159,7 @@ fn no_arguments(cause: ErrorKind) -> io::Result<Args> {
 
 // What the program does with arguments that can't be had for this cause.
 fn without_arguments(
-    rt: &(impl Abort + Threads + Wait + Sync),
+    rt: &(impl Abort + Threads + Wait + Sync + Console),
     alloc: Global,
     cause: ErrorKind,
 ) -> Told {
@@ -194,7 +194,7 @@ fn arguments_without_memory(rt: HostRuntime) {
 
 // What the program does with the words over the file of the table of lions alone, with that code for the class.
 fn run_with(
-    rt: &(impl Abort + AllocGlobal + Threads + Wait + Sync),
+    rt: &(impl Abort + AllocGlobal + Threads + Wait + Sync + Console),
     class: u8,
     code: u16,
     words: &[&str],
@@ -206,7 +206,7 @@ fn run_with(
 
 // The line of the position by that file is this.
 fn has_line(
-    rt: &(impl Abort + AllocGlobal + Threads + Wait + Sync),
+    rt: &(impl Abort + AllocGlobal + Threads + Wait + Sync + Console),
     class: u8,
     code: u16,
     text: &str,
@@ -239,7 +239,7 @@ fn lines_by_wrong_values(rt: HostRuntime) {
 
 // The position has no line by that file.
 fn has_no_line(
-    rt: &(impl Abort + AllocGlobal + Threads + Wait + Sync),
+    rt: &(impl Abort + AllocGlobal + Threads + Wait + Sync + Console),
     class: u8,
     code: u16,
     text: &str,
@@ -266,7 +266,7 @@ fn a_wrong_value_is_told(rt: HostRuntime) {
 
 // That is said to be the first break of that file.
 fn breaks(
-    rt: &(impl Abort + AllocGlobal + Threads + Wait + Sync),
+    rt: &(impl Abort + AllocGlobal + Threads + Wait + Sync + Console),
     class: u8,
     code: u16,
     said: &str,

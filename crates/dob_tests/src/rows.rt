@@ -2,7 +2,7 @@
 use crate::program::Narrow;
 use crate::shelves::{has, put};
 use crate::units::dbfile::files::{file, first_file};
-use dob_cli::{MemShelf, Shelf, run_words};
+use dob_cli::{Console, MemShelf, Shelf, run_words};
 use std::alloc::Global;
 use std::process::Abort;
 use std::sync::Wait;
@@ -129,6 +129,27 @@ const FURTHER_ROWS: &[Row] = &[
         &["line", "--numbered", "--db", "lions.db", DRAW],
         0,
         "draw\n",
+        "",
+    ),
+    (
+        &["check", "--db", "lions.db", "--progress"],
+        0,
+        "consistent\n",
+        "",
+    ),
+    (
+        &[
+            "build",
+            "--progress",
+            "--set",
+            "000",
+            "--nodes",
+            "2",
+            "--out",
+            "watched.db",
+        ],
+        0,
+        "classes 54\nwin 38\nloss 12\ndraw 4\n",
         "",
     ),
     (&["stats", "--db", "lions.db"], 0, STATS_OF_000, ""),
@@ -454,7 +475,7 @@ fn spoils(rt: &(impl Abort + AllocGlobal), shelf: &mut MemShelf, name: &str, pla
 
 /// The program answers the row so.
 pub(crate) fn answers<S: Shelf>(
-    rt: &(impl Abort + Threads + Wait + Sync),
+    rt: &(impl Abort + Threads + Wait + Sync + Console),
     alloc: Global,
     shelf: &mut S,
     row: &Row,
