@@ -62,6 +62,6 @@ file_kept c profile set nodes file e tells (inr (inl t)) done = absurd (no_fault
 file_kept c profile set nodes file e tells (inr (inr t)) done = absurd (no_fault_told Io e.status e.err t.told done)
 
 pub build_then_probe : (before built probed : ShelfState) → BuildThenProbe before built probed
-build_then_probe before built probed = λ building probing rules set nodes file position first next is_build is_probe tells ran done after.
+build_then_probe before built probed = λ building probing rules set nodes file position progress first next is_build is_probe tells ran done after.
     after.probe_right (profile_named rules) file position is_probe
-    (file_kept _ (profile_named rules) set _ file first tells (ran.build rules set nodes file is_build) done)
+    (file_kept _ (profile_named rules) set _ file first tells (ran.build rules set nodes file progress is_build) done)

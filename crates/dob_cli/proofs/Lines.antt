@@ -382,7 +382,7 @@ pub build_spelled : IsSpelled build_form
 build_spelled = record {
   by_name = (long_part build_form 115 (codes "et") refl, (long_part build_form 110 (codes "odes") refl, (long_part build_form 111 (codes "ut") refl, (long_part build_form 114 (codes "ules") refl, tt))));
   by_value = (λ t. long_part build_form 115 (codes "et=" ++ t) refl, (λ t. long_part build_form 110 (codes "odes=" ++ t) refl, (λ t. long_part build_form 111 (codes "ut=" ++ t) refl, (λ t. long_part build_form 114 (codes "ules=" ++ t) refl, tt))));
-  by_flag = tt;
+  by_flag = (long_part build_form 112 (codes "rogress") refl, tt);
 }
 
 pub probe_spelled : IsSpelled probe_form
@@ -403,7 +403,7 @@ pub check_spelled : IsSpelled check_form
 check_spelled = record {
   by_name = (long_part check_form 100 (codes "b") refl, tt);
   by_value = (λ t. long_part check_form 100 (codes "b=" ++ t) refl, tt);
-  by_flag = tt;
+  by_flag = (long_part check_form 112 (codes "rogress") refl, tt);
 }
 
 pub look_spelled : IsSpelled look_form

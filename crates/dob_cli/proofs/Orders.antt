@@ -37,16 +37,16 @@ two_texts x y a b e = (cc, cc)
 three_texts : (x y z a b c : Text) → Some x ∷ Some y ∷ Some z ∷ [] ≡ Some a ∷ Some b ∷ Some c ∷ [] → (x ≡ a) × (y ≡ b) × (z ≡ c)
 three_texts x y z a b c e = (cc, cc, cc)
 
--- a text that may be left out before one, behind one and behind three
+-- a text that may be left out before one and behind one, and two of them behind three
 ruled_text : (x a : Option Text) (y b : Text) → x ∷ Some y ∷ [] ≡ a ∷ Some b ∷ [] → (x ≡ a) × (y ≡ b)
 ruled_text x a y b e = (cc, cc)
 
 text_ruled : (x a : Text) (y b : Option Text) → Some x ∷ y ∷ [] ≡ Some a ∷ b ∷ [] → (x ≡ a) × (y ≡ b)
 text_ruled x a y b e = (cc, cc)
 
-texts_ruled : (x y z a b c : Text) (w d : Option Text) → Some x ∷ Some y ∷ Some z ∷ w ∷ [] ≡ Some a ∷ Some b ∷ Some c ∷ d ∷ []
-    → (x ≡ a) × (y ≡ b) × (z ≡ c) × (w ≡ d)
-texts_ruled x y z a b c w d e = (cc, cc, cc, cc)
+texts_ruled : (x y z a b c : Text) (v w d f : Option Text) → Some x ∷ Some y ∷ Some z ∷ v ∷ w ∷ [] ≡ Some a ∷ Some b ∷ Some c ∷ d ∷ f ∷ []
+    → (x ≡ a) × (y ≡ b) × (z ≡ c) × (v ≡ d)
+texts_ruled x y z a b c v w d f e = (cc, cc, cc, cc)
 
 -- a flag between two texts, and two texts that may be left out before one
 flagged_texts : (x z a c : Text) (y b : Option Text) → Some x ∷ y ∷ Some z ∷ [] ≡ Some a ∷ b ∷ Some c ∷ [] → (x ≡ a) × (y ≡ b) × (z ≡ c)
@@ -75,16 +75,16 @@ module _ (c : ShelfChange) (e : Ending) where
       subst (λ (x : Profile). AnswersCount c x text e) (is.1.2 ∙ ap profile_named same.1) (subst (λ (x : Text). AnswersCount c p x e) same.0 answers)
   done_count o rules text is answers = absurd (differs (name_of_order o) (codes "count") refl refl is.0)
 
-  pub done_build : (o : Order) (rules : Option Text) (set nodes file : Text)
-      → IsOrder (codes "build") (Some set ∷ Some nodes ∷ Some file ∷ rules ∷ []) o → AnswersOrder c o e
+  pub done_build : (o : Order) (rules : Option Text) (set nodes file : Text) (progress : Option Text)
+      → IsOrder (codes "build") (Some set ∷ Some nodes ∷ Some file ∷ rules ∷ progress ∷ []) o → AnswersOrder c o e
       → AnswersBuild c (profile_named rules) set (number_of nodes) file e
-  done_build (Build p s n f) rules set nodes file is answers =
-      let same = texts_ruled s.now is.1.0 f.now set nodes file is.1.1 rules is.1.2 in
-      subst (λ (x : Profile). AnswersBuild c x set (number_of nodes) file e) (is.1.5 ∙ ap profile_named same.3)
+  done_build (Build p s n f b) rules set nodes file progress is answers =
+      let same = texts_ruled s.now is.1.0 f.now set nodes file is.1.1 is.1.2 rules progress is.1.3 in
+      subst (λ (x : Profile). AnswersBuild c x set (number_of nodes) file e) (is.1.6 ∙ ap profile_named same.3)
       (subst (λ (x : Text). AnswersBuild c p x (number_of nodes) file e) same.0
       (subst (λ (x : Text). AnswersBuild c p s.now (number_of nodes) x e) same.2
-      (subst (λ (x : ℕ). AnswersBuild c p s.now x f.now e) (is.1.4 ∙ ap number_of same.1) answers)))
-  done_build o rules set nodes file is answers = absurd (differs (name_of_order o) (codes "build") refl refl is.0)
+      (subst (λ (x : ℕ). AnswersBuild c p s.now x f.now e) (is.1.5 ∙ ap number_of same.1) answers)))
+  done_build o rules set nodes file progress is answers = absurd (differs (name_of_order o) (codes "build") refl refl is.0)
 
   pub done_probe : (o : Order) (file text : Text) → IsOrder (codes "probe") (Some file ∷ Some text ∷ []) o → AnswersOrder c o e
       → AnswersProbe c file text e
@@ -103,9 +103,11 @@ module _ (c : ShelfChange) (e : Ending) where
       (subst (λ (x : Text). AnswersLine c f.now n x e) same.2 answers))
   done_line o file is_numbered text is answers = absurd (differs (name_of_order o) (codes "line") refl refl is.0)
 
-  pub done_check : (o : Order) (file : Text) → IsOrder (codes "check") (Some file ∷ []) o → AnswersOrder c o e → AnswersCheck c file e
-  done_check (Check f) file is answers = subst (λ (x : Text). AnswersCheck c x e) (one_text f.now file is.1) answers
-  done_check o file is answers = absurd (differs (name_of_order o) (codes "check") refl refl is.0)
+  pub done_check : (o : Order) (file : Text) (progress : Option Text) → IsOrder (codes "check") (Some file ∷ progress ∷ []) o
+      → AnswersOrder c o e → AnswersCheck c file e
+  done_check (Check f b) file progress is answers =
+      subst (λ (x : Text). AnswersCheck c x e) (text_ruled f.now file is.1.0 progress is.1.1).0 answers
+  done_check o file progress is answers = absurd (differs (name_of_order o) (codes "check") refl refl is.0)
 
   pub done_look : (o : Order) (file text : Text) → IsOrder (codes "look") (Some file ∷ Some text ∷ []) o → AnswersOrder c o e → AnswersLook c file text e
   done_look (Look f t) file text is answers =
@@ -151,11 +153,13 @@ module _ (c : ShelfChange) (e : Ending) where
 -- ---- files
 
 module _ (c : ShelfChange) where
-  pub kept_others : (o : Order) (rules : Option Text) (set nodes file : Text)
-      → IsOrder (codes "build") (Some set ∷ Some nodes ∷ Some file ∷ rules ∷ []) o → KeepsFiles c o → SameOthers file c.before.has c.after.has
-  kept_others (Build p s n f) rules set nodes file is keeps =
-      subst (λ (x : Text). SameOthers x c.before.has c.after.has) (texts_ruled s.now is.1.0 f.now set nodes file is.1.1 rules is.1.2).2 keeps
-  kept_others o rules set nodes file is keeps = absurd (differs (name_of_order o) (codes "build") refl refl is.0)
+  pub kept_others : (o : Order) (rules : Option Text) (set nodes file : Text) (progress : Option Text)
+      → IsOrder (codes "build") (Some set ∷ Some nodes ∷ Some file ∷ rules ∷ progress ∷ []) o → KeepsFiles c o
+      → SameOthers file c.before.has c.after.has
+  kept_others (Build p s n f b) rules set nodes file progress is keeps =
+      subst (λ (x : Text). SameOthers x c.before.has c.after.has)
+      (texts_ruled s.now is.1.0 f.now set nodes file is.1.1 is.1.2 rules progress is.1.3).2 keeps
+  kept_others o rules set nodes file progress is keeps = absurd (differs (name_of_order o) (codes "build") refl refl is.0)
 
   pub kept_migrated : (o : Order) (file out : Text) → IsOrder (codes "migrate") (Some file ∷ Some out ∷ []) o → KeepsFiles c o
       → SameOthers out c.before.has c.after.has
@@ -171,13 +175,13 @@ module _ (c : ShelfChange) where
   kept_but_picture o file picture text is keeps = absurd (differs (name_of_order o) (codes "show") refl refl is.0)
 
   -- the words that ask for a build say what it is
-  no_build : (m : Meaning) (p : Profile) (s f : Bor Text) (n : ℕ) → IsReadingOf m (reading.Order (Build p s n f))
-      → ((rules : Option Text) (set nodes file : Text) → m ≡ build rules set nodes file → ⊥) → ⊥
-  no_build (asks name texts) p s f n is none =
-      none is.1.1 s.now is.1.0 f.now (ap₂ (λ (x : Text) (y : List (Option Text)). asks x y) (sym is.0) (sym is.1.2))
-  no_build help p s f n is none = is
-  no_build usage p s f n is none = is
-  no_build version p s f n is none = is
+  no_build : (m : Meaning) (p : Profile) (s f : Bor Text) (n : ℕ) (b : Bool) → IsReadingOf m (reading.Order (Build p s n f b))
+      → ((rules : Option Text) (set nodes file : Text) (progress : Option Text) → m ≡ build rules set nodes file progress → ⊥) → ⊥
+  no_build (asks name texts) p s f n b is none =
+      none is.1.1 s.now is.1.0 f.now is.1.2 (ap₂ (λ (x : Text) (y : List (Option Text)). asks x y) (sym is.0) (sym is.1.3))
+  no_build help p s f n b is none = is
+  no_build usage p s f n b is none = is
+  no_build version p s f n b is none = is
 
   -- and so do those that ask for a migration
   no_migration : (m : Meaning) (f t : Bor Text) → IsReadingOf m (reading.Order (Migrate f t)) → ((file out : Text) → m ≡ migrate file out → ⊥) → ⊥
@@ -196,11 +200,11 @@ module _ (c : ShelfChange) where
 
   -- where the words ask for none of these, all files have what they had
   pub kept_files : (m : Meaning) (o : Order) → IsReadingOf m (reading.Order o)
-      → ((rules : Option Text) (set nodes file : Text) → m ≡ build rules set nodes file → ⊥)
+      → ((rules : Option Text) (set nodes file : Text) (progress : Option Text) → m ≡ build rules set nodes file progress → ⊥)
       → ((file : Option Text) (picture text : Text) → m ≡ show file (Some picture) text → ⊥)
       → ((file out : Text) → m ≡ migrate file out → ⊥)
       → KeepsFiles c o → SameFiles c.before.has c.after.has
-  kept_files m (Build p s n f) is none undrawn still keeps = absurd (no_build m p s f n is none)
+  kept_files m (Build p s n f b) is none undrawn still keeps = absurd (no_build m p s f n b is none)
   kept_files m (Show f (Some p) t) is none undrawn still keeps = absurd (no_picture m f p t is undrawn)
   kept_files m (Migrate f t) is none undrawn still keeps = absurd (no_migration m f t is still)
   kept_files m (Show f None t) is none undrawn still keeps = keeps
@@ -208,7 +212,7 @@ module _ (c : ShelfChange) where
   kept_files m (Count p t) is none undrawn still keeps = keeps
   kept_files m (Probe f t) is none undrawn still keeps = keeps
   kept_files m (Line f n t) is none undrawn still keeps = keeps
-  kept_files m (Check f) is none undrawn still keeps = keeps
+  kept_files m (Check f b) is none undrawn still keeps = keeps
   kept_files m (Look f t) is none undrawn still keeps = keeps
   kept_files m (Moves f t) is none undrawn still keeps = keeps
   kept_files m (Stats f) is none undrawn still keeps = keeps

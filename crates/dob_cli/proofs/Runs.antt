@@ -52,11 +52,11 @@ module _ (c : ShelfChange) (words : List Text) (e : Ending) where
   ran_memory told same works = record {
     value = λ rules text _. memory_answered _ _ e (tt, works) told;
     count = λ rules set _. memory_answered _ _ e (tt, works) told;
-    build = λ rules set nodes file _. memory_answered _ _ e (same, works) told;
+    build = λ rules set nodes file progress _. memory_answered _ _ e (same, works) told;
     probe_right = λ profile file text _ _. memory_answered _ _ e (tt, works) told;
     probe = λ file text _. memory_answered _ _ e (tt, works) told;
     line = λ file is_numbered text _. memory_answered _ _ e (tt, works) told;
-    check = λ file _. memory_answered _ _ e (tt, works) told;
+    check = λ file progress _. memory_answered _ _ e (tt, works) told;
     look_right = λ profile file text _ _. memory_answered _ _ e (tt, works) told;
     look = λ file text _. memory_answered _ _ e (tt, works) told;
     show = λ file picture text _. memory_answered _ _ e (same, works) told;
@@ -68,7 +68,7 @@ module _ (c : ShelfChange) (words : List Text) (e : Ending) where
     help = λ _. inr told;
     version = λ _. inr told;
     usage = λ _. inr told;
-    others = λ rules set nodes file _. others_kept file c.before.has c.after.has same;
+    others = λ rules set nodes file progress _. others_kept file c.before.has c.after.has same;
     others_of_picture = λ file picture text _. others_kept picture c.before.has c.after.has same;
     others_of_migration = λ file out _. others_kept out c.before.has c.after.has same;
     files = λ _ _ _. same;
@@ -84,12 +84,12 @@ module _ (c : ShelfChange) (words : List Text) (e : Ending) where
   ran_order o read answers keeps = record {
     value = λ rules text is. done_value c e o rules text (asked (reading.Order o) read _ is) answers;
     count = λ rules set is. done_count c e o rules set (asked (reading.Order o) read _ is) answers;
-    build = λ rules set nodes file is. done_build c e o rules set nodes file (asked (reading.Order o) read _ is) answers;
+    build = λ rules set nodes file progress is. done_build c e o rules set nodes file progress (asked (reading.Order o) read _ is) answers;
     probe = λ file text is. done_probe c e o file text (asked (reading.Order o) read _ is) answers;
     probe_right = λ profile file text is right.
         probe_right c profile file text e right (done_probe c e o file text (asked (reading.Order o) read _ is) answers);
     line = λ file is_numbered text is. done_line c e o file is_numbered text (asked (reading.Order o) read _ is) answers;
-    check = λ file is. done_check c e o file (asked (reading.Order o) read _ is) answers;
+    check = λ file progress is. done_check c e o file progress (asked (reading.Order o) read _ is) answers;
     look = λ file text is. done_look c e o file text (asked (reading.Order o) read _ is) answers;
     show = λ file picture text is. done_show c e o file picture text (asked (reading.Order o) read _ is) answers;
     moves_right = λ profile file text is right. moves_right c profile file text e right (done_moves c e o file text (asked (reading.Order o) read _ is) answers);
@@ -101,7 +101,7 @@ module _ (c : ShelfChange) (words : List Text) (e : Ending) where
     help = λ is. absurd (asked (reading.Order o) read _ is);
     version = λ is. absurd (asked (reading.Order o) read _ is);
     usage = λ is. absurd (asked (reading.Order o) read _ is);
-    others = λ rules set nodes file is. kept_others c o rules set nodes file (asked (reading.Order o) read _ is) keeps;
+    others = λ rules set nodes file progress is. kept_others c o rules set nodes file progress (asked (reading.Order o) read _ is) keeps;
     others_of_migration = λ file out is. kept_migrated c o file out (asked (reading.Order o) read _ is) keeps;
     others_of_picture = λ file picture text is. kept_but_picture c o file picture text (asked (reading.Order o) read _ is) keeps;
     files = λ none undrawn still. kept_files c (meaning_of words) o read none undrawn still keeps;
@@ -113,11 +113,11 @@ module _ (c : ShelfChange) (words : List Text) (e : Ending) where
   ran_version read told same = record {
     value = λ rules text is. absurd (asked reading.Version read _ is);
     count = λ rules set is. absurd (asked reading.Version read _ is);
-    build = λ rules set nodes file is. absurd (asked reading.Version read _ is);
+    build = λ rules set nodes file progress is. absurd (asked reading.Version read _ is);
     probe = λ file text is. absurd (asked reading.Version read _ is);
     probe_right = λ profile file text is. absurd (asked reading.Version read _ is);
     line = λ file is_numbered text is. absurd (asked reading.Version read _ is);
-    check = λ file is. absurd (asked reading.Version read _ is);
+    check = λ file progress is. absurd (asked reading.Version read _ is);
     look = λ file text is. absurd (asked reading.Version read _ is);
     show = λ file picture text is. absurd (asked reading.Version read _ is);
     moves_right = λ profile file text is. absurd (asked reading.Version read _ is);
@@ -129,7 +129,7 @@ module _ (c : ShelfChange) (words : List Text) (e : Ending) where
     help = λ is. absurd (asked reading.Version read _ is);
     version = λ _. inl told;
     usage = λ is. absurd (asked reading.Version read _ is);
-    others = λ rules set nodes file is. absurd (asked reading.Version read _ is);
+    others = λ rules set nodes file progress is. absurd (asked reading.Version read _ is);
     others_of_migration = λ file out is. absurd (asked reading.Version read _ is);
     others_of_picture = λ file picture text is. absurd (asked reading.Version read _ is);
     files = λ _ _ _. same;

@@ -30,10 +30,10 @@ pub build_taken : (profiles : ProfileNames) → IsTaken profiles build_form
 build_taken profiles = record {
   options = (refl, (refl, (refl, (refl, tt))));
   positions = refl;
-  flags = tt;
+  flags = (refl, tt);
   no_help = (refl, refl);
   no_empty = (refl, refl);
-  defaults = (refl, (refl, (refl, (refl, (refl, tt)))));
+  defaults = (refl, (refl, (refl, (refl, (refl, (refl, tt))))));
   required = λ rows. refl;
 }
 
@@ -63,10 +63,10 @@ pub check_taken : (profiles : ProfileNames) → IsTaken profiles check_form
 check_taken profiles = record {
   options = (refl, tt);
   positions = refl;
-  flags = tt;
+  flags = (refl, tt);
   no_help = (refl, refl);
   no_empty = (refl, refl);
-  defaults = (refl, (refl, tt));
+  defaults = (refl, (refl, (refl, tt)));
   required = λ rows. refl;
 }
 

@@ -101,9 +101,13 @@ show_form = record (plain_form (codes "show") (file_option ∷ picture_option �
 abbrev pub moves_form : Form
 moves_form = plain_form (codes "moves") (file_option ∷ []) (codes "POSITION" ∷ [])
 
--- `check --db FILE`
+-- the flag `--progress`
+abbrev pub progress_flag : Text
+progress_flag = codes "progress"
+
+-- `check --db FILE [--progress]`
 abbrev pub check_form : Form
-check_form = plain_form (codes "check") (file_option ∷ []) []
+check_form = record (plain_form (codes "check") (file_option ∷ []) []) { flags = progress_flag ∷ [] }
 
 -- `stats --db FILE`
 abbrev pub stats_form : Form
@@ -127,9 +131,12 @@ nodes_option = (codes "nodes", codes "N")
 abbrev pub out_option : Text × Text
 out_option = (codes "out", codes "FILE")
 
--- `build --set CEG --nodes N --out FILE [--rules PROFILE]`
+-- `build --set CEG --nodes N --out FILE [--rules PROFILE] [--progress]`
 abbrev pub build_form : Form
-build_form = record (with_rules (plain_form (codes "build") (set_option ∷ nodes_option ∷ out_option ∷ rules_option ∷ []) [])) { numbers = codes "N" ∷ [] }
+build_form = record (with_rules (plain_form (codes "build") (set_option ∷ nodes_option ∷ out_option ∷ rules_option ∷ []) [])) {
+  numbers = codes "N" ∷ [];
+  flags = progress_flag ∷ [];
+}
 
 -- the option `--out OUT`, beside one whose text is called FILE
 abbrev pub new_file_option : Text × Text

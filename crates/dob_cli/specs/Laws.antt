@@ -10,7 +10,7 @@ use Rattle.dob_cli.specs.Runs.{Ran}
 -- position has by definition, by the rules of the build.
 abbrev pub BuildThenProbe : ShelfState → ShelfState → ShelfState → Type 0
 BuildThenProbe before built probed =
-    (building probing : List Text) (rules : Option Text) (set nodes file position : Text) (first next : Ending)
-    → meaning_of building ≡ build rules set nodes file → meaning_of probing ≡ probe file position → IsTrue before.tells
+    (building probing : List Text) (rules : Option Text) (set nodes file position : Text) (progress : Option Text) (first next : Ending)
+    → meaning_of building ≡ build rules set nodes file progress → meaning_of probing ≡ probe file position → IsTrue before.tells
     → Ran (shelf_change before built) building first → first.status ≡ 0
     → Ran (shelf_change built probed) probing next → AnswersProbeRight (shelf_change built probed) (profile_named rules) file position next

@@ -13,6 +13,7 @@ pub mod Shows
 pub mod Choices
 pub mod Sizes
 pub mod Builds
+pub mod Progress
 pub mod Migrations
 pub mod Stats
 pub mod Puzzles

@@ -21,10 +21,10 @@ use Rattle.dob_cli.specs.Tables.{IsCheckFault, IsCheckLine, AreMovesLines, IsPos
 abbrev pub AreLinesFor : ShelfChange → Order → List ℕ → Type 0
 AreLinesFor c (Value profile position) = IsValueLineOf profile position.now
 AreLinesFor c (Count profile set) = AreCountLinesOf profile set.now
-AreLinesFor c (Build profile set nodes file) = AreBuildLines c profile set.now nodes file.now
+AreLinesFor c (Build profile set nodes file is_watched) = AreBuildLines c profile set.now nodes file.now
 AreLinesFor c (Probe file position) = IsProbeLine (c.before.has file.now) position.now
 AreLinesFor c (Line file is_numbered position) = AreMovesLines (c.before.has file.now) is_numbered position.now
-AreLinesFor c (Check file) = IsCheckLine (c.before.has file.now)
+AreLinesFor c (Check file is_watched) = IsCheckLine (c.before.has file.now)
 AreLinesFor c (Look file position) = IsLookLine (c.before.has file.now) position.now
 AreLinesFor c (Show file picture position) = AreShowLines c (text_given file) (text_given picture) position.now
 AreLinesFor c (Moves file position) = AreChoiceLines (c.before.has file.now) position.now
@@ -36,10 +36,10 @@ AreLinesFor c (Migrate file out) = AreMigrateLines c file.now out.now
 abbrev pub IsFaultFor : ShelfChange → Order → Fault → Type 0
 IsFaultFor c (Value profile position) = IsFaultOf profile position.now
 IsFaultFor c (Count profile set) = IsCountFaultOf set.now
-IsFaultFor c (Build profile set nodes file) = IsBuildFault c profile set.now nodes file.now
+IsFaultFor c (Build profile set nodes file is_watched) = IsBuildFault c profile set.now nodes file.now
 IsFaultFor c (Probe file position) = IsPositionFault (c.before.has file.now) position.now
 IsFaultFor c (Line file is_numbered position) = IsPositionFault (c.before.has file.now) position.now
-IsFaultFor c (Check file) = IsCheckFault (c.before.has file.now)
+IsFaultFor c (Check file is_watched) = IsCheckFault (c.before.has file.now)
 IsFaultFor c (Look file position) = IsLookFault (c.before.has file.now) position.now
 IsFaultFor c (Show file picture position) = IsShowFault c (text_given file) (text_given picture) position.now
 IsFaultFor c (Moves file position) = IsPositionFault (c.before.has file.now) position.now
@@ -49,7 +49,7 @@ IsFaultFor c (Migrate file out) = IsMigrateFault c file.now out.now
 
 -- the order leaves each file what it had, but for the one that it names to be made
 abbrev pub KeepsFiles : ShelfChange → Order → Type 0
-KeepsFiles c (Build profile set nodes file) = SameOthers file.now c.before.has c.after.has
+KeepsFiles c (Build profile set nodes file is_watched) = SameOthers file.now c.before.has c.after.has
 KeepsFiles c (Migrate file out) = SameOthers out.now c.before.has c.after.has
 KeepsFiles c (Show file picture position) = KeepsButPicture (text_given picture) c.before.has c.after.has
 KeepsFiles c _ = SameFiles c.before.has c.after.has

@@ -15,10 +15,10 @@ use Rattle.dob_cli.specs.declared.command.Reading.TheVariants as reading
 abbrev pub name_of_order : Order → Text
 name_of_order (order.Value _ _) = codes "value"
 name_of_order (order.Count _ _) = codes "count"
-name_of_order (order.Build _ _ _ _) = codes "build"
+name_of_order (order.Build _ _ _ _ _) = codes "build"
 name_of_order (order.Probe _ _) = codes "probe"
 name_of_order (order.Line _ _ _) = codes "line"
-name_of_order (order.Check _) = codes "check"
+name_of_order (order.Check _ _) = codes "check"
 name_of_order (order.Look _ _) = codes "look"
 name_of_order (order.Show _ _ _) = codes "show"
 name_of_order (order.Moves _ _) = codes "moves"
@@ -36,13 +36,13 @@ HasTexts texts (order.Value profile position) =
     (rules : Option Text) × (rules ∷ Some position.now ∷ [] ≡ texts) × (profile ≡ profile_named rules)
 HasTexts texts (order.Count profile set) =
     (rules : Option Text) × (Some set.now ∷ rules ∷ [] ≡ texts) × (profile ≡ profile_named rules)
-HasTexts texts (order.Build profile set nodes file) =
-    (t : Text) × (rules : Option Text) × (Some set.now ∷ Some t ∷ Some file.now ∷ rules ∷ [] ≡ texts) × (is_number t ≡ true)
-    × (nodes ≡ number_of t) × (profile ≡ profile_named rules)
+HasTexts texts (order.Build profile set nodes file is_watched) =
+    (t : Text) × (rules flag : Option Text) × (Some set.now ∷ Some t ∷ Some file.now ∷ rules ∷ flag ∷ [] ≡ texts) × (is_number t ≡ true)
+    × (nodes ≡ number_of t) × (profile ≡ profile_named rules) × (is_watched ≡ is_some flag)
 HasTexts texts (order.Probe file position) = Some file.now ∷ Some position.now ∷ [] ≡ texts
 HasTexts texts (order.Line file is_numbered position) =
     (flag : Option Text) × (Some file.now ∷ flag ∷ Some position.now ∷ [] ≡ texts) × (is_numbered ≡ is_some flag)
-HasTexts texts (order.Check file) = Some file.now ∷ [] ≡ texts
+HasTexts texts (order.Check file is_watched) = (flag : Option Text) × (Some file.now ∷ flag ∷ [] ≡ texts) × (is_watched ≡ is_some flag)
 HasTexts texts (order.Look file position) = Some file.now ∷ Some position.now ∷ [] ≡ texts
 HasTexts texts (order.Show file picture position) = text_given file ∷ text_given picture ∷ Some position.now ∷ [] ≡ texts
 HasTexts texts (order.Moves file position) = Some file.now ∷ Some position.now ∷ [] ≡ texts

@@ -20,18 +20,19 @@ use Rattle.dob_cli.specs.Tables.{AnswersCheck, AnswersLine, AnswersProbe, Answer
 -- It does what these words ask for, over a shelf that changes so.
 pub record Ran (c : ShelfChange) (words : List Text) (e : Ending) : Type 0 where
   -- a build, a picture and a migration leave the other files what they had, and all else leaves all files so
-  pub others : (rules : Option Text) (set nodes file : Text) → meaning_of words ≡ build rules set nodes file → SameOthers file c.before.has c.after.has
+  pub others : (rules : Option Text) (set nodes file : Text) (progress : Option Text) → meaning_of words ≡ build rules set nodes file progress
+      → SameOthers file c.before.has c.after.has
   pub others_of_picture : (file : Option Text) (picture position : Text) → meaning_of words ≡ show file (Some picture) position
       → SameOthers picture c.before.has c.after.has
   pub others_of_migration : (file out : Text) → meaning_of words ≡ migrate file out → SameOthers out c.before.has c.after.has
-  pub files : ((rules : Option Text) (set nodes file : Text) → meaning_of words ≢ build rules set nodes file)
+  pub files : ((rules : Option Text) (set nodes file : Text) (progress : Option Text) → meaning_of words ≢ build rules set nodes file progress)
       → ((file : Option Text) (picture position : Text) → meaning_of words ≢ show file (Some picture) position)
       → ((file out : Text) → meaning_of words ≢ migrate file out)
       → SameFiles c.before.has c.after.has
   -- what it tells
   pub value : (rules : Option Text) (position : Text) → meaning_of words ≡ value rules position → AnswersValue c (profile_named rules) position e
   pub count : (rules : Option Text) (set : Text) → meaning_of words ≡ count rules set → AnswersCount c (profile_named rules) set e
-  pub build : (rules : Option Text) (set nodes file : Text) → meaning_of words ≡ build rules set nodes file
+  pub build : (rules : Option Text) (set nodes file : Text) (progress : Option Text) → meaning_of words ≡ build rules set nodes file progress
       → AnswersBuild c (profile_named rules) set (number_of nodes) file e
   -- by the file of a value table the value told is right, by its rules
   pub probe_right : (profile : Profile) (file position : Text) → meaning_of words ≡ probe file position → HasValueFile (c.before.has file) profile
@@ -39,7 +40,7 @@ pub record Ran (c : ShelfChange) (words : List Text) (e : Ending) : Type 0 where
   pub probe : (file position : Text) → meaning_of words ≡ probe file position → AnswersProbe c file position e
   pub line : (file : Text) (is_numbered : Bool) (position : Text) → meaning_of words ≡ line file is_numbered position
       → AnswersLine c file is_numbered position e
-  pub check : (file : Text) → meaning_of words ≡ check file → AnswersCheck c file e
+  pub check : (file : Text) (progress : Option Text) → meaning_of words ≡ check file progress → AnswersCheck c file e
   pub look_right : (profile : Profile) (file position : Text) → meaning_of words ≡ look file position → HasValueFile (c.before.has file) profile
       → AnswersLookRight c profile file position e
   pub look : (file position : Text) → meaning_of words ≡ look file position → AnswersLook c file position e

@@ -254,9 +254,10 @@ value rules position = asks (codes "value") (rules ∷ Some position ∷ [])
 abbrev pub count : Option Text → Text → Meaning
 count rules set = asks (codes "count") (Some set ∷ rules ∷ [])
 
--- a file of the table of the piece set that the text names, by the rules that are named, built by so many nodes
-abbrev pub build : Option Text → Text → Text → Text → Meaning
-build rules set nodes file = asks (codes "build") (Some set ∷ Some nodes ∷ Some file ∷ rules ∷ [])
+-- a file of the table of the piece set that the text names, by the rules that are named, built by so many nodes; and what is given for
+-- the flag `--progress`
+abbrev pub build : Option Text → Text → Text → Text → Option Text → Meaning
+build rules set nodes file progress = asks (codes "build") (Some set ∷ Some nodes ∷ Some file ∷ rules ∷ progress ∷ [])
 
 -- the value of the position by the table of the file
 abbrev pub probe : Text → Text → Meaning
@@ -266,9 +267,9 @@ probe file position = asks_all (codes "probe") (file ∷ position ∷ [])
 abbrev pub line : Text → Bool → Text → Meaning
 line file is_numbered position = asks (codes "line") (Some file ∷ flag_text is_numbered ∷ Some position ∷ [])
 
--- whether the table of the file is consistent
-abbrev pub check : Text → Meaning
-check file = asks_all (codes "check") (file ∷ [])
+-- whether the table of the file is consistent; and what is given for the flag `--progress`
+abbrev pub check : Text → Option Text → Meaning
+check file progress = asks (codes "check") (Some file ∷ progress ∷ [])
 
 -- the value that the file's record of the position's class says
 abbrev pub look : Text → Text → Meaning

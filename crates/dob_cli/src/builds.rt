@@ -3,14 +3,19 @@ ghost use Rattle.std.specs.Prelude.{◌≡◌, IfOk, IfErr, OnOk, IsTrue, string
 ghost use Rattle.dob_dbfile.specs.Format.{bytes_of};
 ghost use Rattle.dob_cli.specs.Shelves.{FailsWhere, HasJust, SameOthers, shelf_change};
 ghost use Rattle.dob_cli.specs.Faults.{is_io_error};
+ghost use Rattle.dob_run.specs.BoundedRun.{IsUnheld};
+ghost use Rattle.dob_run.specs.Built.{IsBuilt};
+ghost use Rattle.dob_run.specs.Faults.{AreWithin, HasBuildFault};
 ghost use Rattle.dob_cli.specs.Builds.{AreBuildLines, IsBuildFault, IsKeepingFault, class_lines};
 
 use crate::fault::Fault;
+use crate::progress::{Console, Progress, tell_need};
 use crate::shelf::Shelf;
 use crate::tally::tally_of;
 use dob_dbfile::{Failed, write_table};
 use dob_pieces::{Family, PieceSet, Profile};
-use dob_run::{BATCH, CAPACITY, Free, run_nodes};
+use dob_rank::count_classes;
+use dob_run::{BATCH, Built, CAPACITY, run_nodes};
 use dob_value::Table;
 use std::alloc::{AllocError, Global};
 use std::sync::Wait;
@@ -20,8 +25,9 @@ use std::thread::Threads;
 /// the name. The lines that tell how many classes have which value. Its promises hold if it returns.
 ///
 /// The file is made when the table is there, and the lines too, and kept when it is whole. A fault before it is made leaves all
-/// files as they were. After that the disk's file is as it was until it is kept; in memory it is empty.
-pub(crate) fn answer_build<R: Threads + Wait + Sync, S: Shelf>(
+/// files as they were. After that the disk's file is as it was until it is kept; in memory it is empty. Where it is watched,
+/// lines on the console say what memory it takes and how far it is.
+pub(crate) fn answer_build<R: Threads + Wait + Sync + Console, S: Shelf>(
     rt: &R,
     alloc: Global,
     shelf: &mut S,
@@ -29,6 +35,7 @@ pub(crate) fn answer_build<R: Threads + Wait + Sync, S: Shelf>(
     text: &str,
     nodes: u64,
     file: &str,
+    is_watched: bool,
 ) -> Result<String, Fault>
     ensures ok { IfOk result (λ lines. AreBuildLines (shelf_change (S.state shelf.old) (S.state shelf.new)) profile text.now nodes file.now (string_bytes lines)) }
     ensures err { IfErr result (IsBuildFault (shelf_change (S.state shelf.old) (S.state shelf.new)) profile text.now nodes file.now) }
@@ -36,18 +43,40 @@ pub(crate) fn answer_build<R: Threads + Wait + Sync, S: Shelf>(
     ensures failed { FailsWhere (shelf_change (S.state shelf.old) (S.state shelf.new)) (is_io_error result) }
 {
     let set = PieceSet::read(text)?;
-    let built = run_nodes(
-        rt,
-        alloc,
-        Family { set, profile },
-        nodes as usize,
-        BATCH,
-        CAPACITY,
-        &Free,
-    )?;
+    let family = Family { set, profile };
+    let built = run_watched(rt, alloc, family, nodes as usize, is_watched)?;
     let lines = lines_of(rt, alloc, &built.table)?;
     keep_table(alloc, shelf, file, &built.table)?;
     Ok(lines)
+}
+
+// Builds the family's table by so many nodes. Where it is watched, the console is told of it.
+fn run_watched<R: Threads + Wait + Sync + Console>(
+    rt: &R,
+    alloc: Global,
+    family: Family,
+    nodes: usize,
+    is_watched: bool,
+) -> Result<Built, dob_run::Fault>
+    ensures built { IfOk result (IsBuilt family nodes 256) }
+    ensures within { OnOk result (AreWithin nodes 256 64) }
+    ensures fault { IfErr result (HasBuildFault nodes 256 64) }
+    ensures unheld { IfErr result IsUnheld }
+{
+    let progress = progress_of(rt, family, is_watched);
+    let built = run_nodes(rt, alloc, family, nodes, BATCH, CAPACITY, &progress);
+    progress.end();
+    built
+}
+
+// The progress of a build of the family. Where it is watched, the console is told what memory that takes.
+fn progress_of<C: Console>(console: &C, family: Family, is_watched: bool) -> Progress<'_, C> {
+    if !is_watched {
+        return Progress::new(console, false, 0);
+    }
+    let classes = count_classes(family);
+    tell_need(console, classes);
+    Progress::new(console, true, classes)
 }
 
 /// Keeps the table's file under the name. Where it can't be written its sink is given up.

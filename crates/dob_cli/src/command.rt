@@ -16,6 +16,7 @@ ghost use Rattle.std.specs.Prelude.{◌≡◌, [], IfOk, IsSomeAnd, List, Option
 ghost use Rattle.clap.specs.Words.{App, Rule, kind_of, subcommand_rows_of, with_rule, with_subcommand};
 ghost use Rattle.dob_cli.specs.Forms.{Form, Text, build_form, check_form, count_form, forms, line_form, look_form, migrate_form, probe_form};
 ghost use Rattle.dob_cli.specs.Forms.{moves_form, show_form, value_form, file_option, new_file_option, nodes_option, numbered_flag, out_option, picture_option};
+ghost use Rattle.dob_cli.specs.Forms.{progress_flag};
 ghost use Rattle.dob_cli.specs.Forms.{number_option, plain_form, plies_option, puzzles_form, rules_option, set_option, stats_form};
 ghost use Rattle.dob_cli.specs.Lines.{IsAmong, IsCommandLine};
 ghost use Rattle.dob_cli.specs.Words.{asks, has_topic, is_topic, is_version, meaning_of, meaning_of_topic, names_subcommand};
@@ -43,12 +44,13 @@ pub enum Order<'a> {
         set: &'a str,
     },
     /// To build the table of the piece set that the text names, by the rules of the profile and by so many nodes, and to keep
-    /// it under the name.
+    /// it under the name; and how far that is where it is watched.
     Build {
         profile: Profile,
         set: &'a str,
         nodes: u64,
         file: &'a str,
+        is_watched: bool,
     },
     /// To print the value of the position by the table of the file.
     Probe {
@@ -61,8 +63,11 @@ pub enum Order<'a> {
         is_numbered: bool,
         position: &'a str,
     },
-    /// To tell whether the table of the file is consistent.
-    Check(&'a str),
+    /// To tell whether the table of the file is consistent, and how far that is where it is watched.
+    Check {
+        file: &'a str,
+        is_watched: bool,
+    },
     /// To print the value that the file's record of the position's class says.
     Look {
         file: &'a str,
@@ -193,6 +198,10 @@ The file says by which rules its values are, so that `dobutsu probe` and the oth
 by rules A, and of a file of rules B one with a chick on its own far row is told E26. `dobutsu value --help` says what the
 rules are.
 
+With `--progress` it says on standard error what memory it takes, before it takes it, and then, a line a second at most,
+how far it is, as `12 s, 34 %, 23 s left`: the seconds since it began, what part is done, and the seconds that are left by the
+speed so far. On a terminal the lines take each other's place.
+
 Answers: `classes N`, `win N`, `loss N` and `draw N`, where a class is a position with its mirror image.
 
 Example: dobutsu build --set 000 --nodes 2 --out 000.db prints `classes 54`, `win 38`, `loss 12` and
@@ -221,6 +230,10 @@ Example: dobutsu line --db 000.db \"..l/.../L../... - -\" prints `La2-a3 lc4-b4 
 const CHECK_HELP: &str =
     "Each value of the file is compared with what follows from those one ply later, so that a file that is
 passed holds the values by definition, whoever made it.
+
+With `--progress` it says on standard error, a line a second at most, how far it is, as `12 s, 34 %, 23 s left`: the seconds
+since the file is read, what part is done, and the seconds that are left by the speed so far. On a terminal the lines take each
+other's place.
 
 Answers: `consistent`; or `E21 Inconsistent class N` with the first class whose value doesn't follow.
 
@@ -474,7 +487,8 @@ fn build_command<'a>(alloc: Global, profiles: &'a [&'a str]) -> Result<Command<'
         .arg(set_argument(alloc));
     let command = add_argument(command, nodes_argument(alloc));
     let command = add_argument(command, out_argument(alloc));
-    add_argument(command, rules_argument(alloc, profiles))
+    let command = add_argument(command, rules_argument(alloc, profiles));
+    add_argument(command, progress_argument(alloc))
 }
 
 // The subcommand `probe`.
@@ -504,10 +518,11 @@ fn line_command<'a>(alloc: Global) -> Result<Command<'a>, AllocError>
 fn check_command<'a>(alloc: Global) -> Result<Command<'a>, AllocError>
     ensures { IfOk result (HasShape (form_app no_names check_form)) }
 {
-    Command::new(alloc, "check")
+    let command = Command::new(alloc, "check")
         .about("Tells whether a database file is right, without trusting who made it")
         .after_help(CHECK_HELP)
-        .arg(file_argument(alloc))
+        .arg(file_argument(alloc));
+    add_argument(command, progress_argument(alloc))
 }
 
 // The subcommand `look`.
@@ -681,6 +696,13 @@ fn numbered_argument<'a>(alloc: Global) -> Arg<'a>
     ensures { IsRead (flag_rule numbered_flag) result }
 {
     flag_argument(alloc, "numbered", "Each move on a line, with its number")
+}
+
+// The flag `--progress`.
+fn progress_argument<'a>(alloc: Global) -> Arg<'a>
+    ensures { IsRead (flag_rule progress_flag) result }
+{
+    flag_argument(alloc, "progress", "Says on standard error how far it is")
 }
 
 // An option that may be left out: the name behind `--`, and what its text is called.

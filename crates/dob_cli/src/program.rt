@@ -19,6 +19,7 @@ use crate::counts::answer_count;
 use crate::fault::Fault;
 use crate::looks::answer_look;
 use crate::migrations::answer_migrate;
+use crate::progress::Console;
 use crate::puzzles::answer_puzzles;
 use crate::shelf::Shelf;
 use crate::shows::answer_show;
@@ -47,11 +48,14 @@ const NO_TEXT: &[u8] = b"error: an argument is not UTF-8\n\nFor more information
 /// build goes there; its promises hold if it returns, since the threads of a build may wait. What it tells goes
 /// to the writer `out`, a fault's line and a word on wrong usage to `err`. The answer is the exit status.
 ///
+/// With the word `--progress` a build and a check also say how far they are, on the console of `rt` and not on `err`: of that nothing
+/// is promised.
+///
 /// The status is 0 where it is done or help was asked for, 1 where what was asked is refused, 2 for words that it
 /// doesn't know, 3 for lack of memory, for a distance above 65,534 plies, for a build that stops and where `out` or a file fails. Where `err` fails,
 /// the status is the same.
 pub fn run_words<'a, S: Shelf, O: Write, E: Write>(
-    rt: &(impl Threads + Wait + Sync),
+    rt: &(impl Threads + Wait + Sync + Console),
     alloc: Global,
     words: &'a [&'a str],
     shelf: &mut S,
@@ -73,7 +77,7 @@ pub fn run_words<'a, S: Shelf, O: Write, E: Write>(
 /// Runs the program as `run_words` does, over streams that are sinks as a file's is, so that it is known of them where
 /// they were flushed and whether they failed. A writer of the standard library is one behind `Std` or `Lent`.
 pub fn run_over<'a, S: Shelf, O: Sink, E: Sink>(
-    rt: &(impl Threads + Wait + Sync),
+    rt: &(impl Threads + Wait + Sync + Console),
     alloc: Global,
     words: &'a [&'a str],
     shelf: &mut S,
@@ -97,7 +101,7 @@ pub fn run_over<'a, S: Shelf, O: Sink, E: Sink>(
 
 // Does what is ordered.
 fn run_order<S: Shelf, O: Sink, E: Sink>(
-    rt: &(impl Threads + Wait + Sync),
+    rt: &(impl Threads + Wait + Sync + Console),
     alloc: Global,
     order: Order<'_>,
     shelf: &mut S,
@@ -116,7 +120,7 @@ fn run_order<S: Shelf, O: Sink, E: Sink>(
 
 // The lines that tell what is ordered.
 fn answer<S: Shelf>(
-    rt: &(impl Threads + Wait + Sync),
+    rt: &(impl Threads + Wait + Sync + Console),
     alloc: Global,
     order: Order<'_>,
     shelf: &mut S,
@@ -134,14 +138,15 @@ fn answer<S: Shelf>(
             set,
             nodes,
             file,
-        } => answer_build(rt, alloc, shelf, profile, set, nodes, file),
+            is_watched,
+        } => answer_build(rt, alloc, shelf, profile, set, nodes, file, is_watched),
         Order::Probe { file, position } => answer_probe(alloc, shelf, file, position),
         Order::Line {
             file,
             is_numbered,
             position,
         } => answer_line(alloc, shelf, file, is_numbered, position),
-        Order::Check(file) => answer_check(rt, alloc, shelf, file),
+        Order::Check { file, is_watched } => answer_check(rt, alloc, shelf, file, is_watched),
         Order::Look { file, position } => answer_look(alloc, shelf, file, position),
         Order::Show {
             file,
@@ -221,7 +226,7 @@ pub fn tell_memory<E: Sink>(err: &mut E) -> u8
 /// It does what `run_over` does with the words after the name. Where memory for them was refused, it says so (E23,
 /// status 3); where one of them isn't UTF-8, it says that (status 2).
 pub fn run_given<S: Shelf, O: Sink, E: Sink>(
-    rt: &(impl Threads + Wait + Sync),
+    rt: &(impl Threads + Wait + Sync + Console),
     alloc: Global,
     given: io::Result<Args>,
     shelf: &mut S,
@@ -250,7 +255,7 @@ pub fn run_given<S: Shelf, O: Sink, E: Sink>(
 
 // Runs the program by its arguments, of which the first is its name.
 fn run_args<S: Shelf, O: Sink, E: Sink>(
-    rt: &(impl Threads + Wait + Sync),
+    rt: &(impl Threads + Wait + Sync + Console),
     alloc: Global,
     args: Args,
     shelf: &mut S,
@@ -289,7 +294,7 @@ fn after_first<'a>(given: &'a [String]) -> &'a [String]
 
 // Runs the program by its words, as they were given.
 fn run_texts<S: Shelf, O: Sink, E: Sink>(
-    rt: &(impl Threads + Wait + Sync),
+    rt: &(impl Threads + Wait + Sync + Console),
     alloc: Global,
     given: &[String],
     shelf: &mut S,

@@ -1,6 +1,8 @@
 // Answers by the table of a database file.
 ghost use Rattle.std.specs.Prelude.{◌≡◌, ◌++◌, ◌∷◌, [], false, if◌then◌else◌, IfOk, IfErr, OnOk, string_bytes};
 ghost use Rattle.dob_text.specs.MoveText.{move_text, numbered_text};
+ghost use Rattle.dob_value.specs.Follows.{IsConsistent, IsValueTable};
+ghost use Rattle.dob_probe.specs.Faults.{IsFaultOfCheck};
 ghost use Rattle.dob_cli.specs.Shelves.{FailsWhere, SameFiles, shelf_change};
 ghost use Rattle.dob_cli.specs.Faults.{is_io_error};
 ghost use Rattle.dob_pieces.specs.Bytes.{line_feed};
@@ -9,11 +11,12 @@ ghost use Rattle.dob_cli.specs.Tables.{IsProbeLine, end_text, moves_lines, moves
 
 use crate::fault::Fault;
 use crate::program::line_of;
+use crate::progress::{Console, Progress};
 use crate::shelf::Shelf;
 use dob_dbfile::read_table;
 use dob_moves::Move;
 use dob_pieces::{Memory, Profile};
-use dob_probe::{check, line, probe};
+use dob_probe::{check_watched, line, probe};
 use dob_text::{read_position, write_line, write_move};
 use dob_value::{Table, Value};
 use std::alloc::Global;
@@ -58,12 +61,14 @@ pub(crate) fn answer_line<S: Shelf>(
     Ok(moves_lines(alloc, is_numbered, value, &moves)?)
 }
 
-/// The line that tells that the table of the file is consistent, and so the value table.
+/// The line that tells that the table of the file is consistent, and so the value table. Where it is watched, lines on the console
+/// say how far it is.
 pub(crate) fn answer_check<S: Shelf>(
-    rt: &(impl Threads + Sync),
+    rt: &(impl Threads + Sync + Console),
     alloc: Global,
     shelf: &mut S,
     file: &str,
+    is_watched: bool,
 ) -> Result<String, Fault>
     ensures ok { IfOk result (λ line. IsCheckLine ((S.state shelf.old).has file.now) (string_bytes line)) }
     ensures err { IfErr result (IsCheckFault ((S.state shelf.old).has file.now)) }
@@ -71,8 +76,25 @@ pub(crate) fn answer_check<S: Shelf>(
     ensures failed { FailsWhere (shelf_change (S.state shelf.old) (S.state shelf.new)) (is_io_error result) }
 {
     let table = open(alloc, shelf, file)?;
-    check(rt, alloc, &table)?;
+    check_table(rt, alloc, &table, is_watched)?;
     Ok("consistent\n".to_string(alloc)?)
+}
+
+// Whether the table is consistent. Where it is watched, the console is told how far that is.
+fn check_table(
+    rt: &(impl Threads + Sync + Console),
+    alloc: Global,
+    table: &Table,
+    is_watched: bool,
+) -> Result<(), dob_probe::Fault>
+    ensures consistent { IfOk result (λ _. IsConsistent table.now.family table.now.values) }
+    ensures right { IfOk result (λ _. IsValueTable table.now.family table.now.values) }
+    ensures fault { IfErr result (IsFaultOfCheck table.now) }
+{
+    let progress = Progress::new(rt, is_watched, table.class_count());
+    let checked = check_watched(rt, alloc, table, &progress);
+    progress.end();
+    checked
 }
 
 // The table of the file.

@@ -43,6 +43,7 @@ pub(super) fn build_order<'a>(inner: &ArgMatches<'a>) -> Option<Order<'a>>
         set: inner.get_str("CEG")?,
         nodes: inner.get_str("N")?.parse().ok()?,
         file: inner.get_str("FILE")?,
+        is_watched: inner.get_str("progress").is_some(),
     })
 }
 
@@ -74,7 +75,10 @@ pub(super) fn check_order<'a>(inner: &ArgMatches<'a>) -> Option<Order<'a>>
     ensures { (texts : List (Option Text)) → Finds check_form texts (Some (codes "check", rows_of (found_of inner.now)))
         → IsSomeAnd result (IsOrder (codes "check") texts) }
 {
-    Some(Order::Check(inner.get_str("FILE")?))
+    Some(Order::Check {
+        file: inner.get_str("FILE")?,
+        is_watched: inner.get_str("progress").is_some(),
+    })
 }
 
 /// What the matches of `look` ask for.

@@ -13,7 +13,7 @@ returns-in_err-built-clause-err g c =
       c.in_ok-set.set,
       c.in_ok-set.ensures.ok,
       c.in_err-built.ensures.fault,
-      c.in_err-built.ensures.unheld (λ node held. absurd (let never = held in cc)),
+      c.in_err-built.ensures.unheld,
       unchanged (g.S.Shelf.state c.args.shelf.now).has,
     )
 

@@ -1,8 +1,8 @@
 -- The texts of help change nothing that is read, and the arguments join one after the other.
 use Rattle.std.proofs.lemmas.Result.{IfOk-weaker}
 use Rattle.clap.specs.Words.{Rule, new_app, with_rule}
-use Rattle.dob_cli.specs.Forms.{build_form, nodes_option, out_option, rules_option, set_option}
-use Rattle.dob_cli.specs.Shapes.{HasShape, ProfileNames, option_rule}
+use Rattle.dob_cli.specs.Forms.{build_form, nodes_option, out_option, progress_flag, rules_option, set_option}
+use Rattle.dob_cli.specs.Shapes.{HasShape, ProfileNames, flag_rule, option_rule}
 use Rattle.dob_cli.proofs.Outcomes.{argument_shape}
 use Rattle.dob_cli.proofs.command.build_command.Goals as goal
 
@@ -26,4 +26,7 @@ returns c =
     (λ r adds. argument_shape _ _ r (new_app build_form.name) (first profiles) bare c.set_argument.ensures adds) c.arg-command.ensures in
     let two = c.add_argument-command.ensures (with_rule (new_app build_form.name) (first profiles)) (second profiles) one c.nodes_argument.ensures in
     let three = c.add_argument-command-2.ensures (with_rule (with_rule (new_app build_form.name) (first profiles)) (second profiles)) (third profiles) two c.out_argument.ensures in
-    c.add_argument.ensures (with_rule (with_rule (with_rule (new_app build_form.name) (first profiles)) (second profiles)) (third profiles)) (fourth profiles) three c.rules_argument.ensures
+    let four = c.add_argument-command-3.ensures (with_rule (with_rule (with_rule (new_app build_form.name) (first profiles)) (second profiles)) (third profiles)) (fourth profiles) three
+    c.rules_argument.ensures in
+    c.add_argument.ensures (with_rule (with_rule (with_rule (with_rule (new_app build_form.name) (first profiles)) (second profiles)) (third profiles)) (fourth profiles))
+    (flag_rule progress_flag) four c.progress_argument.ensures

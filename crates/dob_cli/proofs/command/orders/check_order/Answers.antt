@@ -1,17 +1,24 @@
 -- The texts come from the matches of `check`.
-use Rattle.std.proofs.Common.{codes, refl, [], ◌∷◌, Some}
+use Rattle.std.proofs.Common.{codes, refl, [], ◌∷◌, ◌∙◌, Some}
 use Rattle.dob_cli.specs.Forms.{check_form}
-use Rattle.dob_cli.proofs.Matches.{got_some, not_missing, texts_got}
+use Rattle.dob_cli.specs.Readings.{text_given}
+use Rattle.dob_cli.proofs.Matches.{flag_there, got_some, not_missing, texts_got}
 use Rattle.dob_cli.proofs.command.orders.check_order.Goals as goal
 
 pub returns-in_err-get_str : goal.returns-in_err-get_str
 returns-in_err-get_str c = λ texts found.
-    absurd (not_missing check_form texts _ found c.args.inner.now refl [] [] (codes "FILE") refl refl
+    absurd (not_missing check_form texts _ found c.args.inner.now refl [] (codes "progress" ∷ []) (codes "FILE") refl refl
     c.get_str.result c.get_str.ensures c.in_err-get_str.was)
 
 pub returns : goal.returns
 returns c = λ texts found. (
   refl,
-  texts_got check_form texts _ found c.args.inner.now refl (codes "FILE" ∷ []) (Some c.in_ok-get_str.field-0 ∷ []) refl
-      (got_some c.args.inner.now (codes "FILE") c.get_str.result (Some c.in_ok-get_str.field-0) c.get_str.ensures c.in_ok-get_str.was, tt),
+  (
+    text_given c.get_str-2.result,
+    texts_got check_form texts _ found c.args.inner.now refl (codes "FILE" ∷ codes "progress" ∷ []) (Some c.in_ok-get_str.field-0 ∷ c.get_str-2.result ∷ []) refl (
+      got_some c.args.inner.now (codes "FILE") c.get_str.result (Some c.in_ok-get_str.field-0) c.get_str.ensures c.in_ok-get_str.was,
+      (c.get_str-2.ensures, tt),
+    ),
+    c.is_some.ensures ∙ flag_there c.get_str-2.result,
+  ),
 )
