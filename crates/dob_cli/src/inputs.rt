@@ -43,7 +43,7 @@ pub(crate) fn first_line(bytes: &[u8]) -> Option<(&[u8], &[u8])>
     }
     match line_feed_of(bytes) {
         Some(end) => Some((without_return(&bytes[..end]), &bytes[end + 1..])),
-        None => Some((bytes, &bytes[bytes.len()..])),
+        None => Some((bytes, &[])),
     }
 }
 

@@ -1,25 +1,19 @@
 -- What `clap` answers is what the words ask for.
-use Rattle.std.proofs.Common.{◌∙◌, map, subst, sym}
+use Rattle.std.proofs.Common.{◌∙◌, Some, map, subst, sym}
 use Rattle.dob_cli.specs.Readings.{IsReadingOf}
 use Rattle.std.proofs.lemmas.Result.{IfOk-weaker}
 use Rattle.clap.specs.Words.{app_of}
 use Rattle.dob_cli.specs.declared.command.Reading.TheVariants as reading
 use Rattle.dob_cli.proofs.Lines.{order_from_line, reading_at_line}
-use Rattle.dob_cli.proofs.Outcomes.{command_meaning, topic_meaning, asked_by_matches, order_is_meant, order_is_there, error_of_words}
+use Rattle.dob_cli.proofs.Outcomes.{command_meaning, topic_meaning, asked_by_matches, order_is_meant, error_of_words}
 use Rattle.dob_cli.proofs.command.read_words.Goals as goal
-
-pub unreachable-requires : goal.unreachable-requires
-unreachable-requires c =
-    order_is_there (map (λ w. w.now) c.args.words.now) _
-    (asked_by_matches c.in_ok-dobutsu_command.ensures.0 c.in_ok-dobutsu_command.ensures.1 (app_of c.in_ok-dobutsu_command.field-0) (map (λ w. w.now) c.args.words.now) c.in-Ok.matches
-    (sym c.asks_topic.ensures ∙ c.if-asks_topic.false) c.in_ok-dobutsu_command.ensures.2.0 c.in-Ok.ensures.kinds c.in-Ok.ensures.matches) c.in-None.ensures
 
 pub returns-in-Some-clause-meaning : goal.returns-in-Some-clause-meaning
 returns-in-Some-clause-meaning c =
     subst (λ m. IsReadingOf m (reading.Order c.in-Some.order))
     (command_meaning (map (λ w. w.now) c.args.words.now) (sym c.asks_version.ensures ∙ c.if-asks_version.false)
     (sym c.asks_topic.ensures ∙ c.if-asks_topic.false))
-    (order_is_meant (map (λ w. w.now) c.args.words.now) _ c.in-Some.order
+    (order_is_meant (map (λ w. w.now) c.args.words.now) _ (Some c.in-Some.order)
     (asked_by_matches c.in_ok-dobutsu_command.ensures.0 c.in_ok-dobutsu_command.ensures.1 (app_of c.in_ok-dobutsu_command.field-0) (map (λ w. w.now) c.args.words.now) c.in-Ok.matches
     (sym c.asks_topic.ensures ∙ c.if-asks_topic.false) c.in_ok-dobutsu_command.ensures.2.0 c.in-Ok.ensures.kinds c.in-Ok.ensures.matches) c.in-Some.ensures)
 
