@@ -18,7 +18,7 @@ ghost use Rattle.dob_cli.specs.Forms.{Form, Text, build_form, check_form, count_
 ghost use Rattle.dob_cli.specs.Forms.{moves_form, show_form, value_form, file_option, new_file_option, nodes_option, numbered_flag, out_option, picture_option};
 ghost use Rattle.dob_cli.specs.Forms.{each_flag, number_option, plain_form, plies_option, puzzles_form, rules_option, set_option, stats_form};
 ghost use Rattle.dob_cli.specs.Lines.{IsAmong, IsCommandLine};
-ghost use Rattle.dob_cli.specs.Words.{asks, has_topic, is_topic, is_version, meaning_of, meaning_of_topic, names_subcommand, settled};
+ghost use Rattle.dob_cli.specs.Words.{Meaning, asks, has_topic, is_topic, is_version, meaning_of, meaning_of_topic, names_subcommand, settled};
 ghost use Rattle.dob_cli.specs.Shapes.{AreProfiles, Finds, HasShape, IsProgram, IsRead, bare_app, flag_rule, form_app, no_names, option_rule, text_rule};
 ghost use Rattle.dob_cli.specs.Readings.{ComesFromLine, IsReadFor, IsReadingOf, IsReadingOfKind};
 
@@ -323,10 +323,7 @@ pub fn read_words<'a>(alloc: Global, words: &'a [&'a str]) -> Result<Reading<'a>
         return read_topic(alloc, words);
     }
     match dobutsu_command(alloc)?.try_get_matches_from(words) {
-        Ok(matches) => match order_of(&matches) {
-            Some(order) => Ok(Reading::Order(order)),
-            None => Ok(Reading::Usage(orders::UNCLEAR.to_string(alloc)?)),
-        },
+        Ok(matches) => read_order(alloc, order_of(&matches)),
         Err(error) => read_error(alloc, &error),
     }
 }
@@ -761,6 +758,16 @@ fn order_of<'a>(matches: &ArgMatches<'a>) -> Option<Order<'a>>
         "puzzles" => orders::puzzles_order(inner),
         "migrate" => orders::migrate_order(inner),
         _ => None,
+    }
+}
+
+// What the words come to where their matches were read so.
+fn read_order<'a>(alloc: Global, order: Option<Order<'a>>) -> Result<Reading<'a>, AllocError>
+    ensures { (meant : Meaning) → IsReadFor meant order.entry → IfOk result (IsReadingOf meant) }
+{
+    match order {
+        Some(order) => Ok(Reading::Order(order)),
+        None => Ok(Reading::Usage(orders::UNCLEAR.to_string(alloc)?)),
     }
 }
 

@@ -65,7 +65,8 @@ pub(super) fn probe_order<'a>(inner: &ArgMatches<'a>) -> Option<Order<'a>>
     match (inner.get_str("each"), inner.get_str("POSITION")) {
         (None, Some(position)) => Some(Order::Probe { file, position }),
         (Some(_), None) => Some(Order::Each(file)),
-        (None, None) | (Some(_), Some(_)) => None,
+        (Some(_), Some(_)) => None,
+        (None, None) => None,
     }
 }
 
