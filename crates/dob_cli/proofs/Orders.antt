@@ -11,7 +11,7 @@ use Rattle.dob_cli.specs.Shelves.{SameFiles, SameOthers, ShelfChange}
 use Rattle.dob_cli.specs.Words.{Meaning, asks, build, flag_text, help, migrate, number_of, profile_named, show, usage, version}
 use Rattle.dob_cli.specs.declared.command.Reading.TheVariants as reading
 use Rattle.dob_cli.specs.Readings.{IsOrder, IsReadingOf, name_of_order, text_given}
-use Rattle.dob_cli.specs.Orders.{AnswersByLines, AnswersOrder, KeepsFiles}
+use Rattle.dob_cli.specs.Orders.{AnswersByLines, AnswersOrder, IsByLines, KeepsFiles}
 use Rattle.dob_cli.specs.Program.{AnswersValue}
 use Rattle.dob_cli.specs.Sizes.{AnswersCount}
 use Rattle.dob_cli.specs.Builds.{AnswersBuild}
@@ -170,23 +170,24 @@ module _ (c : ShelfChange) (e : Ending) where
 abbrev IsEach : Order → Type 0
 IsEach o = (file : Bor Text) × (o ≡ Each file)
 
-abbrev IsLined : Order → Type 0
-IsLined o = (c : ShelfChange) (e : Ending) → (AnswersOrder c o e → AnswersByLines c o e) × (AnswersByLines c o e → AnswersOrder c o e)
+-- where it isn't for each line
+pub is_by_lines : (o : Order) → ((file : Bor Text) → o ≡ Each file → ⊥) → IsByLines o
+is_by_lines (Each f) other = absurd (other f refl)
+is_by_lines o other = tt
 
-pub order_ways : (o : Order) → IsEach o ⊎ IsLined o
-order_ways (Each f) = inl (f, refl)
-order_ways (Value p t) = inr (λ c e. (λ a. a, λ a. a))
-order_ways (Count p t) = inr (λ c e. (λ a. a, λ a. a))
-order_ways (Build p s n f) = inr (λ c e. (λ a. a, λ a. a))
-order_ways (Probe f t) = inr (λ c e. (λ a. a, λ a. a))
-order_ways (Line f n t) = inr (λ c e. (λ a. a, λ a. a))
-order_ways (Check f) = inr (λ c e. (λ a. a, λ a. a))
-order_ways (Look f t) = inr (λ c e. (λ a. a, λ a. a))
-order_ways (Show f p t) = inr (λ c e. (λ a. a, λ a. a))
-order_ways (Moves f t) = inr (λ c e. (λ a. a, λ a. a))
-order_ways (Stats f) = inr (λ c e. (λ a. a, λ a. a))
-order_ways (Puzzles f d n) = inr (λ c e. (λ a. a, λ a. a))
-order_ways (Migrate f t) = inr (λ c e. (λ a. a, λ a. a))
+module _ (c : ShelfChange) (e : Ending) where
+  abbrev IsLined : Order → Type 0
+  IsLined o = (AnswersOrder c o e → AnswersByLines c o e) × (AnswersByLines c o e → AnswersOrder c o e)
+
+  pub order_ways : (o : Order) → IsEach o ⊎ IsLined o
+  order_ways (Each f) = inl (f, refl)
+  order_ways o = inr (λ a. a, λ a. a)
+
+  pub answered_by_lines : (o : Order) → ((file : Bor Text) → o ≡ Each file → ⊥) → AnswersByLines c o e → AnswersOrder c o e
+  answered_by_lines o other answers = elim (order_ways o) [
+    | inl is ↦ absurd (other is.0 is.1)
+    | inr lined ↦ lined.1 answers
+  ]
 
 -- ---- files
 

@@ -52,10 +52,10 @@ each_same IsTold c file e (inr (inl is)) = (untouched_same e.out is.silent, faul
 each_same IsTold c file e (inr (inr failed)) = (failed.part.1.same, fault_same Io e.status e.err failed.told)
 
 order_same : (c : ShelfChange) (o : Order) (e : Ending) → AnswersOrder c o e → IsSame e.out × IsSame e.err
-order_same c o e answers = elim order_ways o [
+order_same c o e answers = elim (order_ways c e o) [
   | inl is ↦ each_same IsGivenTo c is.0.now e (subst (λ (x : Order). AnswersOrder c x e) is.1 answers)
   | inr lined ↦ answers_same (λ lines. AreLinesFor c o lines × FailsWhere c false) (λ fault. IsFaultFor c o fault × FailsWhere c (is_io fault)) e
-      ((lined c e).0 answers)
+      (lined.0 answers)
 ]
 
 -- ---- what was done is what the words ask for

@@ -143,7 +143,7 @@ fn run_by_lines<S: Shelf, O: Sink, E: Sink>(
     out: &mut O,
     err: &mut E,
 ) -> u8
-    requires { IsByLines order.entry }
+    requires lined { IsByLines order }
     ensures done { AnswersByLines (shelf_change (S.state shelf.old) (S.state shelf.new)) order.entry
         (ended result (change (O.state out.old) (O.state out.new)) (change (E.state err.old) (E.state err.new))) }
     ensures files { KeepsFiles (shelf_change (S.state shelf.old) (S.state shelf.new)) order.entry }
@@ -161,7 +161,7 @@ fn answer<S: Shelf>(
     order: Order<'_>,
     shelf: &mut S,
 ) -> Result<String, Fault>
-    requires { IsByLines order.entry }
+    requires lined { IsByLines order }
     ensures ok { IfOk result (λ lines. AreLinesFor (shelf_change (S.state shelf.old) (S.state shelf.new)) order.entry (string_bytes lines)) }
     ensures err { IfErr result (IsFaultFor (shelf_change (S.state shelf.old) (S.state shelf.new)) order.entry) }
     ensures files { KeepsFiles (shelf_change (S.state shelf.old) (S.state shelf.new)) order.entry }
