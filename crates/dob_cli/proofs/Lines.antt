@@ -13,7 +13,7 @@ use Rattle.dob_cli.specs.Forms.{Form, Text, build_form, check_form, count_form, 
 use Rattle.dob_cli.specs.Words.{Given, Meaning, Stand, after_dashes, after_part, after_word, asked, asks, at_end, behind, between, call, dashes}
 use Rattle.dob_cli.specs.Words.{ended, fits, flag, has_topic, help, kept, meaning_of_topic, named_part}
 use Rattle.dob_cli.specs.Words.{is_dashes, is_help_flag, is_text, label_of, meaning_of, meaning_of_form, meaning_of_other, name_in, option}
-use Rattle.dob_cli.specs.Words.{part_of, placed, text, text_of, texts_of, unknown, usage, valued, version, wanted, wants}
+use Rattle.dob_cli.specs.Words.{is_clear, meaning_of_command, part_of, placed, settled, text, text_of, texts_of, unknown, usage, valued, version, wanted, wants}
 use Rattle.dob_cli.specs.Lines.{AreNew, Behind, Gives, IsAmong, IsCommandLine, by_dashes, by_flag, by_option, by_place, by_value, next, none, nothing}
 use Rattle.dob_cli.specs.Shapes.{AreFit, IsFit}
 use Rattle.dob_cli.specs.Readings.{ComesFromLine, IsReadingOf, SomeLine}
@@ -389,7 +389,7 @@ pub probe_spelled : IsSpelled probe_form
 probe_spelled = record {
   by_name = (long_part probe_form 100 (codes "b") refl, tt);
   by_value = (λ t. long_part probe_form 100 (codes "b=" ++ t) refl, tt);
-  by_flag = tt;
+  by_flag = (long_part probe_form 101 (codes "ach") refl, tt);
 }
 
 pub line_spelled : IsSpelled line_form
@@ -453,7 +453,7 @@ EachForm P [] = Unit {0}
 EachForm P (f ∷ fs) = P f × (EachForm P fs)
 
 abbrev IsKnown : Form → Type 0
-IsKnown f = IsSpelled f × ((rest : List Text) → meaning_of (f.name ∷ rest) ≡ meaning_of_form f rest)
+IsKnown f = IsSpelled f × ((rest : List Text) → meaning_of (f.name ∷ rest) ≡ settled (meaning_of_form f rest))
 
 all_known : EachForm IsKnown forms
 all_known = (
@@ -472,11 +472,12 @@ among_known [] f each among = absurd among
 among_known (g ∷ fs) f each (inl e) = subst IsKnown (sym e) each.0
 among_known (g ∷ fs) f each (inr more) = among_known fs f each.1 more
 
--- a line asks for its texts
-pub line_means : (f : Form) (words : List Text) (texts : List (Option Text)) → IsAmong f forms → IsCommandLine f words texts → meaning_of words ≡ asks f.name texts
+-- a line asks for its texts, where these are clear
+pub line_means : (f : Form) (words : List Text) (texts : List (Option Text)) → IsAmong f forms → IsCommandLine f words texts
+    → meaning_of words ≡ settled (asks f.name texts)
 line_means f words texts among line =
     let known : IsKnown f = among_known forms f all_known among in
-    ap meaning_of line.named ∙ (known.1 line.rest ∙ line_asked f known.0 line.rest texts line.given line.gives line.new line.complete)
+    ap meaning_of line.named ∙ (known.1 line.rest ∙ ap settled (line_asked f known.0 line.rest texts line.given line.gives line.new line.complete))
 
 -- and where something is asked for, the words are a line of it
 
@@ -490,6 +491,16 @@ form_line f rest name texts e =
     texts_asked : (o : Option (List (Option Text))) → option_map_or (asks f.name) o usage ≡ asks name texts → (f.name ≡ name) × (o ≡ Some texts)
     texts_asked None e = not_usage f name texts e
     texts_asked (Some ts) e = (ap asked_name e, ap (λ m. Some (asked_texts m)) e)
+
+settled_asks : (m : Meaning) (name : Text) (texts : List (Option Text)) → settled m ≡ asks name texts → m ≡ asks name texts
+settled_asks (asks n ts) name texts e = go (bytes_eq (codes "probe") n && not (is_clear ts)) e
+  where
+    go : (b : Bool) → cond b usage (asks n ts) ≡ asks name texts → asks n ts ≡ asks name texts
+    go true e = not_usage value_form name texts e
+    go false e = e
+settled_asks help name texts e = e
+settled_asks version name texts e = e
+settled_asks usage name texts e = e
 
 pub line_of : (words : List Text) (name : Text) (texts : List (Option Text)) → meaning_of words ≡ asks name texts → SomeLine words name texts
 line_of [] name texts e = not_usage value_form name texts e
@@ -518,12 +529,11 @@ line_of (word ∷ rest) name texts e = first (bytes_eq (codes "--version") word)
         by false is e later = later e
 
     first : (v t : Bool)
-        → cond v version (cond t (meaning_of_topic (word ∷ rest))
-        (option_map_or (λ f. meaning_of_form f rest) (find (λ f. bytes_eq f.name word) forms) (meaning_of_other word))) ≡ asks name texts
+        → cond v version (cond t (meaning_of_topic (word ∷ rest)) (settled (meaning_of_command (word ∷ rest)))) ≡ asks name texts
         → SomeLine (word ∷ rest) name texts
     first true t e = not_version e
     first false true e = no_order (has_topic (word ∷ rest)) e
-    first false false e = go forms (λ f h. h) e
+    first false false e = go forms (λ f h. h) (settled_asks (meaning_of_command (word ∷ rest)) name texts e)
 
 -- an order is read only where the words are a line of it
 pub order_from_line : (words : List Text) (r : Reading) → IsReadingOf (meaning_of words) r → ComesFromLine words r
@@ -541,5 +551,5 @@ order_from_line words (reading.Usage s) h = tt
 -- and at each line it is read
 pub reading_at_line : (words : List Text) (f : Form) (texts : List (Option Text)) (r : Reading) → IsAmong f forms → IsCommandLine f words texts
     → IsReadingOf (meaning_of words) r
-    → IsReadingOf (asks f.name texts) r
+    → IsReadingOf (settled (asks f.name texts)) r
 reading_at_line words f texts r among line h = subst (λ m. IsReadingOf m r) (line_means f words texts among line) h

@@ -15,10 +15,11 @@ use Rattle.clap.specs.declared.builder.value_parser.ValueParser.TheVariants.{Uns
 use Rattle.clap.proofs.ValueTestLemmas.{accepts-Accepts}
 use Rattle.dob_cli.specs.Forms.{Form, Text, forms, is_needed, labels}
 use Rattle.dob_cli.specs.Lines.{IsAmong}
-use Rattle.dob_cli.specs.Words.{is_number, number_of}
+use Rattle.dob_cli.specs.Words.{Meaning, asks, is_number, number_of, settled}
 use Rattle.dob_cli.specs.Shapes.{AreFit, Finds, IsFit}
-use Rattle.dob_cli.specs.Readings.{IsOrder, text_given}
+use Rattle.dob_cli.specs.Readings.{IsOrder, IsReadFor, IsReadingOf, text_given}
 use Rattle.dob_cli.specs.declared.command.Order.{Order}
+use Rattle.dob_cli.specs.declared.command.Reading.TheVariants as reading
 use Rattle.dob_cli.proofs.Texts.{taken_number}
 use Rattle.dob_cli.proofs.Outcomes.{text_in_matches}
 
@@ -111,17 +112,35 @@ among_named n form (f ∷ fs) (inr more) named = kept (bytes_eq f.name n) _ (amo
     kept true gs h = inr h
     kept false gs h = h
 
--- where just one form has the name, what is read of its matches is the order of each form that was met
-pub order_found : (this : Form) → filter (λ f. bytes_eq f.name this.name) forms ≡ this ∷ [] → (m inner : ArgMatches) (name : Text) → name ≡ this.name
+-- where just one form has the name, what is read of its matches is read for each form that was met
+pub matches_read : (this : Form) → filter (λ f. bytes_eq f.name this.name) forms ≡ this ∷ [] → (m inner : ArgMatches) (name : Text) → name ≡ this.name
     → Some name ≡ subcommand_name_of m → Some (rows_of (found_of inner)) ≡ option_map (λ p. p.1) (subcommand_rows_of m) → (o : Option Order)
-    → ((texts : List (Option Text)) → Finds this texts (Some (this.name, rows_of (found_of inner))) → IsSomeAnd o (IsOrder this.name texts))
-    → (form : Form) (texts : List (Option Text)) → IsAmong form forms → Finds form texts (subcommand_rows_of m) → IsSomeAnd o (IsOrder form.name texts)
-order_found this alone m inner name is named kept o reads form texts among found =
+    → ((texts : List (Option Text)) → Finds this texts (Some (this.name, rows_of (found_of inner))) → IsReadFor (settled (asks this.name texts)) o)
+    → (form : Form) (texts : List (Option Text)) → IsAmong form forms → Finds form texts (subcommand_rows_of m)
+    → IsReadFor (settled (asks form.name texts)) o
+matches_read this alone m inner name is named kept o reads form texts among found =
     let same : form.name ≡ this.name = ap (λ (x : Option Text). unwrap_or x []) (sym (name_met _ _ _ form.name found.0 found.1) ∙ sym named) ∙ is in
     let only : form ≡ this = sole (subst (IsAmong form) alone (among_named this.name form forms among same)) in
     let found_this : Finds this texts (subcommand_rows_of m) = subst (λ (f : Form). Finds f texts (subcommand_rows_of m)) only found in
-    subst (λ (f : Form). IsSomeAnd o (IsOrder f.name texts)) (sym only) (reads texts (found_inside this texts (subcommand_rows_of m) found_this inner kept))
+    subst (λ (f : Form). IsReadFor (settled (asks f.name texts)) o) (sym only)
+    (reads texts (found_inside this texts (subcommand_rows_of m) found_this inner kept))
   where
     sole : IsAmong form (this ∷ []) → form ≡ this
     sole (inl e) = e
     sole (inr none) = absurd none
+
+-- an order that is there is what is asked for, where that is clear
+order_reads : (name : Text) (texts : List (Option Text)) (o : Option Order) → settled (asks name texts) ≡ asks name texts
+    → IsSomeAnd o (IsOrder name texts) → IsReadFor (settled (asks name texts)) o
+order_reads name texts None clear is = absurd is
+order_reads name texts (Some o) clear is = subst (λ (m : Meaning). IsReadingOf m (reading.Order o)) (sym clear) is
+
+-- the same of a form whose texts are clear
+pub order_found : (this : Form) → filter (λ f. bytes_eq f.name this.name) forms ≡ this ∷ []
+    → ((texts : List (Option Text)) → settled (asks this.name texts) ≡ asks this.name texts) → (m inner : ArgMatches) (name : Text) → name ≡ this.name
+    → Some name ≡ subcommand_name_of m → Some (rows_of (found_of inner)) ≡ option_map (λ p. p.1) (subcommand_rows_of m) → (o : Option Order)
+    → ((texts : List (Option Text)) → Finds this texts (Some (this.name, rows_of (found_of inner))) → IsSomeAnd o (IsOrder this.name texts))
+    → (form : Form) (texts : List (Option Text)) → IsAmong form forms → Finds form texts (subcommand_rows_of m)
+    → IsReadFor (settled (asks form.name texts)) o
+order_found this alone clear m inner name is named kept o reads =
+    matches_read this alone m inner name is named kept o (λ texts found. order_reads this.name texts o (clear texts) (reads texts found))

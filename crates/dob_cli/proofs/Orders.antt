@@ -1,22 +1,23 @@
 -- What is owed for an order is owed for the words that ask for it.
-use Rattle.std.proofs.Common.{◌≡◌, ℕ, Bool, List, [], ◌∷◌, Option, Some, None, ap, ap₂, codes, is_some, true, false, refl, subst, sym, true≢false, ◌∙◌}
+use Rattle.std.proofs.Common.{◌≡◌, ◌⊎◌, ℕ, Bool, List, [], ◌∷◌, Option, Some, None, ap, ap₂, codes, inl, inr, is_some, true, false, refl, subst, sym, true≢false, ◌∙◌}
 use Rattle.std.specs.Borrow.{Bor}
 use Rattle.dob_pieces.specs.declared.profile.Profile.{Profile}
 use Rattle.std.specs.Str.{bytes_eq}
 use Rattle.dob_cli.specs.Forms.{Text}
 use Rattle.dob_cli.specs.declared.command.Order.{Order}
-use Rattle.dob_cli.specs.declared.command.Order.TheVariants.{Value, Count, Build, Probe, Line, Check, Look, Show, Moves, Stats, Puzzles, Migrate}
+use Rattle.dob_cli.specs.declared.command.Order.TheVariants.{Value, Count, Build, Probe, Each, Line, Check, Look, Show, Moves, Stats, Puzzles, Migrate}
 use Rattle.dob_cli.specs.Endings.{Ending}
 use Rattle.dob_cli.specs.Shelves.{SameFiles, SameOthers, ShelfChange}
 use Rattle.dob_cli.specs.Words.{Meaning, asks, build, flag_text, help, migrate, number_of, profile_named, show, usage, version}
 use Rattle.dob_cli.specs.declared.command.Reading.TheVariants as reading
 use Rattle.dob_cli.specs.Readings.{IsOrder, IsReadingOf, name_of_order, text_given}
-use Rattle.dob_cli.specs.Orders.{AnswersOrder, KeepsFiles}
+use Rattle.dob_cli.specs.Orders.{AnswersByLines, AnswersOrder, IsByLines, KeepsFiles}
 use Rattle.dob_cli.specs.Program.{AnswersValue}
 use Rattle.dob_cli.specs.Sizes.{AnswersCount}
 use Rattle.dob_cli.specs.Builds.{AnswersBuild}
 use Rattle.dob_cli.specs.Looks.{AnswersLook}
 use Rattle.dob_cli.specs.Choices.{AnswersMoves}
+use Rattle.dob_cli.specs.Each.{AnswersEach}
 use Rattle.dob_cli.specs.Shows.{AnswersShow, KeepsButPicture}
 use Rattle.dob_cli.specs.Stats.{AnswersStats}
 use Rattle.dob_cli.specs.Puzzles.{AnswersPuzzles}
@@ -55,6 +56,17 @@ flagged_texts x z a c y b e = (cc, cc, cc)
 shown_texts : (x y a b : Option Text) (z c : Text) → x ∷ y ∷ Some z ∷ [] ≡ a ∷ b ∷ Some c ∷ [] → (x ≡ a) × (y ≡ b) × (z ≡ c)
 shown_texts x y a b z c e = (cc, cc, cc)
 
+-- a place that is left out between two texts, or behind a flag
+asked_texts : (x y a b : Text) → Some x ∷ None ∷ Some y ∷ [] ≡ Some a ∷ None ∷ Some b ∷ [] → (x ≡ a) × (y ≡ b)
+asked_texts x y a b e = (cc, cc)
+
+flagged_text : (x f a g : Text) → Some x ∷ Some f ∷ None ∷ [] ≡ Some a ∷ Some g ∷ None ∷ [] → x ≡ a
+flagged_text x f a g e = cc
+
+-- and these two aren't the same
+unlike_texts : (x f a b : Text) → Some x ∷ Some f ∷ None ∷ [] ≡ Some a ∷ None ∷ Some b ∷ [] → ⊥
+unlike_texts x f a b e = cc
+
 -- a flag's text is there where the flag is given
 flag_given : (b : Bool) → is_some (flag_text b) ≡ b
 flag_given true = refl
@@ -86,12 +98,18 @@ module _ (c : ShelfChange) (e : Ending) where
       (subst (λ (x : ℕ). AnswersBuild c p s.now x f.now e) (is.1.5 ∙ ap number_of same.1) answers)))
   done_build o rules set nodes file progress is answers = absurd (differs (name_of_order o) (codes "build") refl refl is.0)
 
-  pub done_probe : (o : Order) (file text : Text) → IsOrder (codes "probe") (Some file ∷ Some text ∷ []) o → AnswersOrder c o e
+  pub done_probe : (o : Order) (file text : Text) → IsOrder (codes "probe") (Some file ∷ None ∷ Some text ∷ []) o → AnswersOrder c o e
       → AnswersProbe c file text e
   done_probe (Probe f t) file text is answers =
-      let same = two_texts f.now t.now file text is.1 in
+      let same = asked_texts f.now t.now file text is.1 in
       subst (λ (x : Text). AnswersProbe c x text e) same.0 (subst (λ (x : Text). AnswersProbe c f.now x e) same.1 answers)
+  done_probe (Each f) file text is answers = absurd (unlike_texts f.now is.1.0 file text is.1.1)
   done_probe o file text is answers = absurd (differs (name_of_order o) (codes "probe") refl refl is.0)
+
+  pub done_each : (o : Order) (file : Text) → IsOrder (codes "probe") (Some file ∷ Some [] ∷ None ∷ []) o → AnswersOrder c o e → AnswersEach c file e
+  done_each (Each f) file is answers = subst (λ (x : Text). AnswersEach c x e) (flagged_text f.now is.1.0 file [] is.1.1) answers
+  done_each (Probe f t) file is answers = absurd (unlike_texts file [] f.now t.now (sym is.1))
+  done_each o file is answers = absurd (differs (name_of_order o) (codes "probe") refl refl is.0)
 
   pub done_line : (o : Order) (file : Text) (is_numbered : Bool) (text : Text)
       → IsOrder (codes "line") (Some file ∷ flag_text is_numbered ∷ Some text ∷ []) o → AnswersOrder c o e → AnswersLine c file is_numbered text e
@@ -149,6 +167,29 @@ module _ (c : ShelfChange) (e : Ending) where
       let same = two_texts f.now t.now file out is.1 in
       subst (λ (x : Text). AnswersMigrate c x out e) same.0 (subst (λ (x : Text). AnswersMigrate c f.now x e) same.1 answers)
   done_migrate o file out is answers = absurd (differs (name_of_order o) (codes "migrate") refl refl is.0)
+
+-- an order is one for each line of standard input, or one that lines tell
+abbrev IsEach : Order → Type 0
+IsEach o = (file : Bor Text) × (o ≡ Each file)
+
+-- where it isn't for each line
+pub is_by_lines : (o : Order) → ((file : Bor Text) → o ≡ Each file → ⊥) → IsByLines o
+is_by_lines (Each f) other = absurd (other f refl)
+is_by_lines o other = tt
+
+module _ (c : ShelfChange) (e : Ending) where
+  abbrev IsLined : Order → Type 0
+  IsLined o = (AnswersOrder c o e → AnswersByLines c o e) × (AnswersByLines c o e → AnswersOrder c o e)
+
+  pub order_ways : (o : Order) → IsEach o ⊎ IsLined o
+  order_ways (Each f) = inl (f, refl)
+  order_ways o = inr (λ a. a, λ a. a)
+
+  pub answered_by_lines : (o : Order) → ((file : Bor Text) → o ≡ Each file → ⊥) → AnswersByLines c o e → AnswersOrder c o e
+  answered_by_lines o other answers = elim (order_ways o) [
+    | inl is ↦ absurd (other is.0 is.1)
+    | inr lined ↦ lined.1 answers
+  ]
 
 -- ---- files
 
@@ -211,6 +252,7 @@ module _ (c : ShelfChange) where
   kept_files m (Value p t) is none undrawn still keeps = keeps
   kept_files m (Count p t) is none undrawn still keeps = keeps
   kept_files m (Probe f t) is none undrawn still keeps = keeps
+  kept_files m (Each f) is none undrawn still keeps = keeps
   kept_files m (Line f n t) is none undrawn still keeps = keeps
   kept_files m (Check f b) is none undrawn still keeps = keeps
   kept_files m (Look f t) is none undrawn still keeps = keeps

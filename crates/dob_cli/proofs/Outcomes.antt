@@ -17,9 +17,9 @@ use Rattle.clap.specs.declared.parser.ArgMatches.{ArgMatches}
 use Rattle.clap.proofs.WalkLemmas.{both, first_value-rows}
 use Rattle.dob_cli.specs.Forms.{Form, Text, forms}
 use Rattle.dob_cli.specs.Lines.{IsAmong as IsAmongForms}
-use Rattle.dob_cli.specs.Words.{Meaning, asks, help, is_version, is_topic, meaning_of, meaning_of_command, meaning_of_topic, usage, version}
+use Rattle.dob_cli.specs.Words.{Meaning, asks, help, is_version, is_topic, meaning_of, meaning_of_command, meaning_of_topic, settled, usage, version}
 use Rattle.dob_cli.specs.Shapes.{AreProfiles, Finds, HasShape, IsRead, ProfileNames, dobutsu_app}
-use Rattle.dob_cli.specs.Readings.{IsOrder, IsReadingOf, IsReadingOfKind}
+use Rattle.dob_cli.specs.Readings.{IsOrder, IsReadFor, IsReadingOf, IsReadingOfKind}
 use Rattle.dob_cli.specs.declared.command.Order.{Order}
 use Rattle.dob_cli.specs.declared.command.Reading.{Reading}
 use Rattle.dob_cli.specs.declared.command.Reading.TheVariants as reading
@@ -75,26 +75,17 @@ asked_by_matches profiles are app words m no_topic is kinds matches =
     subst (λ k. Fits (meaning_of_command words) k (subcommand_of (dobutsu_app profiles) words)) clean (words_fit profiles are words no_topic) in
     asked_for words (meaning_of_command words) (subcommand_rows_of m) refl (subst (Fits (meaning_of_command words) []) (sym rows) fits)
 
--- so there is an order
-pub order_is_there : {X : Type 0} (words : List Text) (met : Option (Text × List Row)) → IsAsked words met
-    → ((form : Form) (texts : List (Option Text)) → IsAmongForms form forms → Finds form texts met → X) → X
-order_is_there {X} words met is each = go forms each is.found
+-- what is read of the matches of the form that was met is what the words ask for
+pub order_is_meant : (words : List Text) (met : Option (Text × List Row)) (o : Option Order) → IsAsked words met
+    → ((form : Form) (texts : List (Option Text)) → IsAmongForms form forms → Finds form texts met → IsReadFor (settled (asks form.name texts)) o)
+    → IsReadFor (settled (meaning_of_command words)) o
+order_is_meant words met o is each = subst (λ (m : Meaning). IsReadFor (settled m) o) (sym is.meant) (go forms each is.found)
   where
-    go : (fs : List Form) → ((form : Form) (texts : List (Option Text)) → IsAmongForms form fs → Finds form texts met → X) → IsMet fs is.name is.texts met → X
+    go : (fs : List Form)
+        → ((form : Form) (texts : List (Option Text)) → IsAmongForms form fs → Finds form texts met → IsReadFor (settled (asks form.name texts)) o)
+        → IsMet fs is.name is.texts met → IsReadFor (settled (asks is.name is.texts)) o
     go [] each found = absurd found
-    go (f ∷ fs) each (inl h) = each f is.texts (inl refl) h.1
-    go (f ∷ fs) each (inr h) = go fs (λ form texts among. each form texts (inr among)) h
-
--- and it is what the words ask for
-pub order_is_meant : (words : List Text) (met : Option (Text × List Row)) (o : Order) → IsAsked words met
-    → ((form : Form) (texts : List (Option Text)) → IsAmongForms form forms → Finds form texts met → IsOrder form.name texts o)
-    → IsReadingOf (meaning_of_command words) (reading.Order o)
-order_is_meant words met o is each = subst (λ m. IsReadingOf m (reading.Order o)) (sym is.meant) (go forms each is.found)
-  where
-    go : (fs : List Form) → ((form : Form) (texts : List (Option Text)) → IsAmongForms form fs → Finds form texts met → IsOrder form.name texts o)
-        → IsMet fs is.name is.texts met → IsOrder is.name is.texts o
-    go [] each found = absurd found
-    go (f ∷ fs) each (inl h) = subst (λ n. IsOrder n is.texts o) h.0 (each f is.texts (inl refl) h.1)
+    go (f ∷ fs) each (inl h) = subst (λ (n : Text). IsReadFor (settled (asks n is.texts)) o) h.0 (each f is.texts (inl refl) h.1)
     go (f ∷ fs) each (inr h) = go fs (λ form texts among. each form texts (inr among)) h
 
 -- an order that was read is the one that the words ask for
@@ -142,7 +133,7 @@ usage_read reading.Version h = absurd h
 -- an error comes to what the words ask for
 pub error_is_meant : (m : Meaning) (kinds : Kinds) (met : Option (Text × List Row)) (k : ErrorKind) (r : Reading) → Fits m kinds met
     → (k ≡ kind.OutOfMemory) ⊎ IsAmong k kinds
-    → IsReadingOfKind k r → IsReadingOf m r
+    → IsReadingOfKind k r → IsReadingOf (settled m) r
 error_is_meant m kinds met k r fits (inl e) h = absurd (subst (λ x. IsReadingOfKind x r) e h)
 error_is_meant (asks name texts) kinds met k r fits (inr among) h = absurd (subst (IsAmong k) fits.0 among)
 error_is_meant help kinds met k r fits (inr among) h = elim (subst (IsAmong k) fits among) [
@@ -154,7 +145,7 @@ error_is_meant usage kinds met k r fits (inr among) h = usage_read r (not_help k
 
 -- the same of the words
 pub error_of_words : (profiles : ProfileNames) → AreProfiles profiles → (app : App) (words : List Text) (e : Error) → is_topic words ≡ false → app ≡ dobutsu_app profiles → (is_simple_and_free app ≡ true → HasKind (fault_of app words) e)
-    → (r : Reading) → IsReadingOfKind (kind_of e) r → IsReadingOf (meaning_of_command words) r
+    → (r : Reading) → IsReadingOfKind (kind_of e) r → IsReadingOf (settled (meaning_of_command words)) r
 error_of_words profiles are app words e no_topic is kinds r h =
     let has : HasKind (fault_of (dobutsu_app profiles) words) e = subst (λ a. HasKind (fault_of a words) e) is (kinds (ap is_simple_and_free is)) in
     error_is_meant (meaning_of_command words) (fault_of (dobutsu_app profiles) words) _ (kind_of e) r (words_fit profiles are words no_topic) has h
@@ -169,7 +160,7 @@ no_matches profiles are app words topic is kinds =
     no_kinds _ _ (sym clean ∙ topic_kinds profiles are words topic)
 
 -- other words mean what the command makes of them
-pub command_meaning : (words : List Text) → is_version words ≡ false → is_topic words ≡ false → meaning_of_command words ≡ meaning_of words
+pub command_meaning : (words : List Text) → is_version words ≡ false → is_topic words ≡ false → settled (meaning_of_command words) ≡ meaning_of words
 command_meaning words v t = rw (v, t) refl
 
 pub topic_meaning : (words : List Text) → is_version words ≡ false → is_topic words ≡ true → meaning_of_topic words ≡ meaning_of words

@@ -9,6 +9,9 @@ use Rattle.dob_cli.specs.declared.command.Reading.TheVariants as reading
 use Rattle.dob_cli.specs.Forms.{Text}
 use Rattle.dob_cli.specs.Words.{Meaning, meaning_of}
 use Rattle.dob_cli.specs.Readings.{IsReadingOf}
+use Rattle.dob_value.specs.declared.value.Value.{Value}
+use Rattle.dob_value.specs.Follows.{ClassTable}
+use Rattle.dob_cli.specs.Each.{AnswersEachBy, IsGivenTo}
 use Rattle.dob_cli.specs.Endings.{Answers, Ending, Tells, TellsMemory, TellsOneFault, version_line}
 use Rattle.dob_cli.specs.Shelves.{FailsWhere, SameFiles, ShelfChange}
 use Rattle.dob_cli.specs.Faults.{is_io}
@@ -16,8 +19,9 @@ use Rattle.dob_cli.specs.Orders.{AnswersOrder, AreLinesFor, IsFaultFor, KeepsFil
 use Rattle.dob_cli.specs.Runs.{Ran, RanOn}
 use Rattle.dob_cli.proofs.Shelves.{others_kept}
 use Rattle.dob_cli.proofs.TableFaults.{moves_right, probe_right}
+use Rattle.dob_cli.proofs.EachLine.{each_memory, each_right}
 use Rattle.dob_cli.proofs.ByPlace.{look_right}
-use Rattle.dob_cli.proofs.Orders.{done_build, done_check, done_count, done_line, done_look, done_migrate, done_moves, done_probe, done_puzzles, done_show, done_stats, done_value, kept_but_picture, kept_files, kept_migrated, kept_others}
+use Rattle.dob_cli.proofs.Orders.{done_build, done_check, done_count, done_each, done_line, done_look, done_migrate, done_moves, done_probe, done_puzzles, done_show, done_stats, done_value, kept_but_picture, kept_files, kept_migrated, kept_others, order_ways}
 
 -- ---- the streams are those that they were
 
@@ -41,6 +45,19 @@ answers_same AreLines Holds e (inl lines) = (lines.told.same, untouched_same e.e
 answers_same AreLines Holds e (inr (inl is)) = (untouched_same e.out is.silent, fault_same is.fault e.status e.err is.told)
 answers_same AreLines Holds e (inr (inr failed)) = (failed.part.1.same, fault_same Io e.status e.err failed.told)
 
+each_same : (IsTold : ClassTable → List ℕ → Value → Type 0) (c : ShelfChange) (file : List ℕ) (e : Ending) → AnswersEachBy IsTold c file e
+    → IsSame e.out × IsSame e.err
+each_same IsTold c file e (inl lines) = (lines.told.same, untouched_same e.err lines.silent)
+each_same IsTold c file e (inr (inl is)) = (untouched_same e.out is.silent, fault_same is.fault e.status e.err is.told)
+each_same IsTold c file e (inr (inr failed)) = (failed.part.1.same, fault_same Io e.status e.err failed.told)
+
+order_same : (c : ShelfChange) (o : Order) (e : Ending) → AnswersOrder c o e → IsSame e.out × IsSame e.err
+order_same c o e answers = elim (order_ways c e o) [
+  | inl is ↦ each_same IsGivenTo c is.0.now e (subst (λ (x : Order). AnswersOrder c x e) is.1 answers)
+  | inr lined ↦ answers_same (λ lines. AreLinesFor c o lines × FailsWhere c false) (λ fault. IsFaultFor c o fault × FailsWhere c (is_io fault)) e
+      (lined.0 answers)
+]
+
 -- ---- what was done is what the words ask for
 
 -- lack of memory is a fault of every order
@@ -55,6 +72,8 @@ module _ (c : ShelfChange) (words : List Text) (e : Ending) where
     build = λ rules set nodes file progress _. memory_answered _ _ e (same, works) told;
     probe_right = λ profile file text _ _. memory_answered _ _ e (tt, works) told;
     probe = λ file text _. memory_answered _ _ e (tt, works) told;
+    each_right = λ profile file _ _. each_memory _ c file e works told;
+    each = λ file _. each_memory _ c file e works told;
     line = λ file is_numbered text _. memory_answered _ _ e (tt, works) told;
     check = λ file progress _. memory_answered _ _ e (tt, works) told;
     look_right = λ profile file text _ _. memory_answered _ _ e (tt, works) told;
@@ -88,6 +107,8 @@ module _ (c : ShelfChange) (words : List Text) (e : Ending) where
     probe = λ file text is. done_probe c e o file text (asked (reading.Order o) read _ is) answers;
     probe_right = λ profile file text is right.
         probe_right c profile file text e right (done_probe c e o file text (asked (reading.Order o) read _ is) answers);
+    each = λ file is. done_each c e o file (asked (reading.Order o) read _ is) answers;
+    each_right = λ profile file is right. each_right c profile file e right (done_each c e o file (asked (reading.Order o) read _ is) answers);
     line = λ file is_numbered text is. done_line c e o file is_numbered text (asked (reading.Order o) read _ is) answers;
     check = λ file progress is. done_check c e o file progress (asked (reading.Order o) read _ is) answers;
     look = λ file text is. done_look c e o file text (asked (reading.Order o) read _ is) answers;
@@ -105,8 +126,8 @@ module _ (c : ShelfChange) (words : List Text) (e : Ending) where
     others_of_migration = λ file out is. kept_migrated c o file out (asked (reading.Order o) read _ is) keeps;
     others_of_picture = λ file picture text is. kept_but_picture c o file picture text (asked (reading.Order o) read _ is) keeps;
     files = λ none undrawn still. kept_files c (meaning_of words) o read none undrawn still keeps;
-    same_out = (answers_same (λ lines. AreLinesFor c o lines × FailsWhere c false) (λ fault. IsFaultFor c o fault × FailsWhere c (is_io fault)) e answers).0;
-    same_err = (answers_same (λ lines. AreLinesFor c o lines × FailsWhere c false) (λ fault. IsFaultFor c o fault × FailsWhere c (is_io fault)) e answers).1;
+    same_out = (order_same c o e answers).0;
+    same_err = (order_same c o e answers).1;
   }
 
   pub ran_version : IsReadingOf (meaning_of words) reading.Version → Tells version_line e → SameFiles c.before.has c.after.has → Ran c words e
@@ -116,6 +137,8 @@ module _ (c : ShelfChange) (words : List Text) (e : Ending) where
     build = λ rules set nodes file progress is. absurd (asked reading.Version read _ is);
     probe = λ file text is. absurd (asked reading.Version read _ is);
     probe_right = λ profile file text is. absurd (asked reading.Version read _ is);
+    each = λ file is. absurd (asked reading.Version read _ is);
+    each_right = λ profile file is. absurd (asked reading.Version read _ is);
     line = λ file is_numbered text is. absurd (asked reading.Version read _ is);
     check = λ file progress is. absurd (asked reading.Version read _ is);
     look = λ file text is. absurd (asked reading.Version read _ is);

@@ -4,6 +4,7 @@ use Rattle.dob_pieces.specs.declared.setup.Setup.{Setup}
 use Rattle.dob_pieces.specs.Profiles.{IsAllowed}
 use Rattle.dob_pieces.specs.declared.profile.Profile.{Profile}
 use Rattle.dob_value.specs.Values.{HasValue}
+use Rattle.dob_value.specs.declared.value.Value.{Value}
 use Rattle.dob_value.specs.Follows.{ClassTable, IsValueTable}
 use Rattle.dob_dbfile.proofs.Written.{same_files}
 use Rattle.dob_probe.specs.declared.fault.Fault as probing
@@ -18,7 +19,8 @@ use Rattle.dob_cli.specs.Faults.{fault_of_shelf, is_io}
 use Rattle.dob_cli.specs.declared.shelf.ShelfFault.{ShelfFault}
 use Rattle.dob_cli.specs.declared.shelf.ShelfFault.TheVariants as shelf_fault
 use Rattle.dob_cli.specs.Endings.{Answers, Ending}
-use Rattle.dob_cli.specs.Program.{IsValueLineOf}
+use Rattle.dob_cli.specs.Each.{IsGivenTo}
+use Rattle.dob_cli.specs.Program.{IsValueLineOf, IsValueOf}
 use Rattle.dob_cli.specs.Choices.{AnswersMoves, AnswersMovesRight, AreChoiceLines, AreRightChoiceLines}
 use Rattle.dob_cli.specs.Tables.{AnswersProbe, AnswersProbeRight, HasValueFile, IsCheckFault, IsFileOf, IsOpeningFault, IsPositionFault, IsProbingFault, IsShut}
 use Rattle.dob_cli.specs.Tables.{IsProbeLine, IsTextOf}
@@ -87,21 +89,21 @@ module _ (Has : List ℕ → Type 0) (profile : Profile) (file : HasValueFile Ha
         subst (λ (t : ClassTable). t.family.profile ≡ profile) same file.rules,
       )
 
-  -- so the line tells the value that the position has by definition
+  -- so the value that it gives a text's position is the one that this has by definition
+  pub value_right : (table : ClassTable) → IsFileOf Has table → (words : List ℕ) (value : Value) → IsGivenTo table words value → IsValueOf profile words value
+  value_right table file words value told =
+      let is = right_table table file in record {
+        position = told.0;
+        legal = told.1.0;
+        allowed = subst (λ (p : Profile). IsAllowed p told.0) is.1 told.2.number.position.allowed;
+        spelled = told.1.1;
+        right = subst (λ (p : Profile). HasValue p told.0 value) is.1 (is.0.values_are told.0 value told.2.number.position told.2);
+      }
+
+  -- and the line tells it
   line_right : (words lines : List ℕ) → IsProbeLine Has words lines → IsValueLineOf profile words lines
   line_right words lines told =
-      let is = right_table told.table told.file in (
-        told.value,
-        record {
-          position = told.position;
-          legal = told.named.0;
-          allowed = subst (λ (p : Profile). IsAllowed p told.position) is.1 told.given.number.position.allowed;
-          spelled = told.named.1;
-          right = subst (λ (p : Profile). HasValue p told.position told.value) is.1
-              (is.0.values_are told.position told.value told.given.number.position told.given);
-        },
-        told.same,
-      )
+      (told.value, value_right told.table told.file words told.value (told.position, told.named, told.given), told.same)
 
   -- and the moves have the values told by definition
   choices_right : (words lines : List ℕ) → AreChoiceLines Has words lines → AreRightChoiceLines profile words lines

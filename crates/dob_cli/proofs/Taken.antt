@@ -41,10 +41,10 @@ pub probe_taken : (profiles : ProfileNames) → IsTaken profiles probe_form
 probe_taken profiles = record {
   options = (refl, tt);
   positions = (refl, refl, refl);
-  flags = tt;
+  flags = (refl, tt);
   no_help = (refl, refl);
   no_empty = (refl, refl);
-  defaults = (refl, (refl, (refl, tt)));
+  defaults = (refl, (refl, (refl, (refl, tt))));
   required = λ rows. refl;
 }
 

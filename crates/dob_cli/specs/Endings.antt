@@ -54,10 +54,14 @@ Answers AreLines Holds e = TellsLines AreLines e ⊎ (TellsFault Holds e ⊎ Fai
 abbrev pub AnswersOver : ShelfChange → (List ℕ → Type 0) → (Fault → Type 0) → Ending → Type 0
 AnswersOver c AreLines Holds = Answers (λ lines. AreLines lines × FailsWhere c false) (λ fault. Holds fault × FailsWhere c (is_io fault))
 
--- the text on standard output and status 0; or a beginning of it, and the fault of a failing output
+-- the text on standard output and that status; or a beginning of it, and the fault of a failing output
+abbrev pub TellsAs : ℕ → List ℕ → Ending → Type 0
+TellsAs status text e =
+    ((e.status ≡ status) × Puts e.out text × IsUntouched e.err) ⊎ (Stops e.out text × TellsOneFault Io e.status e.err)
+
+-- the same with status 0
 abbrev pub Tells : List ℕ → Ending → Type 0
-Tells text e =
-    ((e.status ≡ 0) × Puts e.out text × IsUntouched e.err) ⊎ (Stops e.out text × TellsOneFault Io e.status e.err)
+Tells = TellsAs 0
 
 -- that no memory was left, and nothing else
 abbrev pub TellsMemory : Ending → Type 0

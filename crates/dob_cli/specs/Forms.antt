@@ -71,9 +71,16 @@ count_form = with_rules (plain_form (codes "count") (set_option ∷ rules_option
 abbrev pub file_option : Text × Text
 file_option = (codes "db", codes "FILE")
 
--- `probe --db FILE POSITION`
+-- the flag `--each`
+abbrev pub each_flag : Text
+each_flag = codes "each"
+
+-- `probe --db FILE [--each] [POSITION]`, of which just one of the last two is given, as specs/Words.antt says
 abbrev pub probe_form : Form
-probe_form = plain_form (codes "probe") (file_option ∷ []) (codes "POSITION" ∷ [])
+probe_form = record (plain_form (codes "probe") (file_option ∷ []) (codes "POSITION" ∷ [])) {
+  flags = each_flag ∷ [];
+  optional = codes "POSITION" ∷ [];
+}
 
 -- the flag `--numbered`
 abbrev pub numbered_flag : Text

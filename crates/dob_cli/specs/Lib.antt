@@ -8,6 +8,7 @@ pub mod Shelves
 pub mod Endings
 pub mod Program
 pub mod Tables
+pub mod Each
 pub mod Looks
 pub mod Shows
 pub mod Choices

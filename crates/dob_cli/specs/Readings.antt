@@ -1,5 +1,5 @@
 -- How what was read of the words goes with what they ask for.
-use Rattle.std.specs.Prelude.{◌≡◌, true, List, [], ◌∷◌, Option, Some, codes, is_some, option_map}
+use Rattle.std.specs.Prelude.{◌≡◌, true, List, [], ◌∷◌, None, Option, Some, codes, is_some, option_map}
 use Rattle.std.specs.Borrow.{Bor}
 use Rattle.clap.specs.declared.error.kind.ErrorKind.{ErrorKind}
 use Rattle.clap.specs.declared.error.kind.ErrorKind.TheVariants as kind
@@ -17,6 +17,7 @@ name_of_order (order.Value _ _) = codes "value"
 name_of_order (order.Count _ _) = codes "count"
 name_of_order (order.Build _ _ _ _ _) = codes "build"
 name_of_order (order.Probe _ _) = codes "probe"
+name_of_order (order.Each _) = codes "probe"
 name_of_order (order.Line _ _ _) = codes "line"
 name_of_order (order.Check _ _) = codes "check"
 name_of_order (order.Look _ _) = codes "look"
@@ -39,7 +40,8 @@ HasTexts texts (order.Count profile set) =
 HasTexts texts (order.Build profile set nodes file is_watched) =
     (t : Text) × (rules flag : Option Text) × (Some set.now ∷ Some t ∷ Some file.now ∷ rules ∷ flag ∷ [] ≡ texts) × (is_number t ≡ true)
     × (nodes ≡ number_of t) × (profile ≡ profile_named rules) × (is_watched ≡ is_some flag)
-HasTexts texts (order.Probe file position) = Some file.now ∷ Some position.now ∷ [] ≡ texts
+HasTexts texts (order.Probe file position) = Some file.now ∷ None ∷ Some position.now ∷ [] ≡ texts
+HasTexts texts (order.Each file) = (flag : Text) × (Some file.now ∷ Some flag ∷ None ∷ [] ≡ texts)
 HasTexts texts (order.Line file is_numbered position) =
     (flag : Option Text) × (Some file.now ∷ flag ∷ Some position.now ∷ [] ≡ texts) × (is_numbered ≡ is_some flag)
 HasTexts texts (order.Check file is_watched) = (flag : Option Text) × (Some file.now ∷ flag ∷ [] ≡ texts) × (is_watched ≡ is_some flag)
@@ -63,6 +65,11 @@ IsReadingOf help (reading.Help _) = Unit {0}
 IsReadingOf version reading.Version = Unit {0}
 IsReadingOf usage (reading.Usage _) = Unit {0}
 IsReadingOf _ _ = ⊥
+
+-- what matches were read as is what they ask for; they are read as nothing where that isn't clear
+abbrev pub IsReadFor : Meaning → Option Order → Type 0
+IsReadFor meant (Some o) = IsReadingOf meant (reading.Order o)
+IsReadFor meant None = meant ≡ usage
 
 -- the words are a line for the subcommand of this name and these texts
 abbrev pub SomeLine : List Text → Text → List (Option Text) → Type 0

@@ -1,7 +1,7 @@
 -- What the program does with its words, whatever they are.
 use Rattle.std.specs.Prelude.{◌≡◌, ◌≢◌, ◌⊎◌, ℕ, Bool, false, List, [], ◌∷◌, ◌++◌, Option, Some, codes}
 use Rattle.dob_dbfile.specs.Sinks.{Change, IsSame, IsUntouched, Says}
-use Rattle.dob_cli.specs.Words.{Text, build, check, count, help, line, look, meaning_of, migrate, moves, number_of, probe, profile_named, puzzles, show, stats, usage, value, version}
+use Rattle.dob_cli.specs.Words.{Text, build, check, count, each, help, line, look, meaning_of, migrate, moves, number_of, probe, profile_named, puzzles, show, stats, usage, value, version}
 use Rattle.dob_pieces.specs.Bytes.{line_feed}
 use Rattle.dob_pieces.specs.declared.profile.Profile.{Profile}
 use Rattle.dob_cli.specs.Endings.{AnswersHelp, AnswersUsage, AnswersVersion, Ending, TellsMemory, ended}
@@ -11,6 +11,7 @@ use Rattle.dob_cli.specs.Sizes.{AnswersCount}
 use Rattle.dob_cli.specs.Builds.{AnswersBuild}
 use Rattle.dob_cli.specs.Looks.{AnswersLook, AnswersLookRight}
 use Rattle.dob_cli.specs.Choices.{AnswersMoves, AnswersMovesRight}
+use Rattle.dob_cli.specs.Each.{AnswersEach, AnswersEachRight}
 use Rattle.dob_cli.specs.Shows.{AnswersShow}
 use Rattle.dob_cli.specs.Stats.{AnswersStats}
 use Rattle.dob_cli.specs.Puzzles.{AnswersPuzzles}
@@ -38,6 +39,9 @@ pub record Ran (c : ShelfChange) (words : List Text) (e : Ending) : Type 0 where
   pub probe_right : (profile : Profile) (file position : Text) → meaning_of words ≡ probe file position → HasValueFile (c.before.has file) profile
       → AnswersProbeRight c profile file position e
   pub probe : (file position : Text) → meaning_of words ≡ probe file position → AnswersProbe c file position e
+  pub each_right : (profile : Profile) (file : Text) → meaning_of words ≡ each file → HasValueFile (c.before.has file) profile
+      → AnswersEachRight c profile file e
+  pub each : (file : Text) → meaning_of words ≡ each file → AnswersEach c file e
   pub line : (file : Text) (is_numbered : Bool) (position : Text) → meaning_of words ≡ line file is_numbered position
       → AnswersLine c file is_numbered position e
   pub check : (file : Text) (progress : Option Text) → meaning_of words ≡ check file progress → AnswersCheck c file e

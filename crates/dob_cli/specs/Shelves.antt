@@ -16,6 +16,8 @@ pub record ShelfState : Type 1 where
   pub tells : Bool
   -- whether some call of it has failed, or of a source or a sink that it got back
   pub has_failed : Bool
+  -- the bytes that standard input still has, where they are known
+  pub input : Option (List ℕ)
 
 -- what was known of it, and what is known after
 pub record ShelfChange : Type 1 where
@@ -29,7 +31,7 @@ shelf_change before after = record { before = before; after = after }
 abbrev pub FailsWhere : ShelfChange → Bool → Type 0
 FailsWhere c failed = c.after.has_failed ≡ (c.before.has_failed || failed)
 
--- whether the shelf failed to make a file, for another cause than lack of memory
+-- whether the shelf failed at what it was asked for, for another cause than lack of memory
 abbrev pub is_failed : {X : Type 0} → Result X ShelfFault → Bool
 is_failed (Ok x) = false
 is_failed (Err Memory) = false

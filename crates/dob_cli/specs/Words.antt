@@ -229,12 +229,24 @@ meaning_of_command [] = usage
 meaning_of_command (word ∷ rest) =
     option_map_or (λ form. meaning_of_form form rest) (find (λ form. bytes_eq form.name word) forms) (meaning_of_other word)
 
+-- of `--each` and a POSITION, which `probe` has behind FILE, just one is given
+abbrev pub is_clear : List (Option Text) → Bool
+is_clear (file ∷ each ∷ position ∷ []) = if is_some each then not (is_some position) else is_some position
+is_clear texts = true
+
+-- what is asked for, where it is clear
+abbrev pub settled : Meaning → Meaning
+settled (asks name texts) = if bytes_eq (codes "probe") name && not (is_clear texts) then usage else asks name texts
+settled help = help
+settled version = version
+settled usage = usage
+
 -- of all the words
 abbrev pub meaning_of : List Text → Meaning
 meaning_of words =
     if is_version words then version
     else if is_topic words then meaning_of_topic words
-    else meaning_of_command words
+    else settled (meaning_of_command words)
 
 -- ---- what is asked for, by name
 
@@ -261,7 +273,11 @@ build rules set nodes file progress = asks (codes "build") (Some set ∷ Some no
 
 -- the value of the position by the table of the file
 abbrev pub probe : Text → Text → Meaning
-probe file position = asks_all (codes "probe") (file ∷ position ∷ [])
+probe file position = asks (codes "probe") (Some file ∷ flag_text false ∷ Some position ∷ [])
+
+-- the same for the position of each line of standard input
+abbrev pub each : Text → Meaning
+each file = asks (codes "probe") (Some file ∷ flag_text true ∷ None ∷ [])
 
 -- the line of the position by the table of the file, each move on a line with its number where that is asked for
 abbrev pub line : Text → Bool → Text → Meaning

@@ -16,12 +16,12 @@ ghost use Rattle.std.specs.Prelude.{◌≡◌, [], IfOk, IsSomeAnd, List, Option
 ghost use Rattle.clap.specs.Words.{App, Rule, kind_of, subcommand_rows_of, with_rule, with_subcommand};
 ghost use Rattle.dob_cli.specs.Forms.{Form, Text, build_form, check_form, count_form, forms, line_form, look_form, migrate_form, probe_form};
 ghost use Rattle.dob_cli.specs.Forms.{moves_form, show_form, value_form, file_option, new_file_option, nodes_option, numbered_flag, out_option, picture_option};
-ghost use Rattle.dob_cli.specs.Forms.{progress_flag};
+ghost use Rattle.dob_cli.specs.Forms.{each_flag, progress_flag};
 ghost use Rattle.dob_cli.specs.Forms.{number_option, plain_form, plies_option, puzzles_form, rules_option, set_option, stats_form};
 ghost use Rattle.dob_cli.specs.Lines.{IsAmong, IsCommandLine};
-ghost use Rattle.dob_cli.specs.Words.{asks, has_topic, is_topic, is_version, meaning_of, meaning_of_topic, names_subcommand};
+ghost use Rattle.dob_cli.specs.Words.{Meaning, asks, has_topic, is_topic, is_version, meaning_of, meaning_of_topic, names_subcommand, settled};
 ghost use Rattle.dob_cli.specs.Shapes.{AreProfiles, Finds, HasShape, IsProgram, IsRead, bare_app, flag_rule, form_app, no_names, option_rule, text_rule};
-ghost use Rattle.dob_cli.specs.Readings.{ComesFromLine, IsOrder, IsReadingOf, IsReadingOfKind};
+ghost use Rattle.dob_cli.specs.Readings.{ComesFromLine, IsReadFor, IsReadingOf, IsReadingOfKind};
 
 mod orders;
 
@@ -57,6 +57,8 @@ pub enum Order<'a> {
         file: &'a str,
         position: &'a str,
     },
+    /// To print the same of each line of standard input.
+    Each(&'a str),
     /// To print the line of the position by the table of the file, each move on a line with its number where it is numbered.
     Line {
         file: &'a str,
@@ -211,10 +213,19 @@ const PROBE_HELP: &str =
     "A file: what `dobutsu check --db FILE` calls consistent holds the values by definition; of any other
 file the answer is just what the file says.
 
-Answers: `win D`, `loss D` or `draw`, where D is the distance in plies.
+With `--each` in place of POSITION the positions come from standard input, one on each line, and each line is
+answered by a line, in the same order. One that is refused is answered by its fault, as `E2 Letter`, and the
+next by its own answer. The file is read once, so that this is the way to ask for many positions.
+
+Answers: `win D`, `loss D` or `draw`, where D is the distance in plies. With `--each` the status is 0 where
+all lines were told, and 1 where one was refused.
 
 Example: dobutsu probe --db 000.db \"..l/.../L../... - -\" prints `win 3`. `dobutsu value --help` says
-how a position is written.";
+how a position is written. And of two positions, of which the second has a hand that is none,
+
+  printf '%s\\n' \"..l/.../L../... - -\" \"..l/.../L../... - x\" | dobutsu probe --db 000.db --each
+
+prints `win 3` and `E3 Hand`, with status 1.";
 
 const LINE_HELP: &str =
     "The moves of both sides, where the winner takes the shortest way and the loser the longest, each the
@@ -316,7 +327,7 @@ pub fn read_words<'a>(alloc: Global, words: &'a [&'a str]) -> Result<Reading<'a>
     ensures meaning { IfOk result (IsReadingOf (meaning_of (map (λ w. w.now) words.now))) }
     ensures sound { IfOk result (ComesFromLine (map (λ w. w.now) words.now)) }
     ensures complete { (form : Form) (texts : List (Option Text)) → IsAmong form forms
-        → IsCommandLine form (map (λ w. w.now) words.now) texts → IfOk result (IsReadingOf (asks form.name texts)) }
+        → IsCommandLine form (map (λ w. w.now) words.now) texts → IfOk result (IsReadingOf (settled (asks form.name texts))) }
 {
     if asks_version(words) {
         return Ok(Reading::Version);
@@ -325,10 +336,7 @@ pub fn read_words<'a>(alloc: Global, words: &'a [&'a str]) -> Result<Reading<'a>
         return read_topic(alloc, words);
     }
     match dobutsu_command(alloc)?.try_get_matches_from(words) {
-        Ok(matches) => match order_of(&matches) {
-            Some(order) => Ok(Reading::Order(order)),
-            None => unreachable!(),
-        },
+        Ok(matches) => read_order(alloc, order_of(&matches)),
         Err(error) => read_error(alloc, &error),
     }
 }
@@ -499,7 +507,8 @@ fn probe_command<'a>(alloc: Global) -> Result<Command<'a>, AllocError>
         .about("Prints the value of a position by a database file")
         .after_help(PROBE_HELP)
         .arg(file_argument(alloc));
-    add_argument(command, position_argument(alloc))
+    let command = add_argument(command, each_argument(alloc));
+    add_argument(command, one_position_argument(alloc))
 }
 
 // The subcommand `line`.
@@ -705,6 +714,17 @@ fn progress_argument<'a>(alloc: Global) -> Arg<'a>
     flag_argument(alloc, "progress", "Says on standard error how far it is")
 }
 
+// The flag `--each`.
+fn each_argument<'a>(alloc: Global) -> Arg<'a>
+    ensures { IsRead (flag_rule each_flag) result }
+{
+    flag_argument(
+        alloc,
+        "each",
+        "Each line of standard input is a position, and answered by a line",
+    )
+}
+
 // An option that may be left out: the name behind `--`, and what its text is called.
 fn option_argument<'a>(alloc: Global, name: &'a str, label: &'a str, help: &'a str) -> Arg<'a>
     ensures { IsRead (record (option_rule no_names (plain_form [] [] []) (name.now, label.now)) { required = false }) result }
@@ -733,10 +753,17 @@ fn position_argument<'a>(alloc: Global) -> Arg<'a>
         .help("The position, as text")
 }
 
-// What the matches of the program's command ask for.
+// The argument POSITION, where it may be left out.
+fn one_position_argument<'a>(alloc: Global) -> Arg<'a>
+    ensures { IsRead (text_rule no_names probe_form (codes "POSITION")) result }
+{
+    Arg::new(alloc, "POSITION").help("The position, as text, where `--each` isn't given")
+}
+
+// What the matches of the program's command ask for, where it is clear.
 fn order_of<'a>(matches: &ArgMatches<'a>) -> Option<Order<'a>>
     ensures { (form : Form) (texts : List (Option Text)) → IsAmong form forms → Finds form texts (subcommand_rows_of matches.now)
-        → IsSomeAnd result (IsOrder form.name texts) }
+        → IsReadFor (settled (asks form.name texts)) result }
 {
     let (name, inner) = matches.subcommand()?;
     match name {
@@ -753,6 +780,16 @@ fn order_of<'a>(matches: &ArgMatches<'a>) -> Option<Order<'a>>
         "puzzles" => orders::puzzles_order(inner),
         "migrate" => orders::migrate_order(inner),
         _ => None,
+    }
+}
+
+// What the words come to where their matches were read so.
+fn read_order<'a>(alloc: Global, order: Option<Order<'a>>) -> Result<Reading<'a>, AllocError>
+    ensures { (meant : Meaning) → IsReadFor meant order.entry → IfOk result (IsReadingOf meant) }
+{
+    match order {
+        Some(order) => Ok(Reading::Order(order)),
+        None => Ok(Reading::Usage(orders::UNCLEAR.to_string(alloc)?)),
     }
 }
 

@@ -1,24 +1,26 @@
-// The files that the system has, each written beside its name and put there when it is whole.
-ghost use Rattle.std.specs.Prelude.{◌≡◌, false};
+// The files that the system has, each written beside its name and put there when it is whole, and the standard input that it gives.
+ghost use Rattle.std.specs.Prelude.{◌≡◌, None, false};
 
+use crate::inputs::read_all;
 use crate::shelf::{Shelf, ShelfFault};
 use dob_dbfile::{Failed, Sink, Source, Std};
 use std::alloc::Global;
 use std::fs::{self, File, OpenFile};
-use std::io::{self, ErrorKind, Write};
+use std::io::{self, ErrorKind, Read, Write};
 use std::os::unix::fs::MetadataExt;
 use std::rt::Files;
 
-/// The files that the system has, of which no bytes are told.
+/// The files that the system has, and a reader as standard input, of which no bytes are told.
 ///
 /// A file is written under its name with `.part` behind it, and takes its name once its bytes are on the disk. So the file of
 /// that name is as it was until then, whatever happens, and whole from then on. A part that a run left behind is taken away
 /// by the next one; so of two that write one name at once the later one keeps its file, and the other one fails. What is no
 /// regular file (a pipe, a device, a link) is written where it is.
 #[derive(Drop)]
-pub struct DiskShelf<'a, R> {
+pub struct DiskShelf<'a, R, I> {
     rt: &'a R,
     alloc: Global,
+    input: Std<I>,
     has_failed: bool,
 }
 
@@ -39,20 +41,21 @@ impl<F: Write> Write for DiskFile<F> {
     }
 }
 
-impl<'a, R> DiskShelf<'a, R> {
-    /// The files of the system, of which no call has failed.
-    pub fn new(rt: &'a R, alloc: Global) -> DiskShelf<'a, R>
+impl<'a, R, I> DiskShelf<'a, R, I> {
+    /// The files of the system and that standard input, of which no call has failed.
+    pub fn new(rt: &'a R, alloc: Global, input: I) -> DiskShelf<'a, R, I>
         ensures { result.has_failed ≡ false }
     {
         DiskShelf {
             rt,
             alloc,
+            input: Std::new(input),
             has_failed: false,
         }
     }
 }
 
-impl<R: Files> DiskShelf<'_, R> {
+impl<R: Files, I> DiskShelf<'_, R, I> {
     // The file of that name.
     fn open(&self, name: &str) -> Result<R::File, ShelfFault> {
         Ok(fs::open(self.rt, name)?)
@@ -117,12 +120,17 @@ impl<R: Files> DiskShelf<'_, R> {
     }
 }
 
-impl<R: Files> Shelf for DiskShelf<'_, R> {
+impl<R: Files, I: Read> Shelf for DiskShelf<'_, R, I> {
     type Src = Std<R::File>;
 
     type Dst = Std<DiskFile<R::File>>;
 
-    ghost state = { λ shelf. record { has = λ _ _. ⊥; tells = false; has_failed = shelf.has_failed } };
+    ghost state = { λ shelf. record {
+      has = λ _ _. ⊥;
+      tells = false;
+      has_failed = shelf.has_failed;
+      input = None;
+    } };
 
     fn find(&mut self, name: &str) -> Result<Std<R::File>, ShelfFault> {
         match self.open(name) {
@@ -171,6 +179,17 @@ impl<R: Files> Shelf for DiskShelf<'_, R> {
         let DiskFile { file, part } = sink.into_inner();
         if let Some(part) = part {
             self.take_away(&file, part.as_str());
+        }
+    }
+
+    fn input(&mut self) -> Result<Vec<u8>, ShelfFault> {
+        match read_all(self.alloc, &mut self.input) {
+            Ok(bytes) => Ok(bytes),
+            Err(ShelfFault::Memory) => Err(ShelfFault::Memory),
+            Err(ShelfFault::Failed) => {
+                self.has_failed = true;
+                Err(ShelfFault::Failed)
+            }
         }
     }
 }

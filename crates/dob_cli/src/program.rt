@@ -5,10 +5,11 @@ ghost use Rattle.std.specs.declared.io.ErrorKind.TheVariants.{OutOfMemory};
 ghost use Rattle.std.specs.Vec.Iter.{into_iter_items};
 ghost use Rattle.dob_dbfile.specs.Sinks.{Says, change};
 ghost use Rattle.dob_cli.specs.Runs.{Ran, RanOn, RanOver, TellsNoText, contents};
-ghost use Rattle.dob_cli.specs.Orders.{AnswersOrder, AreLinesFor, IsFaultFor, KeepsFiles};
+ghost use Rattle.dob_cli.specs.Each.{AnswersEach};
+ghost use Rattle.dob_cli.specs.Orders.{AnswersByLines, AnswersOrder, AreLinesFor, IsByLines, IsFaultFor, KeepsFiles};
 ghost use Rattle.dob_cli.specs.Shelves.{FailsWhere, SameFiles, shelf_change};
 ghost use Rattle.dob_cli.specs.Faults.{is_io_error};
-ghost use Rattle.dob_cli.specs.Endings.{Tells, TellsFaultAs, TellsMemory, TellsOneFault, ended};
+ghost use Rattle.dob_cli.specs.Endings.{TellsAs, TellsFaultAs, TellsMemory, TellsOneFault, ended};
 ghost use Rattle.dob_cli.specs.Program.{IsValueLineOf, IsFaultOf, value_line};
 ghost use Rattle.dob_cli.specs.declared.fault.Fault.TheVariants.{Memory};
 
@@ -16,6 +17,7 @@ use crate::builds::answer_build;
 use crate::choices::answer_moves;
 use crate::command::{Order, Reading, read_words};
 use crate::counts::answer_count;
+use crate::each::answer_each;
 use crate::fault::Fault;
 use crate::looks::answer_look;
 use crate::migrations::answer_migrate;
@@ -51,7 +53,7 @@ const NO_TEXT: &[u8] = b"error: an argument is not UTF-8\n\nFor more information
 /// With the word `--progress` a build and a check also say how far they are, on the console of `rt` and not on `err`: of that nothing
 /// is promised.
 ///
-/// The status is 0 where it is done or help was asked for, 1 where what was asked is refused, 2 for words that it
+/// The status is 0 where it is done or help was asked for, 1 where what was asked, or a line of standard input, is refused, 2 for words that it
 /// doesn't know, 3 for lack of memory, for a distance above 65,534 plies, for a build that stops and where `out` or a file fails. Where `err` fails,
 /// the status is the same.
 pub fn run_words<'a, S: Shelf, O: Write, E: Write>(
@@ -89,8 +91,8 @@ pub fn run_over<'a, S: Shelf, O: Sink, E: Sink>(
 {
     match read_words(alloc, words) {
         Err(AllocError) => tell_memory(err),
-        Ok(Reading::Help(text)) => tell(alloc, text.as_str(), out, err),
-        Ok(Reading::Version) => tell(alloc, VERSION, out, err),
+        Ok(Reading::Help(text)) => tell(alloc, 0, text.as_str(), out, err),
+        Ok(Reading::Version) => tell(alloc, 0, VERSION, out, err),
         Ok(Reading::Usage(text)) => {
             say(err, text.as_bytes());
             USAGE
@@ -112,8 +114,46 @@ fn run_order<S: Shelf, O: Sink, E: Sink>(
         (ended result (change (O.state out.old) (O.state out.new)) (change (E.state err.old) (E.state err.new))) }
     ensures files { KeepsFiles (shelf_change (S.state shelf.old) (S.state shelf.new)) order.entry }
 {
+    match order {
+        Order::Each(file) => run_each(alloc, file, shelf, out, err),
+        _ => run_by_lines(rt, alloc, order, shelf, out, err),
+    }
+}
+
+// Answers each line of standard input by the file of that name.
+fn run_each<S: Shelf, O: Sink, E: Sink>(
+    alloc: Global,
+    file: &str,
+    shelf: &mut S,
+    out: &mut O,
+    err: &mut E,
+) -> u8
+    ensures done { AnswersEach (shelf_change (S.state shelf.old) (S.state shelf.new)) file.now
+        (ended result (change (O.state out.old) (O.state out.new)) (change (E.state err.old) (E.state err.new))) }
+    ensures files { SameFiles (S.state shelf.old).has (S.state shelf.new).has }
+{
+    match answer_each(alloc, shelf, file) {
+        Ok(answers) => tell(alloc, answers.status(), answers.lines.as_str(), out, err),
+        Err(fault) => tell_fault(alloc, fault, err),
+    }
+}
+
+// Does what is ordered, where lines tell it.
+fn run_by_lines<S: Shelf, O: Sink, E: Sink>(
+    rt: &(impl Threads + Wait + Sync + Console),
+    alloc: Global,
+    order: Order<'_>,
+    shelf: &mut S,
+    out: &mut O,
+    err: &mut E,
+) -> u8
+    requires lined { IsByLines order }
+    ensures done { AnswersByLines (shelf_change (S.state shelf.old) (S.state shelf.new)) order.entry
+        (ended result (change (O.state out.old) (O.state out.new)) (change (E.state err.old) (E.state err.new))) }
+    ensures files { KeepsFiles (shelf_change (S.state shelf.old) (S.state shelf.new)) order.entry }
+{
     match answer(rt, alloc, order, shelf) {
-        Ok(lines) => tell(alloc, lines.as_str(), out, err),
+        Ok(lines) => tell(alloc, 0, lines.as_str(), out, err),
         Err(fault) => tell_fault(alloc, fault, err),
     }
 }
@@ -125,6 +165,7 @@ fn answer<S: Shelf>(
     order: Order<'_>,
     shelf: &mut S,
 ) -> Result<String, Fault>
+    requires lined { IsByLines order }
     ensures ok { IfOk result (λ lines. AreLinesFor (shelf_change (S.state shelf.old) (S.state shelf.new)) order.entry (string_bytes lines)) }
     ensures err { IfErr result (IsFaultFor (shelf_change (S.state shelf.old) (S.state shelf.new)) order.entry) }
     ensures files { KeepsFiles (shelf_change (S.state shelf.old) (S.state shelf.new)) order.entry }
@@ -141,6 +182,7 @@ fn answer<S: Shelf>(
             is_watched,
         } => answer_build(rt, alloc, shelf, profile, set, nodes, file, is_watched),
         Order::Probe { file, position } => answer_probe(alloc, shelf, file, position),
+        Order::Each(_) => unreachable!(),
         Order::Line {
             file,
             is_numbered,
@@ -181,12 +223,12 @@ pub(crate) fn line_of(alloc: Global, value: Value) -> Result<String, AllocError>
     }
 }
 
-// Tells a line, or a few, on standard output.
-fn tell<O: Sink, E: Sink>(alloc: Global, line: &str, out: &mut O, err: &mut E) -> u8
-    ensures { Tells line.now (ended result (change (O.state out.old) (O.state out.new)) (change (E.state err.old) (E.state err.new))) }
+// Tells a line, or a few, on standard output. The answer is that status where it is told.
+fn tell<O: Sink, E: Sink>(alloc: Global, status: u8, line: &str, out: &mut O, err: &mut E) -> u8
+    ensures { TellsAs status line.now (ended result (change (O.state out.old) (O.state out.new)) (change (E.state err.old) (E.state err.new))) }
 {
     match put_all(out, line.as_bytes()) {
-        Ok(()) => 0,
+        Ok(()) => status,
         Err(_failed) => tell_fault(alloc, Fault::Io, err),
     }
 }

@@ -7,7 +7,7 @@ ghost use Rattle.dob_cli.specs.Shelves.{HasJust, SameFiles, SameOthers, ShelfSta
 use dob_dbfile::{Failed, MemSink, MemSource, PlacedSource, Sink, Source};
 use std::alloc::{AllocError, Global};
 use std::collections::BTreeMap;
-use std::io;
+use std::{io, mem};
 
 /// Why a shelf opens or makes no file. The files keep their bytes then.
 #[derive(Clone, Copy, Debug, PartialEq, Eq)]
@@ -37,7 +37,7 @@ impl From<io::Error> for ShelfFault {
     }
 }
 
-/// Files by name.
+/// Files by name, and standard input.
 pub trait Shelf {
     /// What the bytes of a file are read from.
     type Src: PlacedSource + Drop;
@@ -45,7 +45,8 @@ pub trait Shelf {
     /// What the bytes of a new file are written to.
     type Dst: Sink + Drop;
 
-    // What is known of it: the bytes of its files, and whether some call of it has failed, or of a source or a sink that it got back.
+    // What is known of it: the bytes of its files, those that standard input still has, and whether some call of it has failed, or of a
+    // source or a sink that it got back.
     ghost state: { Self → ShelfState };
 
     /// A source of the bytes of the file of that name, from the first on. The files keep their bytes.
@@ -59,12 +60,14 @@ pub trait Shelf {
         ensures there { OnOk result (IsTrue (state self.old).tells → (bytes : List ℕ) × (state self.old).has name.now bytes) }
         ensures kept { SameFiles (state self.old).has (state self.new).has }
         ensures told { (state self.new).tells ≡ (state self.old).tells }
+        ensures input { (state self.new).input ≡ (state self.old).input }
         ensures failed { (state self.new).has_failed ≡ ((state self.old).has_failed || is_failed result) };
 
     /// Takes back a source that `find` gave, and notes whether it has failed. The files keep their bytes.
     fn close(&mut self, source: Self::Src)
         ensures kept { SameFiles (state self.old).has (state self.new).has }
         ensures told { (state self.new).tells ≡ (state self.old).tells }
+        ensures input { (state self.new).input ≡ (state self.old).input }
         ensures failed { (state self.new).has_failed ≡ ((state self.old).has_failed || Self.Src.has_failed source) };
 
     /// An empty sink for the bytes of a file of that name, which has no bytes from here on. Other files keep their bytes.
@@ -77,6 +80,7 @@ pub trait Shelf {
         ensures others { SameOthers name.now (state self.old).has (state self.new).has }
         ensures unchanged { OnErr result (SameFiles (state self.old).has (state self.new).has) }
         ensures told { (state self.new).tells ≡ (state self.old).tells }
+        ensures input { (state self.new).input ≡ (state self.old).input }
         ensures failed { (state self.new).has_failed ≡ ((state self.old).has_failed || is_failed result) };
 
     /// Keeps just the sink's bytes under that name, for which `make` gave a sink. Other files keep their bytes. It fails where
@@ -88,6 +92,7 @@ pub trait Shelf {
         ensures silent { OnErr result ((state self.old).tells ≡ false) }
         ensures others { SameOthers name.now (state self.old).has (state self.new).has }
         ensures told { (state self.new).tells ≡ (state self.old).tells }
+        ensures input { (state self.new).input ≡ (state self.old).input }
         ensures failed { (state self.new).has_failed ≡ (((state self.old).has_failed || (Self.Dst.state sink).has_failed) || is_err result) };
 
     /// Gives up the sink that `make` gave for that name, and what it has received, and notes whether it has failed. The files keep
@@ -95,28 +100,52 @@ pub trait Shelf {
     fn discard(&mut self, name: &str, sink: Self::Dst)
         ensures kept { SameFiles (state self.old).has (state self.new).has }
         ensures told { (state self.new).tells ≡ (state self.old).tells }
+        ensures input { (state self.new).input ≡ (state self.old).input }
         ensures failed { (state self.new).has_failed ≡ ((state self.old).has_failed || (Self.Dst.state sink).has_failed) };
+
+    /// The bytes that standard input still has, all of them up to its end. The files keep their bytes.
+    ///
+    /// Error: it failed before its end; or memory for its bytes was refused.
+    fn input(&mut self) -> Result<Vec<u8>, ShelfFault>
+        ensures read { (bytes : List ℕ) → (state self.old).input ≡ Some bytes
+            → MatchResult result (λ input. input.items ≡ bytes) (λ fault. fault ≡ ShelfFault.Memory) }
+        ensures end { (bytes : List ℕ) → (state self.old).input ≡ Some bytes → OnOk result ((state self.new).input ≡ Some []) }
+        ensures kept { SameFiles (state self.old).has (state self.new).has }
+        ensures told { (state self.new).tells ≡ (state self.old).tells }
+        ensures failed { (state self.new).has_failed ≡ ((state self.old).has_failed || is_failed result) };
 }
 
-/// A shelf of files in memory, for tests.
+/// A shelf of files and of a standard input in memory, for tests.
 #[derive(Drop)]
 pub struct MemShelf {
     files: BTreeMap<String, Vec<u8>>,
+    input: Vec<u8>,
     alloc: Global,
     has_failed: bool,
 }
 
 impl MemShelf {
-    /// A shelf with no files.
+    /// A shelf with no files, whose standard input is empty.
     pub fn new(alloc: Global) -> MemShelf
         ensures empty { (name : List ℕ) → bytes_in result.files name ≡ None }
+        ensures input { result.input.items ≡ [] }
         ensures failed { result.has_failed ≡ false }
     {
         MemShelf {
             files: BTreeMap::new(alloc),
+            input: Vec::new(alloc),
             alloc,
             has_failed: false,
         }
+    }
+
+    /// Has standard input give these bytes from here on, and then its end.
+    pub fn set_input(&mut self, bytes: Vec<u8>)
+        ensures files { self.new.files ≡ self.old.files }
+        ensures input { self.new.input ≡ bytes }
+        ensures failed { self.new.has_failed ≡ self.old.has_failed }
+    {
+        self.input = bytes;
     }
 
     // The bytes of the file of that name.
@@ -137,6 +166,7 @@ impl MemShelf {
             (λ other bytes. bytes_in self.new.files other ≡ Some bytes) }
         ensures unchanged { OnErr result (SameFiles (λ other bytes. bytes_in self.old.files other ≡ Some bytes)
             (λ other bytes. bytes_in self.new.files other ≡ Some bytes)) }
+        ensures input { self.new.input ≡ self.old.input }
         ensures failed { self.new.has_failed ≡ self.old.has_failed }
     {
         let name = name.to_string(self.alloc)?;
@@ -154,6 +184,7 @@ impl Shelf for MemShelf {
       has = λ name bytes. bytes_in shelf.files name ≡ Some bytes;
       tells = true;
       has_failed = shelf.has_failed;
+      input = Some shelf.input.items;
     } };
 
     fn find(&mut self, name: &str) -> Result<MemSource, ShelfFault> {
@@ -188,5 +219,9 @@ impl Shelf for MemShelf {
 
     fn discard(&mut self, _name: &str, sink: MemSink) {
         self.has_failed |= sink.failed();
+    }
+
+    fn input(&mut self) -> Result<Vec<u8>, ShelfFault> {
+        Ok(mem::replace(&mut self.input, Vec::new(self.alloc)))
     }
 }

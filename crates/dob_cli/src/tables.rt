@@ -103,6 +103,7 @@ pub(crate) fn open<S: Shelf>(alloc: Global, shelf: &mut S, file: &str) -> Result
     ensures fault { IfErr result (IsOpeningFault ((S.state shelf.old).has file.now)) }
     ensures files { SameFiles (S.state shelf.old).has (S.state shelf.new).has }
     ensures told { (S.state shelf.new).tells ≡ (S.state shelf.old).tells }
+    ensures input { (S.state shelf.new).input ≡ (S.state shelf.old).input }
     ensures failed { FailsWhere (shelf_change (S.state shelf.old) (S.state shelf.new)) (is_io_error result) }
 {
     let mut source = shelf.find(file)?;

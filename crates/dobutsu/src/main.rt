@@ -10,7 +10,7 @@ fn main(rt: HostRuntime) -> ExitCode {
         &rt,
         rt.alloc(),
         std::env::args(&rt),
-        &mut DiskShelf::new(&rt, rt.alloc()),
+        &mut DiskShelf::new(&rt, rt.alloc(), rt.stdin()),
         &mut Std::new(rt.stdout()),
         &mut Std::new(rt.stderr()),
     ))

@@ -4,12 +4,22 @@ ghost use Rattle.clap.specs.Words.{found_of, rows_of};
 ghost use Rattle.dob_cli.specs.Forms.{Text, build_form, check_form, count_form, line_form, look_form, probe_form, show_form};
 ghost use Rattle.dob_cli.specs.Forms.{migrate_form, moves_form, puzzles_form, stats_form, value_form};
 ghost use Rattle.dob_cli.specs.Shapes.{Finds};
-ghost use Rattle.dob_cli.specs.Readings.{IsOrder, text_given};
-ghost use Rattle.dob_cli.specs.Words.{profile_named};
+ghost use Rattle.dob_cli.specs.Readings.{IsOrder, IsReadFor, text_given};
+ghost use Rattle.dob_cli.specs.Words.{asks, profile_named, settled};
 
 use super::Order;
 use clap::ArgMatches;
 use dob_pieces::Profile;
+
+/// What is said where `probe` is asked by a position and by `--each`, or by none of them.
+pub(super) const UNCLEAR: &str =
+    "error: one of '<POSITION>' and '--each' has to be given, and just one
+
+Usage: dobutsu probe --db <FILE> <POSITION>
+       dobutsu probe --db <FILE> --each
+
+For more information, try '--help'.
+";
 
 /// What the matches of `value` ask for.
 pub(super) fn value_order<'a>(inner: &ArgMatches<'a>) -> Option<Order<'a>>
@@ -47,15 +57,18 @@ pub(super) fn build_order<'a>(inner: &ArgMatches<'a>) -> Option<Order<'a>>
     })
 }
 
-/// What the matches of `probe` ask for.
+/// What the matches of `probe` ask for; nothing where both a position and `--each` are given, or none of them.
 pub(super) fn probe_order<'a>(inner: &ArgMatches<'a>) -> Option<Order<'a>>
     ensures { (texts : List (Option Text)) → Finds probe_form texts (Some (codes "probe", rows_of (found_of inner.now)))
-        → IsSomeAnd result (IsOrder (codes "probe") texts) }
+        → IsReadFor (settled (asks (codes "probe") texts)) result }
 {
-    Some(Order::Probe {
-        file: inner.get_str("FILE")?,
-        position: inner.get_str("POSITION")?,
-    })
+    let file = inner.get_str("FILE")?;
+    match (inner.get_str("each"), inner.get_str("POSITION")) {
+        (None, Some(position)) => Some(Order::Probe { file, position }),
+        (Some(_), None) => Some(Order::Each(file)),
+        (Some(_), Some(_)) => None,
+        (None, None) => None,
+    }
 }
 
 /// What the matches of `line` ask for.

@@ -1,34 +1,29 @@
 -- What `clap` answers is what the words ask for.
-use Rattle.std.proofs.Common.{◌∙◌, map, subst, sym}
+use Rattle.std.proofs.Common.{◌∙◌, IfOk, map, subst, sym}
 use Rattle.dob_cli.specs.Readings.{IsReadingOf}
+use Rattle.dob_cli.specs.Words.{meaning_of_command, settled}
 use Rattle.std.proofs.lemmas.Result.{IfOk-weaker}
 use Rattle.clap.specs.Words.{app_of}
-use Rattle.dob_cli.specs.declared.command.Reading.TheVariants as reading
 use Rattle.dob_cli.proofs.Lines.{order_from_line, reading_at_line}
-use Rattle.dob_cli.proofs.Outcomes.{command_meaning, topic_meaning, asked_by_matches, order_is_meant, order_is_there, error_of_words}
+use Rattle.dob_cli.proofs.Outcomes.{command_meaning, topic_meaning, asked_by_matches, order_is_meant, error_of_words}
 use Rattle.dob_cli.proofs.command.read_words.Goals as goal
 
-pub unreachable-requires : goal.unreachable-requires
-unreachable-requires c =
-    order_is_there (map (λ w. w.now) c.args.words.now) _
-    (asked_by_matches c.in_ok-dobutsu_command.ensures.0 c.in_ok-dobutsu_command.ensures.1 (app_of c.in_ok-dobutsu_command.field-0) (map (λ w. w.now) c.args.words.now) c.in-Ok.matches
-    (sym c.asks_topic.ensures ∙ c.if-asks_topic.false) c.in_ok-dobutsu_command.ensures.2.0 c.in-Ok.ensures.kinds c.in-Ok.ensures.matches) c.in-None.ensures
+pub returns-in-Ok-clause-meaning : goal.returns-in-Ok-clause-meaning
+returns-in-Ok-clause-meaning c =
+    let words = map (λ w. w.now) c.args.words.now in
+    let no_topic = sym c.asks_topic.ensures ∙ c.if-asks_topic.false in
+    subst (λ m. IfOk c.read_order.result (IsReadingOf m)) (command_meaning words (sym c.asks_version.ensures ∙ c.if-asks_version.false) no_topic)
+    (c.read_order.ensures (settled (meaning_of_command words))
+    (order_is_meant words _ c.order_of.result
+    (asked_by_matches c.in_ok-dobutsu_command.ensures.0 c.in_ok-dobutsu_command.ensures.1 (app_of c.in_ok-dobutsu_command.field-0) words c.in-Ok.matches
+    no_topic c.in_ok-dobutsu_command.ensures.2.0 c.in-Ok.ensures.kinds c.in-Ok.ensures.matches) c.order_of.ensures))
 
-pub returns-in-Some-clause-meaning : goal.returns-in-Some-clause-meaning
-returns-in-Some-clause-meaning c =
-    subst (λ m. IsReadingOf m (reading.Order c.in-Some.order))
-    (command_meaning (map (λ w. w.now) c.args.words.now) (sym c.asks_version.ensures ∙ c.if-asks_version.false)
-    (sym c.asks_topic.ensures ∙ c.if-asks_topic.false))
-    (order_is_meant (map (λ w. w.now) c.args.words.now) _ c.in-Some.order
-    (asked_by_matches c.in_ok-dobutsu_command.ensures.0 c.in_ok-dobutsu_command.ensures.1 (app_of c.in_ok-dobutsu_command.field-0) (map (λ w. w.now) c.args.words.now) c.in-Ok.matches
-    (sym c.asks_topic.ensures ∙ c.if-asks_topic.false) c.in_ok-dobutsu_command.ensures.2.0 c.in-Ok.ensures.kinds c.in-Ok.ensures.matches) c.in-Some.ensures)
+pub returns-in-Ok-clause-sound : goal.returns-in-Ok-clause-sound
+returns-in-Ok-clause-sound c = IfOk-weaker c.read_order.result _ _ (order_from_line _) (returns-in-Ok-clause-meaning c)
 
-pub returns-in-Some-clause-sound : goal.returns-in-Some-clause-sound
-returns-in-Some-clause-sound c = order_from_line _ (reading.Order c.in-Some.order) (returns-in-Some-clause-meaning c)
-
-pub returns-in-Some-clause-complete : goal.returns-in-Some-clause-complete
-returns-in-Some-clause-complete c =
-    λ form texts among line. reading_at_line _ form texts (reading.Order c.in-Some.order) among line (returns-in-Some-clause-meaning c)
+pub returns-in-Ok-clause-complete : goal.returns-in-Ok-clause-complete
+returns-in-Ok-clause-complete c =
+    λ form texts among line. IfOk-weaker c.read_order.result _ _ (λ r. reading_at_line _ form texts r among line) (returns-in-Ok-clause-meaning c)
 
 pub returns-in-Err-clause-meaning : goal.returns-in-Err-clause-meaning
 returns-in-Err-clause-meaning c =

@@ -1,21 +1,16 @@
--- What is told goes with the lines, or with the fault.
-use Rattle.std.proofs.Common.{false}
-use Rattle.dob_cli.specs.Faults.{is_io}
-use Rattle.dob_cli.specs.Orders.{AreLinesFor, IsFaultFor}
-use Rattle.dob_cli.specs.Shelves.{FailsWhere, shelf_change}
-use Rattle.dob_cli.proofs.Endings.{answered, faulty}
+-- An order is one for each line of standard input, or one that lines tell.
+use Rattle.dob_cli.specs.Shelves.{shelf_change}
+use Rattle.dob_cli.proofs.Orders.{answered_by_lines, is_by_lines}
 use Rattle.dob_cli.proofs.program.run_order.Goals as goal
 
-pub returns-in-Ok-clause-done : goal.returns-in-Ok-clause-done
-returns-in-Ok-clause-done g c =
-    let change = shelf_change (g.S.Shelf.state c.args.shelf.now) (g.S.Shelf.state c.answer.new.shelf) in
-    answered (λ lines. AreLinesFor change c.args.order lines × FailsWhere change false)
-    (λ fault. IsFaultFor change c.args.order fault × FailsWhere change (is_io fault)) _ _
-    (c.in-Ok.ensures.ok, rw c.in-Ok.is at c.answer.ensures.failed) (rw c.as_str.ensures.value at c.tell.ensures)
+pub returns-in-Each-clause-done : goal.returns-in-Each-clause-done
+returns-in-Each-clause-done g c = rw c.in-Each.is c.run_each.ensures.done
 
-pub returns-in-Err-clause-done : goal.returns-in-Err-clause-done
-returns-in-Err-clause-done g c =
-    let change = shelf_change (g.S.Shelf.state c.args.shelf.now) (g.S.Shelf.state c.answer.new.shelf) in
-    faulty (λ lines. AreLinesFor change c.args.order lines × FailsWhere change false)
-    (λ fault. IsFaultFor change c.args.order fault × FailsWhere change (is_io fault)) _ _ _ _
-    (c.in-Err.ensures.err, rw c.in-Err.is at c.answer.ensures.failed) c.tell_fault.ensures
+pub returns-in-Each-clause-files : goal.returns-in-Each-clause-files
+returns-in-Each-clause-files g c = rw c.in-Each.is c.run_each.ensures.files
+
+pub run_by_lines-requires-clause-lined : goal.run_by_lines-requires-clause-lined
+run_by_lines-requires-clause-lined g c = λ κs lives. is_by_lines c.args.order c.in_default.not-Each
+
+pub returns-in_default-clause-done : goal.returns-in_default-clause-done
+returns-in_default-clause-done g c = answered_by_lines _ _ c.args.order c.in_default.not-Each c.run_by_lines.ensures.done
