@@ -1,7 +1,7 @@
 -- The lines that ask for something are just those that the words' meaning says.
 use Rattle.std.proofs.Common.{◌≡◌, ◌∙◌, ◌+◌, ℕ, Bool, arith, suc, drop, refl, sym, ap, subst, cond, codes, inl, inr, true, false, [], ◌∷◌, ◌++◌, List, Option}
 use Rattle.std.proofs.Common.{Some, None, append_assoc, append-nil, true≢false}
-use Rattle.std.specs.Prelude.{find, fold, is_some, not, option_and_then, option_map, ◌||◌, ◌&&◌, ◌==◌, unwrap_or}
+use Rattle.std.specs.Prelude.{find, fold, is_some, not, option_map, ◌||◌, ◌&&◌, ◌==◌, unwrap_or}
 use Rattle.std.specs.Option.{option_map_or}
 use Rattle.std.specs.List.{after_first, before_first}
 use Rattle.std.specs.Str.{bytes_eq}

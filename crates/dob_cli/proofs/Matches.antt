@@ -1,5 +1,5 @@
 -- The texts of a subcommand, from its own matches, and which form's matches they are.
-use Rattle.std.proofs.Common.{◌≡◌, ◌∙◌, ◌&&◌, ◌++◌, ℕ, Bool, true, false, cond, inl, inr, ap, ap₂, sym, subst, refl}
+use Rattle.std.proofs.Common.{◌≡◌, ◌∙◌, ◌++◌, ℕ, Bool, true, false, cond, inl, inr, ap, ap₂, sym, subst, refl}
 use Rattle.std.proofs.Common.{true≢false, map, List, [], ◌∷◌, Option, Some, None, is_some}
 use Rattle.std.specs.Prelude.{IsSomeAnd, Result, option_map, unwrap_or}
 use Rattle.std.specs.Result.{result_ok}

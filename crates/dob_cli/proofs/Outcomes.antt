@@ -1,9 +1,8 @@
 -- What the matches and the errors of the program's command come to.
-use Rattle.std.proofs.Common.{map, ap₂, ◌≡◌, ◌∙◌, ◌⊎◌, ◌||◌, Bool, not, inl, inr, subst, true, false, sym, ap, refl, List, Option, Some, [], ◌∷◌, is_some}
+use Rattle.std.proofs.Common.{ap₂, ◌≡◌, ◌∙◌, ◌⊎◌, ◌||◌, Bool, not, inl, inr, subst, true, false, sym, ap, refl, List, Option, Some, [], ◌∷◌}
 use Rattle.std.proofs.Common.{true≢false}
 use Rattle.std.proofs.lemmas.Bool.{not-true}
-use Rattle.std.specs.Prelude.{option_map, slice_get, unwrap_or}
-use Rattle.std.specs.List.{list_all}
+use Rattle.std.specs.Prelude.{option_map, unwrap_or}
 use Rattle.std.specs.Borrow.{Bor}
 use Rattle.clap.specs.Words.{AddsArg, AddsSubcommand, App, HasKind, IsAmong, Kinds, Row, fault_of, first_of}
 use Rattle.clap.specs.Words.{first_value, found_of, is_simple, is_simple_and_free}

@@ -1,5 +1,5 @@
 -- What the program owes where it is asked by a database file for each line of standard input.
-use Rattle.std.specs.Prelude.{◌≡◌, ◌⊎◌, ℕ, Bool, false, if◌then◌else◌, is_err, List, [], ◌∷◌, ◌++◌, None, Option, Some, Result, Ok, Err, flat_map}
+use Rattle.std.specs.Prelude.{◌≡◌, ◌⊎◌, ℕ, Bool, false, if◌then◌else◌, is_err, List, [], ◌∷◌, ◌++◌, None, Some, Result, Ok, Err, flat_map}
 use Rattle.std.specs.List.{list_any}
 use Rattle.std.specs.Str.Lines.{lines as lines_of}
 use Rattle.dob_pieces.specs.declared.profile.Profile.TheVariants.{A}

@@ -1,7 +1,7 @@
 -- What the words after the program's name ask for, without a word on how they are read. A word is
 -- the list of its bytes, which are UTF-8.
 use Rattle.std.specs.Prelude.{◌==◌, ◌&&◌, ◌||◌, ◌^◌, ℕ, Bool, false, true, not, List, [], ◌∷◌, ◌++◌, Option, None, Some, is_some}
-use Rattle.std.specs.Prelude.{if◌then◌else◌, codes, length, nat_lt, slice_get, find, fold, map, option_map, option_and_then}
+use Rattle.std.specs.Prelude.{if◌then◌else◌, codes, length, nat_lt, slice_get, find, fold, map, option_map}
 use Rattle.std.specs.List.{before_first, after_first, list_all, list_any}
 use Rattle.std.specs.Char.{digit_value}
 use Rattle.std.specs.Option.{option_map_or}

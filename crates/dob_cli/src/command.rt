@@ -11,8 +11,9 @@
 // - its cases in the answers of `dobutsu_command` and `order_of`, as those of `count`;
 // - what it owes by a definition like `AnswersCount`, a case in each definition of specs/Orders.antt and a field of `Ran` in
 //   specs/Runs.antt;
-// - in program.rt an arm of `answer`, and its cases in proofs/Orders.antt and proofs/Runs.antt.
-ghost use Rattle.std.specs.Prelude.{◌≡◌, [], IfOk, IsSomeAnd, List, Option, codes, false, map, true};
+// - in program.rt an arm of `answer`, and its cases in proofs/Orders.antt and proofs/Runs.antt;
+// - where some of its texts exclude each other, as POSITION and `--each` of `probe`, that in `settled` of specs/Words.antt, and no order for them.
+ghost use Rattle.std.specs.Prelude.{◌≡◌, [], IfOk, List, Option, codes, false, map, true};
 ghost use Rattle.clap.specs.Words.{App, Rule, kind_of, subcommand_rows_of, with_rule, with_subcommand};
 ghost use Rattle.dob_cli.specs.Forms.{Form, Text, build_form, check_form, count_form, forms, line_form, look_form, migrate_form, probe_form};
 ghost use Rattle.dob_cli.specs.Forms.{moves_form, show_form, value_form, file_option, new_file_option, nodes_option, numbered_flag, out_option, picture_option};
@@ -145,7 +146,7 @@ A fault is one line on standard error. The status is 1, and 3 for E12, E14, E23 
   E21 Inconsistent class N
                    the value of class N doesn't follow from those one ply later
   E23 Memory       no memory is left
-  E24 Io           standard output or the file failed
+  E24 Io           standard output, standard input or the file failed
   E25 SetText      the piece set isn't three digits, each 0, 1 or 2
   E26 FarChick     by rules B, or of a file of rules B: a chick stands on its own far row. So
                    `dobutsu value --rules B \"C.l/.../.../L.. - -\"` is told

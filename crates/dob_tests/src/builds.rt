@@ -1,5 +1,5 @@
 // A build whose file can't be made, or not whole.
-ghost use Rattle.std.specs.Prelude.{false};
+ghost use Rattle.std.specs.Prelude.{None, false};
 
 use crate::program::{FILE, run_on};
 use dob_cli::{Console, Shelf, ShelfFault};
@@ -24,7 +24,12 @@ impl Shelf for FullShelf {
 
     type Dst = MemSink;
 
-    ghost state = { λ shelf. record { has = λ _ _. ⊥; tells = false; has_failed = shelf.has_failed } };
+    ghost state = { λ shelf. record {
+      has = λ _ _. ⊥;
+      tells = false;
+      has_failed = shelf.has_failed;
+      input = None;
+    } };
 
     fn find(&mut self, _name: &str) -> Result<MemSource, ShelfFault> {
         self.has_failed = true;
@@ -52,6 +57,11 @@ impl Shelf for FullShelf {
 
     fn discard(&mut self, _name: &str, sink: MemSink) {
         self.has_failed |= sink.failed();
+    }
+
+    fn input(&mut self) -> Result<Vec<u8>, ShelfFault> {
+        self.has_failed = true;
+        Err(ShelfFault::Failed)
     }
 }
 

@@ -5,6 +5,8 @@
 #[cfg(test)]
 mod builds;
 #[cfg(test)]
+mod each;
+#[cfg(test)]
 mod moves;
 #[cfg(test)]
 mod openings;

@@ -2,6 +2,7 @@
 use dob_cli::{DiskShelf, Shelf, ShelfFault};
 use dob_dbfile::{Sink, put_all, read_full};
 use std::fs;
+use std::io::Read;
 use std::process::Abort;
 use std::rt::Files;
 
@@ -41,7 +42,7 @@ fn keeps_file<S: Shelf>(rt: &impl Abort, shelf: &mut S, name: &str, bytes: &[u8]
 }
 
 // A file made anew on the disk is as it was until it is kept, and stays so where it is given up; its part is gone then.
-fn leaves_file<R: Abort + Files>(rt: &R, shelf: &mut DiskShelf<'_, R>) {
+fn leaves_file<R: Abort + Files, I: Read>(rt: &R, shelf: &mut DiskShelf<'_, R, I>) {
     keeps_file(rt, shelf, NAME, b"kept");
     let mut sink = shelf.make(NAME).ok().expect(rt, "a file on the disk");
     assert!(rt;
@@ -54,7 +55,7 @@ fn leaves_file<R: Abort + Files>(rt: &R, shelf: &mut DiskShelf<'_, R>) {
 }
 
 // Of two files that are made under one name on the disk the later one is kept. The other one can't be, and leaves no part.
-fn keeps_the_later_file<R: Abort + Files>(rt: &R, shelf: &mut DiskShelf<'_, R>) {
+fn keeps_the_later_file<R: Abort + Files, I: Read>(rt: &R, shelf: &mut DiskShelf<'_, R, I>) {
     keeps_file(rt, shelf, NAME, b"kept");
     let mut first = shelf.make(NAME).ok().expect(rt, "a file on the disk");
     assert!(rt; put_all(&mut first, b"first").is_ok());
@@ -84,13 +85,13 @@ fn has_no_others<S: Shelf>(rt: &impl Abort, shelf: &mut S) {
     assert!(rt; shelf.make(".").err() == Some(ShelfFault::Failed));
 }
 
-fn removes(rt: &(impl Abort + Files), name: &str) {
+pub(crate) fn removes(rt: &(impl Abort + Files), name: &str) {
     assert!(rt; fs::remove_file(rt, name).is_ok());
 }
 
 #[test]
 fn files_on_a_disk(rt: HostRuntime) {
-    let mut shelf = DiskShelf::new(&rt, rt.alloc());
+    let mut shelf = DiskShelf::new(&rt, rt.alloc(), rt.stdin());
     keeps_files(&rt, &mut shelf);
     leaves_file(&rt, &mut shelf);
     keeps_the_later_file(&rt, &mut shelf);

@@ -1,4 +1,4 @@
 // What the contracts don't say: outside bytes, and each place where a device fails.
 mod devices;
 pub(crate) mod files;
-mod std_devices;
+pub(crate) mod std_devices;

@@ -1,5 +1,4 @@
 -- An order is one for each line of standard input, or one that lines tell.
-use Rattle.dob_cli.specs.Shelves.{shelf_change}
 use Rattle.dob_cli.proofs.Orders.{answered_by_lines, is_by_lines}
 use Rattle.dob_cli.proofs.program.run_order.Goals as goal
 

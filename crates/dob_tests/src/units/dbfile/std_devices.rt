@@ -13,7 +13,7 @@ use std::process::Abort;
 /// A reader or a writer that moves at most that many bytes in one call. Where it has moved so many as it has room for,
 /// it answers the error, or, where there is none, that it moved nothing.
 #[derive(Drop)]
-struct Shaky {
+pub(crate) struct Shaky {
     bytes: Vec<u8>,
     longest: usize,
     room: usize,
@@ -21,7 +21,12 @@ struct Shaky {
 }
 
 impl Shaky {
-    fn new(bytes: Vec<u8>, longest: usize, room: usize, error: Option<ErrorKind>) -> Shaky {
+    pub(crate) fn new(
+        bytes: Vec<u8>,
+        longest: usize,
+        room: usize,
+        error: Option<ErrorKind>,
+    ) -> Shaky {
         Shaky {
             bytes,
             longest,
