@@ -3,7 +3,7 @@ use crate::program::{Told, run_on};
 use crate::shelves::{put, removes};
 use crate::units::dbfile::files::first_file;
 use crate::units::dbfile::std_devices::Shaky;
-use dob_cli::{DiskShelf, MemShelf, Shelf};
+use dob_cli::{Console, DiskShelf, MemShelf, Shelf};
 use std::alloc::Global;
 use std::io::ErrorKind;
 use std::process::Abort;
@@ -62,7 +62,7 @@ fn shelf(rt: &(impl Abort + AllocGlobal)) -> MemShelf {
 
 // What the program answers to this input.
 fn told_of(
-    rt: &(impl Abort + Threads + Wait + Sync),
+    rt: &(impl Abort + Threads + Wait + Sync + Console),
     alloc: Global,
     shelf: &mut MemShelf,
     input: &[u8],
@@ -128,7 +128,7 @@ For more information, try '--help'.
 }
 
 // What the program answers by the file on a disk to an input that comes in pieces of seven bytes, and stops after so many.
-fn told_of_pieces<R: Abort + AllocGlobal + Files + Threads + Wait + Sync>(
+fn told_of_pieces<R: Abort + AllocGlobal + Files + Threads + Wait + Sync + Console>(
     rt: &R,
     input: &[u8],
     count: usize,
