@@ -7,9 +7,9 @@ use Rattle.dob_cli.specs.declared.progress.Line.{Line}
 abbrev pub percent : ℕ → ℕ → ℕ
 percent done all = min 99 (100 * done / max 1 all)
 
--- the seconds that are left after so many, by the speed so far, where something is done
+-- the seconds that are left after so many, by the speed so far, once a whole percent is done
 abbrev pub seconds_left : ℕ → ℕ → ℕ → Option ℕ
-seconds_left seconds done all = if done == 0 then None else Some (seconds * (all - done) / done)
+seconds_left seconds done all = if percent done all == 0 then None else Some (seconds * (all - done) / done)
 
 -- what the line of a moment has
 abbrev pub line_at : ℕ → ℕ → ℕ → Line

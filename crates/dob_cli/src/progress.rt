@@ -161,12 +161,15 @@ fn percent(done: u64, all: u64) -> u64
     whole.min(99) as u64
 }
 
-// The seconds that are left by the speed so far.
+// The seconds that are left by the speed so far, once a whole percent is done.
 fn seconds_left(seconds: u64, done: u64, all: u64) -> Option<u128>
     ensures { result ≡ seconds_left seconds done all }
 {
+    if percent(done, all) == 0 {
+        return None;
+    }
     let left = all.saturating_sub(done) as u128;
-    (seconds as u128 * left).checked_div(done as u128)
+    Some(seconds as u128 * left / done as u128)
 }
 
 // The megabytes that a build of so many classes takes.
