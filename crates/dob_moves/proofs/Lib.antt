@@ -12,6 +12,7 @@ pub mod Firsts  -- the first move of a list
 pub mod Runs  -- moves that may not be there, as lists
 pub mod Tables  -- the steps of a kind, ascending
 pub mod Reach  -- the walk over all squares finds all moves in order
+pub mod ByPlace  -- what is looked for at a place of the move order is the move there
 pub mod Masked  -- what masks say of a status
 pub mod Listed  -- masks tell the same steps and drops
 pub mod Verdicts  -- what the searches say of a position

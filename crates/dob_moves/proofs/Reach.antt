@@ -87,7 +87,7 @@ step_sound Elsewhere p kind from to None m s e h =
 step_sound aim p kind from to (Some piece) m s e h = piece_sound aim p piece.side piece.kind kind from to m s e h
 
 -- its place
-step_place : (aim : Aim) (kind : Kind) (from to : ℕ) (cell : Cell) (m : Move) → step_onto aim cell kind from to ≡ Some m → place m ≡ 12 * from + to
+pub step_place : (aim : Aim) (kind : Kind) (from to : ℕ) (cell : Cell) (m : Move) → step_onto aim cell kind from to ≡ Some m → place m ≡ 12 * from + to
 step_place aim kind from to cell m h = by_end (may_end aim cell) h where
   by_end : (b : Bool) → cond b (Some (Step kind from to (is_some cell) (grows_at kind to))) None ≡ Some m → place m ≡ 12 * from + to
   by_end false h = cc
@@ -116,7 +116,7 @@ go_found p kind from to true false (q, (g, taken, take, s))
 go_found p kind from to true true (q, (g, taken, take, s))
     = record { step = record { own = s.own; leads = s.leads }; found = catch_found p take.0 kind taken from to true take.1 take.2 g }
 
-lion_found : (p : Setup) (kind : Kind) (from to : ℕ) (catch grows : Bool) → CatchesLion p (Step kind from to catch grows)
+pub lion_found : (p : Setup) (kind : Kind) (from to : ℕ) (catch grows : Bool) → CatchesLion p (Step kind from to catch grows)
     → IsFound AtLion p kind from to (Step kind from to catch grows)
 lion_found p kind from to false grows h = absurd h
 lion_found p kind from to true grows h = record { step = record { own = h.0; leads = h.1 }; found = rw (h.2, h.3) refl }
@@ -160,7 +160,7 @@ found_in_steps_by aim p kind from to m lt h =
 
 -- ---- the steps from each square
 
-own_cell : (cell : Cell) (kind : Kind) → own_kind cell ≡ Some kind → cell ≡ Some (piece_of Mover kind)
+pub own_cell : (cell : Cell) (kind : Kind) → own_kind cell ≡ Some kind → cell ≡ Some (piece_of Mover kind)
 own_cell None kind e = cc
 own_cell (Some piece) kind e = by_side piece.side piece.kind e where
   by_side : (side : Side) (k : Kind) → own_by_side side k ≡ Some kind → Some (piece_of side k) ≡ Some (piece_of Mover kind)
@@ -209,7 +209,7 @@ found_in_steps aim p kind from to m len h =
 -- ---- drops
 
 -- no profile forbids a step
-step_may : (profile : Profile) (m : Move) → place m < first_drop → may_go profile m ≡ true
+pub step_may : (profile : Profile) (m : Move) → place m < first_drop → may_go profile m ≡ true
 step_may profile (Step kind from to catch grows) low = refl
 step_may profile (Put kind to) low = absurd (omega (arith, low))
 

@@ -89,7 +89,7 @@ open_answer profile p len h none steps all e f g =
     let same : all ≡ all_steps Elsewhere p ++ all_drops profile p = rw (g, f, e) refl in
     subst (λ (ms : List Move). AreMoves profile p ms) (sym same) (open_moves profile p len h)
 
-not_open : (profile : Profile) (p : Setup) (s : Status) → HasStatus profile p s → s ≢ Open → HasStatus profile p Open → ⊥
+pub not_open : (profile : Profile) (p : Setup) (s : Status) → HasStatus profile p s → s ≢ Open → HasStatus profile p Open → ⊥
 not_open profile p Caught h n o = o.0 h
 not_open profile p Tried h n o = o.1 h.1
 not_open profile p Stuck h n o = h.2 o.2.0 o.2.1

@@ -4,4 +4,5 @@ pub mod Outcomes
 pub mod Mirrors
 pub mod Laws
 pub mod Walks
+pub mod AtPlaces
 pub mod MoveLists

@@ -51,7 +51,13 @@ pub(crate) fn grows_at(kind: Kind, to: Square) -> bool
 }
 
 /// The step that ends on what stands there, if it may end there.
-fn step_onto(aim: Aim, cell: Option<Piece>, kind: Kind, from: Square, to: Square) -> Option<Move>
+pub(crate) fn step_onto(
+    aim: Aim,
+    cell: Option<Piece>,
+    kind: Kind,
+    from: Square,
+    to: Square,
+) -> Option<Move>
     ensures { result ≡ step_onto aim cell kind from to }
 {
     if may_end(aim, cell) {

@@ -2,6 +2,7 @@
 #![tactic(auto)]
 
 mod applying;
+mod at_place;
 mod count;
 mod droppable;
 mod first_moves;
@@ -13,6 +14,7 @@ mod position_status;
 mod status_of;
 
 pub use applying::apply;
+pub use at_place::{catch_at, move_at};
 pub use count::{count_moves, status_and_count, status_and_count_shown};
 pub use game_move::Move;
 pub use listing::{moves, moves_into};

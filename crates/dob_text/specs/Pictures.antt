@@ -12,7 +12,7 @@ use Rattle.dob_pieces.specs.Bytes.{line_feed}
 use Rattle.dob_pieces.specs.Setups.{Cell}
 use Rattle.dob_pieces.specs.Squares.{column, row}
 use Rattle.dob_text.specs.Letters.{letter_of_kind}
-use Rattle.dob_text.specs.declared.pictures.TheConstants.{BACKGROUND}
+use Rattle.dob_text.specs.Backgrounds.{background}
 
 -- the enemy's pieces stand upside down
 abbrev pub turn_text : Side → List ℕ
@@ -63,5 +63,5 @@ hand_picture side hand =
 -- the background, the pieces on the board, and both hands
 abbrev pub picture_of : Setup → List ℕ
 picture_of setup =
-    BACKGROUND.now ++ (board_picture setup.board
+    background ++ (board_picture setup.board
     ++ (hand_picture Mover setup.hands.mover ++ (hand_picture Enemy setup.hands.enemy ++ (codes "</svg>" ++ line_feed ∷ []))))

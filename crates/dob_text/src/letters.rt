@@ -5,7 +5,7 @@ ghost use Rattle.dob_text.specs.Letters.{letter_of_kind, cased, letter_of};
 use dob_pieces::{Kind, Piece, Side};
 
 /// The letter of a piece: upper case for the mover's, lower case for the enemy's.
-pub(crate) fn piece_letter(side: Side, kind: Kind) -> u8
+pub fn piece_letter(side: Side, kind: Kind) -> u8
     ensures value { result ≡ cased side (letter_of_kind kind) }
     ensures ascii { result < 128 }
 {
@@ -23,7 +23,7 @@ pub(crate) fn piece_letter(side: Side, kind: Kind) -> u8
 }
 
 /// The letter of what stands on a square, a full stop where nothing does.
-pub(crate) fn cell_letter(cell: Option<Piece>) -> u8
+pub fn cell_letter(cell: Option<Piece>) -> u8
     ensures value { result ≡ letter_of cell }
     ensures ascii { result < 128 }
 {

@@ -18,6 +18,7 @@ mod write_positions;
 
 pub use draw_boards::draw_position;
 pub use fault::TextFault;
+pub use letters::{cell_letter, piece_letter};
 pub use pictures::picture_position;
 pub use read_positions::{read_position, read_position_bytes};
 pub use write_lines::write_line;

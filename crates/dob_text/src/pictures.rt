@@ -1,5 +1,6 @@
 // The board as a picture (SVG), in the colours and forms of the game's own set.
 ghost use Rattle.std.specs.Prelude.{◌≡◌, ◌<◌, ◌++◌, ◌∷◌, [], OnOk, IfOk, string_bytes};
+ghost use Rattle.dob_text.specs.Backgrounds.{background};
 ghost use Rattle.dob_text.specs.Letters.{letter_of_kind};
 ghost use Rattle.dob_text.specs.Pictures.{board_picture, hand_left, hand_picture, hand_top, piece_picture, pieces_picture, picture_of, square_picture};
 ghost use Rattle.dob_text.specs.Pictures.{turn_text, use_line};
@@ -9,7 +10,7 @@ use std::alloc::{AllocError, Global};
 
 /// The pieces, each round its own centre and seen from its own side, with a red dot for each step and its letter; below the
 /// pieces the board with the names of its rows and columns, and whose hand is which.
-pub(crate) const BACKGROUND: &str =
+const BACKGROUND: &str =
     "<svg xmlns='http://www.w3.org/2000/svg' viewBox='0 0 760 480' font-family='sans-serif' font-size='20' text-anchor='middle'>
 <defs>
 <g id='L'><path d='M-34-44H34Q44-44 44-34V34Q44 44 34 44H-34Q-44 44-44 34V-34Q-44-44-34-44Z' fill='#f6b8bd' stroke='#7a5a3a' stroke-width='2'/><circle cx='0' cy='-37' r='4' fill='#d22'/><circle cx='0' cy='37' r='4' fill='#d22'/><circle cx='37' cy='0' r='4' fill='#d22'/><circle cx='-37' cy='0' r='4' fill='#d22'/><circle cx='37' cy='-37' r='4' fill='#d22'/><circle cx='37' cy='37' r='4' fill='#d22'/><circle cx='-37' cy='-37' r='4' fill='#d22'/><circle cx='-37' cy='37' r='4' fill='#d22'/><circle cy='-2' r='27' fill='#a8591c'/><circle cy='-2' r='19' fill='#f5c242'/><circle cx='-7' cy='-6' r='3' fill='#222'/><circle cx='7' cy='-6' r='3' fill='#222'/><path d='M-4 2H4L0 7ZM-7 11Q0 16 7 11' fill='#222'/><text x='-26' y='34' font-size='17'>L</text></g>
@@ -32,6 +33,13 @@ pub(crate) const BACKGROUND: &str =
 <text x='216' y='397'>1</text><text x='544' y='397'>1</text>
 <text x='106' y='28'>other side</text><text x='656' y='466'>side to move</text>
 ";
+
+// What each picture begins with.
+fn first_part() -> &'static str
+    ensures { result.now ≡ background }
+{
+    BACKGROUND
+}
 
 // The name of a piece's picture in the background: its letter.
 fn picture_name(kind: Kind) -> &'static str
@@ -183,7 +191,7 @@ pub fn picture_position(alloc: Global, position: &Position) -> Result<String, Me
     ensures { IfOk result (λ text. string_bytes text ≡ picture_of position.now.setup) }
 {
     let setup = position.setup;
-    let mut text = BACKGROUND.to_string(alloc)?;
+    let mut text = first_part().to_string(alloc)?;
     push_board(alloc, &mut text, &setup.board)?;
     push_hand(alloc, &mut text, Side::Mover, setup.hands.mover)?;
     push_hand(alloc, &mut text, Side::Enemy, setup.hands.enemy)?;

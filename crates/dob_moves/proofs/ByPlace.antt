@@ -1,0 +1,184 @@
+-- What is looked for at a place of the move order is the move there.
+use Rattle.std.proofs.Common.{◌≡◌, ℕ, ◌+◌, ◌*◌, ◌<◌, ◌≤◌, ◌&&◌, nat_lt, Bool, true, false, cond, Option, Some, None, MatchOption, length}
+use Rattle.std.proofs.Common.{refl, sym, subst, arith}
+use Rattle.std.proofs.lemmas.Bool.{and_parts, ltb-true, lt-ltb}
+use Rattle.dob_pieces.specs.declared.kind.Kind.{Kind}
+use Rattle.dob_pieces.specs.declared.kind.HandKind.{HandKind}
+use Rattle.dob_pieces.specs.declared.kind.HandKind.TheVariants as hand
+use Rattle.dob_pieces.specs.declared.kind.Side.TheVariants.{Mover}
+use Rattle.dob_pieces.specs.declared.profile.Profile.{Profile}
+use Rattle.dob_pieces.specs.declared.setup.Setup.{Setup}
+use Rattle.dob_pieces.specs.Pieces.{leads}
+use Rattle.dob_pieces.specs.Setups.{Cell, at, held, piece_of}
+use Rattle.dob_pieces.proofs.Boards.{within-from_piece, leads-to_board}
+use Rattle.dob_moves.specs.declared.game_move.Move.{Move}
+use Rattle.dob_moves.specs.declared.game_move.Move.TheVariants.{Step, Put}
+use Rattle.dob_moves.specs.declared.first_moves.Aim.{Aim}
+use Rattle.dob_moves.specs.declared.first_moves.Aim.TheVariants.{AtLion, Elsewhere}
+use Rattle.dob_moves.specs.Moves.{CanGo, CatchesLion, hand_place, may_put, place, first_drop}
+use Rattle.dob_moves.specs.AtPlaces.{step_of, step_between, drop_on}
+use Rattle.dob_moves.specs.Walks.{own_kind, step_onto, put_if}
+use Rattle.dob_moves.proofs.ByProfile.{goes, may, can_go, can_go_in}
+use Rattle.dob_moves.proofs.Reach.{IsFound, Meets, go_found, lion_found, own_cell, step_sound, step_place, step_may}
+
+-- the same as one fact of a move
+pub as_pairs : (P : Move → Type 0) (there : ℕ) (o : Option Move) → MatchOption o ((m : Move) → P m → place m ≡ there → ⊥) (λ m. P m × (place m ≡ there))
+    → MatchOption o ((m : Move) → ¬ (P m × (place m ≡ there))) (λ m. P m × (place m ≡ there))
+as_pairs P there None none = λ m h. none m h.0 h.1
+as_pairs P there (Some m) is = is
+
+-- ---- steps
+
+-- what is found is such a step, and stands there
+step_is : (aim : Aim) (p : Setup) (from to : ℕ) (m : Move) → step_between aim p from to ≡ Some m → Meets aim p m × (place m ≡ 12 * from + to)
+step_is aim p from to m e = by_own (own_kind (at p from)) refl e where
+  by_lead : (kind : Kind) (b : Bool) → at p from ≡ Some (piece_of Mover kind) → leads kind from to ≡ b
+      → cond b (step_onto aim (at p to) kind from to) None ≡ Some m → Meets aim p m × (place m ≡ 12 * from + to)
+  by_lead kind false own leads e = cc
+  by_lead kind true own leads e = (
+    step_sound aim p kind from to (at p to) m (record { own = own; leads = leads }) refl e,
+    step_place aim kind from to (at p to) m e,
+  )
+
+  by_own : (o : Option Kind) → own_kind (at p from) ≡ o → step_of aim p o from to ≡ Some m → Meets aim p m × (place m ≡ 12 * from + to)
+  by_own None own e = cc
+  by_own (Some kind) own e = by_lead kind (leads kind from to) (own_cell (at p from) kind own) refl e
+
+-- each such step is found at its place
+found_there : (aim : Aim) (p : Setup) (kind : Kind) (from to : ℕ) (m : Move) → IsFound aim p kind from to m → step_between aim p from to ≡ Some m
+found_there aim p kind from to m h = rw (h.step.own, h.step.leads) h.found
+
+one_place : (f t from to : ℕ) → t < 12 → to < 12 → 12 * f + t ≡ 12 * from + to → f ≡ from
+one_place f t from to low high e = omega (arith, low, high, e)
+
+step_meets : (aim : Aim) (p : Setup) (kind : Kind) (f t : ℕ) (catch grows : Bool) → Meets aim p (Step kind f t catch grows)
+    → IsFound aim p kind f t (Step kind f t catch grows)
+step_meets AtLion p kind f t catch grows h = lion_found p kind f t catch grows h
+step_meets Elsewhere p kind f t catch grows h = go_found p kind f t catch grows h
+
+put_behind : (aim : Aim) (p : Setup) (kind : HandKind) (t from to : ℕ) → from < 12 → to < 12 → first_drop + 12 * hand_place kind + t ≡ 12 * from + to → ⊥
+put_behind aim p kind t from to low high e = omega (arith, low, high, e)
+
+step_there : (aim : Aim) (p : Setup) (from to : ℕ) (m : Move) → from < 12 → to < 12 → Meets aim p m → place m ≡ 12 * from + to
+    → step_between aim p from to ≡ Some m
+step_there aim p from to (Step kind f t catch grows) low high h e =
+    let found = step_meets aim p kind f t catch grows h in
+    let near = leads-to_board kind f t found.step.leads in
+    let is : f ≡ from = one_place f t from to near high e in
+    let also : t ≡ to = omega (arith, is, e) in
+    subst (λ (k : ℕ). step_between aim p k to ≡ Some (Step kind f t catch grows)) is
+    (subst (λ (k : ℕ). step_between aim p f k ≡ Some (Step kind f t catch grows)) also
+    (found_there aim p kind f t (Step kind f t catch grows) found))
+step_there aim p from to (Put kind t) low high h e = absurd (put_behind aim p kind t from to low high e)
+
+-- a step that is aimed so, or there is none
+pub step_answer : (aim : Aim) (p : Setup) (from to : ℕ) (o : Option Move) → from < 12 → to < 12 → o ≡ step_between aim p from to
+    → MatchOption o ((m : Move) → Meets aim p m → place m ≡ 12 * from + to → ⊥) (λ m. Meets aim p m × (place m ≡ 12 * from + to))
+step_answer aim p from to None low high e = λ m h there. let found = step_there aim p from to m low high h there in cc
+step_answer aim p from to (Some m) low high e = step_is aim p from to m (sym e)
+
+-- no profile forbids a step
+pub step_goes : (profile : Profile) (p : Setup) (from to : ℕ) (o : Option Move) → from < 12 → to < 12 → o ≡ step_between Elsewhere p from to
+    → MatchOption o ((m : Move) → CanGo profile p m → place m ≡ 12 * from + to → ⊥) (λ m. CanGo profile p m × (place m ≡ 12 * from + to))
+step_goes profile p from to None low high e =
+    let none = step_answer Elsewhere p from to None low high e in
+    λ m can there. none m (can_go profile p m can) there
+step_goes profile p from to (Some m) low high e =
+    let is = step_answer Elsewhere p from to (Some m) low high e in
+    (can_go_in profile p m is.0 (step_may profile m (let there = is.1 in omega (arith, there, low, high))), is.1)
+
+-- ---- drops
+
+drop_is : (profile : Profile) (p : Setup) (kind : HandKind) (to : ℕ) (m : Move) → to < 12 → drop_on profile p kind to ≡ Some m
+    → CanGo profile p m × (place m ≡ first_drop + 12 * hand_place kind + to)
+drop_is profile p kind to m lt e = by_test (nat_lt 0 (held p.hands.mover kind) && may_put profile kind to) (at p to) refl refl e where
+  by_test : (b : Bool) (cell : Cell) → nat_lt 0 (held p.hands.mover kind) && may_put profile kind to ≡ b → at p to ≡ cell
+      → cond b (put_if cell kind to) None ≡ Some m → CanGo profile p m × (place m ≡ first_drop + 12 * hand_place kind + to)
+  by_test true None passes free e =
+      let parts = and_parts (nat_lt 0 (held p.hands.mover kind)) (may_put profile kind to) passes in
+      let same : Put kind to ≡ m = cc in
+      subst (λ (x : Move). CanGo profile p x × (place x ≡ first_drop + 12 * hand_place kind + to)) same (
+        can_go_in profile p (Put kind to) (
+          _,
+          record {
+            in_hand = ltb-true 0 (held p.hands.mover kind) parts.0;
+            on_board = lt;
+            free = free;
+            outcome = refl;
+          },
+        ) parts.1,
+        refl,
+      )
+  by_test true (Some piece) passes stands e = cc
+  by_test false cell passes stands e = cc
+
+drop_found : (profile : Profile) (p : Setup) (kind : HandKind) (to : ℕ) → CanGo profile p (Put kind to) → drop_on profile p kind to ≡ Some (Put kind to)
+drop_found profile p kind to (q, g) =
+    let d = goes profile p (Put kind to) q g in
+    let here : may_put profile kind to ≡ true = may profile p (Put kind to) q g in
+    let some : nat_lt 0 (held p.hands.mover kind) ≡ true = lt-ltb 0 (held p.hands.mover kind) d.in_hand in
+    rw (some, here, d.free) refl
+
+drop_square : (profile : Profile) (p : Setup) (kind : HandKind) (to : ℕ) → CanGo profile p (Put kind to) → to < 12
+drop_square profile p kind to (q, g) = (goes profile p (Put kind to) q g).on_board
+
+one_kind : (a b : HandKind) → hand_place a ≡ hand_place b → a ≡ b
+one_kind hand.Chick hand.Chick e = refl
+one_kind hand.Chick hand.Elephant e = absurd (omega (arith, e))
+one_kind hand.Chick hand.Giraffe e = absurd (omega (arith, e))
+one_kind hand.Elephant hand.Chick e = absurd (omega (arith, e))
+one_kind hand.Elephant hand.Elephant e = refl
+one_kind hand.Elephant hand.Giraffe e = absurd (omega (arith, e))
+one_kind hand.Giraffe hand.Chick e = absurd (omega (arith, e))
+one_kind hand.Giraffe hand.Elephant e = absurd (omega (arith, e))
+one_kind hand.Giraffe hand.Giraffe e = refl
+
+-- a step's place is before those of drops
+step_before : (profile : Profile) (p : Setup) (kind : Kind) (from to : ℕ) (catch grows : Bool) → length p.board ≡ 12 → CanGo profile p (Step kind from to catch grows)
+    → 12 * from + to < first_drop
+step_before profile p kind from to catch grows len can =
+    let found = go_found p kind from to catch grows (can_go profile p (Step kind from to catch grows) can) in
+    let within = within-from_piece p from (piece_of Mover kind) found.step.own in
+    let near = leads-to_board kind from to found.step.leads in
+    omega (arith, within, near, len)
+
+drop_there : (profile : Profile) (p : Setup) (kind : HandKind) (to : ℕ) (m : Move) → length p.board ≡ 12 → to < 12 → CanGo profile p m
+    → place m ≡ first_drop + 12 * hand_place kind + to → drop_on profile p kind to ≡ Some m
+drop_there profile p kind to (Step k f t catch grows) len lt can e =
+    let before = step_before profile p k f t catch grows len can in
+    absurd (omega (arith, before, e))
+drop_there profile p kind to (Put k t) len lt can e =
+    let near = drop_square profile p k t can in
+    let number : hand_place k ≡ hand_place kind = omega (arith, near, lt, e) in
+    let is : k ≡ kind = one_kind k kind number in
+    let also : t ≡ to = omega (arith, number, e) in
+    subst (λ (x : HandKind). drop_on profile p x to ≡ Some (Put k t)) is
+    (subst (λ (x : ℕ). drop_on profile p k x ≡ Some (Put k t)) also (drop_found profile p k t can))
+
+-- a drop, or there is none at that place
+pub drop_goes : (profile : Profile) (p : Setup) (kind : HandKind) (to : ℕ) (o : Option Move) → length p.board ≡ 12 → to < 12 → o ≡ drop_on profile p kind to
+    → MatchOption o ((m : Move) → CanGo profile p m → place m ≡ first_drop + 12 * hand_place kind + to → ⊥)
+    (λ m. CanGo profile p m × (place m ≡ first_drop + 12 * hand_place kind + to))
+drop_goes profile p kind to None len lt e = λ m can there. let found = drop_there profile p kind to m len lt can there in cc
+drop_goes profile p kind to (Some m) len lt e = drop_is profile p kind to m lt (sym e)
+
+-- no move stands behind the drops
+few_kinds : (kind : HandKind) → hand_place kind ≤ 2
+few_kinds hand.Chick = omega arith
+few_kinds hand.Elephant = omega arith
+few_kinds hand.Giraffe = omega arith
+
+pub none_behind : (profile : Profile) (p : Setup) (there : ℕ) → length p.board ≡ 12 → first_drop + 36 ≤ there → (m : Move) → CanGo profile p m → place m ≡ there → ⊥
+none_behind profile p there len far (Step k f t catch grows) can e =
+    let before = step_before profile p k f t catch grows len can in omega (arith, before, far, e)
+none_behind profile p there len far (Put k t) can e =
+    let near = drop_square profile p k t can in let few = few_kinds k in omega (arith, near, few, far, e)
+
+-- no drop catches the lion, and a step that does stands before those of drops
+pub no_catch_behind : (p : Setup) (there : ℕ) → length p.board ≡ 12 → first_drop ≤ there → (m : Move) → CatchesLion p m → place m ≡ there → ⊥
+no_catch_behind p there len far (Step kind from to catch grows) h e =
+    let found = lion_found p kind from to catch grows h in
+    let within = within-from_piece p from (piece_of Mover kind) found.step.own in
+    let near = leads-to_board kind from to found.step.leads in
+    omega (arith, within, near, len, far, e)
+no_catch_behind p there len far (Put kind to) h e = h

@@ -1,0 +1,119 @@
+// The move at a place of the move order, without the list of all: each square and each kind in hand has its places.
+ghost use Rattle.std.specs.Prelude.{◌≡◌, ◌<◌, ◌+◌, ◌*◌, ℕ, MatchOption};
+ghost use Rattle.dob_moves.specs.declared.game_move.Move.{Move as AnyMove};
+ghost use Rattle.dob_moves.specs.Moves.{CanGo, hand_place, place as place_of};
+ghost use Rattle.dob_moves.specs.Statuses.{HasStatus};
+ghost use Rattle.dob_moves.specs.AtPlaces.{IsMoveAt, IsCatchAt, step_between, drop_on};
+
+use crate::first_moves::{Aim, own_kind, put_on, step_onto};
+use crate::game_move::Move;
+use crate::position_status::Status;
+use crate::status_of::status;
+use dob_pieces::{HandKind, Piece, Position, Profile, Setup, Side, Square};
+
+// The first place of a drop, behind those of all steps, and the one behind the last.
+const FIRST_DROP: usize = Square::COUNT * Square::COUNT;
+
+const END: usize = FIRST_DROP + 3 * Square::COUNT;
+
+/// The move of an open position at that place of the move order, by the rules of the profile, or `None` where it has none there, and of any
+/// other position. The place of a step is 12 times the square that it leaves and the square that it reaches, that of a drop 144, 12 times its
+/// kind's number (chick 0, elephant 1, giraffe 2) and the square. It takes no memory.
+pub fn move_at(profile: Profile, position: &Position, place: usize) -> Option<Move>
+    ensures { MatchOption result ((m : AnyMove) → ¬ IsMoveAt profile position.now.setup place m) (IsMoveAt profile position.now.setup place) }
+{
+    match status(profile, position) {
+        Status::Open => move_of_open(profile, position, place),
+        _ => None,
+    }
+}
+
+/// The step onto the enemy lion at that place of the move order, or `None` where there is none. It takes no memory.
+pub fn catch_at(position: &Position, place: usize) -> Option<Move>
+    ensures { MatchOption result ((m : AnyMove) → ¬ IsCatchAt position.now.setup place m) (IsCatchAt position.now.setup place) }
+{
+    if place >= FIRST_DROP {
+        return None;
+    }
+    let (from, to) = squares_at(place);
+    step_between(&position.setup, Aim::AtLion, from, to)
+}
+
+// The move at that place, of a position that is open.
+fn move_of_open(profile: Profile, position: &Position, place: usize) -> Option<Move>
+    ensures { MatchOption result
+        ((m : AnyMove) → CanGo profile position.now.setup m → place_of m ≡ place → ⊥)
+        (λ m. CanGo profile position.now.setup m × (place_of m ≡ place)) }
+{
+    if place < FIRST_DROP {
+        let (from, to) = squares_at(place);
+        step_between(&position.setup, Aim::Elsewhere, from, to)
+    } else if place < END {
+        let drop = place - FIRST_DROP;
+        let to = Square::new(drop % Square::COUNT);
+        drop_on(
+            profile,
+            &position.setup,
+            hand_kind(drop / Square::COUNT),
+            to,
+        )
+    } else {
+        None
+    }
+}
+
+// The squares that the step at that place leaves and reaches.
+fn squares_at(place: usize) -> (Square, Square)
+    requires { place < 144 }
+    ensures place { 12 * result.0 + result.1 ≡ place }
+    ensures first { result.0 < 12 }
+    ensures last { result.1 < 12 }
+{
+    (
+        Square::new(place / Square::COUNT),
+        Square::new(place % Square::COUNT),
+    )
+}
+
+// The mover's step from the one square to the other, if it ends where it is aimed.
+fn step_between(setup: &Setup, aim: Aim, from: Square, to: Square) -> Option<Move>
+    ensures { result ≡ step_between aim setup.now from to }
+{
+    match own_kind(setup.at(from)) {
+        Some(kind) => {
+            if kind.leads(from, to) {
+                step_onto(aim, setup.at(to), kind, from, to)
+            } else {
+                None
+            }
+        }
+        None => None,
+    }
+}
+
+// The drop of that kind on that square by the rules of the profile.
+fn drop_on(profile: Profile, setup: &Setup, kind: HandKind, to: Square) -> Option<Move>
+    ensures { result ≡ drop_on profile setup.now kind to }
+{
+    let piece = Piece {
+        side: Side::Mover,
+        kind: kind.on_board(),
+    };
+    if setup.hands.mover.count(kind) > 0 && profile.may_stand(to, Some(piece)) {
+        put_on(setup, kind, to)
+    } else {
+        None
+    }
+}
+
+// The kind in hand of that number.
+fn hand_kind(number: usize) -> HandKind
+    requires { number < 3 }
+    ensures { hand_place result ≡ number }
+{
+    match number {
+        0 => HandKind::Chick,
+        1 => HandKind::Elephant,
+        _ => HandKind::Giraffe,
+    }
+}
