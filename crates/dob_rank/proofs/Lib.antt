@@ -76,6 +76,7 @@ pub mod IndexedRuns  -- the index of a block's runs grows and is read
 pub mod FamilyBlocks  -- the blocks of a family
 pub mod FamilySums  -- the classes of a block of a family as a sum over runs
 pub mod ClassesBefore  -- the classes before a run and before a place of one
+pub mod WalkMarks  -- what a step of a walk over a run's places passes
 pub mod ClassBounds  -- how many positions and classes a set has at most
 -- Long lists.
 pub mod Segmentation  -- lists in segments

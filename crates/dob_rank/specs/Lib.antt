@@ -21,3 +21,5 @@ pub mod FamilyRuns
 pub mod RunTables
 pub mod RunIndex
 pub mod BlockTables
+pub mod BlockRows
+pub mod Walks

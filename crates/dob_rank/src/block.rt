@@ -320,7 +320,7 @@ pub(crate) fn block_size(set: PieceSet, block: u64) -> u64
 }
 
 /// How many runs the block of that number has: one for the mover's hand and the lions' squares each.
-pub(crate) fn count_runs(set: PieceSet, block: u64) -> u64
+pub fn count_runs(set: PieceSet, block: u64) -> u64
     requires { block < product (block_bases set) }
     ensures value { result ≡ runs_in set block }
     ensures bound { result ≤ 2 ^ 12 }
@@ -331,7 +331,7 @@ pub(crate) fn count_runs(set: PieceSet, block: u64) -> u64
 }
 
 /// How many positions a run of the block of that number has.
-pub(crate) fn run_size_in(set: PieceSet, block: u64) -> u64
+pub fn run_size_in(set: PieceSet, block: u64) -> u64
     requires { block < product (block_bases set) }
     ensures value { result ≡ run_size set block }
     ensures positive { 0 < result }

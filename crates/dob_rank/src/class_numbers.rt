@@ -9,11 +9,11 @@ ghost use Rattle.dob_rank.specs.Runs.{runs_in, run_size, run_start, run_kind, li
 ghost use Rattle.dob_rank.specs.declared.runs.RunKind.TheVariants.{Mixed};
 
 use crate::block;
+use crate::class_walks::MixedRun;
 use crate::ranks::representative;
 use crate::runs::{LIONS, RunKind, kind_of};
 use crate::set_ranks::spot_of;
 use crate::spots::count_before;
-use crate::stretches::stretch_from;
 use dob_pieces::{Family, Position};
 
 /// The number of the class of a position of the family: how many representatives stand before the earlier of it and its
@@ -79,7 +79,7 @@ fn classes_of_lions(family: Family, block: u64, lions: u64) -> u64
 }
 
 /// How many representatives stand in a run before that place, or before its end.
-fn classes_in_run(family: Family, block: u64, run: u64, place: u64) -> u64
+pub fn classes_in_run(family: Family, block: u64, run: u64, place: u64) -> u64
     requires block { block < product (block_bases family.set) }
     requires run { run < runs_in family.set block }
     requires place { place ≤ run_size family.set block }
@@ -100,18 +100,7 @@ fn classes_in_stretches(family: Family, block: u64, run: u64, place: u64) -> u64
     requires kind { run_kind (run % lion_pairs) ≡ Mixed }
     ensures { result ≡ marks_below (local_marks_in family block run) (marks_below (is_there family block run) place) }
 {
-    let bases = block::local_bases_in(family.set, block);
-    let mut from = 0;
-    let mut start = 0;
-    let mut count = 0;
-    while from < place {
-        let (is_marked, end) = stretch_from(family.set, block, run, from, &bases);
-        from = end.min(place);
-        let next = count_before(family, block, run, from);
-        if is_marked {
-            count += next - start;
-        }
-        start = next;
-    }
-    count
+    let run = MixedRun { family, block, run };
+    let mut walk = run.walk_from(0);
+    run.walk_to(&mut walk, place)
 }

@@ -7,12 +7,15 @@
 // block a position is a number in mixed radix, with a digit for each further part of the key.
 #![tactic(auto)]
 
+mod any_rows;
 mod bit_placing;
 mod bitboards;
 mod block;
 mod block_classes;
 mod class_counts;
 mod class_numbers;
+mod class_rows;
+mod class_walks;
 mod classes;
 mod far_places;
 mod far_rows;
@@ -35,11 +38,17 @@ mod starts;
 mod stretch_tables;
 mod stretches;
 
+pub use any_rows::class_number_by_any;
 pub use bitboards::Bitboards;
+pub use block::{count_runs, run_size_in};
 pub use class_counts::count_classes;
-pub use class_numbers::class_number;
+pub use class_numbers::{class_number, classes_in_run};
+pub use class_rows::{block_number, class_number_by, count_blocks, write_row};
+pub use class_walks::{MixedRun, Walk};
 pub use classes::Classes;
 pub use ranks::{rank, representative, size, unrank};
+pub use runs::{LIONS, RunKind, Spot, kind_of};
 pub use segment_length::SegmentLength;
 pub use segmented::{Segments, SegmentsIter};
+pub use set_ranks::spot_of;
 pub use shown::Shown;

@@ -12,14 +12,14 @@ pub(crate) const OWN_SQUARES: u64 = 9;
 pub(crate) const ENEMY_SQUARES: u64 = 11;
 
 /// In how many ways the two lions can stand.
-pub(crate) const LIONS: u64 = OWN_SQUARES * ENEMY_SQUARES;
+pub const LIONS: u64 = OWN_SQUARES * ENEMY_SQUARES;
 
 /// How many squares both lions leave to other pieces.
 pub(crate) const FREE_SQUARES: u64 = 10;
 
 /// Whether the positions of a run are no later than their mirror images.
 #[derive(Clone, Copy, Debug)]
-pub(crate) enum RunKind {
+pub enum RunKind {
     /// Each of them is the earlier one: the mover's lion is on column a, or on b with the enemy's on a.
     First,
     /// Each of them is the later one: the mover's lion is on column c, or on b with the enemy's on c.
@@ -29,7 +29,7 @@ pub(crate) enum RunKind {
 }
 
 /// The kind of the runs of those lions.
-pub(crate) fn kind_of(lions: u64) -> RunKind
+pub fn kind_of(lions: u64) -> RunKind
     requires { lions < LIONS }
     ensures { result ≡ run_kind lions }
 {
@@ -45,9 +45,9 @@ pub(crate) fn kind_of(lions: u64) -> RunKind
 
 /// A place in a block: the run, and the place in the run.
 #[derive(Clone, Copy)]
-pub(crate) struct Spot {
-    pub(crate) run: u64,
-    pub(crate) local: u64,
+pub struct Spot {
+    pub run: u64,
+    pub local: u64,
 }
 
 /// The digits that the positions of a run have in common: the mover's hand, the square of the mover's lion, and that of the

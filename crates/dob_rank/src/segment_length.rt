@@ -1,6 +1,5 @@
 // How many items the segments of a list have.
-ghost use Rattle.std.specs.Prelude.{◌≡◌, ◌⊎◌, ◌^◌, ◌<◌, ◌≤◌, ◌/◌, ◌%◌, MatchOption};
-ghost use Rattle.std.specs.Option.{ForSome};
+ghost use Rattle.std.specs.Prelude.{◌≡◌, ◌⊎◌, ◌^◌, ◌*◌, ◌<◌, ◌≤◌, ◌/◌, ◌%◌, MatchOption};
 ghost use Rattle.dob_rank.specs.Segmented.{IsShift};
 
 use crate::radix;
@@ -8,27 +7,28 @@ use crate::radix;
 /// The most items that a segment has.
 const MOST: u32 = 1 << 20;
 
-/// How many items each segment of a list but the last has: from 1 to 2^20. A place is split by a shift where that is a
-/// power of 2, which takes half the time of a division.
+/// How many items each segment of a list but the last has: a power of 2 from 1 to 2^20, so that a place is split by a shift and
+/// a mask, which take half the time of a division.
 #[derive(Clone, Copy)]
 pub struct SegmentLength {
     items: u32,
-    shift: Option<u32>,
+    shift: u32,
     ghost size: { (0 < items) × (items ≤ 2 ^ 20) },
-    ghost power: { ForSome shift (IsShift items) },
+    ghost power: { IsShift items shift },
 }
 
 impl SegmentLength {
-    /// The length of so many items; none where they aren't 1 to 2^20.
+    /// The greatest length of at most so many items; none where they aren't 1 to 2^20.
     pub fn of(items: u32) -> Option<SegmentLength>
-        ensures { MatchOption result ((items ≡ 0) ⊎ (2 ^ 20 < items)) (λ length. length.items ≡ items) }
+        ensures { MatchOption result ((items ≡ 0) ⊎ (2 ^ 20 < items)) (λ length. (length.items ≤ items) × (items < 2 * length.items)) }
     {
         if items == 0 || items > MOST {
             return None;
         }
+        let shift = items.ilog2();
         Some(SegmentLength {
-            items,
-            shift: shift_of(items),
+            items: 1 << shift,
+            shift,
         })
     }
 
@@ -38,7 +38,7 @@ impl SegmentLength {
     {
         SegmentLength {
             items: MOST,
-            shift: Some(20),
+            shift: 20,
         }
     }
 
@@ -56,22 +56,7 @@ impl SegmentLength {
         ensures number { result.0 ≡ place / self.items }
         ensures within { result.1 ≡ place % self.items }
     {
-        let (number, within) = match self.shift {
-            Some(shift) => radix::split_by_power(place, u64::from(shift)),
-            None => (place / u64::from(self.items), place % u64::from(self.items)),
-        };
+        let (number, within) = radix::split_by_power(place, u64::from(self.shift));
         (number as usize, within as usize)
-    }
-}
-
-// The shift that divides by so many items, where that is a power of 2.
-fn shift_of(items: u32) -> Option<u32>
-    ensures { ForSome result (IsShift items) }
-{
-    let shift = items.trailing_zeros();
-    if shift < u32::BITS && items == 1 << shift {
-        Some(shift)
-    } else {
-        None
     }
 }

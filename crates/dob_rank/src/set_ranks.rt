@@ -58,7 +58,7 @@ pub(crate) fn unrank_in_set(set: PieceSet, rank: u64) -> Position
 }
 
 /// The number of the block of a position of the set, and the position's spot there.
-pub(crate) fn spot_of(set: PieceSet, position: &Position) -> (u64, Spot)
+pub fn spot_of(set: PieceSet, position: &Position) -> (u64, Spot)
     requires { IsPositionOfSet set position.now.setup }
     ensures block { result.0 ≡ block_of set position.now.setup }
     ensures run { result.1.run ≡ run_of set position.now.setup }

@@ -1,0 +1,89 @@
+-- Where the numbers of an index stand: the entries of one run behind those of the run before, and all of them among so many numbers.
+use Rattle.std.proofs.Common.{◌≡◌, ℕ, zero, suc, ◌+◌, ◌*◌, ◌<◌, ◌≤◌, ◌^◌, ap, inl, inr, arith}
+use Rattle.std.proofs.lemmas.Bool.{cases_lt}
+use Rattle.dob_pieces.specs.declared.piece_set.PieceSet.{PieceSet}
+use Rattle.dob_rank.specs.Numbers.{product, sum_below, block_bases}
+use Rattle.dob_rank.specs.Runs.{run_kind, lion_pairs}
+use Rattle.dob_rank.specs.declared.runs.RunKind.{RunKind}
+use Rattle.dob_rank.specs.declared.runs.RunKind.TheVariants.{First, Later, Mixed}
+use Rattle.dob_rank.proofs.Sums.{sum_below-rises}
+use Rattle.dob_rank.proofs.Blocks.{sum_below_more, blocks_small}
+use Rattle.dob_rank.proofs.RunPlaces.{run_size-small}
+use Rattle.dob_index.specs.Layout.{row_at, entries_in, where_mixed, run_words, entries_at, words_of}
+
+-- the entries of all runs of a block
+abbrev block_words : PieceSet → ℕ → ℕ
+block_words set block = sum_below (run_words set block) lion_pairs
+
+-- ---- one run and one block more
+
+pub run_more : (set : PieceSet) (block lions : ℕ) → entries_at set block (lions + 1) ≡ entries_at set block lions + run_words set block lions
+run_more set block lions =
+    let more = sum_below_more (run_words set block) lions in
+    omega (arith, more)
+
+pub block_more : (set : PieceSet) (block : ℕ) → entries_at set block lion_pairs ≡ entries_at set (block + 1) 0
+block_more set block =
+    let more = sum_below_more (block_words set) block in
+    omega (arith, more)
+
+-- ---- within the whole
+
+below_end : (f : ℕ → ℕ) (a b : ℕ) → a ≤ b → sum_below f a ≤ sum_below f b
+below_end f a b upto = elim (cases_lt a b) [
+  | inl lt ↦ (let rise = sum_below-rises f a b lt in omega (arith, rise))
+  | inr ge ↦ (let same = ap (sum_below f) (let e : a ≡ b = omega (arith, upto, ge) in e) in omega (arith, same))
+]
+
+pub run_within : (set : PieceSet) (block lions : ℕ) → block < product (block_bases set) → lions ≤ lion_pairs → entries_at set block lions ≤ words_of set
+run_within set block lions within upto =
+    let runs = below_end (run_words set block) lions lion_pairs upto in
+    let blocks = sum_below-rises (block_words set) block (product (block_bases set)) within in
+    omega (arith, runs, blocks)
+
+pub behind_rows : (set : PieceSet) (block lions : ℕ) → row_at (product (block_bases set)) ≤ entries_at set block lions
+behind_rows set block lions = omega arith
+
+-- ---- they are few
+
+sum_few : (f : ℕ → ℕ) (n : ℕ) → ((k : ℕ) → k < n → f k ≤ 2 ^ 29) → sum_below f n ≤ n * 2 ^ 29
+sum_few f zero few = omega arith
+sum_few f (suc n) few =
+    let rest = sum_few f n (λ k low. few k (omega (arith, low))) in
+    let here = few n (omega arith) in
+    omega (arith, rest, here)
+
+sums_few : (f : ℕ → ℕ) (n : ℕ) → ((k : ℕ) → k < n → f k ≤ 2 ^ 36) → sum_below f n ≤ n * 2 ^ 36
+sums_few f zero few = omega arith
+sums_few f (suc n) few =
+    let rest = sums_few f n (λ k low. few k (omega (arith, low))) in
+    let here = few n (omega arith) in
+    omega (arith, rest, here)
+
+kind_few : (kind : RunKind) (entries : ℕ) → where_mixed kind entries ≤ entries
+kind_few Mixed entries = omega arith
+kind_few First entries = omega arith
+kind_few Later entries = omega arith
+
+pub run_few : (set : PieceSet) (block lions : ℕ) → block < product (block_bases set) → run_words set block lions ≤ 2 ^ 29
+run_few set block lions within =
+    let few = kind_few (run_kind lions) (entries_in set block) in
+    let small = run_size-small set block within in
+    omega (arith, few, small)
+
+pub block_few : (set : PieceSet) (block lions : ℕ) → block < product (block_bases set) → lions ≤ lion_pairs → sum_below (run_words set block) lions ≤ 2 ^ 36
+block_few set block lions within upto =
+    let few = sum_few (run_words set block) lions (λ k low. run_few set block k within) in
+    omega (arith, few, upto)
+
+pub blocks_few : (set : PieceSet) (block : ℕ) → block ≤ product (block_bases set) → sum_below (block_words set) block ≤ 2 ^ 41
+blocks_few set block upto =
+    let few = sums_few (block_words set) block (λ k low. block_few set k lion_pairs (omega (arith, low, upto)) (omega arith)) in
+    let small = blocks_small set in
+    omega (arith, few, small, upto)
+
+pub words_few : (set : PieceSet) → words_of set ≤ 2 ^ 42
+words_few set =
+    let few = blocks_few set (product (block_bases set)) (omega arith) in
+    let small = blocks_small set in
+    omega (arith, few, small)

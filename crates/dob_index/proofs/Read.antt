@@ -1,0 +1,64 @@
+-- What an index says of a block's runs is read from it.
+use Rattle.std.proofs.Common.{◌≡◌, ℕ, zero, suc, ◌+◌, ◌*◌, ◌^◌, ◌<◌, ◌≤◌, ◌∙◌, sym, ap, subst, arith, List, get_or}
+use Rattle.std.proofs.Math.Nat.{mul-le-mul_right}
+use Rattle.dob_pieces.specs.declared.profile.Family.{Family}
+use Rattle.dob_rank.specs.Families.{is_marked}
+use Rattle.dob_rank.specs.Marks.{marks_below}
+use Rattle.dob_rank.specs.Numbers.{product, block_bases, start_of}
+use Rattle.dob_rank.specs.Runs.{run_start, run_kind, lion_pairs}
+use Rattle.dob_rank.proofs.RunTables.{marks_small}
+use Rattle.dob_rank.proofs.ClassesBefore.{none_before, all_lions}
+use Rattle.dob_rank.proofs.RunSums.{lions_same}
+use Rattle.dob_rank.specs.declared.class_walks.MixedRun.{MixedRun}
+use Rattle.dob_rank.specs.declared.class_walks.Walk.{Walk}
+use Rattle.dob_rank.specs.Walks.{IsWalk, marks_before}
+use Rattle.dob_index.specs.Layout.{row_at, entry_places}
+use Rattle.dob_index.specs.Index.{IsIndex}
+use Rattle.dob_index.proofs.Walked.{walked}
+
+-- how many classes of the block stand before a run of the first hand, or before the end of the last
+pub row_read : (family : Family) (block lions : ℕ) (words : List ℕ) → IsIndex family words → block < product (block_bases family.set) → lions ≤ lion_pairs
+    → marks_below (is_marked family) (start_of family.set block) + get_or words (row_at block + lions) 0
+    ≡ marks_below (is_marked family) (run_start family.set block lions)
+row_read family block zero words is within upto =
+    ap (λ (n : ℕ). marks_below (is_marked family) (start_of family.set block) + n)
+    (ap (λ (i : ℕ). get_or words i 0) (let e : row_at block + 0 ≡ row_at block = omega arith in e) ∙ (is.rows block within).first_is)
+    ∙ none_before family block
+row_read family block (suc lions) words is within upto =
+    let same : lions + 1 ≡ suc lions = omega arith in
+    subst (λ (n : ℕ). marks_below (is_marked family) (start_of family.set block) + get_or words (row_at block + n) 0
+    ≡ marks_below (is_marked family) (run_start family.set block n)) same (is.runs block lions within (omega (arith, upto)))
+
+-- it is small
+pub row_small : (family : Family) (block lions : ℕ) (words : List ℕ) → IsIndex family words → block < product (block_bases family.set) → lions ≤ lion_pairs
+    → get_or words (row_at block + lions) 0 ≤ 2 ^ 42
+row_small family block lions words is within upto =
+    let read = row_read family block lions words is within upto in
+    let all = all_lions family block within in
+    let few = marks_small family block lions within (omega (arith, upto, all)) in
+    omega (arith, read, few)
+
+-- the hands before have few
+pub hands_few : (hands whole part : ℕ) → hands ≤ 41 → whole ≤ 2 ^ 42 → part ≤ 2 ^ 42 → hands * whole + part ≤ 2 ^ 48
+hands_few hands whole part few small less =
+    let times : hands * whole ≤ 41 * whole = mul-le-mul_right whole few in
+    omega (arith, times, small, less)
+
+-- an entry of the first hand's run is what a walk from the run's start to its place counts
+pub entry_read : (run : MixedRun) (words : List ℕ) (first entry : ℕ) (walk : Walk) → IsIndex run.family words → run.run < lion_pairs
+    → first ≡ get_or words (row_at run.block + (101 + run.run)) 0 → IsWalk run walk → walk.place ≡ entry * entry_places
+    → get_or words (first + entry) 0 ≡ marks_before run walk.number
+entry_read run words first entry walk is low first_is stands place =
+    let upto = stands.upto in
+    let kind = ap run_kind (lions_same run.run low) in
+    let there = is.entries run.block run.run run.within low (sym kind ∙ run.kind) entry (omega (arith, upto, place)) in
+    let here = subst (λ (f : ℕ). marks_below (is_marked run.family) (run_start run.family.set run.block run.run) + get_or words (f + entry) 0
+    ≡ marks_below (is_marked run.family) (run_start run.family.set run.block run.run + entry * entry_places)) (sym first_is) there in
+    let passed = walked run walk stands in
+    let end = ap (λ (n : ℕ). marks_below (is_marked run.family) (run_start run.family.set run.block run.run + n)) place in
+    omega (arith, here, passed, end)
+
+-- where the entries of a run begin
+pub first_small : (run : MixedRun) (words : List ℕ) → IsIndex run.family words → run.run < lion_pairs
+    → get_or words (row_at run.block + (101 + run.run)) 0 ≤ 2 ^ 42
+first_small run words is low = is.small run.block run.run run.within low (sym (ap run_kind (lions_same run.run low)) ∙ run.kind)

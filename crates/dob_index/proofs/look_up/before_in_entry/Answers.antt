@@ -1,0 +1,42 @@
+-- The entry says how many stand before its place, and the walk how many behind it.
+use Rattle.std.proofs.Common.{◌≡◌, ◌+◌, ◌/◌, ◌∙◌, ℕ, ap, arith, get_or}
+use Rattle.dob_rank.specs.Families.{is_marked}
+use Rattle.dob_rank.specs.Marks.{marks_below}
+use Rattle.dob_rank.specs.Runs.{run_start}
+use Rattle.dob_rank.proofs.WalkMarks.{walked_few}
+use Rattle.dob_index.specs.Layout.{row_at}
+use Rattle.dob_index.proofs.Walked.{walked}
+use Rattle.dob_index.proofs.Read.{entry_read, first_small}
+use Rattle.dob_index.proofs.look_up.before_in_entry.Goals as goal
+
+pub overflow_add-result : goal.overflow_add-result
+overflow_add-result c =
+    let few = walked_few c.args.run c.walk_to.new.walk c.walk_to.ensures.walk in
+    let count = c.walk_to.ensures.count in
+    let bound = c.word-before.ensures.bound in
+    omega (arith, few, count, bound)
+
+pub returns-clause-bound : goal.returns-clause-bound
+returns-clause-bound c =
+    let few = walked_few c.args.run c.walk_to.new.walk c.walk_to.ensures.walk in
+    let count = c.walk_to.ensures.count in
+    let bound = c.word-before.ensures.bound in
+    omega (arith, few, count, bound)
+
+pub returns-clause-right : goal.returns-clause-right
+returns-clause-right c = λ is.
+    let run = c.args.run in
+    let words = c.args.words.now in
+    let low = c.requires.first in
+    let row : c.row_at.result + 101 + run.run ≡ row_at run.block + (101 + run.run) = omega (arith, c.row_at.ensures) in
+    let place = ap (λ (i : ℕ). get_or words i 0) row in
+    let small = first_small run words is low in
+    let first = c.word-first.ensures.value (omega (arith, place, small)) ∙ place in
+    let entry = entry_read run words c.word-first.result (c.args.place / 256) c.walk_from-walk.result is low first c.walk_from-walk.ensures.walk
+    c.walk_from-walk.ensures.place in
+    let few = walked_few run c.walk_from-walk.result c.walk_from-walk.ensures.walk in
+    let before = c.word-before.ensures.value (omega (arith, entry, few)) in
+    let all = walked run c.walk_to.new.walk c.walk_to.ensures.walk in
+    let end = ap (λ (n : ℕ). marks_below (is_marked run.family) (run_start run.family.set run.block run.run + n)) c.walk_to.ensures.place in
+    let count = c.walk_to.ensures.count in
+    omega (arith, entry, before, all, end, count)

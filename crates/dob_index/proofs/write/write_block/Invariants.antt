@@ -1,0 +1,21 @@
+-- The runs so far are written, and the count is of their classes.
+use Rattle.std.proofs.Common.{◌≡◌, ◌≤◌, ◌<◌, ◌+◌, ◌⊎◌, ℕ, length, get_or}
+use Rattle.dob_rank.specs.Families.{is_marked}
+use Rattle.dob_rank.specs.Marks.{marks_below}
+use Rattle.dob_rank.specs.Numbers.{start_of}
+use Rattle.dob_rank.specs.Runs.{run_start}
+use Rattle.dob_index.specs.Layout.{row_at, entries_at}
+use Rattle.dob_index.specs.Index.{IsKeptRun}
+use Rattle.dob_index.proofs.write.write_block.Given as goal
+
+abbrev pub invariant-loop-lions : goal.invariant-loop-lions
+invariant-loop-lions l = record {
+  size : length l.words ≡ length l.fn.words;
+  count : marks_below (is_marked l.fn.family) (start_of l.fn.family.set l.fn.block) + l.count
+      ≡ marks_below (is_marked l.fn.family) (run_start l.fn.family.set l.fn.block l.lions);
+  at : l.at ≡ entries_at l.fn.family.set l.fn.block l.lions;
+  first_is : get_or l.words (row_at l.fn.block) 0 ≡ 0;
+  before_is : get_or l.words (row_at l.fn.block + 100) 0 ≡ l.fn.before;
+  runs : (k : ℕ) → k < l.lions → IsKeptRun l.fn.family l.fn.block k l.at l.words;
+  others : (i : ℕ) → (i < row_at l.fn.block) ⊎ (row_at (l.fn.block + 1) ≤ i) → (i < l.fn.first) ⊎ (l.at ≤ i) → get_or l.words i 0 ≡ get_or l.fn.words i 0;
+}

@@ -1,0 +1,19 @@
+-- The walk stands at the place of the entry before, and the entries up to there are written.
+use Rattle.std.proofs.Common.{◌≡◌, ◌≤◌, ◌<◌, ◌+◌, ◌*◌, ◌⊎◌, ℕ, length, get_or}
+use Rattle.dob_rank.specs.Families.{is_marked}
+use Rattle.dob_rank.specs.Marks.{marks_below}
+use Rattle.dob_rank.specs.Runs.{run_start}
+use Rattle.dob_rank.specs.Walks.{IsWalk, marks_before}
+use Rattle.dob_index.specs.Layout.{entries_in, entry_places}
+use Rattle.dob_index.proofs.write.write_entries.Given as goal
+
+abbrev pub invariant-loop-entry : goal.invariant-loop-entry
+invariant-loop-entry l = record {
+  walk : IsWalk l.run l.walk;
+  place : l.walk.place ≤ l.entry * entry_places;
+  count : l.count ≡ marks_before l.run l.walk.number;
+  size : length l.words ≡ length l.fn.words;
+  entries : (k : ℕ) → k < l.entry → marks_below (is_marked l.run.family) (run_start l.run.family.set l.run.block l.run.run) + get_or l.words (l.at + k) 0
+      ≡ marks_below (is_marked l.run.family) (run_start l.run.family.set l.run.block l.run.run + k * entry_places);
+  others : (i : ℕ) → (i < l.at) ⊎ (l.at + entries_in l.run.family.set l.run.block ≤ i) → get_or l.words i 0 ≡ get_or l.fn.words i 0;
+}

@@ -1,0 +1,16 @@
+-- The blocks so far are written.
+use Rattle.std.proofs.Common.{◌≡◌, ◌≤◌, ◌<◌, ℕ, length}
+use Rattle.dob_rank.specs.Families.{is_marked}
+use Rattle.dob_rank.specs.Marks.{marks_below}
+use Rattle.dob_rank.specs.Numbers.{start_of}
+use Rattle.dob_index.specs.Layout.{entries_at, words_of}
+use Rattle.dob_index.specs.Index.{IsKeptBlock}
+use Rattle.dob_index.proofs.write.write_index.Given as goal
+
+abbrev pub invariant-loop-block : goal.invariant-loop-block
+invariant-loop-block l = record {
+  size : words_of l.fn.family.set ≤ length l.words;
+  before : l.before ≡ marks_below (is_marked l.fn.family) (start_of l.fn.family.set l.block);
+  at : l.at ≡ entries_at l.fn.family.set l.block 0;
+  blocks_are : (b : ℕ) → b < l.block → IsKeptBlock l.fn.family b l.at l.words;
+}
