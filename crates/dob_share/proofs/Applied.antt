@@ -5,14 +5,13 @@ use Rattle.std.proofs.lemmas.List.{get_or_default}
 use Rattle.dob_value.specs.declared.value.Value.{Value}
 use Rattle.dob_value.specs.declared.value.Value.TheVariants.{Win, Loss, Draw}
 use Rattle.dob_share.specs.declared.cells.Slot.{Slot}
-use Rattle.dob_share.specs.declared.cells.Count.{Count}
 use Rattle.dob_share.specs.declared.fault.Fault.{Fault}
 use Rattle.dob_share.specs.declared.fault.Fault.TheVariants.{TooDeep, Contradiction}
 use Rattle.dob_share.specs.Cells.{Cell, CellValue, SameCell, CanTake, changed}
-use Rattle.dob_share.specs.Pools.{tally, moves_of, wins_in, ChangesRun}
-use Rattle.dob_share.specs.Slots.{beyond, slot_at, start_at, room_at, least_of, cell_of, cell_in, IsShortCell, ArePooled}
+use Rattle.dob_share.specs.Pools.{ChangesRun}
+use Rattle.dob_share.specs.Slots.{beyond, slot_at, start_at, room_at, least_of, cell_by, cell_in, IsShortCell, ArePooled}
 use Rattle.dob_share.specs.Steps.{IsChange, IsApplied, IsTooDeep}
-use Rattle.dob_share.proofs.Keeping.{same_short, cell_is, cell_here, cell_other, status_same, still_pooled}
+use Rattle.dob_share.proofs.Keeping.{same_short, cell_is, cell_here, cell_other, start_same, still_pooled}
 use Rattle.dob_share.proofs.Changing.{IsStep, misfits, not_too_deep}
 
 -- two cells that say the same have the same values
@@ -43,11 +42,11 @@ change_of old new v w (Some values) is then both = (
   λ e. both.2 (sym both.0 ∙ e ∙ both.1),
 )
 
-same_itself : (cell : Cell) → SameCell cell cell
+pub same_itself : (cell : Cell) → SameCell cell cell
 same_itself cell = record { left = refl; wins = λ plies. refl; least = refl }
 
 -- a fault leaves all as it was
-pub refused : (to : ℕ) (was now : Value) (place : ℕ) (slots : List Slot) (pool : List Count) (slot : Slot) (fault : Fault) →
+pub refused : (to : ℕ) (was now : Value) (place : ℕ) (slots : List Slot) (pool : List ℕ) (slot : Slot) (fault : Fault) →
     ArePooled slots pool → IsStep to was now (cell_in slots pool place) slot (Err fault) →
     IsApplied to was now place slots pool slots pool (Err fault)
 refused to was now place slots pool slot fault pooled step = record {
@@ -63,14 +62,14 @@ refused to was now place slots pool slot fault pooled step = record {
   unchanged = λ other e. (refl, refl);
   pooled = pooled;
   places = refl;
-  statuses = λ other. refl;
+  starts = λ other. refl;
   others = λ other n. same_itself (cell_in slots pool other);
   takes = λ change e. absurd (cc);
   cell = λ change e. absurd (cc);
   values = λ change e. absurd (cc);
 }
 
-pub unfitting : (to : ℕ) (was now : Value) (place : ℕ) (slots : List Slot) (pool : List Count) →
+pub unfitting : (to : ℕ) (was now : Value) (place : ℕ) (slots : List Slot) (pool : List ℕ) →
     ArePooled slots pool → (CanTake was now (cell_in slots pool place) → ⊥) →
     IsApplied to was now place slots pool slots pool (Err (Contradiction to))
 unfitting to was now place slots pool pooled not =
@@ -78,93 +77,90 @@ unfitting to was now place slots pool pooled not =
     (misfits to was now (cell_in slots pool place) (slot_at slots (length pool) place) not)
 
 -- the slot that was read
-pub read : (slots : List Slot) (pool : List Count) (place : ℕ) (slot : Slot) → place < length slots → slot ≡ get_or slots place slot →
+pub read : (slots : List Slot) (pool : List ℕ) (place : ℕ) (slot : Slot) → place < length slots → slot ≡ get_or slots place slot →
     slot ≡ slot_at slots (length pool) place
 read slots pool place slot within is = is ∙ get_or_default slots place slot (beyond (length pool)) within
 
-module _ (slots : List Slot) (pool : List Count) (place start room : ℕ) (slot : Slot)
-    (pooled : ArePooled slots pool) (within : place < length slots) (slot_read : slot ≡ get_or slots place slot)
-    (start_is : start ≡ start_at slots (length pool) place) (room_is : room ≡ room_at slots (length pool) place) where
+module _ (slots : List Slot) (pool : List ℕ) (place : ℕ) (slot : Slot)
+    (pooled : ArePooled slots pool) (within : place < length slots) (slot_read : slot ≡ get_or slots place slot) where
   slot_is : slot ≡ slot_at slots (length pool) place
   slot_is = read slots pool place slot within slot_read
 
-  cell_same : cell_of slot (wins_in pool start room) ≡ cell_in slots pool place
-  cell_same = ap (λ s. cell_of s (wins_in pool start room)) slot_is
-      ∙ ap (λ (k : ℕ). cell_of (slot_at slots (length pool) place) (wins_in pool k room)) start_is
-      ∙ ap (λ (k : ℕ). cell_of (slot_at slots (length pool) place) (wins_in pool (start_at slots (length pool) place) k)) room_is
-      ∙ sym (cell_is slots pool place)
+  pub cell_same : cell_by slot pool ≡ cell_in slots pool place
+  cell_same = ap (λ s. cell_by s pool) slot_is ∙ sym (cell_is slots pool place)
 
-  pub short_here : IsShortCell (cell_of slot (wins_in pool start room))
+  pub short_here : IsShortCell (cell_by slot pool)
   short_here = subst (λ c. IsShortCell c) (sym cell_same) (pooled.short place within)
 
-  room_left : slot.left + tally moves_of pool start room ≤ room
-  room_left =
-      let left : slot.left ≡ (slot_at slots (length pool) place).left = ap (λ s. s.left) slot_is in
-      let total : tally moves_of pool start room ≡ tally moves_of pool (start_at slots (length pool) place) (room_at slots (length pool) place)
-      = ap (λ (k : ℕ). tally moves_of pool k room) start_is ∙ ap (λ (k : ℕ). tally moves_of pool (start_at slots (length pool) place) k) room_is in
-      let most = pooled.room place within in
+  pub room_left : slot.left + slot.used ≤ room_at slots (length pool) place
+  room_left = subst (λ s. s.left + s.used ≤ room_at slots (length pool) place) (sym slot_is) (pooled.room place)
+
+  run_end : slot.start + room_at slots (length pool) place ≤ length pool
+  run_end =
+      let start : slot.start ≡ start_at slots (length pool) place = ap (λ s. s.start) slot_is in
+      let end : start_at slots (length pool) (place + 1) ≤ length pool = pooled.within (place + 1) in
+      let up : start_at slots (length pool) place ≤ start_at slots (length pool) (place + 1) = pooled.ordered place (place + 1) (omega arith) in
       omega arith
 
-  pub some_free : 0 < slot.left → tally moves_of pool start room < room
-  some_free some = let most : slot.left + tally moves_of pool start room ≤ room = room_left in omega arith
+  pub run_within : slot.start + slot.used ≤ length pool
+  run_within = let most : slot.left + slot.used ≤ room_at slots (length pool) place = room_left in
+      let end : slot.start + room_at slots (length pool) place ≤ length pool = run_end in omega arith
 
-  -- after one less is counted
-  pub free_again : (less : List Count) → tally moves_of less start room + 1 ≡ tally moves_of pool start room → tally moves_of less start room < room
-  free_again less fewer = let most : slot.left + tally moves_of pool start room ≤ room = room_left in omega arith
+  -- where the run begins, if it is told of its place
+  pub start_told : (start : ℕ) → start ≡ start_at slots (length pool) place → slot.start ≡ start
+  start_told start is = ap (λ s. s.start) slot_is ∙ sym is
+
+  -- where a move is left, an entry isn't in use yet
+  pub entry_free : 0 < slot.left → slot.start + slot.used < length pool
+  entry_free some = let most : slot.left + slot.used ≤ room_at slots (length pool) place = room_left in
+      let end : slot.start + room_at slots (length pool) place ≤ length pool = run_end in omega arith
+
+  pub used_few : 0 < slot.left → slot.used + 1 < 64
+  used_few some = let most : slot.left + slot.used ≤ room_at slots (length pool) place = room_left in
+      let few : room_at slots (length pool) place < 64 = pooled.small place in omega arith
 
   module _ (to : ℕ) (was now : Value) where
-    pub refused_here : (fault : Fault) → IsStep to was now (cell_of slot (wins_in pool start room)) slot (Err fault) →
+    pub refused_here : (fault : Fault) → IsStep to was now (cell_by slot pool) slot (Err fault) →
         IsApplied to was now place slots pool slots pool (Err fault)
     refused_here fault step = refused to was now place slots pool slot fault pooled (subst (λ c. IsStep to was now c slot (Err fault)) cell_same step)
 
-    module _ (next : Slot) (new_pool : List Count)
-        (step : IsStep to was now (cell_of slot (wins_in pool start room)) slot (Ok next))
-        (changes : ChangesRun start room pool new_pool)
-        (wins : (plies : ℕ) → wins_in new_pool start room plies ≡ (changed was now (cell_of slot (wins_in pool start room))).wins plies)
-        (fits : next.left + tally moves_of new_pool start room ≤ slot.left + tally moves_of pool start room) where
-      made : (next.start ≡ slot.start) × (next.status ≡ slot.status) × (next.left ≡ (changed was now (cell_of slot (wins_in pool start room))).left)
-          × (least_of next.win ≡ (changed was now (cell_of slot (wins_in pool start room))).least)
+    module _ (next : Slot) (new_pool : List ℕ)
+        (step : IsStep to was now (cell_by slot pool) slot (Ok next))
+        (changes : ChangesRun slot.start (room_at slots (length pool) place) pool new_pool)
+        (wins : (plies : ℕ) → (cell_by next new_pool).wins plies ≡ (changed was now (cell_by slot pool)).wins plies)
+        (fits : next.left + next.used ≤ slot.left + slot.used) where
+      made : (next.start ≡ slot.start) × (next.left ≡ (changed was now (cell_by slot pool)).left)
+          × (least_of next.win ≡ (changed was now (cell_by slot pool)).least)
       made = step.made next refl
 
-      same_after : SameCell (cell_of next (wins_in new_pool start room)) (changed was now (cell_of slot (wins_in pool start room)))
-      same_after = record { left = made.2; wins = wins; least = made.3 }
+      same_after : SameCell (cell_by next new_pool) (changed was now (cell_by slot pool))
+      same_after = record { left = made.1; wins = wins; least = made.2 }
 
-      pub short_after : IsShortCell (cell_of next (wins_in new_pool start room))
-      short_after = same_short (cell_of next (wins_in new_pool start room)) (changed was now (cell_of slot (wins_in pool start room))) same_after
-          (step.fits next refl).1
+      pub short_after : IsShortCell (cell_by next new_pool)
+      short_after = same_short (cell_by next new_pool) (changed was now (cell_by slot pool)) same_after (step.fits next refl).1
 
       start_kept : next.start ≡ start_at slots (length pool) place
       start_kept = made.0 ∙ ap (λ s. s.start) slot_is
 
       changes_here : ChangesRun (start_at slots (length pool) place) (room_at slots (length pool) place) pool new_pool
-      changes_here = subst (λ (k : ℕ). ChangesRun (start_at slots (length pool) place) k pool new_pool) room_is
-          (subst (λ (k : ℕ). ChangesRun k room pool new_pool) start_is changes)
+      changes_here = subst (λ (k : ℕ). ChangesRun k (room_at slots (length pool) place) pool new_pool) (ap (λ s. s.start) slot_is) changes
 
-      cell_next : cell_of next (wins_in new_pool start room)
-          ≡ cell_of next (wins_in new_pool (start_at slots (length pool) place) (room_at slots (length pool) place))
-      cell_next = ap (λ (k : ℕ). cell_of next (wins_in new_pool k room)) start_is
-          ∙ ap (λ (k : ℕ). cell_of next (wins_in new_pool (start_at slots (length pool) place) k)) room_is
-
-      cell_after : cell_of next (wins_in new_pool start room) ≡ cell_in (set slots place next) new_pool place
-      cell_after = cell_next ∙ sym (cell_here slots pool new_pool place next pooled within start_kept changes_here)
+      cell_after : cell_by next new_pool ≡ cell_in (set slots place next) new_pool place
+      cell_after = sym (cell_here slots pool new_pool place next pooled within start_kept changes_here)
 
       same_cell : SameCell (cell_in (set slots place next) new_pool place) (changed was now (cell_in slots pool place))
       same_cell = subst (λ c. SameCell c (changed was now (cell_in slots pool place))) cell_after
-          (subst (λ c. SameCell (cell_of next (wins_in new_pool start room)) (changed was now c)) cell_same same_after)
+          (subst (λ c. SameCell (cell_by next new_pool) (changed was now c)) cell_same same_after)
 
       takes_here : CanTake was now (cell_in slots pool place)
       takes_here = subst (λ c. CanTake was now c) cell_same (step.fits next refl).0
 
       pooled_after : ArePooled (set slots place next) new_pool
       pooled_after =
-          let most : slot.left + tally moves_of pool start room ≤ room = room_left in
-          let within_room : next.left + tally moves_of new_pool start room ≤ room = (let kept = fits in omega arith) in
-          still_pooled slots pool new_pool place next pooled within start_kept changes_here
-          (subst (λ (k : ℕ). next.left + tally moves_of new_pool (start_at slots (length pool) place) k ≤ k) room_is
-          (subst (λ (k : ℕ). next.left + tally moves_of new_pool k room ≤ room) start_is within_room))
-          (subst (λ c. IsShortCell c) cell_next short_after)
+          let most : slot.left + slot.used ≤ room_at slots (length pool) place = room_left in
+          still_pooled slots pool new_pool place next pooled within start_kept changes_here (let kept = fits in omega arith) short_after
 
-      pub applied_here : (change : Option (Value × Value)) → IsChange (cell_of slot (wins_in pool start room)) (cell_of next (wins_in new_pool start room)) change →
+      pub applied_here : (change : Option (Value × Value)) → IsChange (cell_by slot pool) (cell_by next new_pool) change →
           IsApplied to was now place slots pool (set slots place next) new_pool (Ok change)
       applied_here change values = record {
         misfit = (λ e. absurd (cc), λ not. absurd (not takes_here));
@@ -173,16 +169,15 @@ module _ (slots : List Slot) (pool : List Count) (place start room : ℕ) (slot 
         unchanged = λ fault e. absurd (cc);
         pooled = pooled_after;
         places = length-set slots place next;
-        statuses = λ other. status_same slots pool new_pool place next pooled within start_kept changes_here other
-            (made.1 ∙ ap (λ s. s.status) slot_is);
+        starts = start_same slots pool new_pool place next pooled within start_kept changes_here;
         others = cell_other slots pool new_pool place next pooled within start_kept changes_here;
         takes = λ given e. takes_here;
         cell = λ given e. same_cell;
         values = λ given e. (let same : change ≡ given = cc in subst (λ x. IsChange (cell_in slots pool place) (cell_in (set slots place next) new_pool place) x) same
             (subst (λ c. IsChange c (cell_in (set slots place next) new_pool place) change) cell_same
-            (subst (λ c. IsChange (cell_of slot (wins_in pool start room)) c change) cell_after values)));
+            (subst (λ c. IsChange (cell_by slot pool) c change) cell_after values)));
       }
         where
           not_deep : IsTooDeep (changed was now (cell_in slots pool place)) → ⊥
-          not_deep deep = not_too_deep (changed was now (cell_of slot (wins_in pool start room))) (step.fits next refl).1
+          not_deep deep = not_too_deep (changed was now (cell_by slot pool)) (step.fits next refl).1
               (subst (λ c. IsTooDeep (changed was now c)) (sym cell_same) deep)

@@ -40,7 +40,7 @@ pub record IsStep (to : ℕ) (was now : Value) (cell : Cell) (slot : Slot) (resu
   pub deep : (result ≡ Err TooDeep) ↔ (CanTake was now cell × IsTooDeep (changed was now cell))
   pub named : (class : ℕ) → result ≡ Err (Contradiction class) → class ≡ to
   pub fits : (next : Slot) → result ≡ Ok next → CanTake was now cell × IsShortCell (changed was now cell)
-  pub made : (next : Slot) → result ≡ Ok next → (next.start ≡ slot.start) × (next.status ≡ slot.status)
+  pub made : (next : Slot) → result ≡ Ok next → (next.start ≡ slot.start)
       × (next.left ≡ (changed was now cell).left) × (least_of next.win ≡ (changed was now cell).least)
 
 pub misfits : (to : ℕ) (was now : Value) (cell : Cell) (slot : Slot) → (CanTake was now cell → ⊥) →
@@ -64,16 +64,16 @@ goes_deep to was now cell slot takes deep = record {
 }
 
 pub stepped : (to : ℕ) (was now : Value) (cell : Cell) (slot next : Slot) → CanTake was now cell → IsShortCell (changed was now cell) →
-    next.start ≡ slot.start → next.status ≡ slot.status → next.left ≡ (changed was now cell).left →
+    next.start ≡ slot.start → next.left ≡ (changed was now cell).left →
     least_of next.win ≡ (changed was now cell).least → IsStep to was now cell slot (Ok next)
-stepped to was now cell slot next takes short start status left least = record {
+stepped to was now cell slot next takes short start left least = record {
   misfit = (λ e. absurd (cc), λ misfit. absurd (misfit takes));
   deep = (λ e. absurd (cc), λ both. absurd (not_too_deep (changed was now cell) short both.1));
   named = λ class e. absurd (cc);
   fits = λ other e. (takes, short);
   made = λ other e. (let same : next ≡ other = cc in
-      subst (λ s. (s.start ≡ slot.start) × (s.status ≡ slot.status) × (s.left ≡ (changed was now cell).left) × (least_of s.win ≡ (changed was now cell).least))
-      same (start, status, left, least));
+      subst (λ s. (s.start ≡ slot.start) × (s.left ≡ (changed was now cell).left) × (least_of s.win ≡ (changed was now cell).least))
+      same (start, left, least));
 }
 
 -- ---- wins after one more or one less
@@ -138,9 +138,9 @@ win_deep to plies slot wins greatest left win is deep =
 
 pub win_step : (to plies : ℕ) (slot next : Slot) (wins : ℕ → ℕ) → IsShortCell (cell_of slot wins) → 0 < slot.left →
     (slot.win ≡ 0 → slot.left ≡ 1 → (greatest : Option ℕ) × IsGreatestIn wins greatest × (greater_of greatest plies < 65534)) →
-    next.start ≡ slot.start → next.status ≡ slot.status → next.left ≡ slot.left - 1 → next.win ≡ slot.win →
+    next.start ≡ slot.start → next.left ≡ slot.left - 1 → next.win ≡ slot.win →
     IsStep to Draw (Win plies) (cell_of slot wins) slot (Ok next)
-win_step to plies slot next wins short some below start status left win =
+win_step to plies slot next wins short some below start left win =
     stepped to Draw (Win plies) (cell_of slot wins) slot next some
     (record {
       loss = short.loss;
@@ -148,7 +148,7 @@ win_step to plies slot next wins short some below start status left win =
           let found = below (least_none slot.win none) (omega arith) in
           let most = (greatest_more plies wins found.0 found.1).1 distance counted in omega arith;
     })
-    start status left (ap least_of win)
+    start left (ap least_of win)
 
 pub better_win_step : (to was now : ℕ) (slot : Slot) (wins : ℕ → ℕ) → IsShortCell (cell_of slot wins) → now < was → 0 < wins was →
     IsStep to (Win was) (Win now) (cell_of slot wins) slot (Ok slot)
@@ -163,7 +163,7 @@ better_win_step to was now slot wins short better counted =
             | inr h ↦ short.win none none_left distance (less_some was distance wins h)
           ];
     })
-    refl refl refl refl
+    refl refl refl
 
 pub loss_deep : (to plies : ℕ) (slot : Slot) (wins : ℕ → ℕ) → 0 < slot.left → slot.win ≡ 0 → 65534 ≤ plies →
     IsStep to Draw (Loss plies) (cell_of slot wins) slot (Err TooDeep)
@@ -192,10 +192,10 @@ loss_short was plies slot wins short below left = record {
 
 pub loss_step : (to plies : ℕ) (slot next : Slot) (wins : ℕ → ℕ) → IsShortCell (cell_of slot wins) → 0 < slot.left →
     (slot.win ≡ 0 → plies < 65534) →
-    next.start ≡ slot.start → next.status ≡ slot.status → next.left ≡ slot.left - 1 → least_of next.win ≡ Some (lesser_of (least_of slot.win) plies) →
+    next.start ≡ slot.start → next.left ≡ slot.left - 1 → least_of next.win ≡ Some (lesser_of (least_of slot.win) plies) →
     IsStep to Draw (Loss plies) (cell_of slot wins) slot (Ok next)
-loss_step to plies slot next wins short some below start status left win =
-    stepped to Draw (Loss plies) (cell_of slot wins) slot next some (loss_short 0 plies slot wins short below (slot.left - 1)) start status left win
+loss_step to plies slot next wins short some below start left win =
+    stepped to Draw (Loss plies) (cell_of slot wins) slot next some (loss_short 0 plies slot wins short below (slot.left - 1)) start left win
 
 knows_within : (win was : ℕ) → 0 < win → win - 1 ≤ was → KnowsLossWithin was (least_of win)
 knows_within zero was some most = absurd (omega arith)
@@ -207,11 +207,11 @@ knows_most (suc win) was known = (omega arith, omega arith)
 
 pub better_loss_step : (to was now : ℕ) (slot next : Slot) (wins : ℕ → ℕ) → IsShortCell (cell_of slot wins) → now < was →
     0 < slot.win → slot.win - 1 ≤ was →
-    next.start ≡ slot.start → next.status ≡ slot.status → next.left ≡ slot.left → least_of next.win ≡ Some (lesser_of (least_of slot.win) now) →
+    next.start ≡ slot.start → next.left ≡ slot.left → least_of next.win ≡ Some (lesser_of (least_of slot.win) now) →
     IsStep to (Loss was) (Loss now) (cell_of slot wins) slot (Ok next)
-better_loss_step to was now slot next wins short better some most start status left win =
+better_loss_step to was now slot next wins short better some most start left win =
     stepped to (Loss was) (Loss now) (cell_of slot wins) slot next (better, knows_within slot.win was some most)
-    (loss_short 0 now slot wins short (λ e. absurd (omega arith)) slot.left) start status left win
+    (loss_short 0 now slot wins short (λ e. absurd (omega arith)) slot.left) start left win
 
 pub better_loss_misfits : (to was now : ℕ) (slot : Slot) (wins : ℕ → ℕ) → (now < was → 0 < slot.win → slot.win - 1 ≤ was → ⊥) →
     IsStep to (Loss was) (Loss now) (cell_of slot wins) slot (Err (Contradiction to))

@@ -4,13 +4,12 @@ use Rattle.std.proofs.Math.ListN.{set, length-set}
 use Rattle.std.proofs.lemmas.List.{get_or-set_same, get_or-set_other}
 use Rattle.std.proofs.lemmas.Bool.{cases_eq, cases_lt}
 use Rattle.dob_share.specs.declared.cells.Slot.{Slot}
-use Rattle.dob_share.specs.declared.cells.Count.{Count}
 use Rattle.dob_share.specs.Cells.{Cell, SameCell}
-use Rattle.dob_share.specs.Pools.{tally, moves_of, moves_at, wins_in, vacant, ChangesRun}
-use Rattle.dob_share.specs.Slots.{beyond, slot_at, start_at, room_at, least_of, cell_of, cell_in, IsShortCell, ArePooled}
+use Rattle.dob_share.specs.Pools.{moves_at, wins_in, vacant, ChangesRun}
+use Rattle.dob_share.specs.Slots.{beyond, slot_at, start_at, room_at, cell_by, cell_in, IsShortCell, ArePooled}
 use Rattle.dob_share.proofs.Tallies.{tally_same}
 
-wins_same : (old new : List Count) (start room plies : ℕ) →
+wins_same : (old new : List ℕ) (start room plies : ℕ) →
     ((place : ℕ) → start ≤ place → place < start + room → get_or new place vacant ≡ get_or old place vacant) →
     wins_in new start room plies ≡ wins_in old start room plies
 unfolding wins_in
@@ -22,12 +21,11 @@ same_short a b same short = record {
   win = λ none none_left plies some. short.win (sym same.least ∙ none) (sym same.left ∙ none_left) plies (subst (λ (k : ℕ). 0 < k) (same.wins plies) some);
 }
 
-pub cell_is : (slots : List Slot) (pool : List Count) (place : ℕ) →
-    cell_in slots pool place ≡ cell_of (slot_at slots (length pool) place) (wins_in pool (start_at slots (length pool) place) (room_at slots (length pool) place))
+pub cell_is : (slots : List Slot) (pool : List ℕ) (place : ℕ) → cell_in slots pool place ≡ cell_by (slot_at slots (length pool) place) pool
 unfolding cell_in
 cell_is slots pool place = refl
 
-module _ (slots : List Slot) (pool new_pool : List Count) (place : ℕ) (next : Slot) (pooled : ArePooled slots pool)
+module _ (slots : List Slot) (pool new_pool : List ℕ) (place : ℕ) (next : Slot) (pooled : ArePooled slots pool)
     (within : place < length slots) (same_start : next.start ≡ start_at slots (length pool) place)
     (changes : ChangesRun (start_at slots (length pool) place) (room_at slots (length pool) place) pool new_pool) where
   -- the slots after the write
@@ -40,7 +38,7 @@ module _ (slots : List Slot) (pool new_pool : List Count) (place : ℕ) (next : 
   slot_other : (other : ℕ) → (other ≡ place → ⊥) → slot_at (set slots place next) (length new_pool) other ≡ slot_at slots (length pool) other
   slot_other other n = get_or-set_other slots place other next (beyond (length new_pool)) n ∙ ap (λ (k : ℕ). slot_at slots k other) changes.whole
 
-  start_same : (other : ℕ) → start_at (set slots place next) (length new_pool) other ≡ start_at slots (length pool) other
+  pub start_same : (other : ℕ) → start_at (set slots place next) (length new_pool) other ≡ start_at slots (length pool) other
   start_same other = elim (cases_eq other place) [
     | inl e ↦ ap (λ (k : ℕ). start_at (set slots place next) (length new_pool) k) e ∙ ap (λ s. s.start) slot_here ∙ same_start
         ∙ ap (λ (k : ℕ). start_at slots (length pool) k) (sym e)
@@ -53,50 +51,35 @@ module _ (slots : List Slot) (pool new_pool : List Count) (place : ℕ) (next : 
       let start : start_at (set slots place next) (length new_pool) other ≡ start_at slots (length pool) other = start_same other in
       omega arith
 
-  -- the pools agree on the other runs
+  -- the pools agree on the entries in use of the other runs
   agree : (other : ℕ) → (other ≡ place → ⊥) → (at : ℕ) → start_at slots (length pool) other ≤ at →
-      at < start_at slots (length pool) other + room_at slots (length pool) other → get_or new_pool at vacant ≡ get_or pool at vacant
-  agree other n at from below = elim (cases_lt other place) [
-    | inl before ↦
-        let next_start : start_at slots (length pool) (other + 1) ≤ start_at slots (length pool) place = pooled.ordered (other + 1) place (omega arith) in
-        let step : start_at slots (length pool) other ≤ start_at slots (length pool) (other + 1) = pooled.ordered other (other + 1) (omega arith) in
-        changes.before at (omega arith)
-    | inr after ↦
-        let next_start : start_at slots (length pool) (place + 1) ≤ start_at slots (length pool) other = pooled.ordered (place + 1) other (omega arith) in
-        let step : start_at slots (length pool) place ≤ start_at slots (length pool) (place + 1) = pooled.ordered place (place + 1) (omega arith) in
-        changes.behind at (omega arith)
-  ]
+      at < start_at slots (length pool) other + (slot_at slots (length pool) other).used → get_or new_pool at vacant ≡ get_or pool at vacant
+  agree other n at from below =
+      let most = pooled.room other in
+      elim (cases_lt other place) [
+        | inl before ↦
+            let next_start : start_at slots (length pool) (other + 1) ≤ start_at slots (length pool) place = pooled.ordered (other + 1) place (omega arith) in
+            let step : start_at slots (length pool) other ≤ start_at slots (length pool) (other + 1) = pooled.ordered other (other + 1) (omega arith) in
+            changes.before at (omega arith)
+        | inr after ↦
+            let next_start : start_at slots (length pool) (place + 1) ≤ start_at slots (length pool) other = pooled.ordered (place + 1) other (omega arith) in
+            let step : start_at slots (length pool) place ≤ start_at slots (length pool) (place + 1) = pooled.ordered place (place + 1) (omega arith) in
+            changes.behind at (omega arith)
+      ]
 
-  pub cell_here : cell_in (set slots place next) new_pool place
-      ≡ cell_of next (wins_in new_pool (start_at slots (length pool) place) (room_at slots (length pool) place))
-  cell_here = cell_is (set slots place next) new_pool place
-      ∙ ap (λ s. cell_of s (wins_in new_pool (start_at (set slots place next) (length new_pool) place) (room_at (set slots place next) (length new_pool) place))) slot_here
-      ∙ ap (λ (k : ℕ). cell_of next (wins_in new_pool k (room_at (set slots place next) (length new_pool) place))) (start_same place)
-      ∙ ap (λ (k : ℕ). cell_of next (wins_in new_pool (start_at slots (length pool) place) k)) (room_same place)
+  pub cell_here : cell_in (set slots place next) new_pool place ≡ cell_by next new_pool
+  cell_here = cell_is (set slots place next) new_pool place ∙ ap (λ s. cell_by s new_pool) slot_here
 
   pub cell_other : (other : ℕ) → (other ≡ place → ⊥) → SameCell (cell_in (set slots place next) new_pool other) (cell_in slots pool other)
-  cell_other other n = subst (λ c. SameCell c (cell_in slots pool other)) (sym (cell_is (set slots place next) new_pool other))
-      (subst (λ c. SameCell (cell_of (slot_at (set slots place next) (length new_pool) other)
-      (wins_in new_pool (start_at (set slots place next) (length new_pool) other) (room_at (set slots place next) (length new_pool) other))) c)
-      (sym (cell_is slots pool other)) (record {
-        left = ap (λ s. s.left) (slot_other other n);
-        wins = λ plies.
-            ap (λ (k : ℕ). wins_in new_pool k (room_at (set slots place next) (length new_pool) other) plies) (start_same other)
-            ∙ ap (λ (k : ℕ). wins_in new_pool (start_at slots (length pool) other) k plies) (room_same other)
-            ∙ wins_same pool new_pool (start_at slots (length pool) other) (room_at slots (length pool) other) plies (agree other n);
-        least = ap (λ s. least_of s.win) (slot_other other n);
+  cell_other other n = subst (λ c. SameCell c (cell_in slots pool other))
+      (sym (cell_is (set slots place next) new_pool other ∙ ap (λ s. cell_by s new_pool) (slot_other other n)))
+      (subst (λ c. SameCell (cell_by (slot_at slots (length pool) other) new_pool) c) (sym (cell_is slots pool other)) (record {
+        left = refl;
+        wins = λ plies. wins_same pool new_pool (start_at slots (length pool) other) (slot_at slots (length pool) other).used plies (agree other n);
+        least = refl;
       }))
 
-  pub status_same : (other : ℕ) → next.status ≡ (slot_at slots (length pool) place).status →
-      (slot_at (set slots place next) (length new_pool) other).status ≡ (slot_at slots (length pool) other).status
-  status_same other same = elim (cases_eq other place) [
-    | inl e ↦ ap (λ (k : ℕ). (slot_at (set slots place next) (length new_pool) k).status) e ∙ ap (λ s. s.status) slot_here ∙ same
-        ∙ ap (λ (k : ℕ). (slot_at slots (length pool) k).status) (sym e)
-    | inr n ↦ ap (λ s. s.status) (slot_other other n)
-  ]
-
-  pub still_pooled : next.left + tally moves_of new_pool (start_at slots (length pool) place) (room_at slots (length pool) place) ≤ room_at slots (length pool) place →
-      IsShortCell (cell_of next (wins_in new_pool (start_at slots (length pool) place) (room_at slots (length pool) place))) →
+  pub still_pooled : next.left + next.used ≤ room_at slots (length pool) place → IsShortCell (cell_by next new_pool) →
       ArePooled (set slots place next) new_pool
   still_pooled fits short = record {
     ordered = λ a b le.
@@ -109,31 +92,19 @@ module _ (slots : List Slot) (pool new_pool : List Count) (place : ℕ) (next : 
         let whole : length new_pool ≡ length pool = changes.whole in omega arith;
     small = λ a.
         let x : room_at (set slots place next) (length new_pool) a ≡ room_at slots (length pool) a = room_same a in
-        let was : room_at slots (length pool) a < 256 = pooled.small a in omega arith;
-    room = λ a inside. elim (cases_eq a place) [
-      | inl e ↦
-          let left : (slot_at (set slots place next) (length new_pool) a).left ≡ next.left
-          = ap (λ (k : ℕ). (slot_at (set slots place next) (length new_pool) k).left) e ∙ ap (λ s. s.left) slot_here in
-          let start : start_at (set slots place next) (length new_pool) a ≡ start_at slots (length pool) place
-          = start_same a ∙ ap (λ (k : ℕ). start_at slots (length pool) k) e in
-          let room : room_at (set slots place next) (length new_pool) a ≡ room_at slots (length pool) place
-          = room_same a ∙ ap (λ (k : ℕ). room_at slots (length pool) k) e in
-          let total : tally moves_of new_pool (start_at (set slots place next) (length new_pool) a) (room_at (set slots place next) (length new_pool) a)
-          ≡ tally moves_of new_pool (start_at slots (length pool) place) (room_at slots (length pool) place)
-          = ap (λ (k : ℕ). tally moves_of new_pool k (room_at (set slots place next) (length new_pool) a)) start
-          ∙ ap (λ (k : ℕ). tally moves_of new_pool (start_at slots (length pool) place) k) room in
-          omega arith
-      | inr n ↦
-          let left : (slot_at (set slots place next) (length new_pool) a).left ≡ (slot_at slots (length pool) a).left = ap (λ s. s.left) (slot_other a n) in
-          let room : room_at (set slots place next) (length new_pool) a ≡ room_at slots (length pool) a = room_same a in
-          let total : tally moves_of new_pool (start_at (set slots place next) (length new_pool) a) (room_at (set slots place next) (length new_pool) a)
-          ≡ tally moves_of pool (start_at slots (length pool) a) (room_at slots (length pool) a)
-          = ap (λ (k : ℕ). tally moves_of new_pool k (room_at (set slots place next) (length new_pool) a)) (start_same a)
-          ∙ ap (λ (k : ℕ). tally moves_of new_pool (start_at slots (length pool) a) k) room
-          ∙ tally_same moves_of pool new_pool (start_at slots (length pool) a) (room_at slots (length pool) a) (agree a n) in
-          let was = pooled.room a (subst (λ (k : ℕ). a < k) (length-set slots place next) inside) in
-          omega arith
-    ];
+        let was : room_at slots (length pool) a < 64 = pooled.small a in omega arith;
+    room = λ a.
+        let room : room_at (set slots place next) (length new_pool) a ≡ room_at slots (length pool) a = room_same a in
+        elim (cases_eq a place) [
+          | inl e ↦
+              let here : slot_at (set slots place next) (length new_pool) a ≡ next
+              = ap (λ (k : ℕ). slot_at (set slots place next) (length new_pool) k) e ∙ slot_here in
+              let same : room_at slots (length pool) a ≡ room_at slots (length pool) place = ap (λ (k : ℕ). room_at slots (length pool) k) e in
+              subst (λ s. s.left + s.used ≤ room_at (set slots place next) (length new_pool) a) (sym here)
+              (subst (λ (k : ℕ). next.left + next.used ≤ k) (sym (room ∙ same)) fits)
+          | inr n ↦ subst (λ s. s.left + s.used ≤ room_at (set slots place next) (length new_pool) a) (sym (slot_other a n))
+              (subst (λ (k : ℕ). (slot_at slots (length pool) a).left + (slot_at slots (length pool) a).used ≤ k) (sym room) (pooled.room a))
+        ];
     short = λ a inside. elim (cases_eq a place) [
       | inl e ↦ subst (λ (k : ℕ). IsShortCell (cell_in (set slots place next) new_pool k)) (sym e) (subst (λ c. IsShortCell c) (sym cell_here) short)
       | inr n ↦ same_short (cell_in (set slots place next) new_pool a) (cell_in slots pool a) (cell_other a n)

@@ -1,4 +1,7 @@
--- The lemmas, in the order in which they are read. First runs of the pool.
+-- The lemmas, in the order in which they are read. First statuses by bits.
+pub mod Bits  -- how many bits of a word are set before a place
+pub mod Words  -- the number of a cell, and the status of a place
+-- Runs of the pool.
 pub mod Tallies  -- sums over a run of the pool, and after a write
 pub mod Keeping  -- one cell is written: the others and the order of the pool stay
 -- Items at cells.
@@ -9,7 +12,7 @@ pub mod Rows  -- the rows of the table of items: what each makes of its cell
 pub mod Owning  -- what an item at one place is for the share's classes
 -- Shares as they are opened.
 pub mod Opened  -- what has been opened grows by a slot with its run
-pub mod OwnOpened  -- what an opened share owns, and knows of each class
+pub mod OwnOpened  -- a share as it is opened, place by place, and what it then owns and knows of each class
 -- Cells that sum up what is known.
 pub mod Learning  -- what such a cell takes next
 pub mod Sums  -- such a cell still sums up after a change for the better

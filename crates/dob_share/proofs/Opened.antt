@@ -1,41 +1,24 @@
 -- What has been opened: it grows by a slot with its run, and is in order.
-use Rattle.std.proofs.Common.{◌≡◌, ℕ, zero, suc, ◌+◌, ◌-◌, ◌*◌, ◌<◌, ◌≤◌, List, [], ◌∷◌, ◌++◌, length, replicate, refl, sym, ap}
-use Rattle.std.proofs.Common.{◌∙◌, subst, inl, inr, arith, get_or, eqb, Bool, true, false, cond}
-use Rattle.std.proofs.lemmas.List.{get_or_append_left, get_or_push, get_or_past, get_or_default, get_or-replicate, length_push, length-replicate}
+use Rattle.std.proofs.Common.{◌≡◌, ℕ, zero, suc, ◌+◌, ◌-◌, ◌<◌, ◌≤◌, List, [], ◌∷◌, ◌++◌, length, replicate, refl, sym, ap}
+use Rattle.std.proofs.Common.{◌∙◌, subst, inl, inr, arith}
+use Rattle.std.proofs.lemmas.List.{get_or_append_left, get_or_push, get_or_past, get_or_default, length_push, length-replicate}
 use Rattle.std.proofs.lemmas.Bool.{cases_eq, cases_lt}
 use Rattle.dob_share.specs.declared.cells.Slot.{Slot}
-use Rattle.dob_share.specs.declared.cells.Count.{Count}
-use Rattle.dob_share.specs.declared.opening.Opening.{Opening}
 use Rattle.dob_share.specs.Cells.{SameCell, fresh}
-use Rattle.dob_share.specs.Pools.{vacant, tally, moves_of, moves_at, wins_in}
+use Rattle.dob_share.specs.Pools.{vacant, tally, moves_at, wins_in}
 use Rattle.dob_share.specs.Slots.{beyond, slot_at, start_at, room_at, least_of, cell_in, IsShortCell, ArePooled}
 use Rattle.std.proofs.Common.{add-one}
 use Rattle.dob_moves.specs.declared.position_status.Status.{Status}
 use Rattle.dob_moves.specs.declared.position_status.Status.TheVariants.{Caught, Tried, Stuck, Open}
-use Rattle.dob_share.specs.Openings.{opening_of, AreOpened, settles, settled_among}
+use Rattle.dob_share.specs.Openings.{AreOpened, settles, settled_among}
 use Rattle.dob_share.proofs.Keeping.{cell_is, same_short}
 
--- a run of free entries counts nothing
-tally_free : (f : Count → ℕ) (pool : List Count) (start room : ℕ) → f vacant ≡ 0 → ((place : ℕ) → get_or pool place vacant ≡ vacant) →
-    tally f pool start room ≡ 0
-tally_free f pool start zero none free = refl
-tally_free f pool start (suc room) none free =
-    let rest : tally f pool start room ≡ 0 = tally_free f pool start room none free in
-    let last : f (get_or pool (start + room) vacant) ≡ 0 = ap f (free (start + room)) ∙ none in
-    omega arith
-
-zero_either : (b : Bool) → cond {A = ℕ} b 0 0 ≡ 0
-zero_either true = refl
-zero_either false = refl
-
-vacant_at : (plies : ℕ) → moves_at plies vacant ≡ 0
-vacant_at plies = zero_either (eqb 0 plies)
-
-wins_free : (pool : List Count) (start room plies : ℕ) → ((place : ℕ) → get_or pool place vacant ≡ vacant) → wins_in pool start room plies ≡ 0
+-- a run of no entry counts nothing
+wins_none_used : (pool : List ℕ) (start used plies : ℕ) → used ≡ 0 → wins_in pool start used plies ≡ 0
 unfolding wins_in
-wins_free pool start room plies free = tally_free (moves_at plies) pool start room (vacant_at plies) free
+wins_none_used pool start used plies none = ap (λ (k : ℕ). tally (moves_at plies) pool start k) none
 
-module _ (openings : List Opening) (n id : ℕ) (slots : List Slot) (pool : List Count) (opened : AreOpened openings n id slots pool) where
+module _ (slots : List Slot) (pool : List ℕ) (opened : AreOpened slots pool) where
   past_end : (place : ℕ) → length slots ≤ place → slot_at slots (length pool) place ≡ beyond (length pool)
   past_end place after = get_or_past slots place (beyond (length pool)) after
 
@@ -75,7 +58,7 @@ module _ (openings : List Opening) (n id : ℕ) (slots : List Slot) (pool : List
   pub cell_fresh : (place : ℕ) → SameCell (cell_in slots pool place) (fresh (slot_at slots (length pool) place).left)
   cell_fresh place = subst (λ c. SameCell c (fresh (slot_at slots (length pool) place).left)) (sym (cell_is slots pool place)) (record {
     left = refl;
-    wins = λ plies. wins_free pool (start_at slots (length pool) place) (room_at slots (length pool) place) plies opened.free;
+    wins = λ plies. wins_none_used pool (start_at slots (length pool) place) (slot_at slots (length pool) place).used plies (opened.unused place);
     least = ap least_of (opened.no_win place);
   })
 
@@ -88,18 +71,16 @@ module _ (openings : List Opening) (n id : ℕ) (slots : List Slot) (pool : List
     within = λ place.
         let end : start_at slots (length pool) (place + length slots) ≡ length pool = ap (λ s. s.start) (past_end (place + length slots) (omega arith)) in
         let up : start_at slots (length pool) place ≤ start_at slots (length pool) (place + length slots) = ordered_by (length slots) place in omega arith;
-    small = λ place. subst (λ (k : ℕ). k < 256) (sym (room_is place)) (opened.few place);
-    room = λ place inside.
-        let none : tally moves_of pool (start_at slots (length pool) place) (room_at slots (length pool) place) ≡ 0
-        = tally_free moves_of pool (start_at slots (length pool) place) (room_at slots (length pool) place) refl opened.free in
+    small = λ place. subst (λ (k : ℕ). k < 64) (sym (room_is place)) (opened.few place);
+    room = λ place.
+        let none : (slot_at slots (length pool) place).used ≡ 0 = opened.unused place in
         let room : room_at slots (length pool) place ≡ (slot_at slots (length pool) place).left = room_is place in omega arith;
     short = λ place inside. same_short (cell_in slots pool place) (fresh (slot_at slots (length pool) place).left) (cell_fresh place) (fresh_short (slot_at slots (length pool) place).left);
   }
 
   -- one more slot, whose run begins at the pool's end, and its run
-  module _ (next : Slot) (new_pool : List Count) (at_end : next.start ≡ length pool) (longer : length new_pool ≡ length pool + next.left)
-      (few : next.left < 256) (no_win : next.win ≡ 0) (free : (place : ℕ) → get_or new_pool place vacant ≡ vacant)
-      (status : next.status ≡ (opening_of openings (length slots * n + id)).status) (moves : next.left ≡ (opening_of openings (length slots * n + id)).moves) where
+  module _ (next : Slot) (new_pool : List ℕ) (at_end : next.start ≡ length pool) (longer : length new_pool ≡ length pool + next.left)
+      (few : next.left < 64) (no_win : next.win ≡ 0) (unused : next.used ≡ 0) where
     before : (place : ℕ) → place < length slots → slot_at (slots ++ next ∷ []) (length new_pool) place ≡ slot_at slots (length pool) place
     before place inside = get_or_append_left slots (next ∷ []) (beyond (length new_pool)) place inside
         ∙ get_or_default slots place (beyond (length new_pool)) (beyond (length pool)) inside
@@ -118,7 +99,7 @@ module _ (openings : List Opening) (n id : ℕ) (slots : List Slot) (pool : List
           ap (λ s. s.start) (here place e) ∙ at_end ∙ sym (ap (λ s. s.start) (past_end place (omega arith)))
     ]
 
-    pub one_more : AreOpened openings n id (slots ++ next ∷ []) new_pool
+    pub one_more : AreOpened (slots ++ next ∷ []) new_pool
     one_more = record {
       runs = λ place inside. elim (cases_lt place (length slots)) [
         | inl old ↦
@@ -134,25 +115,11 @@ module _ (openings : List Opening) (n id : ℕ) (slots : List Slot) (pool : List
             let z : (slot_at (slots ++ next ∷ []) (length new_pool) place).left ≡ next.left = ap (λ s. s.left) (here place e) in
             omega arith
       ];
-      statuses = λ place inside. elim (cases_lt place (length slots)) [
-        | inl old ↦ ap (λ s. s.status) (before place old) ∙ opened.statuses place old
-        | inr last ↦
-            let long : length (slots ++ next ∷ []) ≡ length slots + 1 = length_push slots next in
-            let e : length slots ≡ place = omega arith in
-            ap (λ s. s.status) (here place e) ∙ status ∙ ap (λ (k : ℕ). (opening_of openings (k * n + id)).status) e
-      ];
-      moves = λ place inside. elim (cases_lt place (length slots)) [
-        | inl old ↦ ap (λ s. s.left) (before place old) ∙ opened.moves place old
-        | inr last ↦
-            let long : length (slots ++ next ∷ []) ≡ length slots + 1 = length_push slots next in
-            let e : length slots ≡ place = omega arith in
-            ap (λ s. s.left) (here place e) ∙ moves ∙ ap (λ (k : ℕ). (opening_of openings (k * n + id)).moves) e
-      ];
       few = λ place. elim (cases_lt place (length slots)) [
-        | inl old ↦ subst (λ s. s.left < 256) (sym (before place old)) (opened.few place)
+        | inl old ↦ subst (λ s. s.left < 64) (sym (before place old)) (opened.few place)
         | inr after ↦ elim (cases_eq place (length slots)) [
-          | inl e ↦ subst (λ s. s.left < 256) (sym (here place (sym e))) few
-          | inr n ↦ subst (λ s. s.left < 256) (sym (behind place (omega arith))) (omega arith)
+          | inl e ↦ subst (λ s. s.left < 64) (sym (here place (sym e))) few
+          | inr n ↦ subst (λ s. s.left < 64) (sym (behind place (omega arith))) (omega arith)
         ]
       ];
       no_win = λ place. elim (cases_lt place (length slots)) [
@@ -162,29 +129,26 @@ module _ (openings : List Opening) (n id : ℕ) (slots : List Slot) (pool : List
           | inr n ↦ ap (λ s. s.win) (behind place (omega arith))
         ]
       ];
-      free = free;
+      unused = λ place. elim (cases_lt place (length slots)) [
+        | inl old ↦ ap (λ s. s.used) (before place old) ∙ opened.unused place
+        | inr after ↦ elim (cases_eq place (length slots)) [
+          | inl e ↦ ap (λ s. s.used) (here place (sym e)) ∙ unused
+          | inr n ↦ ap (λ s. s.used) (behind place (omega arith))
+        ]
+      ];
     }
-
--- a pool of free entries
-pub all_free : (size place : ℕ) → get_or (replicate size vacant) place vacant ≡ vacant
-all_free size place = elim (cases_lt place size) [
-  | inl inside ↦ get_or-replicate size place vacant vacant inside
-  | inr after ↦ get_or_past (replicate size vacant) place vacant (let e : length (replicate size vacant) ≡ size = length-replicate size vacant in omega arith)
-]
 
 pub longer : (size moves : ℕ) → length (replicate (size + moves) vacant) ≡ length (replicate size vacant) + moves
 longer size moves = length-replicate (size + moves) vacant ∙ ap (λ (k : ℕ). k + moves) (sym (length-replicate size vacant))
 
-pub none_opened : (openings : List Opening) (n id : ℕ) (slots : List Slot) (pool : List Count) → slots ≡ [] → pool ≡ [] → AreOpened openings n id slots pool
-none_opened openings n id slots pool no_slot no_count =
+pub none_opened : (slots : List Slot) (pool : List ℕ) → slots ≡ [] → pool ≡ [] → AreOpened slots pool
+none_opened slots pool no_slot no_count =
     let none : length slots ≡ 0 = ap length no_slot in
     let empty : length pool ≡ 0 = ap length no_count in record {
       runs = λ place inside. absurd (omega arith);
-      statuses = λ place inside. absurd (omega arith);
-      moves = λ place inside. absurd (omega arith);
-      few = λ place. subst (λ s. s.left < 256) (sym (get_or_past slots place (beyond (length pool)) (omega arith))) (omega arith);
+      few = λ place. subst (λ s. s.left < 64) (sym (get_or_past slots place (beyond (length pool)) (omega arith))) (omega arith);
       no_win = λ place. ap (λ s. s.win) (get_or_past slots place (beyond (length pool)) (omega arith));
-      free = λ place. get_or_past pool place vacant (omega arith);
+      unused = λ place. ap (λ s. s.used) (get_or_past slots place (beyond (length pool)) (omega arith));
     }
 
 pub settles_most : (status : Status) → settles status ≤ 1

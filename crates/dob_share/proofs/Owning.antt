@@ -1,18 +1,23 @@
 -- What an item at one place is for the share's classes.
-use Rattle.std.proofs.Common.{◌≡◌, ◌↔◌, ℕ, ◌+◌, ◌*◌, ◌/◌, ◌%◌, ◌<◌, length, refl, sym, ap, ◌∙◌, subst, inl, inr, arith, Result, Ok, Err}
+use Rattle.std.proofs.Common.{◌≡◌, ◌↔◌, ℕ, zero, suc, ◌+◌, ◌*◌, ◌/◌, ◌%◌, ◌<◌, length, refl, sym, ap, ◌∙◌, subst, inl, inr, arith, get_or, Option, None, Some, Result, Ok, Err}
 use Rattle.std.proofs.lemmas.Nat.{div-add-mod'}
 use Rattle.dob_moves.specs.declared.position_status.Status.TheVariants.{Open}
 use Rattle.dob_value.specs.declared.value.Value.{Value}
 use Rattle.dob_share.specs.declared.news.Item.{Item}
 use Rattle.dob_share.specs.declared.fault.Fault.{Fault}
 use Rattle.dob_share.specs.declared.fault.Fault.TheVariants.{TooDeep, Contradiction}
+use Rattle.dob_share.specs.declared.cells.Slot.{Slot}
+use Rattle.dob_share.specs.declared.share.Seen.{Seen}
 use Rattle.dob_share.specs.declared.share.Share.{Share}
+use Rattle.dob_share.specs.declared.statuses.Statuses.{Statuses}
 use Rattle.dob_share.specs.Values.{Better}
-use Rattle.dob_share.specs.Cells.{Cell, CellValue, SameCell, CanTake, changed}
-use Rattle.dob_share.specs.Slots.{slot_at, cell_in}
+use Rattle.dob_share.specs.Cells.{Cell, CellValue, SameCell, CanTake, changed, fresh}
+use Rattle.dob_share.specs.Slots.{start_at, cell_in, IsShortCell}
 use Rattle.dob_share.specs.Steps.{IsTooDeep}
-use Rattle.dob_share.specs.Shares.{places_of, IsOwn, IsOwnOpen, status_at, cell_at, IsValue, HasValueNow, Fits, GoesTooDeep, SameClasses}
-use Rattle.dob_share.proofs.Applied.{CellValue-same}
+use Rattle.dob_share.specs.Shares.{places_of, IsOwn, IsOwnOpen, IsSeen, status_at, number_of, cell_where, cell_at, IsValue, HasValueNow, Fits, GoesTooDeep, SameClasses}
+use Rattle.dob_share.specs.Statuses.{open_at, opens_below, status_in}
+use Rattle.dob_share.proofs.Applied.{CellValue-same, read, same_itself}
+use Rattle.dob_share.proofs.Words.{open_at_open, rank_less, rank_same}
 use Rattle.dob_share.proofs.Growing.{no_worse}
 
 -- a fault handed on, and an answer
@@ -29,13 +34,85 @@ pub not_open : (share : Share) (item : Item) → (IsOwnOpen share item.to → �
 unfolding IsOwnOpen Fits
 not_open share item not fits = not (fits.0, fits.1)
 
-pub open_within : (share : Share) (class place : ℕ) → IsOwnOpen share class → place ≡ class / share.n → place < length share.slots
-unfolding IsOwnOpen IsOwn
-open_within share class place open_here is = subst (λ (k : ℕ). k < length share.slots) (sym is) open_here.0.1
+is_open : (share : Share) (class : ℕ) → IsOwnOpen share class → open_at share.statuses.words (class / share.n) ≡ 1
+unfolding IsOwnOpen status_at
+is_open share class open_here = open_at_open share.statuses.words (class / share.n) open_here.1
 
-pub cell_there : (share : Share) (class place : ℕ) → place ≡ class / share.n → cell_in share.slots share.pool place ≡ cell_at share class
+pub number_within : (share : Share) (class number : ℕ) → IsOwnOpen share class → number ≡ number_of share class → number < length share.slots
+unfolding IsOwnOpen IsOwn number_of
+number_within share class number open_here is = subst (λ (k : ℕ). k < length share.slots) (sym is)
+    (subst (λ (k : ℕ). opens_below share.statuses.words (class / share.n) < k) (sym share.opens)
+    (rank_less share.statuses.words (class / share.n) share.statuses.places open_here.0.1 (is_open share class open_here)))
+
+-- what is seen of a class: that it is open, its cell's number, and where its run begins
+pub seen_open : (share : Share) (class : ℕ) (seen : Seen) → IsSeen share class (Some seen) →
+    IsOwnOpen share class × (seen.place ≡ number_of share class) × (seen.start ≡ start_at share.slots (length share.pool) seen.place)
+unfolding IsSeen
+seen_open share class seen is = is
+
+pub seen_none : (share : Share) (class : ℕ) → IsSeen share class None → IsOwnOpen share class → ⊥
+unfolding IsSeen
+seen_none share class is = is
+
+pub seen_here : (share : Share) (class : ℕ) (look : Option Seen) (seen : Seen) → look ≡ Some seen → IsSeen share class look →
+    IsOwnOpen share class × (seen.place ≡ number_of share class) × (seen.start ≡ start_at share.slots (length share.pool) seen.place)
+seen_here share class look seen e is = seen_open share class seen (subst (λ o. IsSeen share class o) e is)
+
+pub seen_nowhere : (share : Share) (class : ℕ) (look : Option Seen) → look ≡ None → IsSeen share class look → IsOwnOpen share class → ⊥
+seen_nowhere share class look e is = seen_none share class (subst (λ o. IsSeen share class o) e is)
+
+pub seen_some : (share : Share) (class place : ℕ) (slot : Slot) → IsOwnOpen share class → place ≡ number_of share class →
+    slot ≡ get_or share.slots place slot → IsSeen share class (Some (record { place = place; start = slot.start }))
+unfolding IsSeen
+seen_some share class place slot open_here is read_is =
+    (open_here, is, ap (λ s. s.start) (read share.slots share.pool place slot (number_within share class place open_here is) read_is))
+
+seen_told : (share : Share) (class : ℕ) (seen : Seen) → IsOwnOpen share class → seen.place ≡ number_of share class →
+    seen.start ≡ start_at share.slots (length share.pool) seen.place → IsSeen share class (Some seen)
+unfolding IsSeen
+seen_told share class seen open_here is start = (open_here, is, start)
+
+open_back : (old new : Share) → new.id ≡ old.id → new.n ≡ old.n → new.statuses ≡ old.statuses → (class : ℕ) → IsOwnOpen old class → IsOwnOpen new class
+unfolding IsOwnOpen IsOwn status_at
+open_back old new id_same n_same same class own = (
+  (
+    ap (λ (k : ℕ). class % k) n_same ∙ own.0.0 ∙ sym id_same,
+    subst (λ (s : Statuses). class / new.n < s.places) (sym same) (subst (λ (k : ℕ). class / k < old.statuses.places) (sym n_same) own.0.1),
+  ),
+  ap (λ (k : ℕ). status_in new.statuses.words (class / k)) n_same ∙ ap (λ (s : Statuses). status_in s.words (class / old.n)) same ∙ own.1,
+)
+
+number_same : (old new : Share) → new.n ≡ old.n → new.statuses ≡ old.statuses → (class : ℕ) → number_of new class ≡ number_of old class
+unfolding number_of
+number_same old new n_same same class = ap (λ (k : ℕ). opens_below new.statuses.words (class / k)) n_same
+    ∙ ap (λ (s : Statuses). opens_below s.words (class / old.n)) same
+
+pub seen_not : (share : Share) (class : ℕ) → (IsOwnOpen share class → ⊥) → IsSeen share class None
+unfolding IsSeen
+seen_not share class not = not
+
+cell_form : (share : Share) (class : ℕ) →
+    cell_at share class ≡ cell_where (open_at share.statuses.words (class / share.n)) (cell_in share.slots share.pool (number_of share class))
 unfolding cell_at
-cell_there share class place is = ap (λ (k : ℕ). cell_in share.slots share.pool k) is
+cell_form share class = refl
+
+pub cell_there : (share : Share) (class place : ℕ) → IsOwnOpen share class → place ≡ number_of share class →
+    cell_in share.slots share.pool place ≡ cell_at share class
+cell_there share class place open_here is = ap (λ (k : ℕ). cell_in share.slots share.pool k) is
+    ∙ sym (cell_form share class ∙ ap (λ (k : ℕ). cell_where k (cell_in share.slots share.pool (number_of share class))) (is_open share class open_here))
+
+-- the value of an own class that is open, by its cell
+pub open_has : (share : Share) (class : ℕ) (value : Value) → status_at share class ≡ Open →
+    CellValue (cell_in share.slots share.pool (opens_below share.statuses.words (class / share.n))) value → HasValueNow share class value
+unfolding cell_at status_at number_of
+open_has share class value is has = subst (λ s. IsValue s (cell_at share class) value) (sym is)
+    (subst (λ (b : ℕ). CellValue (cell_where b (cell_in share.slots share.pool (number_of share class))) value)
+    (sym (open_at_open share.statuses.words (class / share.n) is)) has)
+
+where_same : (b : ℕ) (x y : Cell) → b < 2 → (b ≡ 1 → SameCell x y) → SameCell (cell_where b x) (cell_where b y)
+where_same zero x y low same = same_itself (fresh 0)
+where_same (suc zero) x y low same = same refl
+where_same (suc (suc b)) x y low same = absurd (omega arith)
 
 fits_there : (share : Share) (item : Item) → IsOwnOpen share item.to → CanTake item.was item.now (cell_at share item.to) → Fits share item
 unfolding IsOwnOpen Fits
@@ -75,12 +152,12 @@ open_id : (share : Share) (class : ℕ) → IsOwnOpen share class → class % sh
 unfolding IsOwnOpen IsOwn
 open_id share class own = own.0.0
 
-module _ (old : Share) (item : Item) (place : ℕ) (open_here : IsOwnOpen old item.to) (is : place ≡ item.to / old.n) where
+module _ (old : Share) (item : Item) (place : ℕ) (open_here : IsOwnOpen old item.to) (is : place ≡ number_of old item.to) where
   pub misfit_here : {A : Type 0} (r : Result A Fault) → ((r ≡ Err (Contradiction item.to)) ↔ (CanTake item.was item.now (cell_in old.slots old.pool place) → ⊥)) →
       ((r ≡ Err (Contradiction item.to)) ↔ (Fits old item → ⊥))
   misfit_here r h = (
-    λ e fits. h.0 e (subst (λ c. CanTake item.was item.now c) (sym (cell_there old item.to place is)) (takes_there old item fits)),
-    λ not. h.1 (λ takes. not (fits_there old item open_here (subst (λ c. CanTake item.was item.now c) (cell_there old item.to place is) takes))),
+    λ e fits. h.0 e (subst (λ c. CanTake item.was item.now c) (sym (cell_there old item.to place open_here is)) (takes_there old item fits)),
+    λ not. h.1 (λ takes. not (fits_there old item open_here (subst (λ c. CanTake item.was item.now c) (cell_there old item.to place open_here is) takes))),
   )
 
   pub deep_here : {A : Type 0} (r : Result A Fault) →
@@ -88,55 +165,79 @@ module _ (old : Share) (item : Item) (place : ℕ) (open_here : IsOwnOpen old it
       ((r ≡ Err TooDeep) ↔ (Fits old item × GoesTooDeep old item))
   deep_here r h = (
     λ e. let both = h.0 e in (
-      fits_there old item open_here (subst (λ c. CanTake item.was item.now c) (cell_there old item.to place is) both.0),
-      deep_there old item (subst (λ c. IsTooDeep (changed item.was item.now c)) (cell_there old item.to place is) both.1),
+      fits_there old item open_here (subst (λ c. CanTake item.was item.now c) (cell_there old item.to place open_here is) both.0),
+      deep_there old item (subst (λ c. IsTooDeep (changed item.was item.now c)) (cell_there old item.to place open_here is) both.1),
     ),
     λ both. h.1 (
-      subst (λ c. CanTake item.was item.now c) (sym (cell_there old item.to place is)) (takes_there old item both.0),
-      subst (λ c. IsTooDeep (changed item.was item.now c)) (sym (cell_there old item.to place is)) (deep_back old item both.1),
+      subst (λ c. CanTake item.was item.now c) (sym (cell_there old item.to place open_here is)) (takes_there old item both.0),
+      subst (λ c. IsTooDeep (changed item.was item.now c)) (sym (cell_there old item.to place open_here is)) (deep_back old item both.1),
     ),
   )
 
   pub value_before : (value : Value) → CellValue (cell_in old.slots old.pool place) value → HasValueNow old item.to value
   value_before value has = value_there old item.to value (open_status old item.to open_here)
-      (subst (λ c. CellValue c value) (cell_there old item.to place is) has)
+      (subst (λ c. CellValue c value) (cell_there old item.to place open_here is) has)
 
-  module _ (new : Share) (id_same : new.id ≡ old.id) (n_same : new.n ≡ old.n) where
-    place_new : place ≡ item.to / new.n
-    place_new = is ∙ ap (λ (k : ℕ). item.to / k) (sym n_same)
+  module _ (new : Share) (id_same : new.id ≡ old.id) (n_same : new.n ≡ old.n) (same : new.statuses ≡ old.statuses) where
+    open_new : IsOwnOpen new item.to
+    open_new = open_back old new id_same n_same same item.to open_here
 
-    pub classes_same : length new.slots ≡ length old.slots →
-        ((other : ℕ) → (slot_at new.slots (length new.pool) other).status ≡ (slot_at old.slots (length old.pool) other).status) →
-        SameClasses old new
+    place_new : place ≡ number_of new item.to
+    place_new = is ∙ sym (number_same old new n_same same item.to)
+
+    pub classes_same : SameClasses old new
     unfolding places_of IsOwn status_at
-    classes_same whole statuses = record {
+    classes_same = record {
       id = id_same;
       n = n_same;
-      places = whole;
+      places = ap (λ (s : Statuses). s.places) same;
       owned = λ class own. (
         ap (λ (k : ℕ). class % k) n_same ∙ own.0 ∙ sym id_same,
-        subst (λ (k : ℕ). class / k < length new.slots) (sym n_same) (subst (λ (k : ℕ). class / old.n < k) (sym whole) own.1),
+        subst (λ (s : Statuses). class / new.n < s.places) (sym same) (subst (λ (k : ℕ). class / k < old.statuses.places) (sym n_same) own.1),
       );
-      statuses = λ class. ap (λ (k : ℕ). (slot_at new.slots (length new.pool) (class / k)).status) n_same ∙ statuses (class / old.n);
+      statuses = λ class. ap (λ (k : ℕ). status_in new.statuses.words (class / k)) n_same ∙ ap (λ (s : Statuses). status_in s.words (class / old.n)) same;
     }
 
     pub cell_changed : SameCell (cell_in new.slots new.pool place) (changed item.was item.now (cell_in old.slots old.pool place)) →
         SameCell (cell_at new item.to) (changed item.was item.now (cell_at old item.to))
-    cell_changed same = subst (λ c. SameCell c (changed item.was item.now (cell_at old item.to))) (cell_there new item.to place place_new)
-        (subst (λ c. SameCell (cell_in new.slots new.pool place) (changed item.was item.now c)) (cell_there old item.to place is) same)
+    cell_changed alike = subst (λ c. SameCell c (changed item.was item.now (cell_at old item.to))) (cell_there new item.to place open_new place_new)
+        (subst (λ c. SameCell (cell_in new.slots new.pool place) (changed item.was item.now c)) (cell_there old item.to place open_here is) alike)
+
+    -- an own class that is open has another cell
+    other_number : (class : ℕ) → IsOwn old class → (class ≡ item.to → ⊥) → open_at old.statuses.words (class / old.n) ≡ 1 → number_of old class ≡ place → ⊥
+    unfolding number_of
+    other_number class own n one e = n (apart old.n old.id class item.to (own_id old class own) (open_id old item.to open_here)
+        (rank_same old.statuses.words (class / old.n) (item.to / old.n) one (is_open old item.to open_here) (e ∙ is)))
+
+    cell_then : (class : ℕ) → cell_at new class ≡ cell_where (open_at old.statuses.words (class / old.n)) (cell_in new.slots new.pool (number_of old class))
+    cell_then class = cell_form new class
+        ∙ ap (λ (k : ℕ). cell_where (open_at new.statuses.words (class / k)) (cell_in new.slots new.pool (number_of new class))) n_same
+        ∙ ap (λ (s : Statuses). cell_where (open_at s.words (class / old.n)) (cell_in new.slots new.pool (number_of new class))) same
+        ∙ ap (λ (k : ℕ). cell_where (open_at old.statuses.words (class / old.n)) (cell_in new.slots new.pool k)) (number_same old new n_same same class)
 
     pub others_kept : ((other : ℕ) → (other ≡ place → ⊥) → SameCell (cell_in new.slots new.pool other) (cell_in old.slots old.pool other)) →
         (class : ℕ) → IsOwn old class → (class ≡ item.to → ⊥) → SameCell (cell_at new class) (cell_at old class)
     others_kept others class own n =
-        subst (λ c. SameCell c (cell_at old class)) (cell_there new class (class / old.n) (ap (λ (k : ℕ). class / k) (sym n_same)))
-        (subst (λ c. SameCell (cell_in new.slots new.pool (class / old.n)) c) (cell_there old class (class / old.n) refl)
-        (others (class / old.n) (λ e. n (apart old.n old.id class item.to (own_id old class own) (open_id old item.to open_here) (e ∙ is)))))
+        subst (λ c. SameCell c (cell_at old class)) (sym (cell_then class))
+        (subst (λ c. SameCell (cell_where (open_at old.statuses.words (class / old.n)) (cell_in new.slots new.pool (number_of old class))) c) (sym (cell_form old class))
+        (where_same (open_at old.statuses.words (class / old.n)) (cell_in new.slots new.pool (number_of old class)) (cell_in old.slots old.pool (number_of old class))
+        (let low : open_at old.statuses.words (class / old.n) < 2 = omega arith in low)
+        (λ one. others (number_of old class) (other_number class own n one))))
 
-    module _ (whole : length new.slots ≡ length old.slots)
-        (statuses : (other : ℕ) → (slot_at new.slots (length new.pool) other).status ≡ (slot_at old.slots (length old.pool) other).status) where
-      pub value_then : (value : Value) → CellValue (cell_in new.slots new.pool place) value → HasValueNow new item.to value
-      value_then value has = value_there new item.to value ((classes_same whole statuses).statuses item.to ∙ open_status old item.to open_here)
-          (subst (λ c. CellValue c value) (cell_there new item.to place place_new) has)
+    pub value_then : (value : Value) → CellValue (cell_in new.slots new.pool place) value → HasValueNow new item.to value
+    value_then value has = value_there new item.to value (open_status new item.to open_new)
+        (subst (λ c. CellValue c value) (cell_there new item.to place open_new place_new) has)
+
+-- what was seen of any class stays so
+pub seen_kept : (old new : Share) → new.id ≡ old.id → new.n ≡ old.n → new.statuses ≡ old.statuses →
+    ((other : ℕ) → start_at new.slots (length new.pool) other ≡ start_at old.slots (length old.pool) other) →
+    (class : ℕ) (look : Option Seen) → IsSeen old class look → IsSeen new class look
+seen_kept old new id_same n_same same starts class None is = seen_not new class
+    (λ open_there. seen_none old class is (open_back new old (sym id_same) (sym n_same) (sym same) class open_there))
+seen_kept old new id_same n_same same starts class (Some seen) is =
+    let was = seen_open old class seen is in
+    seen_told new class seen (open_back old new id_same n_same same class was.0)
+    (was.1 ∙ sym (number_same old new n_same same class)) (was.2 ∙ sym (starts seen.place))
 
 -- a value that has changed is better
 pub improved : (was now : Value) (cell after : Cell) (v w : Value) → CanTake was now cell → SameCell after (changed was now cell) →
@@ -146,3 +247,19 @@ improved was now cell after v w takes same is then differs =
       | inl e ↦ absurd (differs e)
       | inr better ↦ better
     ]
+
+-- ---- the values of own classes are short
+
+short_where : (b : ℕ) (cell : Cell) → b < 2 → (b ≡ 1 → IsShortCell cell) → IsShortCell (cell_where b cell)
+short_where zero cell low short = record { loss = λ plies e. absurd (cc); win = λ _ _ plies some. absurd (omega arith) }
+short_where (suc zero) cell low short = short refl
+short_where (suc (suc b)) cell low short = absurd (omega arith)
+
+pub cell_short : (share : Share) (class : ℕ) → IsOwn share class → IsShortCell (cell_at share class)
+unfolding IsOwn cell_at number_of
+cell_short share class own = short_where (open_at share.statuses.words (class / share.n))
+    (cell_in share.slots share.pool (opens_below share.statuses.words (class / share.n)))
+    (let low : open_at share.statuses.words (class / share.n) < 2 = omega arith in low)
+    (λ one. share.pooled.short (opens_below share.statuses.words (class / share.n))
+    (subst (λ (k : ℕ). opens_below share.statuses.words (class / share.n) < k) (sym share.opens)
+    (rank_less share.statuses.words (class / share.n) share.statuses.places own.1 one)))

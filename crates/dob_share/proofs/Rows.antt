@@ -1,5 +1,5 @@
 -- The rows of the table of items: what each makes of its cell, and of the cell's value.
-use Rattle.std.proofs.Common.{◌≡◌, ℕ, zero, suc, ◌+◌, ◌-◌, ◌<◌, ◌≤◌, List, length, refl, sym, ap, ◌∙◌, subst, inl, inr, arith, get_or, cond, eqb, Option, None, Some, MatchOption, Ok, Err}
+use Rattle.std.proofs.Common.{◌≡◌, ℕ, zero, suc, ◌+◌, ◌-◌, ◌<◌, ◌≤◌, List, length, refl, sym, ap, ◌∙◌, subst, inl, inr, arith, get_or, Option, None, Some, MatchOption, Ok, Err}
 use Rattle.std.proofs.Math.ListN.{set}
 use Rattle.std.proofs.lemmas.List.{set-get_or}
 use Rattle.std.proofs.lemmas.Bool.{cases_eq}
@@ -7,14 +7,14 @@ use Rattle.dob_value.specs.declared.value.Value.{Value}
 use Rattle.dob_value.specs.declared.value.Value.TheVariants.{Win, Loss, Draw}
 use Rattle.dob_value.specs.Distances.{lesser_of, greater_of}
 use Rattle.dob_share.specs.declared.cells.Slot.{Slot}
-use Rattle.dob_share.specs.declared.cells.Count.{Count}
 use Rattle.dob_share.specs.declared.fault.Fault.TheVariants.{TooDeep, Contradiction}
 use Rattle.dob_share.specs.Cells.{CellValue, more_at, less_at, IsGreatestIn}
-use Rattle.dob_share.specs.Pools.{tally, moves_of, wins_in, ChangesRun}
-use Rattle.dob_share.specs.Slots.{least_of, cell_of, start_at, room_at, IsShortCell, ArePooled}
+use Rattle.dob_share.specs.Pools.{wins_in, ChangesRun}
+use Rattle.dob_share.specs.Slots.{least_of, cell_of, cell_by, room_at, IsShortCell, ArePooled}
 use Rattle.dob_share.specs.Steps.{IsChange, IsApplied}
 use Rattle.dob_share.proofs.Changing.{misfits, least_some, greatest_more, win_most, win_deep, win_step, loss_deep, loss_step, better_win_step, better_loss_step, better_loss_misfits}
-use Rattle.dob_share.proofs.Applied.{CellValue-same, change_of, refused_here, short_here, short_after, applied_here}
+use Rattle.dob_share.proofs.Tallies.{changes_longer}
+use Rattle.dob_share.proofs.Applied.{CellValue-same, change_of, refused_here, short_here, room_left, short_after, applied_here}
 
 -- ---- values of a cell with a win, or with none while moves are left
 
@@ -30,12 +30,12 @@ least_is zero least e = absurd (cc)
 least_is (suc win) least e = let same : win ≡ least = cc in omega arith
 
 -- after a loss of the enemy
-nearer_win : (slot next : Slot) (wins : ℕ → ℕ) (least : ℕ) (value : Value) (change : Option (Value × Value)) → (slot.win ≡ 0 → 0 < slot.left) →
+nearer_win : (slot next : Slot) (wins new_wins : ℕ → ℕ) (least : ℕ) (value : Value) (change : Option (Value × Value)) → (slot.win ≡ 0 → 0 < slot.left) →
     (0 < slot.win → value ≡ Win slot.win) → (slot.win ≡ 0 → value ≡ Draw) → least_of next.win ≡ Some least →
     MatchOption change (value ≡ Win next.win) (λ values. (values.0 ≡ value) × (values.1 ≡ Win next.win) × (value ≡ Win next.win → ⊥)) →
-    IsChange (cell_of slot wins) (cell_of next wins) change
-nearer_win slot next wins least value change left some none win both =
-    change_of (cell_of slot wins) (cell_of next wins) value (Win next.win) change
+    IsChange (cell_of slot wins) (cell_of next new_wins) change
+nearer_win slot next wins new_wins least value change left some none win both =
+    change_of (cell_of slot wins) (cell_of next new_wins) value (Win next.win) change
     (win_value_is slot wins value left some none)
     (least, win, least_is next.win least win)
     both
@@ -66,127 +66,131 @@ lost slot next wins new_wins plies greatest left win none_left none is more = (
 
 -- ---- the rows
 
-module _ (slots : List Slot) (pool : List Count) (place start room : ℕ) (slot : Slot)
-    (pooled : ArePooled slots pool) (within : place < length slots) (slot_read : slot ≡ get_or slots place slot)
-    (start_is : start ≡ start_at slots (length pool) place) (room_is : room ≡ room_at slots (length pool) place) where
-  short : IsShortCell (cell_of slot (wins_in pool start room))
-  short = short_here slots pool place start room slot pooled within slot_read start_is room_is
+module _ (slots : List Slot) (pool : List ℕ) (place : ℕ) (slot : Slot)
+    (pooled : ArePooled slots pool) (within : place < length slots) (slot_read : slot ≡ get_or slots place slot) where
+  short : IsShortCell (cell_by slot pool)
+  short = short_here slots pool place slot pooled within slot_read
 
   pub no_move_left : (to plies : ℕ) → slot.left ≡ 0 → IsApplied to Draw (Win plies) place slots pool slots pool (Err (Contradiction to))
-  no_move_left to plies none = refused_here slots pool place start room slot pooled within slot_read start_is room_is to Draw (Win plies) (Contradiction to)
-      (misfits to Draw (Win plies) (cell_of slot (wins_in pool start room)) slot (λ takes. absurd (omega arith)))
+  no_move_left to plies none = refused_here slots pool place slot pooled within slot_read to Draw (Win plies) (Contradiction to)
+      (misfits to Draw (Win plies) (cell_by slot pool) slot (λ takes. absurd (omega arith)))
 
-  pub win_too_deep : (to plies : ℕ) (greatest : Option ℕ) → slot.left ≡ 1 → slot.win ≡ 0 → IsGreatestIn (wins_in pool start room) greatest →
+  pub win_too_deep : (to plies : ℕ) (greatest : Option ℕ) → slot.left ≡ 1 → slot.win ≡ 0 →
+      IsGreatestIn (wins_in pool slot.start slot.used) greatest →
       65534 ≤ greater_of greatest plies → IsApplied to Draw (Win plies) place slots pool slots pool (Err TooDeep)
-  win_too_deep to plies greatest last none is deep = refused_here slots pool place start room slot pooled within slot_read start_is room_is to Draw (Win plies) TooDeep
-      (win_deep to plies slot (wins_in pool start room) greatest last none is deep)
+  win_too_deep to plies greatest last none is deep = refused_here slots pool place slot pooled within slot_read to Draw (Win plies) TooDeep
+      (win_deep to plies slot (wins_in pool slot.start slot.used) greatest last none is deep)
 
-  pub win_not_counted : (to was now : ℕ) → (0 < wins_in pool start room was → ⊥) →
+  pub win_not_counted : (to was now : ℕ) → wins_in pool slot.start slot.used was ≡ 0 →
       IsApplied to (Win was) (Win now) place slots pool slots pool (Err (Contradiction to))
-  win_not_counted to was now not = refused_here slots pool place start room slot pooled within slot_read start_is room_is to (Win was) (Win now) (Contradiction to)
-      (misfits to (Win was) (Win now) (cell_of slot (wins_in pool start room)) slot (λ takes. not takes.1))
+  win_not_counted to was now none = refused_here slots pool place slot pooled within slot_read to (Win was) (Win now) (Contradiction to)
+      (misfits to (Win was) (Win now) (cell_by slot pool) slot (λ takes. let some = takes.1 in absurd (omega arith)))
 
-  module _ (to plies : ℕ) (next : Slot) (new_pool : List Count) (some : 0 < slot.left)
-      (start_same : next.start ≡ slot.start) (status_same : next.status ≡ slot.status) (left : next.left ≡ slot.left - 1) (win : next.win ≡ slot.win)
-      (changes : ChangesRun start room pool new_pool)
-      (wins : (other : ℕ) → wins_in new_pool start room other ≡ more_at plies (wins_in pool start room) other)
-      (total : tally moves_of new_pool start room ≡ tally moves_of pool start room + 1) where
+  module _ (to plies : ℕ) (next : Slot) (new_pool : List ℕ) (some : 0 < slot.left)
+      (start_same : next.start ≡ slot.start) (used_more : next.used ≡ slot.used + 1) (left : next.left ≡ slot.left - 1) (win : next.win ≡ slot.win)
+      (changes : ChangesRun slot.start (slot.used + 1) pool new_pool)
+      (wins : (other : ℕ) → wins_in new_pool slot.start (slot.used + 1) other ≡ more_at plies (wins_in pool slot.start slot.used) other) where
+    wins_next : (other : ℕ) → wins_in new_pool next.start next.used other ≡ more_at plies (wins_in pool slot.start slot.used) other
+    wins_next other = ap (λ (k : ℕ). wins_in new_pool k next.used other) start_same
+        ∙ ap (λ (k : ℕ). wins_in new_pool slot.start k other) used_more ∙ wins other
+
     one_counted : (change : Option (Value × Value)) →
-        (slot.win ≡ 0 → slot.left ≡ 1 → (greatest : Option ℕ) × IsGreatestIn (wins_in pool start room) greatest × (greater_of greatest plies < 65534)) →
-        IsChange (cell_of slot (wins_in pool start room)) (cell_of next (wins_in new_pool start room)) change →
+        (slot.win ≡ 0 → slot.left ≡ 1 → (greatest : Option ℕ) × IsGreatestIn (wins_in pool slot.start slot.used) greatest × (greater_of greatest plies < 65534)) →
+        IsChange (cell_by slot pool) (cell_by next new_pool) change →
         IsApplied to Draw (Win plies) place slots pool (set slots place next) new_pool (Ok change)
-    one_counted change below values = applied_here slots pool place start room slot pooled within slot_read start_is room_is to Draw (Win plies) next new_pool
-        (win_step to plies slot next (wins_in pool start room) short some below start_same status_same left win)
-        changes wins (let more = total in let less = left in omega arith) change values
+    one_counted change below values =
+        let most : slot.left + slot.used ≤ room_at slots (length pool) place = room_left slots pool place slot pooled within slot_read in
+        applied_here slots pool place slot pooled within slot_read to Draw (Win plies) next new_pool
+        (win_step to plies slot next (wins_in pool slot.start slot.used) short some below start_same left win)
+        (changes_longer slot.start (slot.used + 1) (room_at slots (length pool) place) pool new_pool (omega arith) changes)
+        wins_next (let more = used_more in let less = left in omega arith) change values
 
     pub win_applied : (slot.left ≡ 1 → slot.win ≡ 0 → ⊥) → IsApplied to Draw (Win plies) place slots pool (set slots place next) new_pool (Ok None)
     win_applied not_last = one_counted None (λ none last. absurd (not_last last none))
-        (value_kept slot next (wins_in pool start room) (wins_in new_pool start room) some not_last left win)
+        (value_kept slot next (wins_in pool slot.start slot.used) (wins_in new_pool next.start next.used) some not_last left win)
 
-    pub last_win_applied : slot.left ≡ 1 → slot.win ≡ 0 → (greatest : Option ℕ) → IsGreatestIn (wins_in pool start room) greatest → greater_of greatest plies < 65534 →
+    pub last_win_applied : slot.left ≡ 1 → slot.win ≡ 0 → (greatest : Option ℕ) → IsGreatestIn (wins_in pool slot.start slot.used) greatest →
+        greater_of greatest plies < 65534 →
         IsApplied to Draw (Win plies) place slots pool (set slots place next) new_pool (Ok (Some (Draw, Loss (greater_of greatest plies + 1))))
     last_win_applied last none greatest is below = one_counted (Some (Draw, Loss (greater_of greatest plies + 1))) (λ _ _. (greatest, is, below))
-        (lost slot next (wins_in pool start room) (wins_in new_pool start room) plies greatest last none (omega arith) (win ∙ none) is wins)
+        (lost slot next (wins_in pool slot.start slot.used) (wins_in new_pool next.start next.used) plies greatest last none
+        (omega arith) (win ∙ none) is wins_next)
 
-  module _ (to was now : ℕ) (less new_pool : List Count) (better : now < was) (counted : 0 < wins_in pool start room was)
-      (before : ChangesRun start room pool less) (after : ChangesRun start room less new_pool)
-      (wins_less : (other : ℕ) → wins_in less start room other ≡ less_at was (wins_in pool start room) other)
-      (wins_more : (other : ℕ) → wins_in new_pool start room other ≡ more_at now (wins_in less start room) other)
-      (total_less : tally moves_of less start room + 1 ≡ tally moves_of pool start room)
-      (total_more : tally moves_of new_pool start room ≡ tally moves_of less start room + 1) where
-    both : ChangesRun start room pool new_pool
-    both = record {
-      whole = after.whole ∙ before.whole;
-      before = λ at under. after.before at under ∙ before.before at under;
-      behind = λ at above. after.behind at above ∙ before.behind at above;
-    }
+  module _ (to was now : ℕ) (new_pool : List ℕ) (better : now < was) (counted : 0 < wins_in pool slot.start slot.used was)
+      (changes : ChangesRun slot.start slot.used pool new_pool)
+      (wins : (other : ℕ) → wins_in new_pool slot.start slot.used other
+      ≡ more_at now (less_at was (wins_in pool slot.start slot.used)) other) where
+    changes_room : ChangesRun slot.start (room_at slots (length pool) place) pool new_pool
+    changes_room =
+        let most : slot.left + slot.used ≤ room_at slots (length pool) place = room_left slots pool place slot pooled within slot_read in
+        changes_longer slot.start slot.used (room_at slots (length pool) place) pool new_pool (omega arith) changes
 
-    wins : (other : ℕ) → wins_in new_pool start room other ≡ more_at now (less_at was (wins_in pool start room)) other
-    wins other = wins_more other ∙ ap (λ (k : ℕ). cond {A = ℕ} (eqb other now) (k + 1) k) (wins_less other)
+    pub better_win_short : IsShortCell (cell_by slot new_pool)
+    better_win_short = short_after slots pool place slot pooled within slot_read to (Win was) (Win now) slot new_pool
+        (better_win_step to was now slot (wins_in pool slot.start slot.used) short better counted) changes_room wins (omega arith)
 
-    pub better_win_short : IsShortCell (cell_of slot (wins_in new_pool start room))
-    better_win_short = short_after slots pool place start room slot pooled within slot_read start_is room_is to (Win was) (Win now) slot new_pool
-        (better_win_step to was now slot (wins_in pool start room) short better counted) both wins (omega arith)
-
-    pub better_win_applied : (change : Option (Value × Value)) →
-        IsChange (cell_of slot (wins_in pool start room)) (cell_of slot (wins_in new_pool start room)) change →
+    pub better_win_applied : (change : Option (Value × Value)) → IsChange (cell_by slot pool) (cell_by slot new_pool) change →
         IsApplied to (Win was) (Win now) place slots pool slots new_pool (Ok change)
     better_win_applied change values = subst (λ xs. IsApplied to (Win was) (Win now) place slots pool xs new_pool (Ok change))
         (ap (λ s. set slots place s) slot_read ∙ set-get_or slots place slot)
-        (applied_here slots pool place start room slot pooled within slot_read start_is room_is to (Win was) (Win now) slot new_pool
-        (better_win_step to was now slot (wins_in pool start room) short better counted) both wins (omega arith) change values)
+        (applied_here slots pool place slot pooled within slot_read to (Win was) (Win now) slot new_pool
+        (better_win_step to was now slot (wins_in pool slot.start slot.used) short better counted) changes_room wins (omega arith) change values)
 
 -- losses of the enemy change no count
-module _ (slots : List Slot) (pool : List Count) (place to : ℕ) (slot : Slot)
+module _ (slots : List Slot) (pool : List ℕ) (place to : ℕ) (slot : Slot)
     (pooled : ArePooled slots pool) (within : place < length slots) (slot_read : slot ≡ get_or slots place slot) where
-  short_slot : IsShortCell (cell_of slot (wins_in pool (start_at slots (length pool) place) (room_at slots (length pool) place)))
-  short_slot = short_here slots pool place (start_at slots (length pool) place) (room_at slots (length pool) place) slot pooled within slot_read refl refl
+  short_slot : IsShortCell (cell_by slot pool)
+  short_slot = short_here slots pool place slot pooled within slot_read
 
   pub few_plies : slot.win ≤ 65534
-  few_plies = win_most slot (wins_in pool (start_at slots (length pool) place) (room_at slots (length pool) place)) short_slot
+  few_plies = win_most slot (wins_in pool slot.start slot.used) short_slot
 
   pub no_move_left_to_win : (plies : ℕ) → slot.left ≡ 0 → IsApplied to Draw (Loss plies) place slots pool slots pool (Err (Contradiction to))
-  no_move_left_to_win plies none = refused_here slots pool place (start_at slots (length pool) place) (room_at slots (length pool) place) slot pooled within slot_read refl refl
+  no_move_left_to_win plies none = refused_here slots pool place slot pooled within slot_read
       to Draw (Loss plies) (Contradiction to)
-      (misfits to Draw (Loss plies) (cell_of slot (wins_in pool (start_at slots (length pool) place) (room_at slots (length pool) place))) slot (λ takes. absurd (omega arith)))
+      (misfits to Draw (Loss plies) (cell_by slot pool) slot (λ takes. absurd (omega arith)))
 
   pub loss_too_deep : (plies : ℕ) → 0 < slot.left → slot.win ≡ 0 → 65534 ≤ plies → IsApplied to Draw (Loss plies) place slots pool slots pool (Err TooDeep)
-  loss_too_deep plies some none deep = refused_here slots pool place (start_at slots (length pool) place) (room_at slots (length pool) place) slot pooled within slot_read refl refl
+  loss_too_deep plies some none deep = refused_here slots pool place slot pooled within slot_read
       to Draw (Loss plies) TooDeep
-      (loss_deep to plies slot (wins_in pool (start_at slots (length pool) place) (room_at slots (length pool) place)) some none deep)
+      (loss_deep to plies slot (wins_in pool slot.start slot.used) some none deep)
 
   pub loss_not_known : (was now : ℕ) → (now < was → 0 < slot.win → slot.win - 1 ≤ was → ⊥) →
       IsApplied to (Loss was) (Loss now) place slots pool slots pool (Err (Contradiction to))
-  loss_not_known was now not = refused_here slots pool place (start_at slots (length pool) place) (room_at slots (length pool) place) slot pooled within slot_read refl refl
+  loss_not_known was now not = refused_here slots pool place slot pooled within slot_read
       to (Loss was) (Loss now) (Contradiction to)
-      (better_loss_misfits to was now slot (wins_in pool (start_at slots (length pool) place) (room_at slots (length pool) place)) not)
+      (better_loss_misfits to was now slot (wins_in pool slot.start slot.used) not)
 
   module _ (next : Slot) (value : Value) (change : Option (Value × Value))
-      (start_same : next.start ≡ slot.start) (status_same : next.status ≡ slot.status)
+      (start_same : next.start ≡ slot.start) (used_same : next.used ≡ slot.used)
       (some_win : 0 < slot.win → value ≡ Win slot.win) (no_win : slot.win ≡ 0 → value ≡ Draw)
       (told : MatchOption change (value ≡ Win next.win) (λ values. (values.0 ≡ value) × (values.1 ≡ Win next.win) × (value ≡ Win next.win → ⊥))) where
-    untouched : ChangesRun (start_at slots (length pool) place) (room_at slots (length pool) place) pool pool
+    untouched : ChangesRun slot.start (room_at slots (length pool) place) pool pool
     untouched = record { whole = refl; before = λ at under. refl; behind = λ at above. refl }
+
+    wins_stay : (other : ℕ) → wins_in pool next.start next.used other ≡ wins_in pool slot.start slot.used other
+    wins_stay other = ap (λ (k : ℕ). wins_in pool k next.used other) start_same
+        ∙ ap (λ (k : ℕ). wins_in pool slot.start k other) used_same
 
     pub loss_applied : (plies : ℕ) → 0 < slot.left → (slot.win ≡ 0 → plies < 65534) → next.left ≡ slot.left - 1 →
         least_of next.win ≡ Some (lesser_of (least_of slot.win) plies) →
         IsApplied to Draw (Loss plies) place slots pool (set slots place next) pool (Ok change)
     loss_applied plies some below left win =
-        applied_here slots pool place (start_at slots (length pool) place) (room_at slots (length pool) place) slot pooled within slot_read refl refl
+        applied_here slots pool place slot pooled within slot_read
         to Draw (Loss plies) next pool
-        (loss_step to plies slot next (wins_in pool (start_at slots (length pool) place) (room_at slots (length pool) place)) short_slot some below start_same status_same left win)
-        untouched (λ other. refl) (let less = left in omega arith) change
-        (nearer_win slot next (wins_in pool (start_at slots (length pool) place) (room_at slots (length pool) place)) (lesser_of (least_of slot.win) plies)
+        (loss_step to plies slot next (wins_in pool slot.start slot.used) short_slot some below start_same left win)
+        untouched wins_stay (let less = left in let same = used_same in omega arith) change
+        (nearer_win slot next (wins_in pool slot.start slot.used) (wins_in pool next.start next.used) (lesser_of (least_of slot.win) plies)
         value change (λ none. some) some_win no_win win told)
 
     pub better_loss_applied : (was now : ℕ) → now < was → 0 < slot.win → slot.win - 1 ≤ was → next.left ≡ slot.left →
         least_of next.win ≡ Some (lesser_of (least_of slot.win) now) →
         IsApplied to (Loss was) (Loss now) place slots pool (set slots place next) pool (Ok change)
     better_loss_applied was now better some most left win =
-        applied_here slots pool place (start_at slots (length pool) place) (room_at slots (length pool) place) slot pooled within slot_read refl refl
+        applied_here slots pool place slot pooled within slot_read
         to (Loss was) (Loss now) next pool
-        (better_loss_step to was now slot next (wins_in pool (start_at slots (length pool) place) (room_at slots (length pool) place)) short_slot better some most
-        start_same status_same left win)
-        untouched (λ other. refl) (let same = left in omega arith) change
-        (nearer_win slot next (wins_in pool (start_at slots (length pool) place) (room_at slots (length pool) place)) (lesser_of (least_of slot.win) now)
+        (better_loss_step to was now slot next (wins_in pool slot.start slot.used) short_slot better some most
+        start_same left win)
+        untouched wins_stay (let less = left in let same = used_same in omega arith) change
+        (nearer_win slot next (wins_in pool slot.start slot.used) (wins_in pool next.start next.used) (lesser_of (least_of slot.win) now)
         value change (λ none. absurd (omega arith)) some_win no_win win told)

@@ -4,7 +4,8 @@ pub mod Cells
 pub mod Pools
 pub mod Slots
 pub mod Steps
-pub mod Shares
 pub mod Openings
+pub mod Statuses
+pub mod Shares
 pub mod Faults
 pub mod Laws

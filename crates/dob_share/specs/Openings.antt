@@ -1,11 +1,9 @@
--- A share as it is opened: slots one after the other, and a pool that counts nothing.
-use Rattle.std.specs.Prelude.{◌≡◌, ℕ, zero, suc, ◌+◌, ◌*◌, ◌<◌, List, length, slice_index_or}
+-- A share as it is opened: slots one after the other, and a pool of whose entries none is in use.
+use Rattle.std.specs.Prelude.{◌≡◌, ℕ, zero, suc, ◌+◌, ◌<◌, List, [], ◌∷◌, length, slice_index_or}
 use Rattle.dob_moves.specs.declared.position_status.Status.{Status}
 use Rattle.dob_moves.specs.declared.position_status.Status.TheVariants.{Stuck, Open}
 use Rattle.dob_share.specs.declared.cells.Slot.{Slot}
-use Rattle.dob_share.specs.declared.cells.Count.{Count}
 use Rattle.dob_share.specs.declared.opening.Opening.{Opening}
-use Rattle.dob_share.specs.Pools.{vacant}
 use Rattle.dob_share.specs.Slots.{slot_at, start_at}
 
 -- what is listed of the class, or a class with no move that is stuck
@@ -22,18 +20,32 @@ abbrev pub settled_among : (ℕ → Status) → ℕ → ℕ
 settled_among status zero = 0
 settled_among status (suc places) = settled_among status places + settles (status places)
 
--- each slot is that of its opening, with a run of as many entries as it has moves, and every entry is free
-pub record AreOpened (openings : List Opening) (n id : ℕ) (slots : List Slot) (pool : List Count) : Type 0 where
+-- a number where the status is open, else nought
+abbrev pub moves_where : Status → ℕ → ℕ
+moves_where Open moves = moves
+moves_where _ moves = 0
+
+-- how many entries a class has in the pool: its moves where it is open, else none
+abbrev pub cell_moves : Opening → ℕ
+cell_moves opening = moves_where opening.status opening.moves
+
+-- each slot has a run of as many entries as it has moves, and none of them is in use
+pub record AreOpened (slots : List Slot) (pool : List ℕ) : Type 0 where
   pub runs : (place : ℕ) → place < length slots →
       start_at slots (length pool) (place + 1) ≡ start_at slots (length pool) place + (slot_at slots (length pool) place).left
-  pub statuses : (place : ℕ) → place < length slots →
-      (slot_at slots (length pool) place).status ≡ (opening_of openings (place * n + id)).status
-  pub moves : (place : ℕ) → place < length slots →
-      (slot_at slots (length pool) place).left ≡ (opening_of openings (place * n + id)).moves
-  pub few : (place : ℕ) → (slot_at slots (length pool) place).left < 256
+  pub few : (place : ℕ) → (slot_at slots (length pool) place).left < 64
   pub no_win : (place : ℕ) → (slot_at slots (length pool) place).win ≡ 0
-  pub free : (place : ℕ) → slice_index_or pool place vacant ≡ vacant
+  pub unused : (place : ℕ) → (slot_at slots (length pool) place).used ≡ 0
 
--- the slot of a class of which nothing is known, with a run from the pool's end on
-abbrev pub new_slot : ℕ → Opening → Slot
-new_slot start opening = record { start = start; win = 0; left = opening.moves; status = opening.status }
+-- the slot of an open class with that many moves, of which nothing is known, with a run from the pool's end on
+abbrev pub new_slot : ℕ → ℕ → Slot
+new_slot start moves = record { start = start; win = 0; left = moves; used = 0 }
+
+-- a slot where the status is open
+abbrev pub slots_where : Status → Slot → List Slot
+slots_where Open slot = slot ∷ []
+slots_where _ slot = []
+
+-- the slots that a class adds: one where it is open
+abbrev pub slots_of : ℕ → Opening → List Slot
+slots_of start opening = slots_where opening.status (new_slot start opening.moves)

@@ -1,5 +1,5 @@
 -- The cells of one owner's classes: what a share says of each class.
-use Rattle.std.specs.Prelude.{◌≡◌, ℕ, ◌+◌, ◌/◌, ◌%◌, ◌<◌, length, Option, None, Some}
+use Rattle.std.specs.Prelude.{◌≡◌, ℕ, zero, suc, ◌+◌, ◌/◌, ◌%◌, ◌<◌, length, Option, None, Some, MatchOption}
 use Rattle.dob_moves.specs.declared.position_status.Status.{Status}
 use Rattle.dob_moves.specs.declared.position_status.Status.TheVariants.{Caught, Tried, Stuck, Open}
 use Rattle.dob_value.specs.declared.value.Value.{Value}
@@ -7,26 +7,37 @@ use Rattle.dob_value.specs.declared.value.Value.TheVariants.{Win, Loss}
 use Rattle.dob_share.specs.declared.news.Item.{Item}
 use Rattle.dob_share.specs.declared.news.Settlement.{Settlement}
 use Rattle.dob_share.specs.Values.{Better}
+use Rattle.dob_share.specs.declared.share.Seen.{Seen}
 use Rattle.dob_share.specs.declared.share.Share.{Share}
-use Rattle.dob_share.specs.Cells.{Cell, CellValue, CanTake, changed}
-use Rattle.dob_share.specs.Slots.{slot_at, cell_in}
+use Rattle.dob_share.specs.Cells.{Cell, CellValue, CanTake, changed, fresh}
+use Rattle.dob_share.specs.Slots.{start_at, cell_in}
+use Rattle.dob_share.specs.Statuses.{open_at, opens_below, status_in}
 use Rattle.dob_share.specs.Steps.{IsTooDeep}
 
 -- how many classes the share owns
 unfoldable pub places_of : Share → ℕ
-places_of share = length share.slots
+places_of share = share.statuses.places
 
 -- the class is the share's own: it has a place in it
 unfoldable pub IsOwn : Share → ℕ → Type 0
-IsOwn share class = (class % share.n ≡ share.id) × (class / share.n < length share.slots)
+IsOwn share class = (class % share.n ≡ share.id) × (class / share.n < share.statuses.places)
 
 -- the status of an own class
 unfoldable pub status_at : Share → ℕ → Status
-status_at share class = (slot_at share.slots (length share.pool) (class / share.n)).status
+status_at share class = status_in share.statuses.words (class / share.n)
+
+-- the number of the cell of an own class that is open
+unfoldable pub number_of : Share → ℕ → ℕ
+number_of share class = opens_below share.statuses.words (class / share.n)
+
+-- the cell where the class is open, else that of a class without moves
+abbrev pub cell_where : ℕ → Cell → Cell
+cell_where zero cell = fresh 0
+cell_where (suc _) cell = cell
 
 -- the cell of an own class
 unfoldable pub cell_at : Share → ℕ → Cell
-cell_at share class = cell_in share.slots share.pool (class / share.n)
+cell_at share class = cell_where (open_at share.statuses.words (class / share.n)) (cell_in share.slots share.pool (number_of share class))
 
 -- the value of a class with that status and cell
 abbrev pub IsValue : Status → Cell → Value → Type 0
@@ -58,6 +69,11 @@ pub record SameClasses (old new : Share) : Type 0 where
 -- the class is the share's own, and open
 unfoldable pub IsOwnOpen : Share → ℕ → Type 0
 IsOwnOpen share class = IsOwn share class × (status_at share class ≡ Open)
+
+-- what is seen of the class ahead of its items: its cell's number, and where its run begins, where it is the share's own and open
+unfoldable pub IsSeen : Share → ℕ → Option Seen → Type 0
+IsSeen share class look = MatchOption look (¬ IsOwnOpen share class)
+    (λ seen. IsOwnOpen share class × (seen.place ≡ number_of share class) × (seen.start ≡ start_at share.slots (length share.pool) seen.place))
 
 -- What the share gives for an item to the class: nothing where its value has stayed, else its settlement, from the value
 -- that it had to a better one, with the next number.

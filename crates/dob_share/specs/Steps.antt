@@ -3,11 +3,10 @@ use Rattle.std.specs.Prelude.{◌≡◌, ◌≢◌, ℕ, ◌↔◌, List, length
 use Rattle.dob_value.specs.declared.value.Value.{Value}
 use Rattle.dob_value.specs.Codes.{IsShort}
 use Rattle.dob_share.specs.declared.cells.Slot.{Slot}
-use Rattle.dob_share.specs.declared.cells.Count.{Count}
 use Rattle.dob_share.specs.declared.fault.Fault.{Fault}
 use Rattle.dob_share.specs.declared.fault.Fault.TheVariants.{TooDeep, Contradiction}
 use Rattle.dob_share.specs.Cells.{Cell, CellValue, SameCell, CanTake, changed}
-use Rattle.dob_share.specs.Slots.{slot_at, cell_in, ArePooled}
+use Rattle.dob_share.specs.Slots.{start_at, cell_in, ArePooled}
 
 -- the cell's value has a distance above the greatest that is kept
 abbrev pub IsTooDeep : Cell → Type 0
@@ -19,9 +18,9 @@ IsChange old new None = (value : Value) × CellValue old value × CellValue new 
 IsChange old new (Some values) = CellValue old values.0 × CellValue new values.1 × (values.0 ≢ values.1)
 
 -- What an item to a class, whose cell is at that place, makes of slots and pool. That it doesn't fit comes before that
--- the value is too deep; a fault leaves all as it was, and no item touches another cell or a status.
-pub record IsApplied (to : ℕ) (was now : Value) (place : ℕ) (old_slots : List Slot) (old_pool : List Count)
-    (slots : List Slot) (pool : List Count) (result : Result (Option (Value × Value)) Fault) : Type 0 where
+-- the value is too deep; a fault leaves all as it was, and no item touches another cell.
+pub record IsApplied (to : ℕ) (was now : Value) (place : ℕ) (old_slots : List Slot) (old_pool : List ℕ)
+    (slots : List Slot) (pool : List ℕ) (result : Result (Option (Value × Value)) Fault) : Type 0 where
   pub misfit : (result ≡ Err (Contradiction to)) ↔ (¬ CanTake was now (cell_in old_slots old_pool place))
   pub deep : (result ≡ Err TooDeep)
       ↔ (CanTake was now (cell_in old_slots old_pool place) × IsTooDeep (changed was now (cell_in old_slots old_pool place)))
@@ -29,7 +28,7 @@ pub record IsApplied (to : ℕ) (was now : Value) (place : ℕ) (old_slots : Lis
   pub unchanged : (fault : Fault) → result ≡ Err fault → (slots ≡ old_slots) × (pool ≡ old_pool)
   pub pooled : ArePooled slots pool
   pub places : length slots ≡ length old_slots
-  pub statuses : (other : ℕ) → (slot_at slots (length pool) other).status ≡ (slot_at old_slots (length old_pool) other).status
+  pub starts : (other : ℕ) → start_at slots (length pool) other ≡ start_at old_slots (length old_pool) other
   pub others : (other : ℕ) → other ≢ place → SameCell (cell_in slots pool other) (cell_in old_slots old_pool other)
   pub takes : (change : Option (Value × Value)) → result ≡ Ok change → CanTake was now (cell_in old_slots old_pool place)
   pub cell : (change : Option (Value × Value)) → result ≡ Ok change →

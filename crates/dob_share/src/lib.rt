@@ -8,10 +8,11 @@ mod news;
 mod opening;
 mod owners;
 mod share;
+mod statuses;
 mod steps;
 
 pub use fault::Fault;
 pub use news::{Item, Settlement};
 pub use opening::{Opening, opening_at};
 pub use owners::owner;
-pub use share::Share;
+pub use share::{Seen, Share};

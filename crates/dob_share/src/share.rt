@@ -4,14 +4,16 @@ ghost use Rattle.std.specs.Prelude.{slice_index_or, [], ◌∷◌, ◌++◌, ◌
 ghost use Rattle.dob_share.specs.declared.fault.Fault.TheVariants as fault;
 ghost use Rattle.dob_share.specs.Values.{Better};
 ghost use Rattle.dob_share.specs.Owners.{class_of_place};
-ghost use Rattle.dob_share.specs.Pools.{vacant};
-ghost use Rattle.dob_share.specs.Slots.{ArePooled};
-ghost use Rattle.dob_share.specs.Openings.{opening_of, settles, settled_among, new_slot};
+ghost use Rattle.dob_share.specs.Cells.{CellValue};
+ghost use Rattle.dob_share.specs.Slots.{ArePooled, cell_in};
+ghost use Rattle.dob_share.specs.Openings.{opening_of, cell_moves, settles, settled_among, new_slot, slots_of};
+ghost use Rattle.dob_share.specs.Statuses.{open_at, opens_below};
 
-use crate::cells::{Count, Slot, run_at};
+use crate::cells::Slot;
 use crate::fault::Fault;
 use crate::news::{Item, Settlement};
 use crate::opening::{Opening, opening_at};
+use crate::statuses::Statuses;
 use crate::steps::{apply_at, value_in};
 use dob_moves::Status;
 use dob_pieces::Memory;
@@ -19,32 +21,42 @@ use dob_rank::Segments;
 use dob_value::Value;
 use std::alloc::Global;
 
-// An entry of the pool that counts nothing.
-const FREE: Count = Count {
-    distance: 0,
-    moves: 0,
-};
+// How many moves a class has at most: a slot tells fewer than 64 entries in use.
+const MOST_MOVES: u8 = 63;
 
-/// The cells of the classes k * n + id, for k from 0 on, of one owner `id` among `n`.
+/// What is seen of an own class that is open: the number of its cell, and where the cell's run begins.
+#[derive(Clone, Copy)]
+pub struct Seen {
+    pub(crate) place: usize,
+    pub(crate) start: u32,
+}
+
+/// The statuses of the classes k * n + id, for k from 0 on, of one owner `id` among `n`, and the cells of those that are open, in
+/// their order.
 #[derive(Drop)]
 pub struct Share {
     id: usize,
     n: usize,
     settled: u64,
+    statuses: Statuses,
     slots: Segments<Slot>,
-    pool: Segments<Count>,
+    pool: Segments<u16>,
     ghost owners: { (id < n) × (n ≤ 16) },
+    ghost opens: { length slots ≡ opens_below statuses.words statuses.places },
     ghost pooled: { ArePooled slots pool },
 }
 
 impl Share {
+    ghost use Rattle.std.specs.Prelude.{Option};
+    ghost use Rattle.dob_share.specs.declared.share.Seen.{Seen};
     ghost use Rattle.dob_share.specs.Cells.{SameCell, changed, fresh};
-    ghost use Rattle.dob_share.specs.Shares.{places_of, IsOwn, status_at, cell_at, HasValueNow, Fits, GoesTooDeep, SameClasses, IsOwnOpen, HasSettled};
+    ghost use Rattle.dob_share.specs.Shares.{places_of, IsOwn, status_at, number_of, cell_at, HasValueNow, Fits, GoesTooDeep, SameClasses, IsOwnOpen, IsSeen, HasSettled};
 
-    /// The share of owner `id` among `n`, at most 16, of the classes that are listed, with what each is at the start. It
-    /// makes all the room that `apply` will need, in segments as long as those of the list.
+    /// The share of owner `id` among `n`, at most 16, of the classes that are listed, with what each is at the start. Only open
+    /// classes have cells. It makes all the room that `apply` will need, in segments as long as those of the list.
     ///
-    /// Error: `Memory`, also where its classes have 2 to the power of 32 moves or more.
+    /// Error: `Memory`, also where 2 to the power of 32 classes or more are listed, where its open classes have as many moves, or one
+    /// of them more than 63.
     pub fn open(
         alloc: Global,
         openings: &Segments<Opening>,
@@ -56,25 +68,31 @@ impl Share {
         ensures who { IfOk result (λ share. (share.id ≡ id) × (share.n ≡ n)) }
         ensures owned { IfOk result (λ share. (class : ℕ) → IsOwn share class ↔ ((class % n ≡ id) × (class < length openings.now))) }
         ensures statuses { IfOk result (λ share. (class : ℕ) → IsOwn share class → status_at share class ≡ (opening_of openings.now class).status) }
-        ensures cells { IfOk result (λ share. (class : ℕ) → IsOwn share class → SameCell (cell_at share class) (fresh (opening_of openings.now class).moves)) }
+        ensures cells { IfOk result (λ share. (class : ℕ) → IsOwn share class → SameCell (cell_at share class) (fresh (cell_moves (opening_of openings.now class)))) }
         ensures settled { IfOk result (λ share. share.settled ≡ settled_among (λ place. (opening_of openings.now (class_of_place n id place)).status) (places_of share)) }
     {
-        let places = places_among(openings.len(), id as u64, n as u64);
+        let count = openings.len();
+        if count > u64::from(u32::MAX) {
+            return Err(Memory);
+        }
+        let places = places_among(count, id as u64, n as u64);
+        let statuses = Statuses::open(alloc, openings, places, id, n)?;
         let segment_length = openings.segment_length();
         let mut slots = Segments::new(alloc, segment_length);
         let mut moves = 0;
         let mut settled = 0;
         for place in 0..places {
             let opening = opening_at(openings, place * n as u64 + id as u64);
-            push_slot(&mut slots, moves, opening)?;
-            moves += opening.moves as u64;
+            let entries = push_slot(&mut slots, moves, opening)?;
+            moves += entries;
             settled += settlements_of(opening.status);
         }
-        let pool = Segments::filled(alloc, segment_length, moves, FREE)?;
+        let pool = Segments::filled(alloc, segment_length, moves, 0)?;
         Ok(Share {
             id,
             n,
             settled,
+            statuses,
             slots,
             pool,
         })
@@ -85,7 +103,7 @@ impl Share {
     pub fn places(&self) -> u64
         ensures { result ≡ places_of self.now }
     {
-        self.slots.len()
+        self.statuses.places
     }
 
     /// How many settlements it has given: those of its opening, and one for each item that changed a value.
@@ -96,18 +114,27 @@ impl Share {
     }
 
     /// The present value of an own class.
-    #[tactic(auto, unfolding(crate::specs::Shares::IsOwn, crate::specs::Shares::status_at, crate::specs::Shares::cell_at, crate::specs::Slots::cell_in))]
+    #[tactic(auto, unfolding(crate::specs::Shares::IsOwn, crate::specs::Shares::status_at))]
     pub fn value(&self, class: u64) -> Value
         requires { IsOwn self.now class }
         ensures { HasValueNow self.now class result }
     {
-        let place = (class / self.n as u64) as usize;
-        let slot = self.slots[place];
-        match slot.status {
+        let place = class / self.n as u64;
+        match self.statuses.status(place) {
             Status::Caught => Value::Win(1),
             Status::Tried | Status::Stuck => Value::Loss(0),
-            Status::Open => value_in(&self.pool, slot, run_at(&self.slots, &self.pool, place)),
+            Status::Open => self.open_value(place),
         }
+    }
+
+    // The present value of the own class at a place, which is open.
+    fn open_value(&self, place: u64) -> Value
+        requires place { place < self.now.statuses.places }
+        requires bit { open_at self.now.statuses.words place ≡ 1 }
+        ensures { CellValue (cell_in self.now.slots self.now.pool (opens_below self.now.statuses.words place)) result }
+    {
+        let number = self.statuses.opens_before(place) as usize;
+        value_in(&self.pool, self.slots[number])
     }
 
     /// Applies an item: a change of what one of its class's moves leads to. It answers the settlement of the class
@@ -126,13 +153,37 @@ impl Share {
         ensures others { (class : ℕ) → IsOwn self.old class → class ≢ item.to → SameCell (cell_at self.new class) (cell_at self.old class) }
         ensures settled { IfOk result (λ given. HasSettled self.old self.new item.to given) }
     {
-        let Some(place) = self.open_place(item.to) else {
+        let seen = self.see(item.to);
+        self.apply_seen(item, seen)
+    }
+
+    /// Applies an item as `apply` does, by what was seen of its class.
+    ///
+    /// Errors: as of `apply`.
+    pub fn apply_seen(
+        &mut self,
+        item: Item,
+        seen: Option<Seen>,
+    ) -> Result<Option<Settlement>, Fault>
+        requires numbers { self.old.settled < 2 ^ 63 }
+        requires seen { IsSeen self.old item.to seen }
+        ensures contradiction { (result ≡ Err (fault.Contradiction item.to)) ↔ (¬ Fits self.old item) }
+        ensures too_deep { (result ≡ Err fault.TooDeep) ↔ (Fits self.old item × GoesTooDeep self.old item) }
+        ensures named { (class : ℕ) → result ≡ Err (fault.Contradiction class) → class ≡ item.to }
+        ensures unchanged { OnErr result (self.new ≡ self.old) }
+        ensures classes { SameClasses self.old self.new }
+        ensures cell { OnOk result (SameCell (cell_at self.new item.to) (changed item.was item.now (cell_at self.old item.to))) }
+        ensures others { (class : ℕ) → IsOwn self.old class → class ≢ item.to → SameCell (cell_at self.new class) (cell_at self.old class) }
+        ensures settled { IfOk result (λ given. HasSettled self.old self.new item.to given) }
+        ensures seen { (class : ℕ) (look : Option Seen) → IsSeen self.old class look → IsSeen self.new class look }
+    {
+        let Some(seen) = seen else {
             return Err(Fault::Contradiction(item.to));
         };
         match apply_at(
             &mut self.slots,
             &mut self.pool,
-            place,
+            seen,
             item.to,
             item.was,
             item.now,
@@ -152,22 +203,32 @@ impl Share {
         }
     }
 
-    // The place of an own class that is open.
-    #[tactic(auto, unfolding(crate::specs::Shares::IsOwn, crate::specs::Shares::status_at, crate::specs::Shares::IsOwnOpen))]
-    fn open_place(&self, class: u64) -> Option<usize>
-        ensures { MatchOption result (¬ IsOwnOpen self.now class) (λ place. IsOwnOpen self.now class × (place ≡ class / self.now.n)) }
+    /// What is seen of a class ahead of its items, which none of them changes; none where it isn't an own class that is open.
+    pub fn see(&self, class: u64) -> Option<Seen>
+        ensures { IsSeen self.now class result }
+    {
+        let Some(place) = self.cell_number(class) else {
+            return None;
+        };
+        let start = self.slots[place].start;
+        Some(Seen { place, start })
+    }
+
+    // The number of the cell of an own class that is open.
+    #[tactic(auto, unfolding(crate::specs::Shares::IsOwn, crate::specs::Shares::status_at, crate::specs::Shares::IsOwnOpen, crate::specs::Shares::number_of))]
+    fn cell_number(&self, class: u64) -> Option<usize>
+        ensures { MatchOption result (¬ IsOwnOpen self.now class) (λ number. IsOwnOpen self.now class × (number ≡ number_of self.now class)) }
     {
         let n = self.n as u64;
         if class % n != self.id as u64 {
             return None;
         }
         let place = class / n;
-        if place >= self.slots.len() {
+        if place >= self.statuses.places {
             return None;
         }
-        let place = place as usize;
-        match self.slots[place].status {
-            Status::Open => Some(place),
+        match self.statuses.status(place) {
+            Status::Open => Some(self.statuses.opens_before(place) as usize),
             Status::Caught | Status::Tried | Status::Stuck => None,
         }
     }
@@ -195,19 +256,37 @@ fn settlements_of(status: Status) -> u64
     }
 }
 
-// Appends the slot of a class of which nothing is known, whose run begins at `start`.
-fn push_slot(slots: &mut Segments<Slot>, start: u64, opening: Opening) -> Result<(), Memory>
-    ensures small { OnOk result (start < 2 ^ 32) }
-    ensures few { opening.moves < 256 }
-    ensures slots { OnOk result (slots.new ≡ slots.old ++ new_slot start opening ∷ []) }
+// Appends the slot of a class of which nothing is known, whose run begins at `start`, where it is open. It answers how many
+// entries the run has, none where there is no slot.
+fn push_slot(slots: &mut Segments<Slot>, start: u64, opening: Opening) -> Result<u64, Memory>
+    requires { start < 2 ^ 33 }
+    ensures small { OnOk result (start + cell_moves opening < 2 ^ 33) }
+    ensures few { OnOk result (cell_moves opening < 64) }
+    ensures moves { IfOk result (λ moves. moves ≡ cell_moves opening) }
+    ensures slots { OnOk result (slots.new ≡ slots.old ++ slots_of start opening) }
 {
-    if start > u64::from(u32::MAX) {
+    match opening.status {
+        Status::Open => {
+            push_open(slots, start, opening.moves)?;
+            Ok(u64::from(opening.moves))
+        }
+        Status::Caught | Status::Tried | Status::Stuck => Ok(0),
+    }
+}
+
+// Appends the slot of an open class with that many moves, of which nothing is known, whose run begins at `start`.
+fn push_open(slots: &mut Segments<Slot>, start: u64, moves: u8) -> Result<(), Memory>
+    ensures small { OnOk result (start < 2 ^ 32) }
+    ensures few { OnOk result (moves < 64) }
+    ensures slots { OnOk result (slots.new ≡ slots.old ++ new_slot start moves ∷ []) }
+{
+    if start > u64::from(u32::MAX) || moves > MOST_MOVES {
         return Err(Memory);
     }
     slots.push(Slot {
         start: start as u32,
         win: 0,
-        left: opening.moves,
-        status: opening.status,
+        left: moves,
+        used: 0,
     })
 }

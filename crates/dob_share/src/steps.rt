@@ -5,22 +5,20 @@ ghost use Rattle.std.specs.Prelude.{◌≡◌, ◌≢◌, ℕ, ◌+◌, ◌<◌,
 ghost use Rattle.dob_value.specs.declared.value.Value.TheVariants.{Win, Loss, Draw};
 ghost use Rattle.dob_value.specs.Distances.{lesser_of};
 ghost use Rattle.dob_share.specs.Cells.{CellValue};
-ghost use Rattle.dob_share.specs.Pools.{wins_in};
-ghost use Rattle.dob_share.specs.Slots.{slot_at, cell_of, ArePooled, IsShortCell, least_of};
+ghost use Rattle.dob_share.specs.Slots.{slot_at, start_at, cell_by, ArePooled, IsShortCell, least_of};
 ghost use Rattle.dob_share.specs.Steps.{IsApplied};
 
-use crate::cells::{
-    Count, Run, Slot, count_less, count_more, greatest_win, is_counted, later, run_at,
-};
+use crate::cells::{Slot, count_better, count_win, counted_place, greatest_win, later};
 use crate::fault::Fault;
+use crate::share::Seen;
 use dob_rank::Segments;
 use dob_value::{MAX_DISTANCE, Value};
 
 /// The value of the cell.
-pub(crate) fn value_in(pool: &Segments<Count>, slot: Slot, run: Run) -> Value
-    requires within { run.start + run.room ≤ length pool.now }
-    requires short { IsShortCell (cell_of slot (wins_in pool.now run.start run.room)) }
-    ensures { CellValue (cell_of slot (wins_in pool.now run.start run.room)) result }
+pub(crate) fn value_in(pool: &Segments<u16>, slot: Slot) -> Value
+    requires within { slot.start + slot.used ≤ length pool.now }
+    requires short { IsShortCell (cell_by slot pool.now) }
+    ensures { CellValue (cell_by slot pool.now) result }
 {
     if slot.win > 0 {
         return Value::Win(slot.win);
@@ -28,7 +26,7 @@ pub(crate) fn value_in(pool: &Segments<Count>, slot: Slot, run: Run) -> Value
     if slot.left > 0 {
         return Value::Draw;
     }
-    match greatest_win(pool, run) {
+    match greatest_win(pool, slot) {
         Some(greatest) => Value::Loss(greatest + 1),
         None => Value::Draw,
     }
@@ -41,19 +39,21 @@ pub(crate) fn value_in(pool: &Segments<Count>, slot: Slot, run: Run) -> Value
 /// where the cell's value would have a distance above `MAX_DISTANCE`.
 pub(crate) fn apply_at(
     slots: &mut Segments<Slot>,
-    pool: &mut Segments<Count>,
-    place: usize,
+    pool: &mut Segments<u16>,
+    seen: Seen,
     to: u64,
     was: Value,
     now: Value,
 ) -> Result<Option<(Value, Value)>, Fault>
     requires pooled { ArePooled slots.old pool.old }
-    requires place { place < length slots.old }
-    ensures { IsApplied to was now place slots.old pool.old slots.new pool.new result }
+    requires place { seen.place < length slots.old }
+    requires start { seen.start ≡ start_at slots.old (length pool.old) seen.place }
+    ensures { IsApplied to was now seen.place slots.old pool.old slots.new pool.new result }
 {
+    let place = seen.place;
     match was {
         Value::Draw => match now {
-            Value::Win(plies) => apply_win(slots, pool, place, to, plies),
+            Value::Win(plies) => apply_win(slots, pool, seen, to, plies),
             Value::Loss(plies) => apply_loss(slots, place, to, plies),
             Value::Draw => Err(Fault::Contradiction(to)),
         },
@@ -71,15 +71,17 @@ pub(crate) fn apply_at(
 // The first news of a move: it leads to a win of the enemy.
 fn apply_win(
     slots: &mut Segments<Slot>,
-    pool: &mut Segments<Count>,
-    place: usize,
+    pool: &mut Segments<u16>,
+    seen: Seen,
     to: u64,
     plies: u16,
 ) -> Result<Option<(Value, Value)>, Fault>
     requires pooled { ArePooled slots.old pool.old }
-    requires place { place < length slots.old }
-    ensures { IsApplied to Draw (Win plies) place slots.old pool.old slots.new pool.new result }
+    requires place { seen.place < length slots.old }
+    requires start { seen.start ≡ start_at slots.old (length pool.old) seen.place }
+    ensures { IsApplied to Draw (Win plies) seen.place slots.old pool.old slots.new pool.new result }
 {
+    let place = seen.place;
     let slot = slots[place];
     if slot.left == 0 {
         return Err(Fault::Contradiction(to));
@@ -87,22 +89,21 @@ fn apply_win(
     if slot.left == 1 && slot.win == 0 {
         return apply_last_win(slots, pool, place, plies);
     }
-    let run = run_at(slots, pool, place);
     // The slot first: after a write to the pool its place would be looked for anew.
     slots[place] = Slot {
         start: slot.start,
         win: slot.win,
         left: slot.left - 1,
-        status: slot.status,
+        used: slot.used + 1,
     };
-    count_more(pool, run, plies);
+    count_win(pool, seen.start, slot.used, plies);
     Ok(None)
 }
 
 // The news of the last move of a cell that knows no loss of the enemy: it leads to a win of the enemy too, as all do.
 fn apply_last_win(
     slots: &mut Segments<Slot>,
-    pool: &mut Segments<Count>,
+    pool: &mut Segments<u16>,
     place: usize,
     plies: u16,
 ) -> Result<Option<(Value, Value)>, Fault>
@@ -113,8 +114,7 @@ fn apply_last_win(
     ensures { (to : ℕ) → IsApplied to Draw (Win plies) place slots.old pool.old slots.new pool.new result }
 {
     let slot = slots[place];
-    let run = run_at(slots, pool, place);
-    let greatest = later(greatest_win(pool, run), plies);
+    let greatest = later(greatest_win(pool, slot), plies);
     if greatest >= MAX_DISTANCE {
         return Err(Fault::TooDeep);
     }
@@ -122,9 +122,9 @@ fn apply_last_win(
         start: slot.start,
         win: 0,
         left: 0,
-        status: slot.status,
+        used: slot.used + 1,
     };
-    count_more(pool, run, plies);
+    count_win(pool, slot.start, slot.used, plies);
     Ok(Some((Value::Draw, Value::Loss(greatest + 1))))
 }
 
@@ -135,9 +135,9 @@ fn apply_loss(
     to: u64,
     plies: u16,
 ) -> Result<Option<(Value, Value)>, Fault>
-    requires pooled { (pool : List Count) × ArePooled slots.old pool }
+    requires pooled { (pool : List ℕ) × ArePooled slots.old pool }
     requires place { place < length slots.old }
-    ensures { (pool : List Count) → ArePooled slots.old pool → IsApplied to Draw (Loss plies) place slots.old pool slots.new pool result }
+    ensures { (pool : List ℕ) → ArePooled slots.old pool → IsApplied to Draw (Loss plies) place slots.old pool slots.new pool result }
 {
     let slot = slots[place];
     if slot.left == 0 {
@@ -151,7 +151,7 @@ fn apply_loss(
         start: slot.start,
         win,
         left: slot.left - 1,
-        status: slot.status,
+        used: slot.used,
     };
     Ok(change(win_value(slot.win), Value::Win(win)))
 }
@@ -160,7 +160,7 @@ fn apply_loss(
 #[inline(never)]
 fn apply_better_win(
     slots: &Segments<Slot>,
-    pool: &mut Segments<Count>,
+    pool: &mut Segments<u16>,
     place: usize,
     to: u64,
     was: u16,
@@ -174,14 +174,12 @@ fn apply_better_win(
         return Err(Fault::Contradiction(to));
     }
     let slot = slots[place];
-    let run = run_at(slots, pool, place);
-    if !is_counted(pool, run, was) {
+    let Some(counted) = counted_place(pool, slot, was) else {
         return Err(Fault::Contradiction(to));
-    }
-    let before = value_in(pool, slot, run);
-    count_less(pool, run, was);
-    count_more(pool, run, now);
-    let after = value_in(pool, slot, run);
+    };
+    let before = value_in(pool, slot);
+    count_better(pool, slot, counted, now);
+    let after = value_in(pool, slot);
     Ok(change(before, after))
 }
 
@@ -194,9 +192,9 @@ fn apply_better_loss(
     was: u16,
     now: u16,
 ) -> Result<Option<(Value, Value)>, Fault>
-    requires pooled { (pool : List Count) × ArePooled slots.old pool }
+    requires pooled { (pool : List ℕ) × ArePooled slots.old pool }
     requires place { place < length slots.old }
-    ensures { (pool : List Count) → ArePooled slots.old pool → IsApplied to (Loss was) (Loss now) place slots.old pool slots.new pool result }
+    ensures { (pool : List ℕ) → ArePooled slots.old pool → IsApplied to (Loss was) (Loss now) place slots.old pool slots.new pool result }
 {
     let slot = slots[place];
     if now >= was {
@@ -210,7 +208,7 @@ fn apply_better_loss(
         start: slot.start,
         win,
         left: slot.left,
-        status: slot.status,
+        used: slot.used,
     };
     Ok(change(win_value(slot.win), Value::Win(win)))
 }

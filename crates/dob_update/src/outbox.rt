@@ -115,8 +115,11 @@ impl Outbox {
         requires owners { 0 < self.old.n }
         requires targets { targets.now ≡ predecessors self.old.family settlement.class }
         ensures ok { OnOk result (self.new ≡ added self.old settlement (items_of (λ _. targets.now) self.old.n self.old.to settlement)) }
-        ensures err { OnErr result (self.new ≡ self.old) }
+        ensures err { OnErr result ((self.new ≡ self.old) × (targets.now ≢ [])) }
     {
+        if targets.is_empty() {
+            return Ok(());
+        }
         self.parts.reserve(1)?;
         self.classes.reserve(targets.len())?;
         let before = self.classes.len();

@@ -4,4 +4,4 @@ use Rattle.dob_share.specs.Pools.{tally, moves_at}
 use Rattle.dob_share.proofs.cells.counted_place.Given as goal
 
 abbrev pub invariant-loop-offset : goal.invariant-loop-offset
-invariant-loop-offset l = tally (moves_at l.plies) l.pool l.run.start l.offset ≡ 0
+invariant-loop-offset l = tally (moves_at l.plies) l.pool l.slot.start l.offset ≡ 0

@@ -7,6 +7,6 @@ use Rattle.dob_share.proofs.cells.greatest_win.Goals as goal
 
 pub returns : goal.returns
 returns c =
-    let whole : c.loop-offset.offset ≡ c.args.run.room = omega arith in
-    greatest_in c.args.pool.now c.args.run.start c.args.run.room c.loop-offset.greatest
-    (subst (λ (k : ℕ). IsGreatestIn (λ plies. tally (moves_at plies) c.args.pool.now c.args.run.start k) c.loop-offset.greatest) whole c.loop-offset.invariant)
+    let whole : c.loop-offset.offset ≡ c.args.slot.used = omega arith in
+    greatest_in c.args.pool.now c.args.slot.start c.args.slot.used c.loop-offset.greatest
+    (subst (λ (k : ℕ). IsGreatestIn (λ plies. tally (moves_at plies) c.args.pool.now c.args.slot.start k) c.loop-offset.greatest) whole c.loop-offset.invariant)

@@ -4,4 +4,4 @@ use Rattle.dob_share.specs.Pools.{tally, moves_at}
 use Rattle.dob_share.proofs.cells.greatest_win.Given as goal
 
 abbrev pub invariant-loop-offset : goal.invariant-loop-offset
-invariant-loop-offset l = IsGreatestIn (λ plies. tally (moves_at plies) l.pool l.run.start l.offset) l.greatest
+invariant-loop-offset l = IsGreatestIn (λ plies. tally (moves_at plies) l.pool l.slot.start l.offset) l.greatest

@@ -17,6 +17,6 @@ win_after-win-requires-clause-win c = few_plies c.args.slots.now c.requires.pool
 
 pub returns : goal.returns
 returns c = λ pool pooled. loss_applied c.args.slots.now pool c.args.place c.args.to c.index-slot.result.now pooled c.requires.place c.index-slot.ensures
-    (record { start = c.index-slot.result.now.start; win = c.win_after-win.result; left = c.index-slot.result.now.left - 1; status = c.index-slot.result.now.status })
+    (record { start = c.index-slot.result.now.start; win = c.win_after-win.result; left = c.index-slot.result.now.left - 1; used = c.index-slot.result.now.used })
     c.win_value.result c.change.result refl refl c.win_value.ensures.some c.win_value.ensures.none c.change.ensures
     c.args.plies (omega arith) (λ none. grind (arith, common_steps)) refl c.win_after-win.ensures

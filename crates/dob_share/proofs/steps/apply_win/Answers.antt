@@ -1,19 +1,35 @@
 -- The first news of a win of the enemy: one more is counted, and the value stays but where it was the last move's.
-use Rattle.std.proofs.Common.{refl, inl, inr, arith}
+use Rattle.std.proofs.Common.{◌≡◌, ℕ, ◌+◌, ◌<◌, length, refl, sym, subst, inl, inr, arith}
+use Rattle.dob_share.specs.Cells.{more_at}
+use Rattle.dob_share.specs.Pools.{wins_in, ChangesRun}
+use Rattle.dob_share.proofs.Applied.{entry_free, start_told}
 use Rattle.dob_share.proofs.Rows.{no_move_left, win_applied}
 use Rattle.dob_share.proofs.steps.apply_win.Goals as goal
 
 pub returns-then-slot-eq0 : goal.returns-then-slot-eq0
-returns-then-slot-eq0 c = no_move_left c.args.slots.now c.args.pool.now c.args.place _ _
-    c.index-slot.result.now c.requires.pooled c.requires.place c.index-slot.ensures refl refl
+returns-then-slot-eq0 c = no_move_left c.args.slots.now c.args.pool.now c.args.seen.place
+    c.index-slot.result.now c.requires.pooled c.requires.place c.index-slot.ensures
     c.args.to c.args.plies (omega arith)
 
 pub returns-then-slot-eq0-2 : goal.returns-then-slot-eq0-2
 returns-then-slot-eq0-2 c = c.apply_last_win.ensures c.args.to
 
+pub count_win-requires : goal.count_win-requires
+count_win-requires c =
+    let free = entry_free c.args.slots.now c.args.pool.now c.args.seen.place
+    c.index-slot.result.now c.requires.pooled c.requires.place c.index-slot.ensures (omega arith) in
+    let told = start_told c.args.slots.now c.args.pool.now c.args.seen.place
+    c.index-slot.result.now c.requires.pooled c.requires.place c.index-slot.ensures c.args.seen.start c.requires.start in
+    subst (λ (k : ℕ). k + c.index-slot.result.now.used < length c.args.pool.now) told free
+
 pub returns : goal.returns
-returns c = win_applied c.args.slots.now c.args.pool.now c.args.place c.run_at-run.result.start c.run_at-run.result.room
-    c.index-slot.result.now c.requires.pooled c.requires.place c.index-slot.ensures c.run_at-run.ensures.start c.run_at-run.ensures.room
-    c.args.to c.args.plies _ c.count_more.new.pool (omega arith) refl refl refl refl
-    c.count_more.ensures.changes c.count_more.ensures.wins c.count_more.ensures.total
+returns c =
+    let told = sym (start_told c.args.slots.now c.args.pool.now c.args.seen.place
+    c.index-slot.result.now c.requires.pooled c.requires.place c.index-slot.ensures c.args.seen.start c.requires.start) in
+    win_applied c.args.slots.now c.args.pool.now c.args.seen.place
+    c.index-slot.result.now c.requires.pooled c.requires.place c.index-slot.ensures
+    c.args.to c.args.plies _ c.count_win.new.pool (omega arith) refl refl refl refl
+    (subst (λ (k : ℕ). ChangesRun k (c.index-slot.result.now.used + 1) c.args.pool.now c.count_win.new.pool) told c.count_win.ensures.changes)
+    (subst (λ (k : ℕ). (other : ℕ) → wins_in c.count_win.new.pool k (c.index-slot.result.now.used + 1) other
+    ≡ more_at c.args.plies (wins_in c.args.pool.now k c.index-slot.result.now.used) other) told c.count_win.ensures.wins)
     (λ last none. elim c.else-slot-eq1.either [ inl both ↦ both.1 none | inr not ↦ not last ])

@@ -1,0 +1,215 @@
+-- Words of statuses: the number of a cell, which is how many classes are open before its place, and the status of a place.
+use Rattle.std.proofs.Common.{◌≡◌, ℕ, zero, suc, ◌+◌, ◌*◌, ◌/◌, ◌%◌, ◌<◌, ◌≤◌, inl, inr, refl, sym, ap, ◌∙◌, subst, arith, ◌^◌, List, [], ◌∷◌, ◌++◌, length, get_or, slice_get, Some}
+use Rattle.std.proofs.lemmas.Bool.{cases_eq, cases_lt, cases_order, cond_below}
+use Rattle.std.proofs.lemmas.List.{get_or_append_left, length_push}
+use Rattle.std.proofs.lemmas.Option.{slice_get_within, get_or_from_slice_get}
+use Rattle.std.proofs.Math.Seq.{get_or-append_seam}
+use Rattle.std.proofs.Math.Nat.{mod-eq_of_lt}
+use Rattle.std.specs.Int.Count.{ones}
+use Rattle.dob_moves.specs.declared.position_status.Status.{Status}
+use Rattle.dob_moves.specs.declared.position_status.Status.TheVariants.{Caught, Tried, Stuck, Open}
+use Rattle.dob_share.specs.declared.opening.Opening.{Opening}
+use Rattle.dob_share.specs.declared.statuses.StatusWord.{StatusWord}
+use Rattle.dob_share.specs.Openings.{opening_of}
+use Rattle.dob_share.specs.Owners.{class_of_place}
+use Rattle.dob_share.specs.Statuses.{bit, bits_below, opens, catches, tries, status_of_bits, IsStatusOf, status_listed, no_word, word_of, open_at, status_in, opens_below, AreCounted}
+use Rattle.dob_share.proofs.Bits.{ones_below}
+
+-- ---- the status by three bits
+
+pub by_bits : (a b c x y z : ℕ) → a ≡ x → b ≡ y → c ≡ z → status_of_bits a b c ≡ status_of_bits x y z
+by_bits a b c x y z p q r = ap (λ (k : ℕ). status_of_bits k b c) p ∙ ap (λ (k : ℕ). status_of_bits x k c) q ∙ ap (λ (k : ℕ). status_of_bits x y k) r
+
+bits_back : (status : Status) → status_of_bits (opens status) (catches status) (tries status) ≡ status
+bits_back Open = refl
+bits_back Caught = refl
+bits_back Tried = refl
+bits_back Stuck = refl
+
+-- what a word says of a class
+pub status_told : (word : StatusWord) (place : ℕ) (status : Status) → IsStatusOf word place status →
+    status_of_bits (bit word.opens place) (bit word.caught place) (bit word.tried place) ≡ status
+status_told word place status is =
+    by_bits (bit word.opens place) (bit word.caught place) (bit word.tried place) (opens status) (catches status) (tries status) is.opens_is is.caught_is is.tried_is
+    ∙ bits_back status
+
+open_bit : (a b c : ℕ) → a < 2 → status_of_bits a b c ≡ Open → a ≡ 1
+open_bit zero zero zero low e = absurd (cc)
+open_bit zero zero (suc c) low e = absurd (cc)
+open_bit zero (suc b) c low e = absurd (cc)
+open_bit (suc zero) b c low e = refl
+open_bit (suc (suc a)) b c low e = absurd (omega arith)
+
+pub open_at_open : (words : List StatusWord) (place : ℕ) → status_in words place ≡ Open → open_at words place ≡ 1
+open_at_open words place is = open_bit (open_at words place) (bit (word_of words place).caught (place % 64)) (bit (word_of words place).tried (place % 64))
+    (let low : open_at words place < 2 = omega arith in low) is
+
+-- ---- how many are open before a place
+
+-- within a word
+in_word : (words : List StatusWord) (w k : ℕ) → k ≤ 64 →
+    opens_below words (w * 64 + k) ≡ opens_below words (w * 64) + bits_below (get_or words w no_word).opens k
+in_word words w zero few = ap (opens_below words) (let e : w * 64 + 0 ≡ w * 64 = omega arith in e) ∙ (omega arith)
+in_word words w (suc k) few =
+    let next : w * 64 + suc k ≡ suc (w * 64 + k) = omega arith in
+    let number : (w * 64 + k) / 64 ≡ w = omega arith in
+    let place : (w * 64 + k) % 64 ≡ k = omega arith in
+    let rest : opens_below words (w * 64 + k) ≡ opens_below words (w * 64) + bits_below (get_or words w no_word).opens k
+    = in_word words w k (omega arith) in
+    let here : open_at words (w * 64 + k) ≡ bit (get_or words w no_word).opens k
+    = ap (λ (m : ℕ). bit (get_or words m no_word).opens ((w * 64 + k) % 64)) number ∙ ap (λ (m : ℕ). bit (get_or words w no_word).opens m) place in
+    let all : opens_below words (w * 64 + suc k) ≡ opens_below words (w * 64 + k) + open_at words (w * 64 + k) = ap (opens_below words) next in
+    omega arith
+
+-- what a word tells, and how many bits are set in it before the place
+rank_is : (words : List StatusWord) (place before : ℕ) → AreCounted words → place / 64 < length words →
+    before ≡ bits_below (get_or words (place / 64) no_word).opens (place % 64) →
+    (get_or words (place / 64) no_word).before + before ≡ opens_below words place
+rank_is words place before counted within is =
+    let w : ℕ = place / 64 in
+    let k : ℕ = place % 64 in
+    let whole : w * 64 + k ≡ place = omega arith in
+    let sum : opens_below words (w * 64 + k) ≡ opens_below words (w * 64) + bits_below (get_or words w no_word).opens k = in_word words w k (omega arith) in
+    let told : (get_or words w no_word).before ≡ opens_below words (w * 64) = counted w within in
+    let there : opens_below words (w * 64 + k) ≡ opens_below words place = ap (opens_below words) whole in
+    omega arith
+
+-- the same of a word read at the place
+pub rank_read : (words : List StatusWord) (place before : ℕ) (word : StatusWord) → AreCounted words → slice_get words (place / 64) ≡ Some word →
+    before ≡ bits_below word.opens (place % 64) → word.before + before ≡ opens_below words place
+rank_read words place before word counted there is =
+    let read : get_or words (place / 64) no_word ≡ word = get_or_from_slice_get words (place / 64) word no_word there in
+    subst (λ (x : StatusWord). x.before + before ≡ opens_below words place) read
+    (rank_is words place before counted (slice_get_within words (place / 64) word there)
+    (is ∙ ap (λ (x : StatusWord). bits_below x.opens (place % 64)) (sym read)))
+
+pub opens_few : (words : List StatusWord) (k : ℕ) → opens_below words k ≤ k
+opens_few words zero = omega arith
+opens_few words (suc k) = let rest : opens_below words k ≤ k = opens_few words k in
+    let one : open_at words k < 2 = omega arith in
+    omega arith
+
+-- later places have later cells
+pub rank_less : (words : List StatusWord) (a b : ℕ) → a < b → open_at words a ≡ 1 → opens_below words a < opens_below words b
+rank_less words a zero less set = absurd (omega arith)
+rank_less words a (suc b) less set = elim (cases_eq a b) [
+  | inl same ↦ let last : open_at words b ≡ 1 = ap (open_at words) (sym same) ∙ set in
+      let count : opens_below words a ≡ opens_below words b = ap (opens_below words) same in omega arith
+  | inr other ↦ let rest : opens_below words a < opens_below words b = rank_less words a b (omega arith) set in omega arith
+]
+
+-- no two open classes have one cell
+pub rank_same : (words : List StatusWord) (a b : ℕ) → open_at words a ≡ 1 → open_at words b ≡ 1 → opens_below words a ≡ opens_below words b → a ≡ b
+rank_same words a b one other same = elim (cases_order a b) [
+  | inl e ↦ e
+  | inr order ↦ elim order [
+    | inl less ↦ let apart : opens_below words a < opens_below words b = rank_less words a b less one in absurd (omega arith)
+    | inr more ↦ let apart : opens_below words b < opens_below words a = rank_less words b a more other in absurd (omega arith)
+  ]
+]
+
+-- ---- one word more
+
+module _ (status : ℕ → Status) (number count : ℕ) (last : StatusWord) (words : List StatusWord) (whole : length words ≡ number)
+    (counted : AreCounted words) (is : count ≡ opens_below words (number * 64)) (told : last.before ≡ count) where
+  abbrev longer : List StatusWord
+  longer = words ++ last ∷ []
+
+  word_before : (place : ℕ) → place < number * 64 → word_of longer place ≡ word_of words place
+  word_before place low = get_or_append_left words (last ∷ []) no_word (place / 64) (omega arith)
+
+  same_below : (k : ℕ) → k ≤ number * 64 → opens_below longer k ≡ opens_below words k
+  same_below zero low = refl
+  same_below (suc k) low =
+      let rest : opens_below longer k ≡ opens_below words k = same_below k (omega arith) in
+      let one : open_at longer k ≡ open_at words k = ap (λ (w : StatusWord). bit w.opens (k % 64)) (word_before k (omega arith)) in
+      omega arith
+
+  last_is : get_or longer number no_word ≡ last
+  last_is = ap (λ (k : ℕ). get_or longer k no_word) (sym whole) ∙ get_or-append_seam words last [] no_word
+
+  counted_more : AreCounted longer
+  counted_more w low = elim (cases_lt w number) [
+    | inl before ↦ ap (λ (x : StatusWord). x.before) (get_or_append_left words (last ∷ []) no_word w (omega arith)) ∙ counted w (omega arith)
+        ∙ sym (same_below (w * 64) (omega arith))
+    | inr after ↦
+        let long : length longer ≡ length words + 1 = length_push words last in
+        let same : number ≡ w = omega arith in
+        subst (λ (k : ℕ). (get_or longer k no_word).before ≡ opens_below longer (k * 64)) same
+        (ap (λ (x : StatusWord). x.before) last_is ∙ told ∙ is ∙ sym (same_below (number * 64) (omega arith)))
+  ]
+
+  count_more : last.opens < 2 ^ 64 → count + ones last.opens ≡ opens_below longer ((number + 1) * 64)
+  count_more fits =
+      let end : number * 64 + 64 ≡ (number + 1) * 64 = omega arith in
+      let sum : opens_below longer (number * 64 + 64) ≡ opens_below longer (number * 64) + bits_below (get_or longer number no_word).opens 64
+      = in_word longer number 64 (omega arith) in
+      let all : opens_below longer (number * 64 + 64) ≡ opens_below longer ((number + 1) * 64) = ap (opens_below longer) end in
+      let before : opens_below longer (number * 64) ≡ opens_below words (number * 64) = same_below (number * 64) (omega arith) in
+      let here : bits_below (get_or longer number no_word).opens 64 ≡ bits_below last.opens 64 = ap (λ (x : StatusWord). bits_below x.opens 64) last_is in
+      let set : ones last.opens ≡ bits_below last.opens 64 = ap ones (sym (mod-eq_of_lt fits)) ∙ ones_below last.opens 64 in
+      omega arith
+
+  each_more : ((k : ℕ) → k < 64 → IsStatusOf last k (status (number * 64 + k))) →
+      ((place : ℕ) → place < number * 64 → IsStatusOf (word_of words place) (place % 64) (status place)) →
+      (place : ℕ) → place < (number + 1) * 64 → IsStatusOf (word_of longer place) (place % 64) (status place)
+  each_more new old place low = elim (cases_lt place (number * 64)) [
+    | inl before ↦ subst (λ (w : StatusWord). IsStatusOf w (place % 64) (status place)) (sym (word_before place before)) (old place before)
+    | inr after ↦
+        let there : place / 64 ≡ number = omega arith in
+        let back : number * 64 + place % 64 ≡ place = omega arith in
+        let word : word_of longer place ≡ last = ap (λ (k : ℕ). get_or longer k no_word) there ∙ last_is in
+        subst (λ (w : StatusWord). IsStatusOf w (place % 64) (status place)) (sym word)
+        (subst (λ (k : ℕ). IsStatusOf last (place % 64) (status k)) back (new (place % 64) (omega arith)))
+  ]
+
+-- all that a word more makes
+pub record AreMore (status : ℕ → Status) (number count : ℕ) (new : List StatusWord) : Type 0 where
+  pub sum : count ≡ opens_below new ((number + 1) * 64)
+  pub few : count ≤ (number + 1) * 64
+  pub counted : AreCounted new
+  pub each : (place : ℕ) → place < (number + 1) * 64 → IsStatusOf (word_of new place) (place % 64) (status place)
+
+pub words_more : (status : ℕ → Status) (number count set : ℕ) (word : StatusWord) (words new : List StatusWord) → length words ≡ number →
+    AreCounted words → count ≡ opens_below words (number * 64) → word.before ≡ count → word.opens < 2 ^ 64 → set ≡ ones word.opens →
+    new ≡ words ++ word ∷ [] →
+    ((k : ℕ) → k < 64 → IsStatusOf word k (status (number * 64 + k))) →
+    ((place : ℕ) → place < number * 64 → IsStatusOf (word_of words place) (place % 64) (status place)) →
+    AreMore status number (count + set) new
+words_more status number count set word words new whole counted is told fits set_is new_is fresh old =
+    subst (λ (xs : List StatusWord). AreMore status number (count + set) xs) (sym new_is)
+    (let longer : List StatusWord = words ++ word ∷ [] in
+    let all : count + set ≡ opens_below longer ((number + 1) * 64)
+    = ap (λ (m : ℕ). count + m) set_is ∙ count_more status number count word words whole counted is told fits in
+    let few : opens_below longer ((number + 1) * 64) ≤ (number + 1) * 64 = opens_few longer ((number + 1) * 64) in
+    record {
+      sum = all;
+      few = omega (arith, all, few);
+      counted = counted_more status number count word words whole counted is told;
+      each = each_more status number count word words whole counted is told fresh old;
+    })
+
+-- ---- a word, bit by bit
+
+-- the digits so far are the bits of the statuses so far
+pub record AreDigits (digit : Status → ℕ) (status : ℕ → Status) (upto word : ℕ) : Type 0 where
+  pub low : word < 2 ^ upto
+  pub each : (k : ℕ) → k < upto → bit word k ≡ digit (status k)
+
+pub digits_none : (digit : Status → ℕ) (status : ℕ → Status) → AreDigits digit status 0 0
+digits_none digit status = record { low = omega arith; each = λ k low. absurd (omega arith) }
+
+pub digits_more : (digit : Status → ℕ) (status : ℕ → Status) (k word new : ℕ) → AreDigits digit status k word → bit new k ≡ digit (status k) →
+    ((other : ℕ) → other < k → bit new other ≡ bit word other) → new < 2 ^ (k + 1) → AreDigits digit status (k + 1) new
+digits_more digit status k word new old here before low = record {
+  low = low;
+  each = λ j less. elim (cases_eq j k) [
+    | inl same ↦ subst (λ (m : ℕ). bit new m ≡ digit (status m)) (sym same) here
+    | inr other ↦ before j (omega arith) ∙ old.each j (omega arith)
+  ];
+}
+
+-- what is listed of the owner's classes
+pub listed_status : (openings : List Opening) (places n id place : ℕ) → place < places →
+    status_listed openings places n id place ≡ (opening_of openings (class_of_place n id place)).status
+listed_status openings places n id place low = sym (cond_below place places (opening_of openings (class_of_place n id place)).status Stuck low)

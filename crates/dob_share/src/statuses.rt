@@ -1,0 +1,225 @@
+// The statuses of one owner's classes, 64 in a word with the number of open ones before them, so that the open classes are
+// numbered among themselves: only these have a cell.
+ghost use Rattle.std.specs.Prelude.{◌≡◌, ◌<◌, ◌^◌, ◌≤◌, ◌+◌, ◌*◌, ◌/◌, ◌%◌, ℕ, IfOk, MatchOption, length};
+ghost use Rattle.dob_share.specs.Openings.{opening_of};
+ghost use Rattle.dob_share.specs.Owners.{class_of_place};
+ghost use Rattle.dob_share.specs.Statuses.{bit, bits_below, opens, catches, tries, status_of_bits, IsStatusOf, status_listed, word_of, open_at, status_in, opens_below, AreCounted};
+
+use crate::opening::{Opening, opening_at};
+use dob_moves::Status;
+use dob_pieces::Memory;
+use dob_rank::Segments;
+use std::alloc::Global;
+
+/// The bits of 64 classes by their statuses, all unset for a stuck one, and how many classes are open before them.
+#[derive(Clone, Copy)]
+pub(crate) struct StatusWord {
+    pub(crate) opens: u64,
+    pub(crate) caught: u64,
+    pub(crate) tried: u64,
+    pub(crate) before: u32,
+}
+
+/// The statuses of the classes at `places` places.
+#[derive(Drop)]
+pub(crate) struct Statuses {
+    pub(crate) places: u64,
+    pub(crate) words: Segments<StatusWord>,
+    ghost within: { places < length words * 64 },
+    ghost few: { places < 2 ^ 32 },
+    ghost counted: { AreCounted words },
+}
+
+impl Statuses {
+    /// Those that are listed of the classes of owner `id` among `n`.
+    ///
+    /// Error: `Memory`.
+    pub(crate) fn open(
+        alloc: Global,
+        openings: &Segments<Opening>,
+        places: u64,
+        id: usize,
+        n: usize,
+    ) -> Result<Statuses, Memory>
+        requires few { length openings.now < 2 ^ 32 }
+        requires few_places { places < 2 ^ 32 }
+        requires places { (other : ℕ) → other < places → other * n + id < length openings.now }
+        ensures places { IfOk result (λ statuses. statuses.places ≡ places) }
+        ensures statuses { IfOk result (λ statuses. (place : ℕ) → place < places → IsStatusOf (word_of statuses.words place) (place % 64) (opening_of openings.now (class_of_place n id place)).status) }
+    {
+        let words = words_of(alloc, openings, places, id, n)?;
+        Ok(Statuses { places, words })
+    }
+
+    /// The status of the class at a place.
+    pub(crate) fn status(&self, place: u64) -> Status
+        requires { place < self.now.places }
+        ensures { result ≡ status_in self.now.words place }
+    {
+        let word = self.words.get(place / 64);
+        status_by(word, (place % 64) as u32)
+    }
+
+    /// How many classes are open before a place, which is the number of its cell where it is open itself.
+    pub(crate) fn opens_before(&self, place: u64) -> u32
+        requires { place < self.now.places }
+        ensures { result ≡ opens_below self.now.words place }
+    {
+        let word = self.words.get(place / 64);
+        word.before + ones_before(word.opens, (place % 64) as u32)
+    }
+}
+
+// The words of the classes of owner `id` among `n`, and one more at least than `places` ask for.
+fn words_of(
+    alloc: Global,
+    openings: &Segments<Opening>,
+    places: u64,
+    id: usize,
+    n: usize,
+) -> Result<Segments<StatusWord>, Memory>
+    requires few { length openings.now < 2 ^ 32 }
+    requires few_places { places < 2 ^ 32 }
+    requires places { (other : ℕ) → other < places → other * n + id < length openings.now }
+    ensures within { IfOk result (λ words. places < length words * 64) }
+    ensures counted { IfOk result (λ words. AreCounted words) }
+    ensures statuses { IfOk result (λ words. (place : ℕ) → place < places → IsStatusOf (word_of words place) (place % 64) (opening_of openings.now (class_of_place n id place)).status) }
+{
+    let mut words = Segments::new(alloc, openings.segment_length());
+    let mut count = 0;
+    for number in 0..places / 64 + 1 {
+        let word = word_at(openings, places, id, n, number * 64, count as u32);
+        words.push(word)?;
+        count += u64::from(word.opens.count_ones());
+    }
+    Ok(words)
+}
+
+// The word of the 64 classes from a place on, before which so many are open.
+fn word_at(
+    openings: &Segments<Opening>,
+    places: u64,
+    id: usize,
+    n: usize,
+    first: u64,
+    before: u32,
+) -> StatusWord
+    requires few { length openings.now < 2 ^ 32 }
+    requires few_places { first ≤ 2 ^ 32 }
+    requires places { (other : ℕ) → other < places → other * n + id < length openings.now }
+    ensures low { result.opens < 2 ^ 64 }
+    ensures before { result.before ≡ before }
+    ensures each { (k : ℕ) → k < 64 → IsStatusOf result k (status_listed openings.now places n id (first + k)) }
+{
+    let mut opens = 0;
+    let mut caught = 0;
+    let mut tried = 0;
+    for k in 0..64 {
+        let status = listed_status(openings, places, id, n, first + u64::from(k));
+        opens = with_digit(opens, k, open_digit(status));
+        caught = with_digit(caught, k, caught_digit(status));
+        tried = with_digit(tried, k, tried_digit(status));
+    }
+    StatusWord {
+        opens,
+        caught,
+        tried,
+        before,
+    }
+}
+
+// What is listed as the status of the class at a place; stuck where there is none.
+fn listed_status(
+    openings: &Segments<Opening>,
+    places: u64,
+    id: usize,
+    n: usize,
+    place: u64,
+) -> Status
+    requires few { length openings.now < 2 ^ 32 }
+    requires places { (other : ℕ) → other < places → other * n + id < length openings.now }
+    ensures { result ≡ status_listed openings.now places n id place }
+{
+    if place >= places {
+        return Status::Stuck;
+    }
+    opening_at(openings, place * n as u64 + id as u64).status
+}
+
+// One for an open class, else nought.
+fn open_digit(status: Status) -> u64
+    ensures digit { result ≡ opens status }
+    ensures low { result < 2 }
+{
+    match status {
+        Status::Open => 1,
+        Status::Caught | Status::Tried | Status::Stuck => 0,
+    }
+}
+
+// One for a class that is caught, else nought.
+fn caught_digit(status: Status) -> u64
+    ensures digit { result ≡ catches status }
+    ensures low { result < 2 }
+{
+    match status {
+        Status::Caught => 1,
+        Status::Open | Status::Tried | Status::Stuck => 0,
+    }
+}
+
+// One for a class that is tried, else nought.
+fn tried_digit(status: Status) -> u64
+    ensures digit { result ≡ tries status }
+    ensures low { result < 2 }
+{
+    match status {
+        Status::Tried => 1,
+        Status::Open | Status::Caught | Status::Stuck => 0,
+    }
+}
+
+// The status of the class at that place of a word.
+fn status_by(word: StatusWord, place: u32) -> Status
+    requires { place < 64 }
+    ensures { result ≡ status_of_bits (bit word.opens place) (bit word.caught place) (bit word.tried place) }
+{
+    match digit_at(word.opens, place) {
+        0 => match digit_at(word.caught, place) {
+            0 => match digit_at(word.tried, place) {
+                0 => Status::Stuck,
+                _ => Status::Tried,
+            },
+            _ => Status::Caught,
+        },
+        _ => Status::Open,
+    }
+}
+
+// The bit at that place.
+fn digit_at(word: u64, place: u32) -> u64
+    requires { place < 64 }
+    ensures { result ≡ bit word place }
+{
+    (word >> place) % 2
+}
+
+// How many bits are set before that place.
+fn ones_before(word: u64, place: u32) -> u32
+    requires { place < 64 }
+    ensures { result ≡ bits_below word place }
+{
+    (word & ((1 << place) - 1)).count_ones()
+}
+
+// The word with that digit at that place, from which on none is set.
+fn with_digit(word: u64, place: u32, digit: u64) -> u64
+    requires place { place < 64 }
+    requires digit { digit < 2 }
+    requires low { word < 2 ^ place }
+    ensures here { bit result place ≡ digit }
+    ensures before { (other : ℕ) → other < place → bit result other ≡ bit word other }
+    ensures low { result < 2 ^ (place + 1) }
+{
+    word | (digit << place)
+}
