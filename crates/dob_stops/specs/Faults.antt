@@ -1,0 +1,15 @@
+-- What each fault of a run by threads is called.
+use Rattle.std.specs.Prelude.{ℕ, List}
+use Rattle.dob_pieces.specs.Faults.{memory_text}
+use Rattle.dob_update.specs.Faults.{sizes_text}
+use Rattle.dob_safra.specs.Faults.{nodes_text}
+use Rattle.dob_stops.specs.Causes.{stopped_text}
+use Rattle.dob_stops.specs.declared.fault.Fault.{Fault}
+use Rattle.dob_stops.specs.declared.fault.Fault.TheVariants.{Nodes, Sizes, Stopped, Memory}
+
+-- the fault's number and name, and of a stopped node which one and why
+abbrev pub fault_text : Fault → List ℕ
+fault_text Nodes = nodes_text
+fault_text Sizes = sizes_text
+fault_text (Stopped node why) = stopped_text node why
+fault_text Memory = memory_text

@@ -1,0 +1,8 @@
+// Why a node stops, and why a build by threads gives nothing: below the nodes, so that who only tells of it need not wait for them.
+#![tactic(auto)]
+
+mod cause;
+mod fault;
+
+pub use cause::{Cause, Stopped};
+pub use fault::Fault;
