@@ -39,7 +39,7 @@ better_draw Tried now is = subst (λ (o : Option Value). Better Draw (or_else o 
 better_draw Stuck now is = subst (λ (o : Option Value). Better Draw (or_else o Draw)) is tt
 better_draw Open now is = absurd cc
 
-entry_opened : (status : Status) → IsEntry (or_else (opening_value status) Draw)
+pub entry_opened : (status : Status) → IsEntry (or_else (opening_value status) Draw)
 entry_opened Caught = (refl, lit≤ tt)
 entry_opened Tried = (refl, lit≤ tt)
 entry_opened Stuck = (refl, lit≤ tt)

@@ -72,7 +72,7 @@ unfolding Fits IsOwn
 sure_fits share item sure = (
   (
     sure_same (item.to % share.n) share.id (λ no. sure (λ fits. no fits.0.0)),
-    sure_less (item.to / share.n) (length share.slots) (λ no. sure (λ fits. no fits.0.1)),
+    sure_less (item.to / share.n) (share.statuses.places) (λ no. sure (λ fits. no fits.0.1)),
   ),
   sure_open (status_at share item.to) (λ no. sure (λ fits. no fits.1)),
   sure_takes item.was item.now (cell_at share item.to) (λ no. sure (λ fits. no fits.2)),
@@ -93,7 +93,7 @@ unfolding IsOwn places_of
 same_owned old new same class own =
     let n_is : new.n ≡ old.n = same.n in (
       subst (λ (m : ℕ). class % m ≡ old.id) n_is (own.0 ∙ same.id),
-      subst (λ (m : ℕ). class / m < length old.slots) n_is (subst (λ (m : ℕ). class / new.n < m) same.places own.1),
+      subst (λ (m : ℕ). class / m < old.statuses.places) n_is (subst (λ (m : ℕ). class / new.n < m) same.places own.1),
     )
 
 -- ---- what is asked of a settlement

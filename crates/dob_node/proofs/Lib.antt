@@ -20,10 +20,12 @@ pub mod Ends  -- lawful nodes that have applied all items hold the value table
 -- A node with its outboxes.
 pub mod Starts  -- the openings of the classes so far, and one more
 pub mod Opens  -- a node as it is opened
+pub mod StartLists  -- the settlements of the start, by the statuses of the classes
 pub mod Stored  -- what is stored of a history is read again
 pub mod Kepts  -- what an item taken makes of a node's cells and history
 pub mod Sounds  -- a node stays sound
 pub mod Nodes  -- what a node has, told by its family, its number and how many nodes there are
+pub mod Looks  -- items looked at before they are taken
 pub mod TakenLists  -- items taken one after the other
 pub mod Sends  -- empty outboxes, and what one settlement more adds to them
 pub mod TakenBack  -- outboxes from which a settlement is taken back

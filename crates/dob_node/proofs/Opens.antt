@@ -1,14 +1,22 @@
 -- A node as it is opened.
-use Rattle.std.proofs.Common.{◌≡◌, ◌↔◌, ℕ, zero, suc, ◌+◌, ◌*◌, ◌/◌, ◌%◌, ◌^◌, ◌<◌, ◌≤◌, refl, sym, ap, ◌∙◌, subst}
-use Rattle.std.proofs.Common.{arith, add-one, List, [], ◌++◌, length, Option, None, Some}
+use Rattle.std.proofs.Common.{◌≡◌, ◌↔◌, ℕ, zero, suc, ◌+◌, ◌*◌, ◌/◌, ◌%◌, ◌^◌, ◌<◌, ◌≤◌, refl, sym, ◌∙◌, subst}
+use Rattle.std.proofs.Common.{arith, List, [], ◌++◌, length, get_or, Option, None, Some}
 use Rattle.std.specs.List.{All}
 use Rattle.std.proofs.lemmas.List.{length-append}
 use Rattle.std.proofs.lemmas.List.Elements.{All-append, All-nil, All-cons}
 use Rattle.std.proofs.lemmas.Nat.{mod-mul-add, div-mul-add}
+use Rattle.std.proofs.lemmas.Option.{slice_get-get_or}
 use Rattle.dob_pieces.specs.declared.profile.Family.{Family}
+use Rattle.dob_pieces.specs.declared.profile.Profile.{Profile}
+use Rattle.dob_pieces.specs.declared.setup.Setup.{Setup}
 use Rattle.dob_moves.specs.declared.position_status.Status.{Status}
 use Rattle.dob_moves.specs.declared.position_status.Status.TheVariants.{Caught, Tried, Stuck, Open}
-use Rattle.dob_rank.specs.Families.{classes_of}
+use Rattle.dob_moves.specs.MoveLists.{moves_of}
+use Rattle.dob_moves.specs.Statuses.{HasStatus}
+use Rattle.dob_moves.proofs.MoveCounts.{other_count}
+use Rattle.dob_rank.specs.Families.{classes_of, class_setup}
+use Rattle.dob_rank.proofs.FamilyRepresentatives.{class_setup_is}
+use Rattle.dob_rank.proofs.Present.{HasClasses-classes_of}
 use Rattle.dob_rank.proofs.ClassBounds.{classes_of-below}
 use Rattle.dob_value.specs.declared.value.Value.{Value}
 use Rattle.dob_share.specs.declared.news.Settlement.{Settlement}
@@ -16,7 +24,7 @@ use Rattle.dob_share.specs.declared.opening.Opening.{Opening}
 use Rattle.dob_share.specs.declared.share.Share.{Share}
 use Rattle.dob_share.specs.Owners.{class_of_place}
 use Rattle.dob_share.specs.Cells.{SameCell, fresh}
-use Rattle.dob_share.specs.Openings.{opening_of, settles, settled_among}
+use Rattle.dob_share.specs.Openings.{opening_of, moves_where, cell_moves, settles, settled_among}
 use Rattle.dob_share.specs.Shares.{places_of, IsOwn, cell_at}
 use Rattle.dob_node.specs.Stores.{HistoryView}
 use Rattle.dob_node.specs.OpeningLists.{opening_value, opening_settlement, opening_settlements, status_in}
@@ -26,7 +34,7 @@ use Rattle.dob_node.proofs.Parity.{parities_same}
 
 -- ---- the settlements
 
-one_settles : (status : Status) (number class : ℕ) → settles status ≡ length (opening_settlement number class (opening_value status))
+pub one_settles : (status : Status) (number class : ℕ) → settles status ≡ length (opening_settlement number class (opening_value status))
 one_settles Caught number class = refl
 one_settles Tried number class = refl
 one_settles Stuck number class = refl
@@ -57,38 +65,21 @@ settled_low status n id count (suc k) low =
     All-append (λ (s : Settlement). s.class < count) before _ (settled_low status n id count k (λ place less. low place (omega arith)))
     (one_low count (length before) (class_of_place n id k) (opening_value (status (class_of_place n id k))) (low k (omega arith)))
 
--- one place more
-pub opening_more : (openings : List Opening) (n id k : ℕ) (history new : HistoryView) (status : Status) → status ≡ status_in openings (k * n + id) →
-    history ≡ record { id = id; n = n; settlements = opening_settlements (status_in openings) n id k; room = 0 } →
-    new ≡ record history { settlements = history.settlements ++ opening_settlement (length history.settlements) (k * n + id) (opening_value status) } →
-    new ≡ record { id = id; n = n; settlements = opening_settlements (status_in openings) n id (k + 1); room = 0 }
-opening_more openings n id k history new status listed was is = rw add-one (
-    is
-    ∙ ap (λ (v : HistoryView). record v { settlements = v.settlements ++ opening_settlement (length v.settlements) (k * n + id) (opening_value status) }) was
-    ∙ more (opening_settlements (status_in openings) n id k)
-    )
-  where
-    more : (xs : List Settlement) →
-        ◌≡◌ {A = HistoryView}
-        (record { id = id; n = n; settlements = xs ++ opening_settlement (length xs) (k * n + id) (opening_value status); room = 0 })
-        (record { id = id; n = n; settlements = xs ++ opening_settlement (length xs) (k * n + id) (opening_value (status_in openings (k * n + id))); room = 0 })
-    more xs = ap {B = HistoryView} (λ (st : Status). record { id = id; n = n; settlements = xs ++ opening_settlement (length xs) (k * n + id) (opening_value st); room = 0 }) listed
-
 -- ---- the places
 
 place_own : (share : Share) (n id place : ℕ) → share.n ≡ n → share.id ≡ id → id < n → place < places_of share → IsOwn share (place * n + id)
 unfolding IsOwn places_of
 place_own share n id place n_is id_is less low =
-    subst (λ (m : ℕ). ((place * n + id) % m ≡ share.id) × ((place * n + id) / m < length share.slots)) (sym n_is) (
+    subst (λ (m : ℕ). ((place * n + id) % m ≡ share.id) × ((place * n + id) / m < share.statuses.places)) (sym n_is) (
       mod-mul-add place n id less ∙ sym id_is,
-      subst (λ (k : ℕ). k < length share.slots) (sym (div-mul-add place n id less)) low,
+      subst (λ (k : ℕ). k < share.statuses.places) (sym (div-mul-add place n id less)) low,
     )
 
 own_place : (share : Share) (n id place : ℕ) → share.n ≡ n → id < n → IsOwn share (place * n + id) → place < places_of share
 unfolding IsOwn places_of
 own_place share n id place n_is less own =
-    subst (λ (k : ℕ). k < length share.slots) (div-mul-add place n id less)
-    (subst (λ (m : ℕ). (place * n + id) / m < length share.slots) n_is own.1)
+    subst (λ (k : ℕ). k < share.statuses.places) (div-mul-add place n id less)
+    (subst (λ (m : ℕ). (place * n + id) / m < share.statuses.places) n_is own.1)
 
 -- the places are those of the owner's classes
 pub places_are : (share : Share) (openings : List Opening) (n id : ℕ) → (share.id ≡ id) × (share.n ≡ n) → id < n →
@@ -104,6 +95,30 @@ pub few_listed : (family : Family) (openings : List Opening) → AreOpenings fam
 few_listed family openings are = omega (arith, are.whole, classes_of-below family)
 
 -- ---- what is kept
+
+twelve_squares : (family : Family) (class : ℕ) → class < classes_of family → length (class_setup family class).board ≡ 12
+twelve_squares family class low = (class_setup_is family class (classes_of family) (HasClasses-classes_of family) low).0.0.of_set.legal.squares
+
+-- a class that isn't open has no move
+moves_open : (profile : Profile) (p : Setup) (status : Status) (moves : ℕ) → length p.board ≡ 12 → HasStatus profile p status →
+    moves ≡ length (moves_of profile p) → moves_where status moves ≡ moves
+moves_open profile p Open moves twelve is counted = refl
+moves_open profile p Caught moves twelve is counted = other_count profile p Caught twelve is (λ e. cc) ∙ sym counted
+moves_open profile p Tried moves twelve is counted = other_count profile p Tried twelve is (λ e. cc) ∙ sym counted
+moves_open profile p Stuck moves twelve is counted = other_count profile p Stuck twelve is (λ e. cc) ∙ sym counted
+
+-- the cells of a share as it is opened
+pub opened_cells : (family : Family) (openings : List Opening) (share : Share) (n id : ℕ) → AreOpenings family openings →
+    ((class : ℕ) → IsOwn share class ↔ ((class % n ≡ id) × (class < length openings))) →
+    ((class : ℕ) → IsOwn share class → SameCell (cell_at share class) (fresh (cell_moves (opening_of openings class)))) →
+    (class : ℕ) → IsOwn share class → SameCell (cell_at share class) (fresh (opening_of openings class).moves)
+opened_cells family openings share n id are owned cells class own =
+    let low : class < classes_of family = subst (λ (count : ℕ). class < count) are.whole ((owned class).0 own).1 in
+    let none : Opening = record { status = Stuck; moves = 0 } in
+    let is = are.each class (get_or openings class none) (slice_get-get_or openings class none (subst (λ (count : ℕ). class < count) (sym are.whole) low)) in
+    subst (λ (m : ℕ). SameCell (cell_at share class) (fresh m))
+    (moves_open family.profile (class_setup family class) (opening_of openings class).status (opening_of openings class).moves (twelve_squares family class low) is.status is.moves)
+    (cells class own)
 
 fresh_parities : (moves : ℕ) → HasParities (fresh moves)
 fresh_parities moves = record { wins = λ plies some. absurd (omega arith); least = λ plies is. absurd cc }

@@ -12,6 +12,7 @@ use Rattle.dob_share.specs.declared.share.Share.{Share}
 use Rattle.dob_share.specs.Cells.{Cell, SameCell, CellValue, changed, less_at}
 use Rattle.dob_share.specs.Slots.{IsShortCell}
 use Rattle.dob_share.specs.Shares.{IsOwn, status_at, cell_at, IsValue, HasValueNow}
+use Rattle.dob_share.proofs.Owning.{cell_short}
 use Rattle.dob_node.specs.TakenItems.{HasParities}
 
 -- cells that say the same
@@ -78,8 +79,7 @@ parities_entry cell Draw known short is = tt
 
 -- the cells of a share have short values
 pub short_own : (share : Share) (class : ℕ) → IsOwn share class → IsShortCell (cell_at share class)
-unfolding IsOwn cell_at
-short_own share class own = share.pooled.short _ own.1
+short_own = cell_short
 
 entry_by : (status : Status) (cell : Cell) (v : Value) → HasParities cell → IsShortCell cell → IsValue status cell v → IsEntry v
 entry_by Caught cell v known short is = subst (λ u. IsEntry u) (sym is) (refl, lit≤ tt)

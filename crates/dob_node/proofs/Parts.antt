@@ -15,24 +15,24 @@ use Rattle.dob_node.specs.TakenItems.{AreKept}
 
 module _ (family : Family) (n id : ℕ) (share : Share) (history : HistoryView) (kept : AreKept family n id share history) (place : ℕ)
     (low : place < places_of share) where
-  own_by_share : place < length share.slots → IsOwn share (place * share.n + share.id)
+  own_by_share : place < share.statuses.places → IsOwn share (place * share.n + share.id)
   unfolding IsOwn
   own_by_share less = (
     mod-mul-add place share.n share.id small,
-    subst (λ (k : ℕ). k < length share.slots) (sym (div-mul-add place share.n share.id small)) less,
+    subst (λ (k : ℕ). k < share.statuses.places) (sym (div-mul-add place share.n share.id small)) less,
   )
     where
       small : share.id < share.n
       small = subst (λ (k : ℕ). k < share.n) (sym kept.share_is.1) (subst (λ (m : ℕ). id < m) (sym kept.share_is.0) kept.one_of_n)
 
-  slots_low : place < length share.slots
+  place_low : place < share.statuses.places
   unfolding places_of
-  slots_low = low
+  place_low = low
 
   -- the class at a place is the node's own
   pub own_at : IsOwn share (place * n + id)
   own_at = subst (λ (m : ℕ). IsOwn share (place * m + id)) kept.share_is.0
-      (subst (λ (k : ℕ). IsOwn share (place * share.n + k)) kept.share_is.1 (own_by_share slots_low))
+      (subst (λ (k : ℕ). IsOwn share (place * share.n + k)) kept.share_is.1 (own_by_share place_low))
 
   pub class_at_low : place * n + id < 2 ^ 32
   class_at_low =

@@ -13,12 +13,12 @@ use Rattle.dob_share.specs.Cells.{CanTake, changed}
 use Rattle.dob_share.specs.Steps.{IsTooDeep}
 use Rattle.dob_share.specs.Shares.{status_at, Fits, GoesTooDeep}
 use Rattle.dob_update.specs.Batches.{OutboxView, empty_outbox}
-use Rattle.dob_node.specs.declared.cause.Cause.{Cause}
-use Rattle.dob_node.specs.declared.cause.Cause.TheVariants as cause
-use Rattle.dob_node.specs.declared.cause.Fault.{Fault}
-use Rattle.dob_node.specs.declared.cause.Fault.TheVariants as fault
+use Rattle.dob_stops.specs.declared.cause.Cause.{Cause}
+use Rattle.dob_stops.specs.declared.cause.Cause.TheVariants as cause
+use Rattle.dob_node.specs.declared.fault.Fault.{Fault}
+use Rattle.dob_node.specs.declared.fault.Fault.TheVariants as fault
 use Rattle.dob_node.specs.declared.node.Node.{Node}
-use Rattle.dob_node.specs.Causes.{IsFaultOf}
+use Rattle.dob_node.specs.Faults.{IsFaultOf}
 use Rattle.dob_node.specs.Histories.{value_of}
 use Rattle.dob_node.specs.Lawful.{IsNextItem, CanApply}
 use Rattle.dob_node.specs.Nodes.{outbox_to, HasItemFault, IsIdle}

@@ -1,14 +1,15 @@
 -- What is stored and read again.
 use Rattle.std.proofs.Common.{◌≡◌, ℕ, zero, suc, ◌+◌, ◌*◌, ◌/◌, ◌%◌, ◌<◌, refl, sym, subst, ap, ◌∙◌, arith, ◌≤◌}
 use Rattle.std.proofs.Common.{List, [], ◌∷◌, ◌++◌, length, take, Some, slice_get, get_or, set}
-use Rattle.std.proofs.lemmas.List.{length-take-le, get_or-take, take_more_set}
+use Rattle.std.proofs.lemmas.List.{length-append, append_assoc, get_or-append-add, length-take-le, get_or-take, take_more_set}
 use Rattle.std.proofs.lemmas.Option.{slice_get_within, slice_get-get_or, get_or_from_slice_get}
 use Rattle.dob_share.specs.declared.news.Settlement.{Settlement}
 use Rattle.dob_node.specs.declared.history.Stored.{Stored}
 use Rattle.dob_value.specs.declared.value.Value.{Value}
 use Rattle.dob_value.specs.Codes.{value_of_code}
 use Rattle.std.proofs.Math.Nat.{div-add-mod, mul_comm}
-use Rattle.dob_node.specs.Stores.{HistoryView, settlement_of, settlements_from}
+use Rattle.dob_node.specs.Stores.{HistoryView, settlement_of, settlements_from, StartView, starts_count, starts_of, settlements_of}
+use Rattle.dob_node.proofs.StartLists.{starts_length}
 
 pub length-settlements_from : (n id number : ℕ) (stored : List Stored) → length (settlements_from n id number stored) ≡ length stored
 length-settlements_from n id number [] = refl
@@ -33,16 +34,23 @@ get_or-settlements_from n id number (suc k) (t ∷ stored) d e below =
     ∙ ap (λ m. settlement_of n id m (get_or stored k e)) (let same : suc number + k ≡ number + suc k = omega arith in same)
 
 -- the settlement at a place
-pub settlements_from-at : (n id k : ℕ) (stored : List Stored) (s : Stored) → slice_get stored k ≡ Some s →
-    slice_get (settlements_from n id 0 stored) k ≡ Some (settlement_of n id k s)
-settlements_from-at n id k stored s there =
+pub settlements_from-at : (n id first k : ℕ) (stored : List Stored) (s : Stored) → slice_get stored k ≡ Some s →
+    slice_get (settlements_from n id first stored) k ≡ Some (settlement_of n id (first + k) s)
+settlements_from-at n id first k stored s there =
     let within : k < length stored = slice_get_within stored k s there in
     let d : Settlement = settlement_of n id 0 s in
-    let longer : length (settlements_from n id 0 stored) ≡ length stored = length-settlements_from n id 0 stored in
-    slice_get-get_or (settlements_from n id 0 stored) k d (omega arith)
-    ∙ ap Some (get_or-settlements_from n id 0 k stored d s within
-    ∙ ap (λ m. settlement_of n id m (get_or stored k s)) (let same : 0 + k ≡ k = omega arith in same)
-    ∙ ap (settlement_of n id k) (get_or_from_slice_get stored k s s there))
+    let longer : length (settlements_from n id first stored) ≡ length stored = length-settlements_from n id first stored in
+    slice_get-get_or (settlements_from n id first stored) k d (omega arith)
+    ∙ ap Some (get_or-settlements_from n id first k stored d s within
+    ∙ ap (settlement_of n id (first + k)) (get_or_from_slice_get stored k s s there))
+
+-- and behind others
+get_behind : (xs ys : List Settlement) (k : ℕ) (s : Settlement) → slice_get ys k ≡ Some s → slice_get (xs ++ ys) (length xs + k) ≡ Some s
+get_behind xs ys k s there =
+    let within : k < length ys = slice_get_within ys k s there in
+    let long : length (xs ++ ys) ≡ length xs + length ys = length-append xs ys in
+    slice_get-get_or (xs ++ ys) (length xs + k) s (omega arith)
+    ∙ ap Some (get_or-append-add xs ys k s ∙ get_or_from_slice_get ys k s s there)
 
 -- a class is found again at its place among the owner's
 pub class_again : (class n id : ℕ) → 0 < n → class % n ≡ id → class / n * n + id ≡ class
@@ -53,39 +61,55 @@ class_again class n id some own =
 
 -- ---- what is seen of a history
 
-abbrev pub seen : ℕ → ℕ → ℕ → List Stored → HistoryView
-seen n id room stored = record { id = id; n = n; settlements = settlements_from n id 0 stored; room = room }
+abbrev pub seen : ℕ → ℕ → ℕ → StartView → List Stored → HistoryView
+seen n id room starts stored = record { id = id; n = n; settlements = settlements_of n id starts stored; room = room }
 
-pub seen_length : (n id room : ℕ) (stored : List Stored) (view : HistoryView) → seen n id room stored ≡ view → length stored ≡ length view.settlements
-seen_length n id room stored view is =
-    sym (length-settlements_from n id 0 stored) ∙ ap (λ (v : HistoryView). length v.settlements) is
+-- as many as are settled at the start, and those stored
+pub seen_length : (n id room : ℕ) (starts : StartView) (stored : List Stored) (view : HistoryView) → seen n id room starts stored ≡ view →
+    starts_count starts + length stored ≡ length view.settlements
+seen_length n id room starts stored view is =
+    let first : List Settlement = starts_of n id starts in
+    let behind : List Settlement = settlements_from n id (length first) stored in
+    let sum : length (first ++ behind) ≡ length first + length behind = length-append first behind in
+    let front : length first ≡ starts_count starts = starts_length n id starts in
+    let back : length behind ≡ length stored = length-settlements_from n id (length first) stored in
+    let all : length (first ++ behind) ≡ length view.settlements = ap (λ (v : HistoryView). length v.settlements) is in
+    omega arith
 
-pub seen_at : (n id room k : ℕ) (stored : List Stored) (view : HistoryView) (s : Stored) (given : Settlement) → seen n id room stored ≡ view →
-    slice_get stored k ≡ Some s → settlement_of n id k s ≡ given → slice_get view.settlements k ≡ Some given
-seen_at n id room k stored view s given is there same =
-    ap (λ (v : HistoryView). slice_get v.settlements k) (sym is) ∙ settlements_from-at n id k stored s there ∙ ap Some same
+pub seen_at : (n id room k number : ℕ) (starts : StartView) (stored : List Stored) (view : HistoryView) (s : Stored) (given : Settlement) →
+    seen n id room starts stored ≡ view → number ≡ starts_count starts + k → slice_get stored k ≡ Some s →
+    settlement_of n id number s ≡ given → slice_get view.settlements number ≡ Some given
+seen_at n id room k number starts stored view s given is number_is there same =
+    let first : List Settlement = starts_of n id starts in
+    let place : length first + k ≡ number = ap (λ (m : ℕ). m + k) (starts_length n id starts) ∙ sym number_is in
+    ap (λ (v : HistoryView). slice_get v.settlements number) (sym is)
+    ∙ subst (λ (m : ℕ). slice_get (settlements_of n id starts stored) m ≡ Some (settlement_of n id m s)) place
+    (get_behind first (settlements_from n id (length first) stored) k (settlement_of n id (length first + k) s)
+    (settlements_from-at n id (length first) k stored s there))
+    ∙ ap Some same
 
 pub same_settlement : (a b c d : ℕ) (u v w x : Value) → a ≡ b → c ≡ d → u ≡ v → w ≡ x →
     (let s : Settlement = record { number = a; class = c; was = u; now = w } in s) ≡ record { number = b; class = d; was = v; now = x }
 same_settlement a b c d u v w x number class was now = cc
 
 -- what is stored of a settlement is that settlement again
-pub stored_again : (n id count : ℕ) (given : Settlement) (was now : ℕ) → 0 < n → given.class % n ≡ id → count ≡ given.number →
+pub stored_again : (n id number : ℕ) (given : Settlement) (was now : ℕ) → 0 < n → given.class % n ≡ id → number ≡ given.number →
     value_of_code was ≡ given.was → value_of_code now ≡ given.now →
-    settlement_of n id count (record { place = given.class / n; was = was; now = now }) ≡ given
-stored_again n id count given was now some own number is_was is_now =
-    same_settlement count given.number (given.class / n * n + id) given.class (value_of_code was) given.was (value_of_code now) given.now
-    number (class_again given.class n id some own) is_was is_now
+    settlement_of n id number (record { place = given.class / n; was = was; now = now }) ≡ given
+stored_again n id number given was now some own number_is is_was is_now =
+    same_settlement number given.number (given.class / n * n + id) given.class (value_of_code was) given.was (value_of_code now) given.now
+    number_is (class_again given.class n id some own) is_was is_now
 
 -- ---- the first so many of those stored
 
 pub all_there : (count room : ℕ) (stored : List Stored) → count + room ≤ length stored → count ≤ length stored
 all_there count room stored all = omega arith
 
-pub count_is : (n id room count : ℕ) (stored : List Stored) (view : HistoryView) → count + room ≤ length stored → seen n id room (take count stored) ≡ view →
-    count ≡ length view.settlements
-count_is n id room count stored view all is =
-    sym (length-take-le count stored (all_there count room stored all)) ∙ seen_length n id room (take count stored) view is
+pub count_is : (n id room count : ℕ) (starts : StartView) (stored : List Stored) (view : HistoryView) → count + room ≤ length stored →
+    seen n id room starts (take count stored) ≡ view → starts_count starts + count ≡ length view.settlements
+count_is n id room count starts stored view all is =
+    ap (λ (m : ℕ). starts_count starts + m) (sym (length-take-le count stored (all_there count room stored all)))
+    ∙ seen_length n id room starts (take count stored) view is
 
 pub got_within : (count k : ℕ) (stored : List Stored) (s : Stored) → k < count → count ≤ length stored → slice_get stored k ≡ Some s →
     slice_get (take count stored) k ≡ Some s
@@ -95,43 +119,44 @@ got_within count k stored s low all there =
     ∙ ap Some (get_or-take count stored k s low ∙ get_or_from_slice_get stored k s s there)
 
 -- what is written behind them is the next
-pub stored_more : (n id count : ℕ) (stored : List Stored) (s : Stored) (given : Settlement) → count < length stored →
-    settlement_of n id count s ≡ given →
-    settlements_from n id 0 (take (count + 1) (set stored count s)) ≡ settlements_from n id 0 (take count stored) ++ given ∷ []
-stored_more n id count stored s given low is =
+pub stored_more : (n id first count : ℕ) (stored : List Stored) (s : Stored) (given : Settlement) → count < length stored →
+    settlement_of n id (first + count) s ≡ given →
+    settlements_from n id first (take (count + 1) (set stored count s)) ≡ settlements_from n id first (take count stored) ++ given ∷ []
+stored_more n id first count stored s given low is =
     let all : count ≤ length stored = omega arith in
     let long : length (take count stored) ≡ count = length-take-le count stored all in
-    let place : 0 + length (take count stored) ≡ count = omega arith in
-    ap (settlements_from n id 0) (take_more_set stored count s low)
-    ∙ settlements_from-push n id 0 (take count stored) s
-    ∙ ap (λ m. settlements_from n id 0 (take count stored) ++ settlement_of n id m s ∷ []) place
-    ∙ ap (λ t. settlements_from n id 0 (take count stored) ++ t ∷ []) is
+    let place : first + length (take count stored) ≡ first + count = omega arith in
+    ap (settlements_from n id first) (take_more_set stored count s low)
+    ∙ settlements_from-push n id first (take count stored) s
+    ∙ ap (λ m. settlements_from n id first (take count stored) ++ settlement_of n id m s ∷ []) place
+    ∙ ap (λ t. settlements_from n id first (take count stored) ++ t ∷ []) is
 
 -- what is stored behind those counted is seen by nobody
-pub room_unseen : (n id room count : ℕ) (stored more : List Stored) (view : HistoryView) → seen n id room (take count stored) ≡ view →
-    take count more ≡ take count stored → seen n id room (take count more) ≡ view
-room_unseen n id room count stored more view is same = ap (λ list. seen n id room list) same ∙ is
+pub room_unseen : (n id room count : ℕ) (starts : StartView) (stored more : List Stored) (view : HistoryView) →
+    seen n id room starts (take count stored) ≡ view → take count more ≡ take count stored → seen n id room starts (take count more) ≡ view
+room_unseen n id room count starts stored more view is same = ap (λ list. seen n id room starts list) same ∙ is
 
 -- nor is it, where there is other room
-pub room_made : (n id room other count : ℕ) (stored more : List Stored) (view : HistoryView) → seen n id room (take count stored) ≡ view →
-    take count more ≡ take count stored → seen n id other (take count more) ≡ record view { room = other }
-room_made n id room other count stored more view is same =
-    ap (λ list. seen n id other list) same ∙ ap (λ (v : HistoryView). record v { room = other }) is
+pub room_made : (n id room other count : ℕ) (starts : StartView) (stored more : List Stored) (view : HistoryView) →
+    seen n id room starts (take count stored) ≡ view → take count more ≡ take count stored →
+    seen n id other starts (take count more) ≡ record view { room = other }
+room_made n id room other count starts stored more view is same =
+    ap (λ list. seen n id other starts list) same ∙ ap (λ (v : HistoryView). record v { room = other }) is
 
-pub next_seen : (n id room left count : ℕ) (stored more new : List Stored) (view : HistoryView) (given : Settlement) →
-    seen n id room (take count stored) ≡ view → take count more ≡ take count stored →
-    settlements_from n id 0 (take (count + 1) new) ≡ settlements_from n id 0 (take count more) ++ given ∷ [] →
-    seen n id left (take (count + 1) new) ≡ record { id = view.id; n = view.n; settlements = view.settlements ++ given ∷ []; room = left }
-next_seen n id room left count stored more new view given is same one_more =
-    subst (λ (v : HistoryView). seen n id left (take (count + 1) new) ≡ record { id = v.id; n = v.n; settlements = v.settlements ++ given ∷ []; room = left })
-    (room_unseen n id room count stored more view is same)
-    (ap (λ l. let v : HistoryView = record { id = id; n = n; settlements = l; room = left } in v) one_more)
+-- the settlement is stored behind that many, whoever owns it and whatever number the first of them has
+abbrev pub NextIs : ℕ → ℕ → List Stored → List Stored → Settlement → Type 0
+NextIs n count more new given = (owner first : ℕ) → given.class % n ≡ owner → given.number ≡ first + count →
+    settlements_from n owner first (take (count + 1) new) ≡ settlements_from n owner first (take count more) ++ given ∷ []
 
--- the same, where the room stays
-pub next_seen_there : (n id room count : ℕ) (stored more new : List Stored) (view : HistoryView) (given : Settlement) →
-    seen n id room (take count stored) ≡ view → take count more ≡ take count stored →
-    settlements_from n id 0 (take (count + 1) new) ≡ settlements_from n id 0 (take count more) ++ given ∷ [] →
-    seen n id room (take (count + 1) new) ≡ record view { settlements = view.settlements ++ given ∷ [] }
-next_seen_there n id room count stored more new view given is same one_more =
-    next_seen n id room room count stored more new view given is same one_more
-    ∙ ap (λ (v : HistoryView). record view { settlements = view.settlements ++ given ∷ []; room = v.room }) is
+pub next_seen : (n id room left count : ℕ) (starts : StartView) (stored more new : List Stored) (view : HistoryView) (given : Settlement) →
+    seen n id room starts (take count stored) ≡ view → take count more ≡ take count stored →
+    given.class % n ≡ id → given.number ≡ starts_count starts + count → NextIs n count more new given →
+    seen n id left starts (take (count + 1) new) ≡ record { id = view.id; n = view.n; settlements = view.settlements ++ given ∷ []; room = left }
+next_seen n id room left count starts stored more new view given is same own number one_more =
+    let first : List Settlement = starts_of n id starts in
+    let before : List Settlement = settlements_from n id (length first) (take count more) in
+    let number_is : given.number ≡ length first + count = number ∙ ap (λ (m : ℕ). m + count) (sym (starts_length n id starts)) in
+    subst (λ (v : HistoryView). seen n id left starts (take (count + 1) new) ≡ record { id = v.id; n = v.n; settlements = v.settlements ++ given ∷ []; room = left })
+    (room_unseen n id room count starts stored more view is same)
+    (ap (λ l. let v : HistoryView = record { id = id; n = n; settlements = l; room = left } in v)
+    (ap (λ l. first ++ l) (one_more id (length first) own number_is) ∙ sym (append_assoc first before (given ∷ []))))

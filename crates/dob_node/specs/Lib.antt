@@ -5,8 +5,9 @@ pub mod Lawful
 pub mod Falls
 pub mod Laws
 pub mod Stores
-pub mod Causes
+pub mod Faults
 pub mod TakenItems
+pub mod SeenItems
 pub mod Outboxes
 pub mod OpeningLists
 pub mod Nodes

@@ -14,7 +14,7 @@ use Rattle.dob_share.specs.Openings.{opening_of}
 use Rattle.dob_share.specs.Shares.{places_of, IsOwn, status_at, cell_at, HasValueNow}
 use Rattle.dob_update.specs.Items.{items_of}
 use Rattle.dob_update.specs.Batches.{BatchView, OutboxView, empty_outbox, added, IsCut}
-use Rattle.dob_node.specs.declared.cause.Cause.{Cause}
+use Rattle.dob_stops.specs.declared.cause.Cause.{Cause}
 use Rattle.dob_node.specs.declared.node.Node.{Node}
 use Rattle.dob_node.specs.OpeningLists.{opening_settlements, status_in}
 use Rattle.dob_node.specs.TakenItems.{HasEntries, AreKept, IsHistory, IsTaken, AreTaken, IsReason}

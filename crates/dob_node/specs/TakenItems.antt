@@ -11,8 +11,8 @@ use Rattle.dob_share.specs.Owners.{owner_of}
 use Rattle.dob_share.specs.Cells.{Cell, SameCell, changed}
 use Rattle.dob_share.specs.Shares.{IsOwn, status_at, cell_at, Fits, GoesTooDeep, SameClasses, HasSettled}
 use Rattle.dob_node.specs.Stores.{HistoryView}
-use Rattle.dob_node.specs.declared.cause.Cause.{Cause}
-use Rattle.dob_node.specs.declared.cause.Cause.TheVariants.{TooDeep, Contradiction, Memory, Held, Counts}
+use Rattle.dob_stops.specs.declared.cause.Cause.{Cause}
+use Rattle.dob_stops.specs.declared.cause.Cause.TheVariants.{TooDeep, Contradiction, Memory, Held, Counts}
 
 -- the item's values are such as a table can have
 abbrev pub HasEntries : Item → Type 0

@@ -1,19 +1,21 @@
-// The history of a node: the settlements of its own classes, in order, in 8 bytes each. It makes the room for a settlement
-// before an item changes a cell, and for those of a batch before its first item does.
-ghost use Rattle.std.specs.Prelude.{◌≡◌, ◌≢◌, ◌↔◌, ℕ, ◌+◌, ◌/◌, ◌^◌, ◌<◌, ◌≤◌, ◌∷◌, ◌++◌, [], length, take, Some, Err, IfErr, OnOk, OnErr, slice_get};
+// The history of a node: the settlements of its own classes, in order. Those of the start follow from the statuses, the others take
+// 8 bytes each. It makes the room for a settlement before an item changes a cell, and for those of a batch before its first item does.
+ghost use Rattle.std.specs.Prelude.{◌≡◌, ◌≢◌, ◌↔◌, ℕ, ◌+◌, ◌/◌, ◌^◌, ◌<◌, ◌≤◌, ◌∷◌, ◌++◌, [], length, take, Option, Some, Err, IfErr, OnOk, OnErr, slice_get};
 ghost use Rattle.dob_pieces.specs.declared.profile.Family.{Family as Set};
 ghost use Rattle.dob_value.specs.Follows.{IsEntry};
 ghost use Rattle.dob_share.specs.Owners.{owner_of};
-ghost use Rattle.dob_share.specs.Shares.{Fits, GoesTooDeep};
-ghost use Rattle.dob_node.specs.declared.cause.Cause.TheVariants as cause;
-ghost use Rattle.dob_node.specs.Stores.{settlements_from};
+ghost use Rattle.dob_share.specs.declared.share.Seen.{Seen};
+ghost use Rattle.dob_share.specs.Shares.{Fits, GoesTooDeep, IsSeen};
+ghost use Rattle.dob_stops.specs.declared.cause.Cause.TheVariants as cause;
+ghost use Rattle.dob_node.specs.Stores.{settlements_from, starts_of};
 ghost use Rattle.dob_node.specs.TakenItems.{HasEntries, AreKept, IsHistory, IsTaken, IsReason};
 
-use crate::cause::Cause;
+use crate::start_statuses::StartStatuses;
 use dob_pieces::Memory;
 use dob_rank::{SegmentLength, Segments};
-use dob_share::{Item, Settlement, Share};
-use dob_value::{code_of_value, value_of_code};
+use dob_share::{Item, Seen, Settlement, Share};
+use dob_stops::Cause;
+use dob_value::{Value, code_of_value, value_of_code};
 use std::alloc::Global;
 use std::marker::Model;
 
@@ -25,12 +27,13 @@ pub(crate) struct Stored {
     pub(crate) now: u16,
 }
 
-/// The settlements of one owner `id` among `n`, in order: the first `count` of those stored. What is stored behind them is
-/// room for the next; for so many as `room` says there is some.
+/// The settlements of one owner `id` among `n`, in order: those of the start, and the first `count` of those stored. What is stored
+/// behind them is room for the next; for so many as `room` says there is some.
 #[derive(Drop)]
 pub(crate) struct History {
     id: usize,
     n: usize,
+    starts: StartStatuses,
     count: u64,
     room: u64,
     stored: Segments<Stored>,
@@ -38,25 +41,32 @@ pub(crate) struct History {
 
 impl Model for History {
     ghost use Rattle.std.specs.Prelude.{◌+◌, ◌<◌, ◌≤◌, length, take};
-    ghost use Rattle.dob_node.specs.Stores.{HistoryView, settlements_from};
+    ghost use Rattle.dob_node.specs.Stores.{HistoryView, settlements_of};
 
     ghost Value = { HistoryView };
 
-    ghost view = { λ h. record { id = h.id; n = h.n; settlements = settlements_from h.n h.id 0 (take h.count h.stored); room = h.room } };
+    ghost view = { λ h. record { id = h.id; n = h.n; settlements = settlements_of h.n h.id h.starts (take h.count h.stored); room = h.room } };
 
     ghost invariant = { λ h. (h.id < h.n) × (h.n ≤ 16) × (h.count + h.room ≤ length h.stored) };
 }
 
 impl History {
-    /// An empty history of owner `id` among `n`, in segments of that length.
-    pub(crate) fn new(alloc: Global, id: usize, n: usize, segment_length: SegmentLength) -> History
+    /// The history of owner `id` among `n` at the start, in segments of that length.
+    pub(crate) fn new(
+        alloc: Global,
+        id: usize,
+        n: usize,
+        starts: StartStatuses,
+        segment_length: SegmentLength,
+    ) -> History
         requires one_of_n { id < n }
         requires few { n ≤ 16 }
-        ensures { result ≡ record { id = id; n = n; settlements = []; room = 0 } }
+        ensures { result ≡ record { id = id; n = n; settlements = starts_of n id starts; room = 0 } }
     {
         History {
             id,
             n,
+            starts,
             count: 0,
             room: 0,
             stored: Segments::new(alloc, segment_length),
@@ -66,26 +76,45 @@ impl History {
     /// How many settlements there are.
     pub(crate) fn len(&self) -> u64
         ensures count { result ≡ length self.now.settlements }
-        ensures bound { result ≤ 2 ^ 56 }
+        ensures bound { result ≤ 2 ^ 57 }
     {
         // No list has more items than are stored.
         let _stored = self.stored.len();
-        self.count
+        self.starts.settled() + self.count
     }
 
-    /// The settlement of that number.
+    /// The settlement of that number. For one of the start it walks from where `seek` went last, or else from the first class.
     pub(crate) fn get(&self, number: u64) -> Settlement
         requires { number < length self.now.settlements }
         ensures get { slice_get self.now.settlements number ≡ Some result }
         ensures was { IsEntry result.was }
         ensures now { IsEntry result.now }
     {
-        let stored = self.stored.get(number);
+        let first = self.starts.settled();
+        if number < first {
+            let start = self.starts.find(number);
+            return Settlement {
+                number,
+                class: start.place * self.n as u64 + self.id as u64,
+                was: Value::Draw,
+                now: start.now,
+            };
+        }
+        let stored = self.stored.get(number - first);
         Settlement {
             number,
             class: u64::from(stored.place) * self.n as u64 + self.id as u64,
             was: value_of_code(stored.was),
             now: value_of_code(stored.now),
+        }
+    }
+
+    /// Goes to the settlement of that number, so that it and those behind it are found quickly.
+    pub(crate) fn seek(&mut self, number: u64)
+        ensures same { self.new ≡ self.old }
+    {
+        if number < self.starts.settled() {
+            self.starts.seek(number);
         }
     }
 
@@ -99,23 +128,6 @@ impl History {
             make_room(&mut self.stored, self.count, settlements)?;
             self.room = settlements;
         }
-        Ok(())
-    }
-
-    /// Adds the next settlement, of an own class, to a history without room. After `Memory` it is as it was.
-    pub(crate) fn push(&mut self, settlement: Settlement) -> Result<(), Memory>
-        requires room { self.old.room ≡ 0 }
-        requires number { settlement.number ≡ length self.old.settlements }
-        requires own { owner_of self.old.n settlement.class ≡ self.old.id }
-        requires place { settlement.class / self.old.n < 2 ^ 32 }
-        requires was { IsEntry settlement.was }
-        requires now { IsEntry settlement.now }
-        ensures ok { OnOk result (self.new ≡ record self.old { settlements = self.old.settlements ++ settlement ∷ [] }) }
-        ensures err { OnErr result (self.new ≡ self.old) }
-    {
-        make_room(&mut self.stored, self.count, 1)?;
-        store(&mut self.stored, self.count, self.n, settlement);
-        self.count += 1;
         Ok(())
     }
 
@@ -136,11 +148,37 @@ impl History {
         ensures taken { OnOk result (IsTaken item share.old share.new self.old self.new) }
         ensures kept { OnOk result ((family : Set) → AreKept family share.old.n share.old.id share.old self.old → AreKept family share.old.n share.old.id share.new self.new) }
     {
+        let seen = share.see(item.to);
+        self.take_seen(share, item, seen)
+    }
+
+    /// Takes an item as `take_item` does, by what was seen of its class.
+    ///
+    /// Errors: as of `take_item`.
+    pub(crate) fn take_seen(
+        &mut self,
+        share: &mut Share,
+        item: Item,
+        seen: Option<Seen>,
+    ) -> Result<(), Cause>
+        requires seen { IsSeen share.old item.to seen }
+        requires kept { (family : Set) × AreKept family share.old.n share.old.id share.old self.old }
+        requires entries { HasEntries item }
+        ensures contradiction { result ≢ Err cause.Memory → (result ≡ Err (cause.Contradiction item.to)) ↔ (¬ Fits share.old item) }
+        ensures too_deep { result ≢ Err cause.Memory → (result ≡ Err cause.TooDeep) ↔ (Fits share.old item × GoesTooDeep share.old item) }
+        ensures why { IfErr result (λ why. IsReason item share.old why) }
+        ensures memory { result ≡ Err cause.Memory → self.old.room ≡ 0 }
+        ensures room { OnOk result (self.old.room ≤ self.new.room + 1) }
+        ensures unchanged { OnErr result ((share.new ≡ share.old) × (self.new ≡ self.old)) }
+        ensures taken { OnOk result (IsTaken item share.old share.new self.old self.new) }
+        ensures kept { OnOk result ((family : Set) → AreKept family share.old.n share.old.id share.old self.old → AreKept family share.old.n share.old.id share.new self.new) }
+        ensures seen { OnOk result ((class : ℕ) (look : Option Seen) → IsSeen share.old class look → IsSeen share.new class look) }
+    {
         // Numbers of settlements always fit.
         let count = self.len();
         prove!(count < u64::MAX / 2);
-        make_room(&mut self.stored, self.count, 1)?;
-        let given = share.apply(item)?;
+        room_for_one(&mut self.stored, self.count)?;
+        let given = share.apply_seen(item, seen)?;
         if let Some(settlement) = given {
             store(&mut self.stored, self.count, self.n, settlement);
             self.count += 1;
@@ -170,15 +208,30 @@ fn make_room(stored: &mut Segments<Stored>, count: u64, wanted: u64) -> Result<(
     Ok(())
 }
 
-// Stores a settlement of a class of owner `id` among `n` behind the first `count`, where there is room.
+// Makes room for one more. Within its callers, since there mostly is some.
+#[inline(always)]
+fn room_for_one(stored: &mut Segments<Stored>, count: u64) -> Result<(), Memory>
+    requires { count ≤ length stored.old }
+    ensures same { take count stored.new ≡ take count stored.old }
+    ensures within { length stored.old ≤ length stored.new }
+    ensures room { OnOk result (count + 1 ≤ length stored.new) }
+    ensures none { OnErr result (length stored.old < count + 1) }
+    ensures bound { count ≤ 2 ^ 56 }
+{
+    if count < stored.len() {
+        return Ok(());
+    }
+    make_room(stored, count, 1)
+}
+
+// Stores a settlement of a class among `n` owners behind the first `count`, where there is room.
 fn store(stored: &mut Segments<Stored>, count: u64, n: usize, settlement: Settlement)
     requires room { count < length stored.old }
-    requires number { settlement.number ≡ count }
     requires owners { 0 < n }
     requires place { settlement.class / n < 2 ^ 32 }
     requires was { IsEntry settlement.was }
     requires now { IsEntry settlement.now }
-    ensures one_more { (id : ℕ) → owner_of n settlement.class ≡ id → settlements_from n id 0 (take (count + 1) stored.new) ≡ settlements_from n id 0 (take count stored.old) ++ settlement ∷ [] }
+    ensures one_more { (id first : ℕ) → owner_of n settlement.class ≡ id → settlement.number ≡ first + count → settlements_from n id first (take (count + 1) stored.new) ≡ settlements_from n id first (take count stored.old) ++ settlement ∷ [] }
     ensures same { length stored.new ≡ length stored.old }
 {
     stored[count as usize] = Stored {

@@ -5,14 +5,15 @@ ghost use Rattle.dob_rank.specs.Families.{classes_of};
 ghost use Rattle.dob_value.specs.Follows.{IsValueTable};
 ghost use Rattle.dob_share.specs.Shares.{IsOwn, HasValueNow};
 ghost use Rattle.dob_node.specs.Nodes.{IsSound};
-ghost use Rattle.dob_node.specs.Causes.{IsFaultOf};
+ghost use Rattle.dob_node.specs.Faults.{IsFaultOf};
 ghost use Rattle.dob_node.specs.Sole.{HasMade, IsDone, IsUnderWay, IsDoneWithin, HasStoppedAlone, IsTooDeepWithin};
 
-use crate::cause::{Cause, Fault};
+use crate::fault::Fault;
 use crate::node::Node;
 use crate::openings::opening;
 use dob_pieces::{Family, Memory};
 use dob_rank::{Classes, SegmentLength};
+use dob_stops::Cause;
 use dob_value::{Table, Value};
 use std::alloc::Global;
 

@@ -6,18 +6,18 @@ ghost use Rattle.std.specs.VecDeque.{deque_len, deque_capacity};
 ghost use Rattle.dob_share.specs.Owners.{owner_of};
 ghost use Rattle.dob_update.specs.Batches.{most_items};
 ghost use Rattle.dob_update.specs.Items.{items_of};
-ghost use Rattle.dob_node.specs.declared.cause.Cause.TheVariants as cause;
-ghost use Rattle.dob_node.specs.OpeningLists.{opening_value, opening_settlement, opening_settlements, status_in};
+ghost use Rattle.dob_stops.specs.declared.cause.Cause.TheVariants as cause;
+ghost use Rattle.dob_node.specs.OpeningLists.{opening_settlements, status_in};
 ghost use Rattle.dob_node.specs.TakenItems.{HasEntries, StopsAt};
 
-use crate::cause::Cause;
 use crate::history::History;
 use crate::outboxes::{add_for_others, are_empty, cut_at, empty_outboxes};
+use crate::start_statuses::StartStatuses;
 use crate::taking::take_items;
-use dob_moves::Status;
 use dob_pieces::{Family, Memory};
 use dob_rank::{Classes, Segments};
 use dob_share::{Item, Opening, Settlement, Share, opening_at, owner};
+use dob_stops::Cause;
 use dob_unmove::back_into;
 use dob_update::{Batch, Outbox, item_for};
 use dob_value::Value;
@@ -135,6 +135,7 @@ impl Node {
         if self.expanded == self.history.len() {
             return Ok(false);
         }
+        self.history.seek(self.expanded);
         let settlement = self.history.get(self.expanded);
         let room = mem::replace(&mut self.targets, Vec::new(self.alloc));
         let targets = back_into(room, classes, settlement.class)?;
@@ -208,6 +209,7 @@ impl Node {
         requires entries { All HasEntries batch.now.items }
         requires going { self.old.failed ≡ None }
         ensures taken { OnOk result (HasTaken batch.now.items self.old self.new) }
+        ensures all { OnOk result (self.new.taken ≡ length batch.now.items) }
         ensures stopped { IfErr result (λ why. StopsAt batch.now.items self.old.share self.old.history why) }
         ensures before { IfErr result (λ why. HasTakenBefore batch.now.items self.old self.new why) }
         ensures memory { result ≡ Err cause.Memory → IsUnchanged self.old self.new × (self.old.history.room < length batch.now.items) }
@@ -228,6 +230,7 @@ impl Node {
         requires n { batch.now.n ≡ self.old.n }
         requires entries { All HasEntries batch.now.items }
         ensures taken { OnOk result (HasTaken batch.now.items self.old self.new) }
+        ensures all { OnOk result (self.new.taken ≡ length batch.now.items) }
         ensures stopped { IfErr result (λ why. StopsAt batch.now.items self.old.share self.old.history why) }
         ensures before { IfErr result (λ why. HasTakenBefore batch.now.items self.old self.new why) }
         ensures memory { result ≡ Err cause.Memory → IsUnchanged self.old self.new × (self.old.history.room < length batch.now.items) }
@@ -260,7 +263,7 @@ impl Node {
         }
     }
 
-    /// How many items were applied of the batch that was applied last.
+    /// How many items were applied of the batch that was applied last: all of them where that answered Ok.
     pub fn taken(&self) -> usize
         ensures { result ≡ self.now.taken }
     {
@@ -381,7 +384,7 @@ impl Node {
     /// How many settlements its history has.
     pub fn settled(&self) -> u64
         ensures count { result ≡ length self.now.history.settlements }
-        ensures bound { result ≤ 2 ^ 56 }
+        ensures bound { result ≤ 2 ^ 57 }
     {
         self.history.len()
     }
@@ -400,6 +403,14 @@ impl Node {
         ensures { HasValueNow self.now.share class result }
     {
         self.share.value(class)
+    }
+
+    /// The node's share. All else of the node is gone, its history first of all.
+    pub fn into_share(self) -> Share
+        ensures { result ≡ self.share }
+    {
+        let Node { share, .. } = self;
+        share
     }
 
     /// The values of the own classes. All else of the node is gone.
@@ -452,36 +463,6 @@ fn push_own(
     }
 }
 
-// The value at which a class is settled when its node opens, by its status.
-fn opening_value(status: Status) -> Option<Value>
-    ensures { result ≡ opening_value status }
-{
-    match status {
-        Status::Caught => Some(Value::Win(1)),
-        Status::Tried | Status::Stuck => Some(Value::Loss(0)),
-        Status::Open => None,
-    }
-}
-
-// Adds the settlement of a class at the opening, if it has one.
-fn push_opening(history: &mut History, class: u64, status: Status) -> Result<(), Memory>
-    requires room { history.old.room ≡ 0 }
-    requires own { owner_of history.old.n class ≡ history.old.id }
-    requires place { class / history.old.n < 2 ^ 32 }
-    ensures { OnOk result (history.new ≡ record history.old { settlements = history.old.settlements ++ opening_settlement (length history.old.settlements) class (opening_value status) }) }
-{
-    let Some(now) = opening_value(status) else {
-        return Ok(());
-    };
-    let number = history.len();
-    history.push(Settlement {
-        number,
-        class,
-        was: Value::Draw,
-        now,
-    })
-}
-
 // The history of owner `id`, one of `n`, when its node opens.
 fn opening_history(
     alloc: Global,
@@ -496,11 +477,6 @@ fn opening_history(
     requires places { (place : ℕ) → place < places → place * n + id < length openings.now }
     ensures { IfOk result (λ history. history ≡ record { id = id; n = n; settlements = opening_settlements (status_in openings.now) n id places; room = 0 }) }
 {
-    let mut history = History::new(alloc, id, n, openings.segment_length());
-    for place in 0..places {
-        let class = place * n as u64 + id as u64;
-        let status = opening_at(openings, class).status;
-        push_opening(&mut history, class, status)?;
-    }
-    Ok(history)
+    let starts = StartStatuses::open(alloc, openings, places, id, n)?;
+    Ok(History::new(alloc, id, n, starts, openings.segment_length()))
 }

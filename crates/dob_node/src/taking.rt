@@ -1,13 +1,17 @@
 // Items taken in order: what they make of the cells of a node, and of its history.
-ghost use Rattle.std.specs.Prelude.{◌≡◌, ◌<◌, length, Err, IfErr, OnOk};
+ghost use Rattle.std.specs.Prelude.{◌≡◌, ◌<◌, ◌%◌, length, Err, IfErr, OnOk};
 ghost use Rattle.std.specs.List.{All};
 ghost use Rattle.dob_pieces.specs.declared.profile.Family.{Family as Set};
-ghost use Rattle.dob_node.specs.declared.cause.Cause.TheVariants as cause;
+ghost use Rattle.dob_stops.specs.declared.cause.Cause.TheVariants as cause;
 ghost use Rattle.dob_node.specs.TakenItems.{HasEntries, AreKept, AreTaken, StopsAt, AreTakenBefore};
+ghost use Rattle.dob_node.specs.SeenItems.{AreSeen};
 
-use crate::cause::Cause;
 use crate::history::History;
-use dob_share::{Item, Share};
+use dob_share::{Item, Seen, Share};
+use dob_stops::Cause;
+
+/// How many items' classes are looked at before the first of the items is applied, so that the memory of all is read at once.
+const AHEAD: usize = 16;
 
 /// Applies the items in order, as `History::take_item` does each, and tells how many.
 ///
@@ -24,13 +28,33 @@ pub(crate) fn take_items(
     ensures stopped { IfErr result (λ why. StopsAt items.now share.old history.old why) }
     ensures before { IfErr result (λ why. AreTakenBefore items.now taken.new share.old share.new history.old history.new why) }
     ensures taken { OnOk result (AreTaken items.now share.old share.new history.old history.new) }
+    ensures all { OnOk result (taken.new ≡ length items.now) }
     ensures memory { result ≡ Err cause.Memory → history.old.room < length items.now }
     ensures kept { ((family : Set) → AreKept family share.old.n share.old.id share.old history.old → AreKept family share.old.n share.old.id share.new history.new) }
 {
     *taken = 0;
+    let mut looks = [None; AHEAD];
     for item in items {
-        history.take_item(share, *item)?;
+        look_ahead(share, items, *taken, &mut looks);
+        let seen = looks[*taken % AHEAD];
+        history.take_seen(share, *item, seen)?;
         *taken += 1;
     }
     Ok(())
+}
+
+// Looks at the classes of the item at that place and of those behind it in its group, where it is the first of the group.
+fn look_ahead(share: &Share, items: &[Item], next: usize, looks: &mut [Option<Seen>; AHEAD])
+    requires next { next < length items.now }
+    requires seen { 0 < next % 16 → AreSeen next share.now items.now looks.old }
+    ensures { AreSeen next share.now items.now looks.new }
+{
+    if next % AHEAD > 0 {
+        return;
+    }
+    let end = (next + AHEAD).min(items.len());
+    for place in next..end {
+        let item = items[place];
+        looks[place % AHEAD] = share.see(item.to);
+    }
 }

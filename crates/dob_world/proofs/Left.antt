@@ -6,7 +6,7 @@ use Rattle.dob_pieces.specs.Lists.{IsBeginning}
 use Rattle.dob_unmove.specs.Edges.{predecessors}
 use Rattle.dob_update.specs.Items.{items_from}
 use Rattle.dob_update.specs.Batches.{items_of_batches}
-use Rattle.dob_node.specs.declared.cause.Cause.TheVariants as cause
+use Rattle.dob_stops.specs.declared.cause.Cause.TheVariants as cause
 use Rattle.dob_node.proofs.Settles.{items_from-append}
 use Rattle.dob_safra.specs.Rings.{Ring}
 use Rattle.dob_world.specs.declared.detector.Detector.{Detector}

@@ -18,7 +18,7 @@ use Rattle.dob_update.specs.Items.{items_from}
 use Rattle.dob_update.specs.Batches.{BatchView, OutboxView, items_of_batches}
 use Rattle.dob_link.specs.Links.{LinkView, link_of}
 use Rattle.dob_node.specs.Stores.{HistoryView}
-use Rattle.dob_node.specs.declared.cause.Cause.{Cause}
+use Rattle.dob_stops.specs.declared.cause.Cause.{Cause}
 use Rattle.dob_node.specs.TakenItems.{HasEntries, AreKept, AreTaken}
 use Rattle.dob_node.specs.declared.node.Node.{Node}
 use Rattle.dob_node.specs.Nodes.{IsSound, HasTaken, outbox_to}

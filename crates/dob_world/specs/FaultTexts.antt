@@ -2,7 +2,7 @@
 use Rattle.std.specs.Prelude.{ℕ, List}
 use Rattle.dob_pieces.specs.Faults.{memory_text}
 use Rattle.dob_update.specs.Faults.{sizes_text}
-use Rattle.dob_node.specs.Causes.{stopped_text}
+use Rattle.dob_stops.specs.Causes.{stopped_text}
 use Rattle.dob_safra.specs.Faults.{nodes_text}
 use Rattle.dob_world.specs.declared.fault.Fault.{Fault}
 use Rattle.dob_world.specs.declared.fault.Fault.TheVariants.{Nodes, Sizes, Stopped, Memory}

@@ -5,7 +5,7 @@ use Rattle.std.specs.List.{All}
 use Rattle.dob_pieces.specs.declared.profile.Family.{Family}
 use Rattle.dob_update.specs.Batches.{BatchView}
 use Rattle.dob_link.specs.Links.{link_of}
-use Rattle.dob_node.specs.declared.cause.Cause.{Cause}
+use Rattle.dob_stops.specs.declared.cause.Cause.{Cause}
 use Rattle.dob_node.specs.declared.node.Node.{Node}
 use Rattle.dob_node.specs.TakenItems.{HasEntries}
 use Rattle.dob_node.specs.Nodes.{HasApplied, HasTaken, HasTakenBefore, HasCut}

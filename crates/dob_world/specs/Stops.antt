@@ -4,7 +4,7 @@ use Rattle.dob_share.specs.declared.news.Item.{Item}
 use Rattle.dob_share.specs.Cells.{changed}
 use Rattle.dob_share.specs.Steps.{IsTooDeep}
 use Rattle.dob_update.specs.Batches.{BatchView}
-use Rattle.dob_node.specs.declared.cause.Cause.TheVariants as cause
+use Rattle.dob_stops.specs.declared.cause.Cause.TheVariants as cause
 use Rattle.dob_world.specs.declared.event.Event.{Event}
 use Rattle.dob_world.specs.declared.event.Event.TheVariants.{Expand, Own, Post, Take, Pass, Announce}
 use Rattle.dob_world.specs.declared.fault.Fault.{Fault}

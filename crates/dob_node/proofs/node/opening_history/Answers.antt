@@ -1,14 +1,16 @@
--- The class at a place is the owner's, and its settlement the next.
-use Rattle.std.proofs.Common.{ap}
-use Rattle.dob_share.specs.declared.opening.Opening.{Opening}
-use Rattle.dob_node.proofs.Sounds.{own_there}
-use Rattle.dob_node.proofs.Opens.{opening_more}
+-- What follows from the statuses listed are the settlements of the opening.
+use Rattle.std.proofs.Common.{◌≤◌, ap, ◌∙◌, arith, length, List}
+use Rattle.dob_share.specs.declared.news.Settlement.{Settlement}
+use Rattle.dob_node.specs.Stores.{HistoryView}
+use Rattle.dob_node.proofs.StartLists.{starts_opened, places_few}
 use Rattle.dob_node.proofs.node.opening_history.Goals as goal
 
-pub push_opening-requires-clause-own : goal.push_opening-requires-clause-own
-push_opening-requires-clause-own c = own_there c.loop-place.history c.args.n c.args.id c.loop-place.place _ c.requires.owner c.loop-place.invariant
+pub open-requires-clause-few_places : goal.open-requires-clause-few_places
+open-requires-clause-few_places c =
+    let few : c.args.places ≤ length c.args.openings.now = places_few c.args.places c.args.n c.args.id (length c.args.openings.now) c.requires.owner c.requires.places in
+    omega (arith, few, c.requires.few)
 
-pub loop-place-preserved : goal.loop-place-preserved
-loop-place-preserved c =
-    opening_more c.args.openings.now c.args.n c.args.id c.loop-place.place c.loop-place.history c.push_opening.new.history
-    c.opening_at-status.result.status (ap (λ (o : Opening). o.status) c.opening_at-status.ensures) c.loop-place.invariant c.in_ok-push_opening.ensures
+pub returns : goal.returns
+returns c = c.new.ensures
+    ∙ ap (λ (xs : List Settlement). let v : HistoryView = record { id = c.args.id; n = c.args.n; settlements = xs; room = 0 } in v)
+    (starts_opened c.args.openings.now c.args.n c.args.id c.args.places c.in_ok-starts.starts c.in_ok-starts.ensures.places c.in_ok-starts.ensures.statuses)

@@ -1,7 +1,8 @@
--- The items so far are taken, and counted; as much room is left as for those that aren't.
-use Rattle.std.proofs.Common.{◌≡◌, ◌+◌, ◌≤◌, take}
+-- The items so far are taken, and counted; as much room is left as for those that aren't; and those of a group that has begun were looked at.
+use Rattle.std.proofs.Common.{◌≡◌, ◌+◌, ◌%◌, ◌<◌, ◌≤◌, take}
 use Rattle.dob_pieces.specs.declared.profile.Family.{Family}
 use Rattle.dob_node.specs.TakenItems.{AreKept, AreTaken}
+use Rattle.dob_node.specs.SeenItems.{AreSeen}
 use Rattle.dob_node.proofs.taking.take_items.Given as goal
 
 abbrev pub invariant-loop-item : goal.invariant-loop-item
@@ -11,4 +12,5 @@ invariant-loop-item l = record {
   room : l.initial.history.room ≤ l.history.room + l.item-index;
   kept : (family : Family) → AreKept family l.initial.share.n l.initial.share.id l.initial.share l.initial.history →
       AreKept family l.initial.share.n l.initial.share.id l.share l.history;
+  seen : 0 < l.item-index % 16 → AreSeen l.item-index l.share l.items l.looks;
 }

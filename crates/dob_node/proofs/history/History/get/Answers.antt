@@ -1,25 +1,44 @@
--- What is stored at the place is read as the settlement of that number.
-use Rattle.std.proofs.Common.{◌≡◌, ◌+◌, ◌*◌, ◌<◌, ◌≤◌, refl, ap, sym, subst, take, length, arith}
+-- What follows from the statuses or is stored at the place is read as the settlement of that number.
+use Rattle.std.proofs.Common.{◌≡◌, ℕ, ◌+◌, ◌-◌, ◌*◌, ◌<◌, ◌≤◌, ◌∙◌, refl, ap, sym, take, length, slice_get, arith}
 use Rattle.dob_value.specs.Codes.{value_of_code}
+use Rattle.dob_node.specs.Stores.{HistoryView, start_status, starts_count, starts_of, settlements_from}
+use Rattle.dob_node.proofs.StartLists.{start_found, start_entry}
 use Rattle.dob_node.proofs.Stored.{all_there, count_is, got_within, seen_at, same_settlement}
 use Rattle.dob_node.proofs.history.History.get.Goals as goal
 
+pub returns-then-number-first-clause-get : goal.returns-then-number-first-clause-get
+returns-then-number-first-clause-get c =
+    let h = c.self.inside in
+    let start = c.find-start.result in
+    ap (λ (v : HistoryView). slice_get v.settlements c.args.number) (sym c.self.view_is)
+    ∙ start_found h.n h.id c.args.number start.place h.starts start.now (settlements_from h.n h.id (length (starts_of h.n h.id h.starts)) (take h.count h.stored))
+    c.find-start.ensures.place c.find-start.ensures.number c.find-start.ensures.value
+
+pub returns-then-number-first-clause-now : goal.returns-then-number-first-clause-now
+returns-then-number-first-clause-now c =
+    start_entry (start_status c.self.inside.starts c.find-start.result.place) c.find-start.result.now c.find-start.ensures.value
+
 pub get-stored-requires : goal.get-stored-requires
 get-stored-requires c =
+    let h = c.self.inside in
     let low : c.args.number < length c.args.self.now.settlements = c.requires in
-    let all : c.self.inside.count + c.self.inside.room ≤ length c.self.inside.stored = c.self.invariant.2 in
-    let count : c.self.inside.count ≡ length c.args.self.now.settlements
-    = count_is c.self.inside.n c.self.inside.id c.self.inside.room c.self.inside.count c.self.inside.stored c.args.self.now all c.self.view_is in
-    omega arith
+    let all : h.count + h.room ≤ length h.stored = c.self.invariant.2 in
+    let count : starts_count h.starts + h.count ≡ length c.args.self.now.settlements
+    = count_is h.n h.id h.room h.count h.starts h.stored c.args.self.now all c.self.view_is in
+    omega (arith, low, all, count, c.settled-first.ensures.count, c.if-number-first.false)
 
 pub returns-clause-get : goal.returns-clause-get
 returns-clause-get c =
+    let h = c.self.inside in
     let stored = c.get-stored.result in
-    let count : c.self.inside.count ≡ length c.args.self.now.settlements
-    = count_is c.self.inside.n c.self.inside.id c.self.inside.room c.self.inside.count c.self.inside.stored c.args.self.now c.self.invariant.2 c.self.view_is in
-    seen_at c.self.inside.n c.self.inside.id c.self.inside.room c.args.number (take c.self.inside.count c.self.inside.stored) c.args.self.now stored _ c.self.view_is
-    (got_within c.self.inside.count c.args.number c.self.inside.stored stored (subst (λ m. c.args.number < m) (sym count) c.requires)
-    (all_there c.self.inside.count c.self.inside.room c.self.inside.stored c.self.invariant.2) c.get-stored.ensures.get)
-    (same_settlement c.args.number c.args.number (stored.place * c.self.inside.n + c.self.inside.id) (c.from.result * c.self.inside.n + c.self.inside.id)
+    let low : c.args.number < length c.args.self.now.settlements = c.requires in
+    let count : starts_count h.starts + h.count ≡ length c.args.self.now.settlements
+    = count_is h.n h.id h.room h.count h.starts h.stored c.args.self.now c.self.invariant.2 c.self.view_is in
+    let k : ℕ = c.args.number - c.settled-first.result in
+    let within : k < h.count = omega (arith, low, count, c.settled-first.ensures.count, c.if-number-first.false) in
+    let number : c.args.number ≡ starts_count h.starts + k = omega (arith, c.settled-first.ensures.count, c.if-number-first.false) in
+    seen_at h.n h.id h.room k c.args.number h.starts (take h.count h.stored) c.args.self.now stored _ c.self.view_is number
+    (got_within h.count k h.stored stored within (all_there h.count h.room h.stored c.self.invariant.2) c.get-stored.ensures.get)
+    (same_settlement c.args.number c.args.number (stored.place * h.n + h.id) (c.from.result * h.n + h.id)
     (value_of_code stored.was) c.value_of_code.result (value_of_code stored.now) c.value_of_code-2.result refl
-    (ap (λ place. place * c.self.inside.n + c.self.inside.id) (sym c.from.ensures)) (sym c.value_of_code.ensures.value) (sym c.value_of_code-2.ensures.value))
+    (ap (λ place. place * h.n + h.id) (sym c.from.ensures)) (sym c.value_of_code.ensures.value) (sym c.value_of_code-2.ensures.value))

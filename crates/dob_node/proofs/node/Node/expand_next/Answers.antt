@@ -1,10 +1,11 @@
 -- One more settlement is expanded, and its items have its values.
-use Rattle.std.proofs.Common.{◌==◌, ℕ, refl, ap, ◌∙◌, ◌++◌, sym, subst}
+use Rattle.std.proofs.Common.{◌==◌, ◌+◌, ◌≤◌, ℕ, length, refl, ap, ◌∙◌, ◌++◌, sym, subst}
 use Rattle.std.specs.List.{All, filter}
 use Rattle.dob_unmove.specs.Edges.{predecessors}
 use Rattle.dob_share.specs.Owners.{owner_of}
 use Rattle.dob_update.specs.Items.{items_of}
-use Rattle.dob_node.specs.TakenItems.{HasEntries}
+use Rattle.dob_node.specs.Stores.{HistoryView}
+use Rattle.dob_node.specs.TakenItems.{HasEntries, AreKept}
 use Rattle.dob_node.specs.Outboxes.{IsOutboxTo, outbox_in}
 use Rattle.dob_node.proofs.Sounds.{next_emitted, entries_more}
 use Rattle.dob_node.proofs.Sends.{ready_added, ready_same}
@@ -32,8 +33,9 @@ returns-clause-sound c =
     c.get-settlement.ensures.was c.get-settlement.ensures.now c.in_ok-add_for_others.ensures.added
     (record { receivers = sound.receivers; addressed = sound.addressed; nothing_to_self = sound.nothing_to_self }) in
     record {
-      kept = sound.kept;
-      emitted = next_emitted node.expanded _ _ sound.emitted c.len.ensures.count c.if-self-len.false;
+      kept = subst (λ (h : HistoryView). AreKept node.family node.n node.id node.share h) (sym c.seek.ensures.same) sound.kept;
+      emitted = subst (λ (h : HistoryView). node.expanded + 1 ≤ length h.settlements) (sym c.seek.ensures.same)
+          (next_emitted node.expanded _ _ sound.emitted c.len.ensures.count c.if-self-len.false);
       entries = entries_more s node.own.items c.push_own.new.queue.items (items_of (λ _. targets) node.n node.id s)
           (filter (λ to. owner_of node.n to == node.id) targets) c.get-settlement.ensures.was c.get-settlement.ensures.now
           sound.entries refl (c.push_own.ensures ∙ ap (λ xs. xs ++ items_of (λ _. targets) node.n node.id s) c.reserve.ensures.items);
@@ -49,8 +51,8 @@ returns-in_err-add_for_others-clause-sound c =
     let ready = ready_same node.family node.n node.id node.outboxes.items c.add_for_others.new.outboxes.items c.in_err-add_for_others.ensures.unchanged
     (record { receivers = sound.receivers; addressed = sound.addressed; nothing_to_self = sound.nothing_to_self }) in
     record {
-      kept = sound.kept;
-      emitted = sound.emitted;
+      kept = subst (λ (h : HistoryView). AreKept node.family node.n node.id node.share h) (sym c.seek.ensures.same) sound.kept;
+      emitted = subst (λ (h : HistoryView). node.expanded ≤ length h.settlements) (sym c.seek.ensures.same) sound.emitted;
       entries = subst (λ xs. All HasEntries xs) (sym c.reserve.ensures.items) sound.entries;
       receivers = ready.receivers;
       addressed = ready.addressed;

@@ -6,7 +6,7 @@ use Rattle.dob_update.specs.Batches.{OutboxView}
 use Rattle.dob_node.specs.Stores.{HistoryView}
 use Rattle.dob_node.specs.OpeningLists.{opening_settlements, status_in}
 use Rattle.dob_node.specs.TakenItems.{HasEntries}
-use Rattle.dob_node.proofs.Opens.{places_are, opened_kept, few_listed}
+use Rattle.dob_node.proofs.Opens.{places_are, opened_cells, opened_kept, few_listed}
 use Rattle.dob_node.proofs.Sends.{addressed_empty}
 use Rattle.dob_node.proofs.node.Node.open.Goals as goal
 
@@ -28,7 +28,7 @@ returns-clause-opened c =
           ∙ ap (λ k. opening_settlements (status_in c.args.openings.now) c.args.n c.args.id k) c.places.ensures;
       places = places_are c.in_ok-share.share c.args.openings.now c.args.n c.args.id out.who c.requires.owner out.owned;
       statuses = out.statuses;
-      cells = out.cells;
+      cells = opened_cells c.args.family c.args.openings.now c.in_ok-share.share c.args.n c.args.id c.requires.openings out.owned out.cells;
       nothing = (refl, c.new.ensures.items);
       going = refl;
       outboxes = c.in_ok-outboxes.ensures.empty;
@@ -39,7 +39,8 @@ returns-clause-sound c =
     let out = c.in_ok-share.ensures in
     record {
       kept = opened_kept c.args.family c.args.openings.now c.args.n c.args.id c.in_ok-share.share c.in_ok-history.history c.requires.openings c.requires.owner
-          (few_listed c.args.family c.args.openings.now c.requires.openings) out.who out.owned out.cells out.settled
+          (few_listed c.args.family c.args.openings.now c.requires.openings) out.who out.owned
+          (opened_cells c.args.family c.args.openings.now c.in_ok-share.share c.args.n c.args.id c.requires.openings out.owned out.cells) out.settled
           (subst (λ (k : ℕ). c.in_ok-history.history ≡ record { id = c.args.id; n = c.args.n; settlements = opening_settlements (status_in c.args.openings.now) c.args.n c.args.id k; room = 0 })
           c.places.ensures c.in_ok-history.ensures);
       emitted = omega arith;

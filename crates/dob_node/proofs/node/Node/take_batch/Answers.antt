@@ -2,7 +2,7 @@
 use Rattle.std.proofs.Common.{◌∙◌, refl, sym, subst}
 use Rattle.dob_node.specs.TakenItems.{AreTaken, StopsAt}
 use Rattle.dob_node.specs.Nodes.{HasTakenBefore}
-use Rattle.dob_node.specs.declared.cause.Cause.TheVariants as cause
+use Rattle.dob_stops.specs.declared.cause.Cause.TheVariants as cause
 use Rattle.dob_node.proofs.Sounds.{kept_own, kept_back}
 use Rattle.dob_node.proofs.TakenLists.{carried, emitted_all, all_with_room, stops_with_room, kept_with_room, stops_first}
 use Rattle.dob_node.proofs.node.Node.take_batch.Goals as goal

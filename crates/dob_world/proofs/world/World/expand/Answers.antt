@@ -1,7 +1,7 @@
 -- The node that expands.
 use Rattle.std.proofs.Common.{◌≡◌, ◌≤◌, ◌<◌, refl, sym, ap, ◌∙◌, arith, true, false, Ok, Some, slice_get, slice_set, length}
 use Rattle.dob_pieces.proofs.Elements.{read_there}
-use Rattle.dob_node.specs.declared.cause.Cause.{Cause}
+use Rattle.dob_stops.specs.declared.cause.Cause.{Cause}
 use Rattle.dob_world.specs.declared.event.Event.TheVariants.{Expand}
 use Rattle.dob_world.specs.declared.fault.Fault.TheVariants.{Stopped}
 use Rattle.dob_world.specs.Events.{CanHappen}

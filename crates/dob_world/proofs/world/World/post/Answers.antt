@@ -1,6 +1,6 @@
 -- The node that posts.
 use Rattle.std.proofs.Common.{ℕ, ◌<◌, ◌+◌, ◌*◌, inl, inr, refl, sym, ap, ◌∙◌, subst, Ok, slice_set}
-use Rattle.dob_node.specs.declared.cause.Cause.{Cause}
+use Rattle.dob_stops.specs.declared.cause.Cause.{Cause}
 use Rattle.dob_world.specs.declared.fault.Fault.TheVariants.{Stopped}
 use Rattle.dob_world.specs.declared.event.Event.TheVariants.{Post}
 use Rattle.dob_safra.specs.declared.event.RingEvent.TheVariants as ring
