@@ -6,13 +6,14 @@ use mathlib.Core.Option.{none}
 use Rattle.atomic_table.specs.Table.{step}
 use Rattle.dob_safra.specs.declared.token.Token.{Token}
 use Rattle.dob_safra.specs.declared.event.RingEvent.{RingEvent}
+use Rattle.dob_board.specs.declared.view.BoardEvent.{BoardEvent}
 use Rattle.dob_safra.specs.declared.event.RingEvent.TheVariants.{Post, Take}
 use Rattle.dob_safra.specs.Rings.{Ring, IsLawfulRing}
 use Rattle.dob_board.specs.declared.halt.Halt.{Halt}
 use Rattle.dob_board.specs.declared.view.Stand.{Stand}
 use Rattle.dob_board.specs.Words.{posted_word, taken_word}
 use Rattle.dob_board.specs.Views.{Shows, sees, stand_from}
-use Rattle.dob_board.specs.Histories.{GoesOn, MakesEvent}
+use Rattle.dob_board.specs.Histories.{GoesOn, MakesEvent, moves_of}
 use Rattle.dob_board.specs.Plays.{Posted, Took}
 use Rattle.dob_board.proofs.Allowed.{Seated, seated, posts_tell, takes_tell, one_more, same_default}
 
@@ -21,7 +22,7 @@ pub record FewCounts (n : ℕ) (stand : Stand) : Type 0 where
   pub posted : (k : ℕ) → k < n → slice_index stand.posted k ≤ 2 ^ 40
   pub taken : (k : ℕ) → k < n → slice_index stand.taken k ≤ 2 ^ 40
 
-pub makes_few : (n i : ℕ) (event : RingEvent) (before after : Stand) (witnessed now : List RingEvent) → i < n → MakesEvent n i event before after witnessed now
+pub makes_few : (n i : ℕ) (event : RingEvent) (before after : Stand) (witnessed now : List BoardEvent) → i < n → MakesEvent n i event before after witnessed now
     → FewCounts n after
 makes_few n i event before after witnessed now i_in made = record {
   posted = λ k k_in. omega (arith, made.shows_after.posted k k_in, made.is_lawful.few i k i_in k_in);
@@ -33,20 +34,20 @@ pub white_shown : (n i : ℕ) (ring : Ring) (stand : Stand) → i < n → IsLawf
 white_shown n i ring stand i_in lawful shows ended = shows.colour ∙ lawful.all_white (shows.ended ended) i i_in
 
 -- and takes nothing
-pub takes_before : (n i j : ℕ) (before after : Stand) (witnessed now : List RingEvent) → MakesEvent n i (Take j i) before after witnessed now → before.halt ≢ 1
+pub takes_before : (n i j : ℕ) (before after : Stand) (witnessed now : List BoardEvent) → MakesEvent n i (Take j i) before after witnessed now → before.halt ≢ 1
 takes_before n i j before after witnessed now made ended =
     let announced : made.old.announced ≡ true = made.shows_before.ended ended in
     let going : made.old.announced ≡ false = made.in_time in
     cc
 
 -- the seat's view after a step, and the event that it made
-pub record Stepped (n i : ℕ) (event : RingEvent) (before after : Stand) (witnessed : List RingEvent) (me : Seated) : Type 0 where
+pub record Stepped (n i : ℕ) (event : RingEvent) (before after : Stand) (witnessed : List BoardEvent) (me : Seated) : Type 0 where
   pub view_is : me ≡ seated n i after me.0.witnessed
   pub made : MakesEvent n i event before after witnessed me.0.witnessed
   pub few : FewCounts n after
 
 pub posts_done : (n i j word found x : ℕ) (me after : Seated) (posted taken seen : List ℕ) (black : Bool) (token : Option Token) (halt : Halt)
-    (witnessed : List RingEvent) →
+    (witnessed : List BoardEvent) →
     me ≡ seated n i (stand_from posted taken seen black token halt) witnessed → word ≡ posted_word n i j → i < n → j < n → length posted ≡ n
     → x ≡ get_or posted j x →
     Posted (step 0 word 1 0 none) me found after →
@@ -64,7 +65,7 @@ posts_done n i j word found x me after posted taken seen black token halt witnes
     }
 
 pub takes_done : (n i j word found x : ℕ) (me after : Seated) (posted taken seen : List ℕ) (black : Bool) (token : Option Token) (halt : Halt)
-    (witnessed : List RingEvent) →
+    (witnessed : List BoardEvent) →
     me ≡ seated n i (stand_from posted taken seen black token halt) witnessed → word ≡ taken_word n j i → i < n → j < n → length taken ≡ n → x ≡ get_or taken j x →
     Took (step 0 word 1 0 none) me found after →
     Stepped n i (Take j i) (stand_from posted taken seen black token halt) (stand_from posted (set taken j (x + 1)) seen true token halt) witnessed after
@@ -82,16 +83,17 @@ takes_done n i j word found x me after posted taken seen black token halt witnes
     }
 
 -- what was witnessed is witnessed still
-pub goes_on : (first middle last : List RingEvent) → GoesOn first middle → GoesOn middle last → GoesOn first last
+pub goes_on : (first middle last : List BoardEvent) → GoesOn first middle → GoesOn middle last → GoesOn first last
 goes_on first middle last on further =
-    (further.0 ++ on.0, further.1 ∙ ap (λ (l : List RingEvent). further.0 ++ l) on.1 ∙ sym (append_assoc further.0 on.0 first))
+    (further.0 ++ on.0, further.1 ∙ ap (λ (l : List BoardEvent). further.0 ++ l) on.1 ∙ sym (append_assoc further.0 on.0 first))
 
 -- a look before an event changes neither counts nor colour
-pub makes_later : (n i j number : ℕ) (event : RingEvent) (stand after : Stand) (witnessed middle now : List RingEvent) → GoesOn witnessed middle →
-    MakesEvent n i event (sees stand j number) after middle now → MakesEvent n i event stand after witnessed now
-makes_later n i j number event stand after witnessed middle now on made = record {
+pub makes_later : (n i j number : ℕ) (event : RingEvent) (stand after : Stand) (witnessed middle now : List BoardEvent) → GoesOn witnessed middle →
+    moves_of i middle ≡ moves_of i witnessed → MakesEvent n i event (sees stand j number) after middle now → MakesEvent n i event stand after witnessed now
+makes_later n i j number event stand after witnessed middle now on still made = record {
   log = made.log;
   went_on = goes_on witnessed middle made.log on made.went_on;
+  alone = made.alone ∙ still;
   is_next = made.is_next;
   old = made.old;
   new = made.new;

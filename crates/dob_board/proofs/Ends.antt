@@ -11,7 +11,7 @@ use mathlib.Core.Option.{none, some, some-ne-none, some-injective}
 use lib.ListN.{get_elem?}
 use Rattle.atomic_table.specs.Table.{State, step, keeps, Allows, Joins}
 use Rattle.atomic_table.proofs.Lists.{at_set, set_else}
-use Rattle.dob_safra.specs.declared.event.RingEvent.{RingEvent}
+use Rattle.dob_board.specs.declared.view.BoardEvent.{BoardEvent}
 use Rattle.dob_safra.specs.declared.token.Token.{Token}
 use Rattle.dob_safra.specs.Tokens.{IsPacked}
 use Rattle.dob_safra.specs.Rings.{Ring}
@@ -34,33 +34,34 @@ use Rattle.dob_board.proofs.Kept.{own_node}
 use Rattle.dob_board.proofs.Allowed.{Seated, seated, Held, set_same}
 use Rattle.dob_board.proofs.Halting.{same_halt, runs_on}
 use Rattle.dob_board.proofs.Once.{run_once}
-use Rattle.dob_board.proofs.Starts.{port_of, port_here, port_else, elsewhere, view_from}
+use Rattle.dob_board.proofs.Starts.{port_of, port_here, port_else, elsewhere}
 
 -- ---- join
 
-nobody_is_view : (n port halt : ℕ) (owner : ℕ → ℕ) (ring : Ring) (log : List RingEvent) → IsView n owner ring halt log port nobody
+nobody_is_view : (n port halt : ℕ) (owner : ℕ → ℕ) (ring : Ring) (log : List BoardEvent) → IsView n owner ring halt log port nobody
 nobody_is_view n port halt owner ring log = record {
   was_witnessed = (log, sym (append-nil log));
   nodes = λ k stand e. absurd (some-ne-none stand (sym e));
+  alone = λ own k stand e. absurd (some-ne-none stand (sym e));
   is_closed = λ e. absurd (cc);
 }
 
 -- the rest's view, closed or not
-abbrev rest_view : ℕ → ℕ → List Stand → List RingEvent → Bool → View
-rest_view n from stands witnessed closed = record { size = n; from = from; stands = stands; witnessed = witnessed; closed = closed }
+abbrev rest_view : ℕ → ℕ → List Stand → List BoardEvent → Bool → Bool → View
+rest_view n from stands witnessed own closed = record { size = n; from = from; stands = stands; witnessed = witnessed; own = own; closed = closed }
 
-joins : (n i id other size : ℕ) (words : List ℕ) (views : List View) (stand : Stand) (behind : List Stand) (witnessed observed : List RingEvent) (closed : Bool)
+joins : (n i id other size : ℕ) (words : List ℕ) (views : List View) (stand : Stand) (behind : List Stand) (witnessed observed : List BoardEvent) (own closed : Bool)
     (held : IsHeld n words views) →
-    get_elem? views id ≡ some (rest_view size (suc i) behind witnessed closed) → other ≢ id →
-    get_elem? (slice_set views id (view_from n i (stand ∷ behind) observed)) other ≡ some (one n i stand observed) →
-    IsHeld n words (slice_set (slice_set views id (view_from n i (stand ∷ behind) observed)) other nobody)
-joins n i id other size words views stand behind witnessed observed closed held at apart there =
+    get_elem? views id ≡ some (rest_view size (suc i) behind witnessed own closed) → other ≢ id →
+    get_elem? (slice_set views id (rest_view n i (stand ∷ behind) observed false false)) other ≡ some (one n i stand observed) →
+    IsHeld n words (slice_set (slice_set views id (rest_view n i (stand ∷ behind) observed false false)) other nobody)
+joins n i id other size words views stand behind witnessed observed own closed held at apart there =
     let ring : Ring = ring_of n words held.black held.token in
     let halt : ℕ = slice_index words 2 in
-    let both : View = view_from n i (stand ∷ behind) observed in
+    let both : View = rest_view n i (stand ∷ behind) observed false false in
     let at_other : get_elem? views other ≡ some (one n i stand observed) = sym (set_else views id other both apart) ∙ there in
     let mine : IsNode n held.owner ring halt other n i stand = own_node n i other words views stand observed held at_other in
-    let rest = held.views_are id (rest_view size (suc i) behind witnessed closed) at in
+    let rest = held.views_are id (rest_view size (suc i) behind witnessed own closed) at in
     let owner : ℕ → ℕ = port_of i id held.owner in
     record {
       size = held.size;
@@ -73,6 +74,7 @@ joins n i id other size words views stand behind witnessed observed closed held 
       halt_within = held.halt_within;
       log = held.log;
       runs = held.runs;
+      told = held.told;
       owner = owner;
       views_are = λ port view e.
           ⊎_elim
@@ -85,6 +87,7 @@ joins n i id other size words views stand behind witnessed observed closed held 
           (record {
             was_witnessed = (held.views_are other (one n i stand observed) at_other).was_witnessed;
             nodes = both_nodes n i id halt size held.owner ring stand behind mine.within mine.is_stand rest.nodes;
+            alone = λ e'. absurd (cc);
             is_closed = λ e'. absurd (cc);
           }))
           (λ (y : (port ≢ id) × (get_elem? views port ≡ some view)).
@@ -108,15 +111,15 @@ joins n i id other size words views stand behind witnessed observed closed held 
         subst (λ (x : ℕ). IsNode n (port_of i id owner) ring halt id n x at) place
         (record { size_is = refl; within = node.within; owned = port_else i id (suc i + k) owner apart ∙ node.owned; is_stand = node.is_stand })
 
-pub joins_call : (key n i id other : ℕ) (view : View) (me : Seated) (stand : Stand) (observed : List RingEvent) → key ≡ n → view.from ≡ suc i
+pub joins_call : (key n i id other : ℕ) (view : View) (me : Seated) (stand : Stand) (observed : List BoardEvent) → key ≡ n → view.from ≡ suc i
     → me ≡ seated n i stand observed →
     Joins (Held key) id view other me.0 (joined view me.0) nobody
 joins_call key n i id other view me stand observed key_is from_is me_is =
     let from_here : (s : State (Unit {0}) View) → Held n s → get_elem? s.views id ≡ some view → ¬ (other ≡ id) →
     get_elem? (slice_set s.views id (joined view (one n i stand observed))) other ≡ some (one n i stand observed) →
     IsHeld n s.words (slice_set (slice_set s.views id (joined view (one n i stand observed))) other nobody) =
-    λ s held at apart there. joins n i id other view.size s.words s.views stand view.stands view.witnessed observed view.closed held
-    (at ∙ ap (λ (from : ℕ). some (rest_view view.size from view.stands view.witnessed view.closed)) from_is) apart there in
+    λ s held at apart there. joins n i id other view.size s.words s.views stand view.stands view.witnessed observed view.own view.closed held
+    (at ∙ ap (λ (from : ℕ). some (rest_view view.size from view.stands view.witnessed view.own view.closed)) from_is) apart there in
     let view_is : me.0 ≡ one n i stand observed = ap (λ (x : Seated). x.0) me_is in
     subst (λ (p : ℕ × View). Joins (Held p.0) id view other p.1 (joined view p.1) nobody) (λ q. (sym key_is q, sym view_is q)) from_here
 
@@ -153,6 +156,7 @@ reads n w id words views view held at from_is =
           );
       halt_within = λ w_is. omega (arith, ap (slice_index words) w_is, held.halt_within);
       halt_is = λ w_is. ap (λ (x : ℕ). eqb (slice_index words x) 1) (sym w_is);
+      halt_told_is = λ w_is. ap (slice_index words) w_is ∙ held.told;
       announced = λ w_is found stand e. (node 0 stand e).is_stand.announced refl (ap (slice_index words) (sym w_is) ∙ found);
       halt_seen = λ w_is i stand e seen. ap (slice_index words) w_is ∙ (node i stand e).is_stand.halt_seen seen;
       failed = λ w_is i stand e found. (node i stand e).is_stand.failed (ap (slice_index words) (sym w_is) ∙ found);
@@ -183,6 +187,7 @@ closes n id words views view held at from_is all_is =
       halt_within = held.halt_within;
       log = held.log;
       runs = held.runs;
+      told = held.told;
       owner = held.owner;
       views_are = λ port other e.
           ⊎_elim
@@ -191,6 +196,7 @@ closes n id words views view held at from_is all_is =
           (record {
             was_witnessed = ([], refl);
             nodes = λ k stand e'. subst (λ (from : ℕ). IsNode n held.owner ring halt id view.size (from + k) stand) from_is (was.nodes k stand e');
+            alone = λ e'. absurd (cc);
             is_closed = λ e'. record { from_first = refl; all_nodes = all_is; all_witnessed = refl };
           }))
           (λ (x : (port ≢ id) × (get_elem? views port ≡ some other)). held.views_are port other x.1)
@@ -254,11 +260,11 @@ one_less board n all seats fewer seat me after left seats_is after_is =
     }
 
 pub none_left : (board : TableId) (n : ℕ) (all : List Stand) (seats : List NodeSeat) (me : Seated) → AreLeft board n all seats me → seats ≡ [] →
-    me ≡ (gathered n all me.0.witnessed, [])
+    me ≡ (gathered n all me.0.witnessed me.0.own, [])
 none_left board n all seats me left none_is =
     let from_is : me.0.from ≡ 0 = left.from_is ∙ ap length none_is in
     let stands_are : me.0.stands ≡ all = sym (left.all_are ∙ ap (λ (xs : List NodeSeat). map stand_of xs ++ me.0.stands) none_is) in
-    λ q. (record { size = left.size_is q; from = from_is q; stands = stands_are q; witnessed = me.0.witnessed; closed = left.not_closed q }, left.no_slot q)
+    λ q. (record { size = left.size_is q; from = from_is q; stands = stands_are q; witnessed = me.0.witnessed; own = me.0.own; closed = left.not_closed q }, left.no_slot q)
 
 pub all_left : (board : TableId) (n : ℕ) (seats : List NodeSeat) (me : Seated) → AreSeats board n seats → me ≡ (behind n n, [])
     → AreLeft board n (map stand_of seats) seats me
@@ -278,7 +284,7 @@ all_left board n seats me are me_is =
 
 -- ---- the words
 
-pub read_more : (n word found : ℕ) (stands : List Stand) (was log : List RingEvent) (words : List ℕ) → word < length words → (0 < word → log ≡ was) →
+pub read_more : (n word found : ℕ) (stands : List Stand) (was log : List BoardEvent) (words : List ℕ) → word < length words → (0 < word → log ≡ was) →
     ((w : ℕ) → w < word → IsWord n stands was w (get_or words w 0)) → IsWord n stands log word found →
     (w : ℕ) → w < word + 1 → IsWord n stands log w (get_or (set words word found) w 0)
 read_more n word found stands was log words within same before here w lt =
@@ -288,7 +294,7 @@ read_more n word found stands was log words within same before here w lt =
           ap (λ (m : ℕ). get_or (set words word found) m 0) is ∙ get_or-set_same words word found 0 within in
           subst (λ (p : ℕ × ℕ). IsWord n stands log p.0 p.1) (λ q. (sym is q, sym read q)) here
       | inr apart ↦ let below : w < word = omega (arith, lt, apart) in
-          subst (λ (p : List RingEvent × ℕ). IsWord n stands p.0 w p.1)
+          subst (λ (p : List BoardEvent × ℕ). IsWord n stands p.0 w p.1)
           (λ q. (sym (same (omega (arith, below))) q, sym (get_or-set_other words word w found 0 apart) q)) (before w below)
     ]
 
@@ -306,7 +312,7 @@ seat_there (x ∷ xs) zero lt = (x, refl)
 seat_there (x ∷ xs) (suc k) lt = seat_there xs k (omega arith)
 
 -- the ring of a closed board: word 1 is its token's, and word 2 says whether it is announced
-pub read_ring : (n : ℕ) (stands : List Stand) (log : List RingEvent) (words : List ℕ) → 0 < n → AreRead n stands log words →
+pub read_ring : (n : ℕ) (stands : List Stand) (log : List BoardEvent) (words : List ℕ) → 0 < n → AreRead n stands log words →
     (ring : Ring) × LeadsTo n stands log ring × IsPacked ring.token (slice_index words 1) × (ring.announced ≡ eqb (slice_index words 2) 1)
 read_ring n stands log words some_nodes read =
     let first = read.words_are 1 (omega arith) in
@@ -318,7 +324,7 @@ read_ring n stands log words some_nodes read =
 word_once : (token : Token) (one other : ℕ) → IsPacked token one → IsPacked token other → one ≡ other
 word_once token one other first second = omega (arith, ints, first.word_is, second.word_is)
 
-pub are_as_witnessed : (n : ℕ) (stands : List Stand) (log : List RingEvent) (words : List ℕ) → 0 < n → length stands ≡ n → AreRead n stands log words →
+pub are_as_witnessed : (n : ℕ) (stands : List Stand) (log : List BoardEvent) (words : List ℕ) → 0 < n → length stands ≡ n → AreRead n stands log words →
     AreAsWitnessed (closed_view n stands log) words
 are_as_witnessed n stands log words some_nodes all_nodes read =
     let has = read_ring n stands log words some_nodes read in
@@ -332,6 +338,7 @@ are_as_witnessed n stands log words some_nodes all_nodes read =
           let same = run_once n log ring has.0 some_nodes runs has.1.runs in
           word_once has.0.token (slice_index words 1) word has.2 (subst (λ (t : Token). IsPacked t word) same.token packed);
       announced = λ ring runs. (run_once n log ring has.0 some_nodes runs has.1.runs).announced ∙ has.3;
+      halt_is = halt.halt_told_is refl;
       halt_seen = halt.halt_seen refl;
       failed = halt.failed refl;
       posted = λ i j stand e j_in. (read.words_are (posted_word n i j) (posted_within n i j (within i stand e) j_in)).posted i j stand e j_in refl;
@@ -384,7 +391,7 @@ first_done all seats me first none_is seat e =
     (λ (none : (seats ≡ []) × (me.0.witnessed ≡ witnessed_by seat)). none.1)
     (first seat e)
 
-pub are_words : (board : TableId) (n : ℕ) (seats : List NodeSeat) (log : List RingEvent) (words : List ℕ) → AreSeats board n seats →
+pub are_words : (board : TableId) (n : ℕ) (seats : List NodeSeat) (log : List BoardEvent) (words : List ℕ) → AreSeats board n seats →
     AreRead n (map stand_of seats) log words → AreWords n seats words
 are_words board n seats log words are read = record {
   count = read.count;
@@ -427,19 +434,20 @@ are_words board n seats log words are read = record {
     seat_within k seat e = omega (arith, found_within seats k seat e, are.count)
 
 -- what happened on a closed board
-pub is_history : (n : ℕ) (seats : List NodeSeat) (closed : Closed) (witnessed : List RingEvent) → 0 < n →
+pub is_history : (n : ℕ) (seats : List NodeSeat) (closed : Closed) (witnessed : List BoardEvent) → 0 < n →
     ((seat : NodeSeat) → slice_get seats 0 ≡ Some seat → witnessed ≡ witnessed_by seat) → GoesOn witnessed (log_of closed) →
     AreRead n (map stand_of seats) (log_of closed) closed.words.items → IsHistory n seats closed
 is_history n seats closed witnessed some_nodes first on read =
     let has = read_ring n (map stand_of seats) (log_of closed) closed.words.items some_nodes read in
     record {
-      witnessed = λ seat e. subst (λ (l : List RingEvent). GoesOn l (log_of closed)) (first seat e) on;
+      witnessed = λ seat e. subst (λ (l : List BoardEvent). GoesOn l (log_of closed)) (first seat e) on;
       ring = has.0;
       runs = has.1.runs;
       is_lawful = has.1.is_lawful;
       shows = λ i seat e. has.1.shows i (stand_of seat) (stand_there seats i seat e);
       token = has.2;
       announced = has.3;
+      halt_is = (read.words_are 2 (omega arith)).halt_told_is refl;
     }
 
 pub stands_len : (seats : List NodeSeat) → length (map stand_of seats) ≡ length seats

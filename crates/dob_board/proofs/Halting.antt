@@ -9,7 +9,8 @@ use mathlib.Core.Option.{none, some}
 use lib.ListN.{get_elem?}
 use Rattle.atomic_table.specs.Table.{step, keeps, Allows}
 use Rattle.dob_safra.specs.declared.token.Token.{Token}
-use Rattle.dob_safra.specs.declared.event.RingEvent.{RingEvent}
+use Rattle.dob_board.specs.declared.view.BoardEvent.{BoardEvent}
+use Rattle.dob_board.specs.declared.view.BoardEvent.TheVariants.{OfRing, Failure}
 use Rattle.dob_safra.specs.declared.event.RingEvent.TheVariants.{Announce}
 use Rattle.dob_safra.specs.Tokens.{IsPacked, MayAnnounce}
 use Rattle.dob_safra.specs.Rings.{Ring, counter, IsLawfulRing, Announces}
@@ -20,11 +21,11 @@ use Rattle.dob_board.specs.declared.view.Stand.{Stand}
 use Rattle.dob_board.specs.declared.view.View.{View}
 use Rattle.dob_board.specs.Words.{halt_word, halt_after, ring_of}
 use Rattle.dob_board.specs.Views.{one, counter_of, finds, stand_from, IsStand}
-use Rattle.dob_board.specs.Histories.{Runs, MakesEvent, Observes, HasHalt}
+use Rattle.dob_board.specs.Histories.{Runs, MakesEvent, Observes, HasHalt, halt_told}
 use Rattle.dob_board.specs.Rule.{IsHeld}
 use Rattle.dob_board.specs.Seats.{MayEnd, failed_after}
 use Rattle.dob_board.specs.Plays.{Found, Halted, FailedRun, Announced}
-use Rattle.dob_board.proofs.Kept.{Leaves, own_node, kept, happened, known}
+use Rattle.dob_board.proofs.Kept.{Leaves, AreBy, own_node, own_alone, kept, happened, known}
 use Rattle.dob_board.proofs.Allowed.{Seated, Held, seated, same_stand, set_same}
 use Rattle.dob_board.proofs.Done.{white_shown}
 use Rattle.dob_board.proofs.Passing.{posted_apart, taken_apart, counter_is}
@@ -81,12 +82,13 @@ finds_stand n i halt ring stand so is = record {
   announced = λ first e. e;
 }
 
--- What a step that found the halt word at one number and left it at another, and made no event, tells.
-pub record Finding (n i id : ℕ) (words : List ℕ) (views : List View) (log : List RingEvent) (stand : Stand) (witnessed : List RingEvent) (now : List ℕ)
+-- What a step that found the halt word at one number and left it at another, and announced no end, tells.
+pub record Finding (n i id : ℕ) (words : List ℕ) (views : List View) (log : List BoardEvent) (stand : Stand) (witnessed : List BoardEvent) (now : List ℕ)
     (was word : ℕ) : Type 0 where
   pub held : IsHeld n now (slice_set views id (one n i (finds stand word) log))
   pub within : word < 2 + n
   pub stays : stand.halt ≢ 0 → word ≡ stand.halt
+  pub told : word ≡ halt_told log
   pub announced : i ≡ 0 → word ≡ 1 → stand.halt ≡ 1
   pub observed : Observes n i (finds stand word) witnessed log (HasHalt was)
 
@@ -94,12 +96,12 @@ pub record Finding (n i id : ℕ) (words : List ℕ) (views : List View) (log : 
 abbrev pub IsKnown : ℕ → Stand → ℕ → Type 0
 IsKnown i stand word = word ≡ 2 + i → stand.halt ≡ 2 + i
 
-pub knew_own : (n i id : ℕ) (words : List ℕ) (views : List View) (stand : Stand) (witnessed : List RingEvent) (held : IsHeld n words views) →
+pub knew_own : (n i id : ℕ) (words : List ℕ) (views : List View) (stand : Stand) (witnessed : List BoardEvent) (held : IsHeld n words views) →
     get_elem? views id ≡ some (one n i stand witnessed) → IsKnown i stand (slice_index words 2)
 knew_own n i id words views stand witnessed held at = (own_node n i id words views stand witnessed held at).is_stand.failed
 
 -- a look
-pub looks_at_halt : (n i id : ℕ) (words : List ℕ) (views : List View) (stand : Stand) (witnessed : List RingEvent) (held : IsHeld n words views) →
+pub looks_at_halt : (n i id : ℕ) (words : List ℕ) (views : List View) (stand : Stand) (witnessed : List BoardEvent) (held : IsHeld n words views) →
     get_elem? views id ≡ some (one n i stand witnessed) → Finding n i id words views held.log stand witnessed words (slice_index words 2) (slice_index words 2)
 looks_at_halt n i id words views stand witnessed held at =
     let ring : Ring = ring_of n words held.black held.token in
@@ -110,6 +112,7 @@ looks_at_halt n i id words views stand witnessed held at =
       held = made.0;
       within = held.halt_within;
       stays = mine.is_stand.halt_seen;
+      told = held.told;
       announced = mine.is_stand.announced;
       observed = made.1;
     }
@@ -163,15 +166,16 @@ fails_stand n i ring stand is = record {
   announced = λ first e. absurd (omega (arith, e));
 }
 
-pub fails : (n i id : ℕ) (words : List ℕ) (views : List View) (stand : Stand) (witnessed : List RingEvent) (held : IsHeld n words views) →
+pub fails : (n i id : ℕ) (words : List ℕ) (views : List View) (stand : Stand) (witnessed : List BoardEvent) (held : IsHeld n words views) →
     get_elem? views id ≡ some (one n i stand witnessed) → slice_index words 2 ≡ 0 →
-    Finding n i id words views held.log stand witnessed (set words 2 (2 + i)) 0 (2 + i)
+    Finding n i id words views (Failure i ∷ held.log) stand witnessed (set words 2 (2 + i)) 0 (2 + i)
 fails n i id words views stand witnessed held at running =
     let after : List ℕ = set words 2 (2 + i) in
     let old : Ring = ring_of n words held.black held.token in
     let new : Ring = ring_of n after held.black held.token in
     let mine = own_node n i id words views stand witnessed held at in
     let wide : 2 < length words = omega (arith, held.wide) in
+    let on = (held.views_are id (one n i stand witnessed) at).was_witnessed in
     let same : old ≡ new = same_ring n (2 + i) words held.black held.token wide (λ e. omega (arith, e, running)) (λ e. omega (arith, e)) in
     let there : get_or after 2 0 ≡ 2 + i = get_or-set_same words 2 (2 + i) 0 wide in
     let is : IsStand n old 0 i stand = subst (λ (h : ℕ). IsStand n old h i stand) running mine.is_stand in
@@ -180,22 +184,26 @@ fails n i id words views stand witnessed held at running =
     let leaves : Leaves n i old new (slice_index words 2) (slice_index after 2) =
     subst (λ (p : Ring × ℕ × ℕ). Leaves n i old p.0 p.1 p.2) (λ q. (same q, sym running q, sym there q)) (fails_leaves n i old) in
     record {
-      held = kept n i id words after views stand (finds stand (2 + i)) witnessed [] held.black held.token held at
+      held = kept n i id words after views stand (finds stand (2 + i)) witnessed (Failure i ∷ []) held.black held.token held at
           (length-set words 2 (2 + i))
           (get_or-set_other words 2 0 (2 + i) 0 (λ e. omega (arith, e)))
           (subst (IsPacked held.token) (sym (get_or-set_other words 2 1 (2 + i) 0 (λ e. omega (arith, e)))) held.packed)
           (omega (arith, there, mine.within))
           (subst (IsLawfulRing n) same held.lawful)
-          (subst (Runs n held.log) same held.runs)
+          (sym held.told ∙ running, subst (Runs n held.log) same held.runs)
+          there
+          (λ k apart. refl)
           leaves
           now;
       within = omega (arith, mine.within);
       stays = λ ne. absurd (ne (sym (is.halt_seen ne)));
+      told = refl;
       announced = λ first e. absurd (omega (arith, e));
       observed = record {
-        went_on = (held.views_are id (one n i stand witnessed) at).was_witnessed;
+        went_on = (Failure i ∷ on.0, ap (λ (l : List BoardEvent). Failure i ∷ l) on.1);
+        alone = own_alone n i id words views stand witnessed held at;
         ring = new;
-        runs = subst (Runs n held.log) same held.runs;
+        runs = (sym held.told ∙ running, subst (Runs n held.log) same held.runs);
         is_lawful = subst (IsLawfulRing n) same held.lawful;
         shows = now.shows;
         is_so = ap (λ (h : ℕ). eqb h 1) there ∙ ne_eqb (2 + i) 1 (λ e. omega (arith, e));
@@ -248,11 +256,15 @@ announces_stand n i old new stand within moved is = record {
   announced = λ first e. refl;
 }
 
-pub announces : (n i id : ℕ) (words : List ℕ) (views : List View) (stand : Stand) (witnessed : List RingEvent) (held : IsHeld n words views) →
+-- an announcement by node 0 is none by another node
+announces_by : (i : ℕ) (log : List BoardEvent) → i ≡ 0 → AreBy i (OfRing Announce ∷ []) log
+announces_by i log first k apart = let other : eqb k 0 ≡ false = ne_eqb k 0 (λ e. apart (e ∙ sym first)) in rw other refl
+
+pub announces : (n i id : ℕ) (words : List ℕ) (views : List View) (stand : Stand) (witnessed : List BoardEvent) (held : IsHeld n words views) →
     get_elem? views id ≡ some (one n i stand witnessed) → MayEnd stand → slice_index words 2 ≡ 0 →
-    IsHeld n (set words 2 1) (slice_set views id (one n i (finds stand 1) (Announce ∷ held.log)))
+    IsHeld n (set words 2 1) (slice_set views id (one n i (finds stand 1) (OfRing Announce ∷ held.log)))
     × (stand.halt ≢ 0 → 1 ≡ stand.halt)
-    × MakesEvent n i Announce stand (finds stand 1) witnessed (Announce ∷ held.log)
+    × MakesEvent n i Announce stand (finds stand 1) witnessed (OfRing Announce ∷ held.log)
 announces n i id words views stand witnessed held at may running =
     let after : List ℕ = set words 2 1 in
     let old : Ring = ring_of n words held.black held.token in
@@ -279,12 +291,12 @@ announces n i id words views stand witnessed held at may running =
     (get_or-set_other words 2 0 1 0 (λ e. omega (arith, e)))
     (subst (IsPacked held.token) (sym (get_or-set_other words 2 1 1 0 (λ e. omega (arith, e)))) held.packed)
     (omega (arith, there))
-    (ap (λ (h : ℕ). eqb h 1) running) moved few leaves now in
+    (ap (λ (h : ℕ). eqb h 1) running) moved few there (announces_by i held.log first) leaves now in
     (made.0, (λ ne. absurd (ne (sym (is.halt_seen ne)))), made.1)
 
 -- ---- what the calls ask and are told
 
-halts_allows : (n i id slots : ℕ) (stand : Stand) (witnessed : List RingEvent) →
+halts_allows : (n i id slots : ℕ) (stand : Stand) (witnessed : List BoardEvent) →
     Allows (Held n) slots id (seated n i stand witnessed) 2 (λ x. x) (Halted (step slots 2 0 0 none) (seated n i stand witnessed))
 halts_allows n i id slots stand witnessed s held len at small =
     let found : ℕ = slice_index s.words 2 in
@@ -295,79 +307,87 @@ halts_allows n i id slots stand witnessed s held len at small =
       tt,
       subst (λ (ws : List ℕ). IsHeld n ws (slice_set s.views id (one n i (finds stand found) log))) (sym (set_same s.words 2)) made.held,
       λ stand' place stands.
-          subst (λ (p : Stand). ((seated n i (finds stand found) log ≡ seated n i (finds p found) log) × (found < 2 + n) × (p.halt ≢ 0 → found ≡ p.halt))
+          subst (λ (p : Stand). ((seated n i (finds stand found) log ≡ seated n i (finds p found) log) × (found < 2 + n) × (p.halt ≢ 0 → found ≡ p.halt)
+          × (found ≡ halt_told log))
           × IsKnown i p found × (i ≡ 0 → found ≡ 1 → p.halt ≡ 1) × Observes n i (finds p found) witnessed log (HasHalt found))
-          (same_stand stand stand' stands) ((refl, made.within, made.stays), knew_own n i id s.words s.views stand witnessed held at, made.announced, made.observed),
+          (same_stand stand stand' stands) ((refl, made.within, made.stays, made.told), knew_own n i id s.words s.views stand witnessed held at, made.announced, made.observed),
     )
 
-pub halts_call : (key n i id slots : ℕ) (me : Seated) (stand : Stand) (witnessed : List RingEvent) → key ≡ n → me ≡ seated n i stand witnessed →
+pub halts_call : (key n i id slots : ℕ) (me : Seated) (stand : Stand) (witnessed : List BoardEvent) → key ≡ n → me ≡ seated n i stand witnessed →
     Allows (Held key) slots id me 2 (λ x. x) (Halted (step slots 2 0 0 none) me)
 halts_call key n i id slots me stand witnessed key_is me_is =
     subst (λ (p : ℕ × Seated). Allows (Held p.0) slots id p.1 2 (λ x. x) (Halted (step slots 2 0 0 none) p.1))
     (λ q. (sym key_is q, sym me_is q)) (halts_allows n i id slots stand witnessed)
 
-pub halts_tell : (n i found : ℕ) (me after : Seated) (stand : Stand) (witnessed : List RingEvent) → me ≡ seated n i stand witnessed →
+pub halts_tell : (n i found : ℕ) (me after : Seated) (stand : Stand) (witnessed : List BoardEvent) → me ≡ seated n i stand witnessed →
     Halted (step 0 2 0 0 none) me found after →
     Found (seated n i stand witnessed) stand found after × IsKnown i stand found × (i ≡ 0 → found ≡ 1 → stand.halt ≡ 1)
     × Observes n i (finds stand found) witnessed after.0.witnessed (HasHalt found)
 halts_tell n i found me after stand witnessed me_is tells =
     (subst (λ (p : Seated). Halted (step 0 2 0 0 none) p found after) me_is tells) stand refl refl
 
-fails_finding : (n i id : ℕ) (words : List ℕ) (views : List View) (stand : Stand) (witnessed : List RingEvent) (held : IsHeld n words views) →
-    get_elem? views id ≡ some (one n i stand witnessed) →
-    Finding n i id words views held.log stand witnessed (set words 2 (either (eqb (slice_index words 2) 0) (2 + i) (slice_index words 2)))
+fails_finding : (n i id : ℕ) (words : List ℕ) (views : List View) (stand : Stand) (witnessed : List BoardEvent) (held : IsHeld n words views) →
+    get_elem? views id ≡ some (one n i stand witnessed) → (log : List BoardEvent) ×
+    Finding n i id words views log stand witnessed (set words 2 (either (eqb (slice_index words 2) 0) (2 + i) (slice_index words 2)))
     (slice_index words 2) (halt_after (slice_index words 2) (2 + i))
 fails_finding n i id words views stand witnessed held at =
     let found : ℕ = slice_index words 2 in
-    let with : (was after : ℕ) → found ≡ was → halt_after found (2 + i) ≡ after → Finding n i id words views held.log stand witnessed (set words 2 after) was after →
-    Finding n i id words views held.log stand witnessed (set words 2 (either (eqb found 0) (2 + i) found)) found (halt_after found (2 + i)) =
-    λ was after was_is is made. subst (λ (p : ℕ × ℕ × ℕ). Finding n i id words views held.log stand witnessed (set words 2 p.0) p.1 p.2)
+    let with : (log : List BoardEvent) (was after : ℕ) → found ≡ was → halt_after found (2 + i) ≡ after →
+    Finding n i id words views log stand witnessed (set words 2 after) was after →
+    Finding n i id words views log stand witnessed (set words 2 (either (eqb found 0) (2 + i) found)) found (halt_after found (2 + i)) =
+    λ log was after was_is is made. subst (λ (p : ℕ × ℕ × ℕ). Finding n i id words views log stand witnessed (set words 2 p.0) p.1 p.2)
     (λ q. (sym (exchanged found (2 + i) ∙ is) q, sym was_is q, sym is q)) made in
     elim (cases_eq found 0) [
-      | inl running ↦ with 0 (2 + i) running (halt_marked found (2 + i) running) (fails n i id words views stand witnessed held at running)
-      | inr stopped ↦ with found found refl (halt_found found (2 + i) stopped)
-          (subst (λ (ws : List ℕ). Finding n i id words views held.log stand witnessed ws found found) (sym (set_same words 2))
-          (looks_at_halt n i id words views stand witnessed held at))
+      | inl running ↦ let log : List BoardEvent = Failure i ∷ held.log in
+          (log, with log 0 (2 + i) running (halt_marked found (2 + i) running) (fails n i id words views stand witnessed held at running))
+      | inr stopped ↦ (
+        held.log,
+        with held.log found found refl (halt_found found (2 + i) stopped)
+            (subst (λ (ws : List ℕ). Finding n i id words views held.log stand witnessed ws found found) (sym (set_same words 2))
+            (looks_at_halt n i id words views stand witnessed held at)),
+      )
     ]
 
-fails_allows : (n i id slots : ℕ) (stand : Stand) (witnessed : List RingEvent) →
+fails_allows : (n i id slots : ℕ) (stand : Stand) (witnessed : List BoardEvent) →
     Allows (Held n) slots id (seated n i stand witnessed) 2 (λ x. either (eqb x 0) (2 + i) x) (FailedRun (step slots 2 0 (2 + i) none) (seated n i stand witnessed))
 fails_allows n i id slots stand witnessed s held len at small =
     let found : ℕ = slice_index s.words 2 in
     let word : ℕ = halt_after found (2 + i) in
-    let log = held.log in
-    let made = fails_finding n i id s.words s.views stand witnessed held at in (
+    let has = fails_finding n i id s.words s.views stand witnessed held at in
+    let log = has.0 in
+    let made = has.1 in (
       one n i (finds stand word) log,
       keeps,
       tt,
       made.held,
       λ stand' place mark stands.
-          subst (λ (p : Stand). ((seated n i (finds stand word) log ≡ seated n i (finds p word) log) × (word < 2 + n) × (p.halt ≢ 0 → word ≡ p.halt))
+          subst (λ (p : Stand). ((seated n i (finds stand word) log ≡ seated n i (finds p word) log) × (word < 2 + n) × (p.halt ≢ 0 → word ≡ p.halt)
+          × (word ≡ halt_told log))
           × (i ≡ 0 → word ≡ 1 → p.halt ≡ 1) × Observes n i (finds p word) witnessed log (HasHalt found))
-          (same_stand stand stand' stands) ((refl, made.within, made.stays), made.announced, made.observed),
+          (same_stand stand stand' stands) ((refl, made.within, made.stays, made.told), made.announced, made.observed),
     )
 
-pub fails_call : (key n i id slots mark : ℕ) (me : Seated) (stand : Stand) (witnessed : List RingEvent) → key ≡ n → me ≡ seated n i stand witnessed → mark ≡ 2 + i →
+pub fails_call : (key n i id slots mark : ℕ) (me : Seated) (stand : Stand) (witnessed : List BoardEvent) → key ≡ n → me ≡ seated n i stand witnessed → mark ≡ 2 + i →
     Allows (Held key) slots id me 2 (λ x. either (eqb x 0) mark x) (FailedRun (step slots 2 0 mark none) me)
 fails_call key n i id slots mark me stand witnessed key_is me_is mark_is =
     subst (λ (p : ℕ × Seated × ℕ). Allows (Held p.0) slots id p.1 2 (λ x. either (eqb x 0) p.2 x) (FailedRun (step slots 2 0 p.2 none) p.1))
     (λ q. (sym key_is q, sym me_is q, sym mark_is q)) (fails_allows n i id slots stand witnessed)
 
-pub fails_tell : (n i found mark : ℕ) (me after : Seated) (stand : Stand) (witnessed : List RingEvent) → me ≡ seated n i stand witnessed → mark ≡ 2 + i →
+pub fails_tell : (n i found mark : ℕ) (me after : Seated) (stand : Stand) (witnessed : List BoardEvent) → me ≡ seated n i stand witnessed → mark ≡ 2 + i →
     FailedRun (step 0 2 0 mark none) me found after →
     Found (seated n i stand witnessed) stand (halt_after found mark) after × (i ≡ 0 → halt_after found mark ≡ 1 → stand.halt ≡ 1)
     × Observes n i (finds stand (halt_after found mark)) witnessed after.0.witnessed (HasHalt found)
 fails_tell n i found mark me after stand witnessed me_is mark_is tells =
     (subst (λ (p : Seated). FailedRun (step 0 2 0 mark none) p found after) me_is tells) stand refl mark_is refl
 
-announces_allows : (n i id slots : ℕ) (stand : Stand) (witnessed : List RingEvent) → MayEnd stand →
+announces_allows : (n i id slots : ℕ) (stand : Stand) (witnessed : List BoardEvent) → MayEnd stand →
     Allows (Held n) slots id (seated n i stand witnessed) 2 (λ x. either (eqb x 0) 1 x) (Announced (step slots 2 0 1 none) (seated n i stand witnessed))
 announces_allows n i id slots stand witnessed may s held len at small =
     let found : ℕ = slice_index s.words 2 in
     let word : ℕ = halt_after found 1 in
     elim (cases_eq found 0) [
       | inl running ↦ let made = announces n i id s.words s.views stand witnessed held at may running in
-          let log = Announce ∷ held.log in
+          let log = OfRing Announce ∷ held.log in
           let word_is : word ≡ 1 = halt_marked found 1 running in
           let view_is : one n i (finds stand 1) log ≡ one n i (finds stand word) log = ap (λ (w : ℕ). one n i (finds stand w) log) (sym word_is) in (
             one n i (finds stand 1) log,
@@ -375,11 +395,12 @@ announces_allows n i id slots stand witnessed may s held len at small =
             tt,
             subst (λ (w : ℕ). IsHeld n (set s.words 2 w) (slice_set s.views id (one n i (finds stand 1) log))) (sym (exchanged found 1 ∙ word_is)) made.0,
             λ stand' place stands.
-                subst (λ (p : Stand). ((seated n i (finds stand 1) log ≡ seated n i (finds p word) log) × (word < 2 + n) × (p.halt ≢ 0 → word ≡ p.halt))
+                subst (λ (p : Stand). ((seated n i (finds stand 1) log ≡ seated n i (finds p word) log) × (word < 2 + n) × (p.halt ≢ 0 → word ≡ p.halt)
+                × (word ≡ halt_told log))
                 × IsKnown i p word × (found ≡ 0 → MakesEvent n i Announce p (finds p 1) witnessed log)
                 × (found ≢ 0 → (found ≡ 1 → p.halt ≡ 1) × Observes n i (finds p found) witnessed log (HasHalt found)))
                 (same_stand stand stand' stands) (
-                  (ap (λ (v : View). (v, [])) view_is, omega (arith, word_is, held.size.0), (λ ne. word_is ∙ made.1 ne)),
+                  (ap (λ (v : View). (v, [])) view_is, omega (arith, word_is, held.size.0), (λ ne. word_is ∙ made.1 ne), word_is),
                   (λ e. absurd (omega (arith, e, word_is))),
                   (λ e. made.2),
                   (λ ne. absurd (ne running)),
@@ -397,11 +418,12 @@ announces_allows n i id slots stand witnessed may s held len at small =
             subst (λ (ws : List ℕ). IsHeld n ws (slice_set s.views id (one n i (finds stand found) log)))
                 (sym (ap (set s.words 2) (exchanged found 1 ∙ word_is) ∙ set_same s.words 2)) made.held,
             λ stand' place stands.
-                subst (λ (p : Stand). ((seated n i (finds stand found) log ≡ seated n i (finds p word) log) × (word < 2 + n) × (p.halt ≢ 0 → word ≡ p.halt))
+                subst (λ (p : Stand). ((seated n i (finds stand found) log ≡ seated n i (finds p word) log) × (word < 2 + n) × (p.halt ≢ 0 → word ≡ p.halt)
+                × (word ≡ halt_told log))
                 × IsKnown i p word × (found ≡ 0 → MakesEvent n i Announce p (finds p 1) witnessed log)
                 × (found ≢ 0 → (found ≡ 1 → p.halt ≡ 1) × Observes n i (finds p found) witnessed log (HasHalt found)))
                 (same_stand stand stand' stands) (
-                  (ap (λ (v : View). (v, [])) view_is, omega (arith, word_is, made.within), (λ ne. word_is ∙ made.stays ne)),
+                  (ap (λ (v : View). (v, [])) view_is, omega (arith, word_is, made.within), (λ ne. word_is ∙ made.stays ne), word_is ∙ made.told),
                   (λ e. knew_own n i id s.words s.views stand witnessed held at (sym word_is ∙ e)),
                   (λ e. absurd (stopped e)),
                   (λ ne. (made.announced first, made.observed)),
@@ -409,13 +431,13 @@ announces_allows n i id slots stand witnessed may s held len at small =
           )
     ]
 
-pub announces_call : (key n i id slots : ℕ) (me : Seated) (stand : Stand) (witnessed : List RingEvent) → key ≡ n → me ≡ seated n i stand witnessed → MayEnd stand →
+pub announces_call : (key n i id slots : ℕ) (me : Seated) (stand : Stand) (witnessed : List BoardEvent) → key ≡ n → me ≡ seated n i stand witnessed → MayEnd stand →
     Allows (Held key) slots id me 2 (λ x. either (eqb x 0) 1 x) (Announced (step slots 2 0 1 none) me)
 announces_call key n i id slots me stand witnessed key_is me_is may =
     subst (λ (p : ℕ × Seated). Allows (Held p.0) slots id p.1 2 (λ x. either (eqb x 0) 1 x) (Announced (step slots 2 0 1 none) p.1))
     (λ q. (sym key_is q, sym me_is q)) (announces_allows n i id slots stand witnessed may)
 
-pub announces_tell : (n i found : ℕ) (me after : Seated) (stand : Stand) (witnessed : List RingEvent) → me ≡ seated n i stand witnessed →
+pub announces_tell : (n i found : ℕ) (me after : Seated) (stand : Stand) (witnessed : List BoardEvent) → me ≡ seated n i stand witnessed →
     Announced (step 0 2 0 1 none) me found after →
     Found (seated n i stand witnessed) stand (halt_after found 1) after × IsKnown i stand (halt_after found 1)
     × (found ≡ 0 → MakesEvent n i Announce stand (finds stand 1) witnessed after.0.witnessed)
@@ -430,14 +452,16 @@ pub record HasFound (n i : ℕ) (stand : Halt → Stand) (old new : Halt) (after
   pub view_is : after ≡ seated n i (stand new) after.0.witnessed
   pub within : halt_word new < 2 + n
   pub stays : old ≢ Running → new ≡ old
+  pub told : halt_word new ≡ halt_told after.0.witnessed
 
-pub found_done : (n i word : ℕ) (posted taken seen : List ℕ) (black : Bool) (token : Option Token) (old new : Halt) (witnessed : List RingEvent) (after : Seated) →
+pub found_done : (n i word : ℕ) (posted taken seen : List ℕ) (black : Bool) (token : Option Token) (old new : Halt) (witnessed : List BoardEvent) (after : Seated) →
     Found (seated n i (stand_from posted taken seen black token old) witnessed) (stand_from posted taken seen black token old) word after → halt_word new ≡ word →
     HasFound n i (stand_from posted taken seen black token) old new after
 found_done n i word posted taken seen black token old new witnessed after found new_is = record {
   view_is = found.0 ∙ ap (λ (w : ℕ). seated n i (finds (stand_from posted taken seen black token old) w) after.0.witnessed) (sym new_is);
   within = omega (arith, found.1, new_is);
   stays = λ stopped. same_halt new old (new_is ∙ found.2 (runs_on old stopped));
+  told = new_is ∙ found.3;
 }
 
 -- what the seat knew of its own failure
@@ -448,7 +472,7 @@ knew_done i word posted taken seen black token old new knew new_is own =
     same_halt old new (knew (sym new_is ∙ mark) ∙ sym mark)
 
 -- what was observed with the words was observed with their halts
-pub observed_halt : (n i was word : ℕ) (posted taken seen : List ℕ) (black : Bool) (token : Option Token) (old found new : Halt) (witnessed now : List RingEvent) →
+pub observed_halt : (n i was word : ℕ) (posted taken seen : List ℕ) (black : Bool) (token : Option Token) (old found new : Halt) (witnessed now : List BoardEvent) →
     Observes n i (finds (stand_from posted taken seen black token old) word) witnessed now (HasHalt was) → halt_word found ≡ was → halt_word new ≡ word →
     Observes n i (stand_from posted taken seen black token new) witnessed now (HasHalt (halt_word found))
 observed_halt n i was word posted taken seen black token old found new witnessed now observed found_is new_is =
@@ -462,18 +486,18 @@ knew_end_done i word posted taken seen black token old new knew new_is first end
     same_halt old Ended (knew first (sym new_is ∙ ap halt_word ended))
 
 -- a node that has witnessed all events and knows the end is white
-pub white_observed : (n i : ℕ) (stand : Stand) (witnessed now : List RingEvent) (IsSo : Ring → Type 0) → i < n → Observes n i stand witnessed now IsSo →
+pub white_observed : (n i : ℕ) (stand : Stand) (witnessed now : List BoardEvent) (IsSo : Ring → Type 0) → i < n → Observes n i stand witnessed now IsSo →
     stand.halt ≡ 1 → stand.black ≡ false
 white_observed n i stand witnessed now IsSo within observed ended = white_shown n i observed.ring stand within observed.is_lawful observed.shows ended
 
 -- so a black one doesn't know it
-pub black_observes : (n i : ℕ) (stand : Stand) (witnessed now : List RingEvent) (IsSo : Ring → Type 0) → i < n → Observes n i stand witnessed now IsSo →
+pub black_observes : (n i : ℕ) (stand : Stand) (witnessed now : List BoardEvent) (IsSo : Ring → Type 0) → i < n → Observes n i stand witnessed now IsSo →
     stand.black ≡ true → stand.halt ≢ 1
 black_observes n i stand witnessed now IsSo within observed black ended =
     let white : stand.black ≡ false = white_observed n i stand witnessed now IsSo within observed ended in cc
 
 -- a node that announced the end, or has witnessed that it came, is white
-pub white_announced : (n i : ℕ) (before stand : Stand) (witnessed now : List RingEvent) (halt old : Halt) → i < n →
+pub white_announced : (n i : ℕ) (before stand : Stand) (witnessed now : List BoardEvent) (halt old : Halt) → i < n →
     ((halt ≡ Ended) × MakesEvent n i Announce before stand witnessed now) ⊎ ((halt ≡ Ended → old ≡ Ended) × Observes n i stand witnessed now (HasHalt (halt_word halt))) →
     stand.halt ≡ 1 → stand.black ≡ false
 white_announced n i before stand witnessed now halt old within done ended =
@@ -499,7 +523,7 @@ failed_answer i word found new found_is new_is =
     answered (Failed node) = halt_found (2 + node) (2 + i) (λ e. omega (arith, e))
 
 -- an announcement, or what was observed in its place
-pub announced_done : (n i found : ℕ) (posted taken seen : List ℕ) (black : Bool) (token : Option Token) (old new : Halt) (witnessed now : List RingEvent) →
+pub announced_done : (n i found : ℕ) (posted taken seen : List ℕ) (black : Bool) (token : Option Token) (old new : Halt) (witnessed now : List BoardEvent) →
     (found ≡ 0 → MakesEvent n i Announce (stand_from posted taken seen black token old) (finds (stand_from posted taken seen black token old) 1) witnessed now) →
     (found ≢ 0 → (found ≡ 1 → (stand_from posted taken seen black token old).halt ≡ 1)
     × Observes n i (finds (stand_from posted taken seen black token old) found) witnessed now (HasHalt found)) → halt_word new ≡ halt_after found 1 →

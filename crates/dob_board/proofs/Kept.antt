@@ -7,6 +7,8 @@ use lib.ListN.{get_elem?}
 use Rattle.atomic_table.proofs.Lists.{at_set}
 use Rattle.dob_safra.specs.declared.token.Token.{Token}
 use Rattle.dob_safra.specs.declared.event.RingEvent.{RingEvent}
+use Rattle.dob_board.specs.declared.view.BoardEvent.{BoardEvent}
+use Rattle.dob_board.specs.declared.view.BoardEvent.TheVariants.{OfRing}
 use Rattle.dob_safra.specs.Tokens.{IsPacked}
 use Rattle.dob_safra.specs.Rings.{Ring, IsLawfulRing, Moved}
 use Rattle.dob_safra.specs.Laws.{HasFew}
@@ -15,7 +17,7 @@ use Rattle.dob_board.specs.declared.view.Stand.{Stand}
 use Rattle.dob_board.specs.declared.view.View.{View}
 use Rattle.dob_board.specs.Words.{ring_of}
 use Rattle.dob_board.specs.Views.{one, IsStand}
-use Rattle.dob_board.specs.Histories.{Runs, GoesOn, IsInTime, MakesEvent, Observes}
+use Rattle.dob_board.specs.Histories.{Runs, GoesOn, IsInTime, MakesEvent, Observes, halt_told, moves_of}
 use Rattle.dob_board.specs.Rule.{IsNode, IsView, IsHeld}
 
 -- what a step of node i, from one ring and halt to another, leaves to the others
@@ -52,14 +54,21 @@ stand_stays n i k old new halt now stand within apart leaves is = record {
 }
 
 -- the log goes on from what was witnessed
-goes_further : (witnessed log more : List RingEvent) → GoesOn witnessed log → GoesOn witnessed (more ++ log)
-goes_further witnessed log more on = (more ++ on.0, ap (λ (l : List RingEvent). more ++ l) on.1 ∙ sym (append_assoc more on.0 witnessed))
+goes_further : (witnessed log more : List BoardEvent) → GoesOn witnessed log → GoesOn witnessed (more ++ log)
+goes_further witnessed log more on = (more ++ on.0, ap (λ (l : List BoardEvent). more ++ l) on.1 ∙ sym (append_assoc more on.0 witnessed))
 
--- the view of one node is right where that node is
-pub one_is_view : (n i id halt : ℕ) (owner : ℕ → ℕ) (ring : Ring) (log witnessed : List RingEvent) (stand : Stand) → i < n → owner i ≡ id →
-    GoesOn witnessed log → IsStand n ring halt i stand → IsView n owner ring halt log id (one n i stand witnessed)
-one_is_view n i id halt owner ring log witnessed stand within owned on is = record { was_witnessed = on; nodes = node; is_closed = λ e. absurd (cc) }
+-- the view of one node is right where that node is, and has moved nothing since
+pub one_is_view : (n i id halt : ℕ) (owner : ℕ → ℕ) (ring : Ring) (log witnessed : List BoardEvent) (stand : Stand) → i < n → owner i ≡ id →
+    GoesOn witnessed log → moves_of i log ≡ moves_of i witnessed → IsStand n ring halt i stand → IsView n owner ring halt log id (one n i stand witnessed)
+one_is_view n i id halt owner ring log witnessed stand within owned on still is =
+    record { was_witnessed = on; nodes = node; alone = λ e. unmoved; is_closed = λ e. absurd (cc) }
   where
+    unmoved : (k : ℕ) (at : Stand) → get_elem? (stand ∷ []) k ≡ some at → moves_of (i + k) log ≡ moves_of (i + k) witnessed
+    unmoved zero at e =
+        let first : i ≡ i + 0 = omega arith in
+        subst (λ (x : ℕ). moves_of x log ≡ moves_of x witnessed) first still
+    unmoved (suc k) at e = absurd (some-ne-none at (sym e))
+
     node : (k : ℕ) (at : Stand) → get_elem? (stand ∷ []) k ≡ some at → IsNode n owner ring halt id n (i + k) at
     node zero at e =
         let first : i ≡ i + 0 = omega arith in
@@ -73,7 +82,7 @@ there_is (x ∷ xs) zero within = (x, refl)
 there_is (x ∷ xs) (suc k) within = there_is xs k (omega arith)
 
 -- a view that is closed has node i too, so that no other seat has it
-pub has_all : (n i id port halt : ℕ) (owner : ℕ → ℕ) (ring : Ring) (log : List RingEvent) (view : View) → i < n → owner i ≡ id →
+pub has_all : (n i id port halt : ℕ) (owner : ℕ → ℕ) (ring : Ring) (log : List BoardEvent) (view : View) → i < n → owner i ≡ id →
     IsView n owner ring halt log port view → view.closed ≡ true → port ≡ id
 has_all n i id port halt owner ring log view within owned was closed =
     let is = was.is_closed closed in
@@ -81,10 +90,14 @@ has_all n i id port halt owner ring log view within owned was closed =
     let place : view.from + i ≡ i = omega (arith, is.from_first) in
     sym (was.nodes i there.0 there.1).owned ∙ ap owner place ∙ owned
 
+-- these events are none by which another node than i moves the token or announces the end
+abbrev pub AreBy : ℕ → List BoardEvent → List BoardEvent → Type 0
+AreBy i more log = (k : ℕ) → k ≢ i → moves_of k (more ++ log) ≡ moves_of k log
+
 -- the view of another seat stays right
-other_view : (n i id port halt now : ℕ) (owner : ℕ → ℕ) (old new : Ring) (log more : List RingEvent) (view : View) → i < n → owner i ≡ id → port ≢ id →
-    Leaves n i old new halt now → IsView n owner old halt log port view → IsView n owner new now (more ++ log) port view
-other_view n i id port halt now owner old new log more view within owned apart leaves was = record {
+other_view : (n i id port halt now : ℕ) (owner : ℕ → ℕ) (old new : Ring) (log more : List BoardEvent) (view : View) → i < n → owner i ≡ id → port ≢ id →
+    AreBy i more log → Leaves n i old new halt now → IsView n owner old halt log port view → IsView n owner new now (more ++ log) port view
+other_view n i id port halt now owner old new log more view within owned apart by leaves was = record {
   was_witnessed = goes_further view.witnessed log more was.was_witnessed;
   nodes = λ k stand e.
       let node = was.nodes k stand e in
@@ -95,11 +108,14 @@ other_view n i id port halt now owner old new log more view within owned apart l
         owned = node.owned;
         is_stand = stand_stays n i (view.from + k) old new halt now stand node.within other leaves node.is_stand;
       };
+  alone = λ own k stand e.
+      let other : view.from + k ≢ i = λ same. apart (sym (was.nodes k stand e).owned ∙ ap owner same ∙ owned) in
+      by (view.from + k) other ∙ was.alone own k stand e;
   is_closed = λ e. absurd (apart (has_all n i id port halt owner old log view within owned was e));
 }
 
 -- node i is the seat's that stands for it alone, and what it knows is right
-pub own_node : (n i id : ℕ) (words : List ℕ) (views : List View) (stand : Stand) (witnessed : List RingEvent) (held : IsHeld n words views) →
+pub own_node : (n i id : ℕ) (words : List ℕ) (views : List View) (stand : Stand) (witnessed : List BoardEvent) (held : IsHeld n words views) →
     get_elem? views id ≡ some (one n i stand witnessed) →
     IsNode n held.owner (ring_of n words held.black held.token) (slice_index words 2) id n i stand
 own_node n i id words views stand witnessed held at =
@@ -107,14 +123,22 @@ own_node n i id words views stand witnessed held at =
     subst (λ (x : ℕ). IsNode n held.owner (ring_of n words held.black held.token) (slice_index words 2) id n x stand) first
     ((held.views_are id (one n i stand witnessed) at).nodes 0 stand refl)
 
-pub kept : (n i id : ℕ) (words after : List ℕ) (views : List View) (stand new : Stand) (witnessed more : List RingEvent) (black : ℕ → Bool) (token : Token)
+-- node i has moved nothing that its seat hasn't witnessed
+pub own_alone : (n i id : ℕ) (words : List ℕ) (views : List View) (stand : Stand) (witnessed : List BoardEvent) (held : IsHeld n words views) →
+    get_elem? views id ≡ some (one n i stand witnessed) → moves_of i held.log ≡ moves_of i witnessed
+own_alone n i id words views stand witnessed held at =
+    let first : i + 0 ≡ i = omega arith in
+    subst (λ (x : ℕ). moves_of x held.log ≡ moves_of x witnessed) first ((held.views_are id (one n i stand witnessed) at).alone refl 0 stand refl)
+
+pub kept : (n i id : ℕ) (words after : List ℕ) (views : List View) (stand new : Stand) (witnessed more : List BoardEvent) (black : ℕ → Bool) (token : Token)
     (held : IsHeld n words views) → get_elem? views id ≡ some (one n i stand witnessed) →
     length after ≡ length words → slice_index after 0 ≡ slice_index words 0 → IsPacked token (slice_index after 1) → slice_index after 2 < 2 + n →
     IsLawfulRing n (ring_of n after black token) → Runs n (more ++ held.log) (ring_of n after black token) →
+    slice_index after 2 ≡ halt_told (more ++ held.log) → AreBy i more held.log →
     Leaves n i (ring_of n words held.black held.token) (ring_of n after black token) (slice_index words 2) (slice_index after 2) →
     IsStand n (ring_of n after black token) (slice_index after 2) i new →
     IsHeld n after (slice_set views id (one n i new (more ++ held.log)))
-kept n i id words after views stand new witnessed more black token held at long nodes packed within lawful runs leaves is =
+kept n i id words after views stand new witnessed more black token held at long nodes packed within lawful runs told by leaves is =
     let mine = own_node n i id words views stand witnessed held at in
     record {
       size = held.size;
@@ -127,36 +151,39 @@ kept n i id words after views stand new witnessed more black token held at long 
       halt_within = within;
       log = more ++ held.log;
       runs = runs;
+      told = told;
       owner = held.owner;
       views_are = λ port view e. ⊎_elim
           (λ (x : (port ≡ id) × (one n i new (more ++ held.log) ≡ view)).
           subst (λ (p : ℕ × View). IsView n held.owner (ring_of n after black token) (slice_index after 2) (more ++ held.log) p.0 p.1)
           (λ q. (sym x.0 q, x.1 q))
           (one_is_view n i id (slice_index after 2) held.owner (ring_of n after black token) (more ++ held.log) (more ++ held.log) new
-          mine.within mine.owned ([], refl) is))
+          mine.within mine.owned ([], refl) refl is))
           (λ (x : (port ≢ id) × (get_elem? views port ≡ some view)).
           other_view n i id port (slice_index words 2) (slice_index after 2) held.owner (ring_of n words held.black held.token) (ring_of n after black token)
-          held.log more view mine.within mine.owned x.0 leaves (held.views_are port view x.1))
+          held.log more view mine.within mine.owned x.0 by leaves (held.views_are port view x.1))
           (at_set views id port (one n i new (more ++ held.log)) view e);
     }
 
 -- a step that is an event keeps the rule, and makes the event
-pub happened : (n i id : ℕ) (event : RingEvent) (words after : List ℕ) (views : List View) (stand new : Stand) (witnessed : List RingEvent) (black : ℕ → Bool)
+pub happened : (n i id : ℕ) (event : RingEvent) (words after : List ℕ) (views : List View) (stand new : Stand) (witnessed : List BoardEvent) (black : ℕ → Bool)
     (token : Token) (held : IsHeld n words views) → get_elem? views id ≡ some (one n i stand witnessed) →
     length after ≡ length words → slice_index after 0 ≡ slice_index words 0 → IsPacked token (slice_index after 1) → slice_index after 2 < 2 + n →
     IsInTime event (ring_of n words held.black held.token) → Moved n (ring_of n words held.black held.token) event (ring_of n after black token) →
-    HasFew n (ring_of n after black token) →
+    HasFew n (ring_of n after black token) → slice_index after 2 ≡ halt_told (OfRing event ∷ held.log) → AreBy i (OfRing event ∷ []) held.log →
     Leaves n i (ring_of n words held.black held.token) (ring_of n after black token) (slice_index words 2) (slice_index after 2) →
     IsStand n (ring_of n after black token) (slice_index after 2) i new →
-    IsHeld n after (slice_set views id (one n i new (event ∷ held.log))) × MakesEvent n i event stand new witnessed (event ∷ held.log)
-happened n i id event words after views stand new witnessed black token held at long nodes packed within in_time moved few leaves is =
+    IsHeld n after (slice_set views id (one n i new (OfRing event ∷ held.log))) × MakesEvent n i event stand new witnessed (OfRing event ∷ held.log)
+happened n i id event words after views stand new witnessed black token held at long nodes packed within in_time moved few told by leaves is =
     let before : Ring = ring_of n words held.black held.token in
     let now : Ring = ring_of n after black token in
     let lawful : IsLawfulRing n now = moved_kept n before now event held.size held.lawful moved few in (
-      kept n i id words after views stand new witnessed (event ∷ []) black token held at long nodes packed within lawful (before, held.runs, moved) leaves is,
+      kept n i id words after views stand new witnessed (OfRing event ∷ []) black token held at long nodes packed within lawful (before, held.runs, moved) told by
+          leaves is,
       record {
         log = held.log;
         went_on = (held.views_are id (one n i stand witnessed) at).was_witnessed;
+        alone = own_alone n i id words views stand witnessed held at;
         is_next = refl;
         old = before;
         new = now;
@@ -184,15 +211,16 @@ stays n i ring halt = record {
 }
 
 -- a step that changes no word, but what the node knows, keeps the rule, and observes what is so of the ring
-pub known : (n i id : ℕ) (words : List ℕ) (views : List View) (stand new : Stand) (witnessed : List RingEvent) (IsSo : Ring → Type 0) (held : IsHeld n words views) →
+pub known : (n i id : ℕ) (words : List ℕ) (views : List View) (stand new : Stand) (witnessed : List BoardEvent) (IsSo : Ring → Type 0) (held : IsHeld n words views) →
     get_elem? views id ≡ some (one n i stand witnessed) →
     IsStand n (ring_of n words held.black held.token) (slice_index words 2) i new → IsSo (ring_of n words held.black held.token) →
     IsHeld n words (slice_set views id (one n i new held.log)) × Observes n i new witnessed held.log IsSo
 known n i id words views stand new witnessed IsSo held at is so = (
   kept n i id words words views stand new witnessed [] held.black held.token held at refl refl held.packed held.halt_within held.lawful held.runs
-      (stays n i (ring_of n words held.black held.token) (slice_index words 2)) is,
+      held.told (λ k apart. refl) (stays n i (ring_of n words held.black held.token) (slice_index words 2)) is,
   record {
     went_on = (held.views_are id (one n i stand witnessed) at).was_witnessed;
+    alone = own_alone n i id words views stand witnessed held at;
     ring = ring_of n words held.black held.token;
     runs = held.runs;
     is_lawful = held.lawful;

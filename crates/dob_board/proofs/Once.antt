@@ -4,6 +4,8 @@ use Rattle.std.proofs.Math.IntN.{ℤ, pos, ◌-ℤ◌}
 use Rattle.std.proofs.lemmas.Bool.{cases_eq}
 use Rattle.dob_safra.specs.declared.token.Token.{Token}
 use Rattle.dob_safra.specs.declared.event.RingEvent.{RingEvent}
+use Rattle.dob_board.specs.declared.view.BoardEvent.{BoardEvent}
+use Rattle.dob_board.specs.declared.view.BoardEvent.TheVariants.{OfRing, Failure}
 use Rattle.dob_safra.specs.declared.event.RingEvent.TheVariants.{Post, Take, Pass, Announce}
 use Rattle.dob_safra.specs.Tokens.{passed_on}
 use Rattle.dob_safra.specs.Rings.{Ring, counter, sum_below, Raises, Colours, Moved}
@@ -91,7 +93,7 @@ moved_once n Announce was now was' now' same first second = record {
   at = omega (arith, ap (λ (t : Token). t.at) first.token, same.at);
 }
 
-pub run_once : (n : ℕ) (log : List RingEvent) (one other : Ring) → 0 < n → Runs n log one → Runs n log other → Agree n one other
+pub run_once : (n : ℕ) (log : List BoardEvent) (one other : Ring) → 0 < n → Runs n log one → Runs n log other → Agree n one other
 run_once n [] one other some_nodes first second = record {
   posted = λ k l k_in l_in. first.posted k l k_in l_in ∙ sym (second.posted k l k_in l_in);
   taken = λ k l k_in l_in. first.taken k l k_in l_in ∙ sym (second.taken k l k_in l_in);
@@ -100,5 +102,6 @@ run_once n [] one other some_nodes first second = record {
   announced = first.running ∙ sym second.running;
   at = omega (arith, ap (λ (t : Token). t.at) first.token, some_nodes);
 }
-run_once n (event ∷ log) one other some_nodes first second =
+run_once n (OfRing event ∷ log) one other some_nodes first second =
     moved_once n event first.0 one second.0 other (run_once n log first.0 second.0 some_nodes first.1 second.1) first.2 second.2
+run_once n (Failure node ∷ log) one other some_nodes first second = run_once n log one other some_nodes first.1 second.1

@@ -10,7 +10,8 @@ use mathlib.Core.Option.{none, some}
 use lib.ListN.{get_elem?}
 use Rattle.atomic_table.specs.Table.{step, keeps, Allows}
 use Rattle.dob_safra.specs.declared.token.Token.{Token}
-use Rattle.dob_safra.specs.declared.event.RingEvent.{RingEvent}
+use Rattle.dob_board.specs.declared.view.BoardEvent.{BoardEvent}
+use Rattle.dob_board.specs.declared.view.BoardEvent.TheVariants.{OfRing}
 use Rattle.dob_safra.specs.declared.event.RingEvent.TheVariants.{Pass}
 use Rattle.dob_safra.specs.Tokens.{IsToken, IsPacked, passed_on}
 use Rattle.dob_safra.specs.Rings.{Ring, counter, sum_below, Passes}
@@ -24,7 +25,7 @@ use Rattle.dob_board.specs.Histories.{MakesEvent, Observes, HasToken}
 use Rattle.dob_board.specs.Rule.{IsHeld}
 use Rattle.dob_board.specs.Plays.{Met, Passed}
 use Rattle.dob_board.proofs.Places.{posted_in, taken_in}
-use Rattle.dob_board.proofs.Kept.{Leaves, own_node, happened, known}
+use Rattle.dob_board.proofs.Kept.{Leaves, AreBy, own_node, happened, known}
 use Rattle.dob_board.proofs.Steps.{painted, painted_colours}
 use Rattle.dob_board.proofs.Allowed.{Seated, Held, seated, same_stand, set_same}
 
@@ -107,7 +108,7 @@ meets_stand n i halt ring stand is = record {
   announced = is.announced;
 }
 
-meets_allows : (n i id slots : ℕ) (stand : Stand) (witnessed : List RingEvent) →
+meets_allows : (n i id slots : ℕ) (stand : Stand) (witnessed : List BoardEvent) →
     Allows (Held n) slots id (seated n i stand witnessed) 1 (λ x. x) (Met (step slots 1 0 0 none) (seated n i stand witnessed))
 meets_allows n i id slots stand witnessed s held len at small =
     let ring : Ring = ring_of n s.words held.black held.token in
@@ -130,13 +131,13 @@ meets_allows n i id slots stand witnessed s held len at small =
           stand_is (held.token, held.packed, refl, (λ seen e. sym (is.shows.token seen e).0), made.1),
     )
 
-pub meets_call : (key n i id slots : ℕ) (me : Seated) (stand : Stand) (witnessed : List RingEvent) → key ≡ n → me ≡ seated n i stand witnessed →
+pub meets_call : (key n i id slots : ℕ) (me : Seated) (stand : Stand) (witnessed : List BoardEvent) → key ≡ n → me ≡ seated n i stand witnessed →
     Allows (Held key) slots id me 1 (λ x. x) (Met (step slots 1 0 0 none) me)
 meets_call key n i id slots me stand witnessed key_is me_is =
     subst (λ (p : ℕ × Seated). Allows (Held p.0) slots id p.1 1 (λ x. x) (Met (step slots 1 0 0 none) p.1))
     (λ q. (sym key_is q, sym me_is q)) (meets_allows n i id slots stand witnessed)
 
-pub meets_tell : (n i found : ℕ) (me after : Seated) (stand : Stand) (witnessed : List RingEvent) (token : Token) → me ≡ seated n i stand witnessed →
+pub meets_tell : (n i found : ℕ) (me after : Seated) (stand : Stand) (witnessed : List BoardEvent) (token : Token) → me ≡ seated n i stand witnessed →
     Met (step 0 1 0 0 none) me found after → IsPacked token found →
     (after ≡ seated n i (meets i stand token) after.0.witnessed) × ((seen : Token) → stand.token ≡ Some seen → token ≡ seen)
     × Observes n i (meets i stand token) witnessed after.0.witnessed (HasToken token)
@@ -199,10 +200,14 @@ passes_stand n i old new halt now stand token within moved same next is = record
   announced = λ first e. is.announced first (sym same ∙ e);
 }
 
-pub passes_held : (n i id word : ℕ) (words : List ℕ) (views : List View) (stand : Stand) (token : Token) (witnessed : List RingEvent) (held : IsHeld n words views) →
+-- a pass by node i is none by another node
+passes_by : (i : ℕ) (log : List BoardEvent) → AreBy i (OfRing (Pass i) ∷ []) log
+passes_by i log k apart = let other : eqb i k ≡ false = ne_eqb i k (λ e. apart (sym e)) in rw other refl
+
+pub passes_held : (n i id word : ℕ) (words : List ℕ) (views : List View) (stand : Stand) (token : Token) (witnessed : List BoardEvent) (held : IsHeld n words views) →
     get_elem? views id ≡ some (one n i stand witnessed) → stand.token ≡ Some token → IsPacked (passed_by n stand token) word →
-    IsHeld n (set words 1 word) (slice_set views id (one n i (passes n i stand token) (Pass i ∷ held.log)))
-    × MakesEvent n i (Pass i) stand (passes n i stand token) witnessed (Pass i ∷ held.log)
+    IsHeld n (set words 1 word) (slice_set views id (one n i (passes n i stand token) (OfRing (Pass i) ∷ held.log)))
+    × MakesEvent n i (Pass i) stand (passes n i stand token) witnessed (OfRing (Pass i) ∷ held.log)
 passes_held n i id word words views stand token witnessed held at has packed =
     let black : ℕ → Bool = painted i false held.black in
     let next : Token = passed_by n stand token in
@@ -223,39 +228,39 @@ passes_held n i id word words views stand token witnessed held at has packed =
     (get_or-set_other words 1 0 word 0 (λ e. omega (arith, e)))
     (subst (IsPacked next) (sym (get_or-set_same words 1 word 0 (omega (arith, held.wide)))) packed)
     (omega (arith, halt, held.halt_within))
-    tt moved few
+    tt moved few (halt ∙ held.told) (passes_by i held.log)
     (passes_leaves n i old new (slice_index words 2) (slice_index after 2) moved halt)
     (passes_stand n i old new (slice_index words 2) (slice_index after 2) stand token mine.within moved halt refl is)
 
 same_token : (first other : Token) → Some first ≡ Some other → first ≡ other
 same_token first other e = cc
 
-passes_allows : (n i id slots word : ℕ) (stand : Stand) (token : Token) (witnessed : List RingEvent) → stand.token ≡ Some token
+passes_allows : (n i id slots word : ℕ) (stand : Stand) (token : Token) (witnessed : List BoardEvent) → stand.token ≡ Some token
     → IsPacked (passed_by n stand token) word →
     Allows (Held n) slots id (seated n i stand witnessed) 1 (λ _. word) (λ _. Passed (step slots 1 word 0 none) (seated n i stand witnessed) word)
 passes_allows n i id slots word stand token witnessed has packed s held len at small =
     let made = passes_held n i id word s.words s.views stand token witnessed held at has packed in
     let log = held.log in (
-      one n i (passes n i stand token) (Pass i ∷ log),
+      one n i (passes n i stand token) (OfRing (Pass i) ∷ log),
       keeps,
       tt,
       made.0,
       λ stand' token' place stands has'.
           let stand_is : stand ≡ stand' = same_stand stand stand' stands in
           let token_is : token ≡ token' = same_token token token' (sym has ∙ ap (λ (x : Stand). x.token) stand_is ∙ has') in
-          subst (λ (p : Stand × Token). (seated n i (passes n i stand token) (Pass i ∷ log) ≡ seated n i (passes n i p.0 p.1) (Pass i ∷ log))
-          × MakesEvent n i (Pass i) p.0 (passes n i p.0 p.1) witnessed (Pass i ∷ log))
+          subst (λ (p : Stand × Token). (seated n i (passes n i stand token) (OfRing (Pass i) ∷ log) ≡ seated n i (passes n i p.0 p.1) (OfRing (Pass i) ∷ log))
+          × MakesEvent n i (Pass i) p.0 (passes n i p.0 p.1) witnessed (OfRing (Pass i) ∷ log))
           (λ q. (stand_is q, token_is q)) (refl, made.1),
     )
 
-pub passes_call : (key n i id slots word : ℕ) (me : Seated) (stand : Stand) (token : Token) (witnessed : List RingEvent) → key ≡ n → me ≡ seated n i stand witnessed →
+pub passes_call : (key n i id slots word : ℕ) (me : Seated) (stand : Stand) (token : Token) (witnessed : List BoardEvent) → key ≡ n → me ≡ seated n i stand witnessed →
     stand.token ≡ Some token → IsPacked (passed_by n stand token) word →
     Allows (Held key) slots id me 1 (λ _. word) (λ _. Passed (step slots 1 word 0 none) me word)
 passes_call key n i id slots word me stand token witnessed key_is me_is has packed =
     subst (λ (p : ℕ × Seated). Allows (Held p.0) slots id p.1 1 (λ _. word) (λ _. Passed (step slots 1 word 0 none) p.1 word))
     (λ q. (sym key_is q, sym me_is q)) (passes_allows n i id slots word stand token witnessed has packed)
 
-pub passes_tell : (n i word : ℕ) (me after : Seated) (stand : Stand) (token : Token) (witnessed : List RingEvent) → me ≡ seated n i stand witnessed
+pub passes_tell : (n i word : ℕ) (me after : Seated) (stand : Stand) (token : Token) (witnessed : List BoardEvent) → me ≡ seated n i stand witnessed
     → stand.token ≡ Some token →
     Passed (step 0 1 word 0 none) me word after →
     (after ≡ seated n i (passes n i stand token) after.0.witnessed) × MakesEvent n i (Pass i) stand (passes n i stand token) witnessed after.0.witnessed
@@ -265,7 +270,7 @@ passes_tell n i word me after stand token witnessed me_is has tells =
 -- ---- bounds
 
 -- a lawful ring's token at node i is in the bounds that stand for i
-pub observed_bounds : (n i : ℕ) (stand : Stand) (witnessed now : List RingEvent) (token : Token) → Observes n i stand witnessed now (HasToken token) → token.at ≡ i
+pub observed_bounds : (n i : ℕ) (stand : Stand) (witnessed now : List BoardEvent) (token : Token) → Observes n i stand witnessed now (HasToken token) → token.at ≡ i
     → IsInBounds n i token
 observed_bounds n i stand witnessed now token observed here = (
   here,
@@ -275,7 +280,7 @@ observed_bounds n i stand witnessed now token observed here = (
       (λ q. ((ap (λ (t : Token). t.at) observed.is_so ∙ here) q, observed.is_so q)) observed.is_lawful.high,
 )
 
-pub seen_bounds : (n i : ℕ) (stand : Stand) (witnessed now : List RingEvent) (token known : Token) → Observes n i stand witnessed now (HasToken token) →
+pub seen_bounds : (n i : ℕ) (stand : Stand) (witnessed now : List BoardEvent) (token known : Token) → Observes n i stand witnessed now (HasToken token) →
     token_at i token ≡ Some known → IsInBounds n i known
 seen_bounds n i stand witnessed now token known observed e =
     let there = seen_there i token known e in

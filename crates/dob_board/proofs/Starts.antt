@@ -8,7 +8,7 @@ use mathlib.Core.Option.{some, some-ne-none, some-injective}
 use lib.ListN.{get_elem?}
 use Rattle.atomic_table.specs.Table.{Splits}
 use Rattle.atomic_table.proofs.Lists.{at_set}
-use Rattle.dob_safra.specs.declared.event.RingEvent.{RingEvent}
+use Rattle.dob_board.specs.declared.view.BoardEvent.{BoardEvent}
 use Rattle.dob_safra.specs.Tokens.{IsPacked, first_token}
 use Rattle.dob_safra.specs.Rings.{Ring, IsLawfulRing, IsStart, black_token}
 use Rattle.dob_safra.specs.Laws.{IsSize}
@@ -16,6 +16,7 @@ use Rattle.dob_board.specs.declared.view.Stand.{Stand}
 use Rattle.dob_board.specs.declared.view.View.{View}
 use Rattle.dob_board.specs.Words.{posted_word, taken_word, word_count, ring_of}
 use Rattle.dob_board.specs.Views.{one, IsStand}
+use Rattle.dob_board.specs.Histories.{moves_of}
 use Rattle.dob_board.specs.Rule.{IsNode, IsView, IsHeld, fresh, whole}
 use Rattle.dob_board.specs.Plays.{others_of, first_of}
 use Rattle.dob_board.specs.Boards.{first_words, behind}
@@ -45,7 +46,7 @@ views_end (x ∷ xs) a b zero e = inl e
 views_end (x ∷ xs) a b (suc j) e = ⊎_elim (λ l. inl l) (λ r. inr (ap suc r.0, r.1)) (views_end xs a b j e)
 
 -- the views of other seats, where another seat has node i now
-pub elsewhere : (n i id fresh_port port halt : ℕ) (owner : ℕ → ℕ) (ring : Ring) (log : List RingEvent) (view : View) → i < n → owner i ≡ id
+pub elsewhere : (n i id fresh_port port halt : ℕ) (owner : ℕ → ℕ) (ring : Ring) (log : List BoardEvent) (view : View) → i < n → owner i ≡ id
     → port ≢ id → IsView n owner ring halt log port view → IsView n (port_of i fresh_port owner) ring halt log port view
 elsewhere n i id fresh_port port halt owner ring log view within owned apart was = record {
   was_witnessed = was.was_witnessed;
@@ -58,13 +59,14 @@ elsewhere n i id fresh_port port halt owner ring log view within owned apart was
         owned = port_else i fresh_port (view.from + k) owner other ∙ node.owned;
         is_stand = node.is_stand;
       };
+  alone = was.alone;
   is_closed = λ e. absurd (apart (has_all n i id port halt owner ring log view within owned was e));
 }
 
-abbrev pub view_from : ℕ → ℕ → List Stand → List RingEvent → View
-view_from n from stands witnessed = record { size = n; from = from; stands = stands; witnessed = witnessed; closed = false }
+abbrev pub view_from : ℕ → ℕ → List Stand → List BoardEvent → View
+view_from n from stands witnessed = record { size = n; from = from; stands = stands; witnessed = witnessed; own = true; closed = false }
 
-splits : (n i id : ℕ) (words : List ℕ) (views : List View) (stand : Stand) (rest : List Stand) (witnessed : List RingEvent) (held : IsHeld n words views) →
+splits : (n i id : ℕ) (words : List ℕ) (views : List View) (stand : Stand) (rest : List Stand) (witnessed : List BoardEvent) (held : IsHeld n words views) →
     get_elem? views id ≡ some (view_from n i (stand ∷ rest) witnessed) →
     IsHeld n words (slice_set views id (view_from n (suc i) rest witnessed) ++ one n i stand witnessed ∷ [])
 splits n i id words views stand rest witnessed held at =
@@ -73,6 +75,7 @@ splits n i id words views stand rest witnessed held at =
     let was = held.views_are id (view_from n i (stand ∷ rest) witnessed) at in
     let first : i + 0 ≡ i = omega arith in
     let own : IsNode n held.owner ring halt id n i stand = subst (λ (x : ℕ). IsNode n held.owner ring halt id n x stand) first (was.nodes 0 stand refl) in
+    let still : moves_of i held.log ≡ moves_of i witnessed = subst (λ (x : ℕ). moves_of x held.log ≡ moves_of x witnessed) first (was.alone refl 0 stand refl) in
     let port' : ℕ = length views in
     let owner : ℕ → ℕ = port_of i port' held.owner in
     record {
@@ -86,6 +89,7 @@ splits n i id words views stand rest witnessed held at =
       halt_within = held.halt_within;
       log = held.log;
       runs = held.runs;
+      told = held.told;
       owner = owner;
       views_are = λ port view e.
           ⊎_elim
@@ -102,6 +106,9 @@ splits n i id words views stand rest witnessed held at =
                 subst (λ (x : ℕ). IsNode n owner ring halt id n x at') place
                 (record
                 { size_is = refl; within = node.within; owned = port_else i port' (i + suc k) held.owner apart ∙ node.owned; is_stand = node.is_stand });
+            alone = λ own k at' e'.
+                let place : i + suc k ≡ suc i + k = omega arith in
+                subst (λ (x : ℕ). moves_of x held.log ≡ moves_of x witnessed) place (was.alone refl (suc k) at' e');
             is_closed = λ e'. absurd (cc);
           }))
           (λ (x : (port ≢ id) × (get_elem? views port ≡ some view)).
@@ -110,7 +117,7 @@ splits n i id words views stand rest witnessed held at =
           (λ (last : (port ≡ length (set views id (view_from n (suc i) rest witnessed))) × (one n i stand witnessed ≡ view)).
           let port_is : port' ≡ port = sym (length-set views id (view_from n (suc i) rest witnessed)) ∙ sym last.0 in
           subst (λ (p : ℕ × View). IsView n owner ring halt held.log p.0 p.1) (λ q. (port_is q, last.1 q))
-          (one_is_view n i port' halt owner ring held.log witnessed stand own.within (port_here i port' held.owner) was.was_witnessed own.is_stand))
+          (one_is_view n i port' halt owner ring held.log witnessed stand own.within (port_here i port' held.owner) was.was_witnessed still own.is_stand))
           (views_end (set views id (view_from n (suc i) rest witnessed)) (one n i stand witnessed) view port e);
     }
 
@@ -224,6 +231,7 @@ begins n word size packed = record {
   halt_within = omega (arith, first_zero n word 2 (omega arith));
   log = [];
   runs = first_start n word;
+  told = first_zero n word 2 (omega arith);
   owner = λ k. 0;
   views_are = view;
 }
@@ -237,6 +245,7 @@ begins n word size packed = record {
               let place : k ≡ 0 + k = omega arith in
               subst (λ (p : ℕ × Stand). IsNode n (λ m. 0) (first_ring n word) (slice_index (first_words n word) 2) 0 n p.0 p.1) (λ q. (place q, found.1 q))
               (record { size_is = refl; within = found.0; owned = refl; is_stand = fresh_stand n word k found.0 });
+          alone = λ own k stand there. refl;
           is_closed = λ e'. absurd (cc);
         })
     view (suc port) v e = absurd (some-ne-none v (sym e))

@@ -6,7 +6,8 @@ use Rattle.std.proofs.lemmas.Bool.{cases_Bool, cases_eq}
 use mathlib.Core.Option.{some}
 use lib.ListN.{get_elem?}
 use Rattle.dob_safra.specs.declared.token.Token.{Token}
-use Rattle.dob_safra.specs.declared.event.RingEvent.{RingEvent}
+use Rattle.dob_board.specs.declared.view.BoardEvent.{BoardEvent}
+use Rattle.dob_board.specs.declared.view.BoardEvent.TheVariants.{OfRing}
 use Rattle.dob_safra.specs.declared.event.RingEvent.TheVariants.{Post, Take}
 use Rattle.dob_safra.specs.Tokens.{IsPacked}
 use Rattle.dob_safra.specs.Rings.{Ring, IsLawfulRing, Colours, Posts, Takes}
@@ -97,10 +98,10 @@ posts_few : (n i j : ℕ) (old new : Ring) → IsLawfulRing n old → Posts n ol
 posts_few n i j old new lawful moved room k l k_in l_in =
     raised_at_most n i j k l old.posted new.posted (λ a b. 2 ^ 40) k_in l_in moved.posted room (lawful.few k l k_in l_in)
 
-pub posts : (n i j id : ℕ) (words : List ℕ) (views : List View) (stand : Stand) (witnessed : List RingEvent) (held : IsHeld n words views) →
+pub posts : (n i j id : ℕ) (words : List ℕ) (views : List View) (stand : Stand) (witnessed : List BoardEvent) (held : IsHeld n words views) →
     get_elem? views id ≡ some (one n i stand witnessed) → j < n → j ≢ i → stand.black ≡ true → slice_index stand.posted j < 2 ^ 40 →
-    IsHeld n (posted_after n i j words) (slice_set views id (one n i (posts_more stand j) (Post i j ∷ held.log)))
-    × MakesEvent n i (Post i j) stand (posts_more stand j) witnessed (Post i j ∷ held.log)
+    IsHeld n (posted_after n i j words) (slice_set views id (one n i (posts_more stand j) (OfRing (Post i j) ∷ held.log)))
+    × MakesEvent n i (Post i j) stand (posts_more stand j) witnessed (OfRing (Post i j) ∷ held.log)
 posts n i j id words views stand witnessed held at j_in other is_black room =
     let old : Ring = ring_of n words held.black held.token in
     let new : Ring = ring_of n (posted_after n i j words) held.black held.token in
@@ -116,7 +117,7 @@ posts n i j id words views stand witnessed held at j_in other is_black room =
     (head_stays words (posted_word n i j) (suc (posted_in n words i j)) 0 (omega arith) (omega arith))
     (subst (IsPacked held.token) (sym (head_stays words (posted_word n i j) (suc (posted_in n words i j)) 1 (omega arith) (omega arith))) held.packed)
     (omega (arith, halt, held.halt_within))
-    (not_announced n i old held.lawful mine.within painted_black) moved few
+    (not_announced n i old held.lawful mine.within painted_black) moved few (halt ∙ held.told) (λ k apart. refl)
     (posts_leaves n i j old new (slice_index words 2) (slice_index (posted_after n i j words) 2) moved halt)
     (posts_stand n i j old new (slice_index words 2) (slice_index (posted_after n i j words) 2) stand other moved halt is)
 
@@ -141,7 +142,7 @@ sees_stand n i j halt ring stand i_in j_in is = record {
   announced = is.announced;
 }
 
-pub looks : (n i j id : ℕ) (words : List ℕ) (views : List View) (stand : Stand) (witnessed : List RingEvent) (held : IsHeld n words views) →
+pub looks : (n i j id : ℕ) (words : List ℕ) (views : List View) (stand : Stand) (witnessed : List BoardEvent) (held : IsHeld n words views) →
     get_elem? views id ≡ some (one n i stand witnessed) → j < n →
     (number : ℕ) × (number ≡ slice_index words (posted_word n j i))
     × IsHeld n words (slice_set views id (one n i (sees stand j number) held.log))
@@ -242,10 +243,10 @@ not_announced_yet n i j ring lawful i_in j_in waiting =
       | inr going ↦ going
     ]
 
-pub takes : (n i j id : ℕ) (words : List ℕ) (views : List View) (stand : Stand) (witnessed : List RingEvent) (held : IsHeld n words views) →
+pub takes : (n i j id : ℕ) (words : List ℕ) (views : List View) (stand : Stand) (witnessed : List BoardEvent) (held : IsHeld n words views) →
     get_elem? views id ≡ some (one n i stand witnessed) → j < n → slice_index stand.taken j < slice_index stand.seen j →
-    IsHeld n (taken_after n j i words) (slice_set views id (one n i (takes_more stand j) (Take j i ∷ held.log)))
-    × MakesEvent n i (Take j i) stand (takes_more stand j) witnessed (Take j i ∷ held.log)
+    IsHeld n (taken_after n j i words) (slice_set views id (one n i (takes_more stand j) (OfRing (Take j i) ∷ held.log)))
+    × MakesEvent n i (Take j i) stand (takes_more stand j) witnessed (OfRing (Take j i) ∷ held.log)
 takes n i j id words views stand witnessed held at j_in waiting =
     let black : ℕ → Bool = painted i true held.black in
     let old : Ring = ring_of n words held.black held.token in
@@ -262,6 +263,6 @@ takes n i j id words views stand witnessed held at j_in waiting =
     (head_stays words (taken_word n j i) write 0 (omega arith) (omega arith))
     (subst (IsPacked held.token) (sym (head_stays words (taken_word n j i) write 1 (omega arith) (omega arith))) held.packed)
     (omega (arith, halt, held.halt_within))
-    (not_announced_yet n j i old held.lawful j_in mine.within in_flight) moved few
+    (not_announced_yet n j i old held.lawful j_in mine.within in_flight) moved few (halt ∙ held.told) (λ k apart. refl)
     (takes_leaves n i j old new (slice_index words 2) (slice_index (taken_after n j i words) 2) moved halt)
     (takes_stand n i j old new (slice_index words 2) (slice_index (taken_after n j i words) 2) stand moved halt is)

@@ -19,7 +19,7 @@ take_one old middle new from number not_less waiting noted same counted observed
   waiting = waiting;
   counted = counted ∙ ap (λ (s : Stand). takes_more s from) noted;
   event =
-      makes_later old.nodes old.node from number (Take from old.node) (stand_of old) (stand_of new) (witnessed_by old) (witnessed_by middle) (witnessed_by new) observed.went_on
+      makes_later old.nodes old.node from number (Take from old.node) (stand_of old) (stand_of new) (witnessed_by old) (witnessed_by middle) (witnessed_by new) observed.went_on observed.alone
       (subst (λ (p : ℕ × ℕ × Stand). MakesEvent p.0 p.1 (Take from p.1) p.2 (stand_of new) (witnessed_by middle) (witnessed_by new))
       (λ q. (same.nodes q, same.node q, noted q)) made);
 }

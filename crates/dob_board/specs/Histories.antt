@@ -1,20 +1,41 @@
 -- The history of a board: the events so far, the newest first, and what calls tell of it.
-use Rattle.std.specs.Prelude.{◌≡◌, ⊤, ℕ, List, [], ◌∷◌, ◌++◌, ◌==◌, false}
+use Rattle.std.specs.Prelude.{◌≡◌, ⊤, ℕ, suc, ◌+◌, cond, List, [], ◌∷◌, ◌++◌, ◌==◌, false}
 use Rattle.dob_safra.specs.declared.token.Token.{Token}
 use Rattle.dob_safra.specs.declared.event.RingEvent.{RingEvent}
+use Rattle.dob_board.specs.declared.view.BoardEvent.{BoardEvent}
+use Rattle.dob_board.specs.declared.view.BoardEvent.TheVariants.{OfRing, Failure}
 use Rattle.dob_safra.specs.declared.event.RingEvent.TheVariants.{Post, Take, Pass, Announce}
 use Rattle.dob_safra.specs.Rings.{Ring, IsStart, IsLawfulRing, Moved}
 use Rattle.dob_board.specs.declared.view.Stand.{Stand}
 use Rattle.dob_board.specs.Views.{Shows}
 
--- the events lead from the start to the ring
-abbrev pub Runs : ℕ → List RingEvent → Ring → Type 0
+-- the halt word as the events tell it: 1 after the announcement, 2 + i after the failure of node i
+abbrev pub halt_told : List BoardEvent → ℕ
+halt_told [] = 0
+halt_told (OfRing (Post from to) ∷ log) = halt_told log
+halt_told (OfRing (Take from to) ∷ log) = halt_told log
+halt_told (OfRing (Pass node) ∷ log) = halt_told log
+halt_told (OfRing Announce ∷ log) = 1
+halt_told (Failure node ∷ log) = 2 + node
+
+-- how often node i passed the token or, as node 0, announced the end
+abbrev pub moves_of : ℕ → List BoardEvent → ℕ
+moves_of i [] = 0
+moves_of i (OfRing (Post from to) ∷ log) = moves_of i log
+moves_of i (OfRing (Take from to) ∷ log) = moves_of i log
+moves_of i (OfRing (Pass node) ∷ log) = cond (node == i) (suc (moves_of i log)) (moves_of i log)
+moves_of i (OfRing Announce ∷ log) = cond (i == 0) (suc (moves_of i log)) (moves_of i log)
+moves_of i (Failure node ∷ log) = moves_of i log
+
+-- the events lead from the start to the ring; a node fails the run only while it goes on, which changes nothing of the ring
+abbrev pub Runs : ℕ → List BoardEvent → Ring → Type 0
 Runs n [] ring = IsStart n ring
-Runs n (event ∷ log) ring = (before : Ring) × Runs n log before × Moved n before event ring
+Runs n (OfRing event ∷ log) ring = (before : Ring) × Runs n log before × Moved n before event ring
+Runs n (Failure node ∷ log) ring = (halt_told log ≡ 0) × Runs n log ring
 
 -- the log went on from what was witnessed
-abbrev pub GoesOn : List RingEvent → List RingEvent → Type 0
-GoesOn witnessed log = (more : List RingEvent) × (log ≡ more ++ witnessed)
+abbrev pub GoesOn : List BoardEvent → List BoardEvent → Type 0
+GoesOn witnessed log = (more : List BoardEvent) × (log ≡ more ++ witnessed)
 
 -- but for a pass, events happen only before the end is announced
 abbrev pub IsInTime : RingEvent → Ring → Type 0
@@ -23,13 +44,14 @@ IsInTime (Take from to) ring = ring.announced ≡ false
 IsInTime (Pass node) ring = ⊤
 IsInTime Announce ring = ring.announced ≡ false
 
--- Node i, which has witnessed some events and stood like that, made this event the next one: others had happened since; they
--- had led to a lawful ring that shows how the node stood; the event came in time, and moved it to a lawful one that shows how
--- the node stands now; and the node has witnessed all that.
-pub record MakesEvent (n i : ℕ) (event : RingEvent) (before after : Stand) (witnessed now : List RingEvent) : Type 0 where
-  pub log : List RingEvent
+-- Node i, which has witnessed some events and stood like that, made this event the next one: others had happened since, and it
+-- had made no move of those; they had led to a lawful ring that shows how the node stood; the event came in time, and moved it to
+-- a lawful one that shows how the node stands now; and the node has witnessed all that.
+pub record MakesEvent (n i : ℕ) (event : RingEvent) (before after : Stand) (witnessed now : List BoardEvent) : Type 0 where
+  pub log : List BoardEvent
   pub went_on : GoesOn witnessed log
-  pub is_next : now ≡ event ∷ log
+  pub alone : moves_of i log ≡ moves_of i witnessed
+  pub is_next : now ≡ OfRing event ∷ log
   pub old : Ring
   pub new : Ring
   pub runs : Runs n log old
@@ -40,9 +62,11 @@ pub record MakesEvent (n i : ℕ) (event : RingEvent) (before after : Stand) (wi
   pub shows_before : Shows n old i before
   pub shows_after : Shows n new i after
 
--- Node i has witnessed all events so far. They led to a lawful ring that shows how the node stands, and of which this is so.
-pub record Observes (n i : ℕ) (stand : Stand) (witnessed now : List RingEvent) (IsSo : Ring → Type 0) : Type 0 where
+-- Node i has witnessed all events so far, and made no move of those that are new to it. They led to a lawful ring that shows how the
+-- node stands, and of which this is so.
+pub record Observes (n i : ℕ) (stand : Stand) (witnessed now : List BoardEvent) (IsSo : Ring → Type 0) : Type 0 where
   pub went_on : GoesOn witnessed now
+  pub alone : moves_of i now ≡ moves_of i witnessed
   pub ring : Ring
   pub runs : Runs n now ring
   pub is_lawful : IsLawfulRing n ring

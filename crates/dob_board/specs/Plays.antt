@@ -8,7 +8,7 @@ use Rattle.dob_board.specs.declared.view.Stand.{Stand}
 use Rattle.dob_board.specs.declared.view.View.{View}
 use Rattle.dob_board.specs.Words.{posted_word, taken_word, halt_after}
 use Rattle.dob_board.specs.Views.{one, posts_more, takes_more, sees, meets, passes, finds}
-use Rattle.dob_board.specs.Histories.{MakesEvent, Observes, HasPosted, HasToken, HasHalt}
+use Rattle.dob_board.specs.Histories.{MakesEvent, Observes, HasPosted, HasToken, HasHalt, halt_told}
 
 module _ {S : Type 0} where
   -- one more on the word of what this node posted to j
@@ -44,10 +44,11 @@ module _ {S : Type 0} where
       (after ≡ (one me.0.size me.0.from (passes me.0.size me.0.from stand token) after.0.witnessed, me.1))
       × MakesEvent me.0.size me.0.from (Pass me.0.from) stand (passes me.0.size me.0.from stand token) me.0.witnessed after.0.witnessed
 
-  -- this node found that halt word, the one that it knew if it knew one
+  -- this node found that halt word, which all events so far tell, and the one that it knew if it knew one
   abbrev pub Found : Me S View → Stand → ℕ → Me S View → Type 0
   Found me stand word after = (after ≡ (one me.0.size me.0.from (finds stand word) after.0.witnessed, me.1))
       × (word < 2 + me.0.size) × (stand.halt ≢ 0 → word ≡ stand.halt)
+      × (word ≡ halt_told after.0.witnessed)
 
   -- the halt word is that of this node's failure only where the node knew that
   abbrev pub Knew : Me S View → Stand → ℕ → Type 0

@@ -17,6 +17,7 @@ AreAsWitnessed-prop view words a b = λ i. record {
   nodes = ℕ-set _ _ a.nodes b.nodes i;
   token = Π_prop (λ ring. Π_prop (λ word. Π_prop (λ _. Π_prop (λ _. ℕ-set _ _)))) a.token b.token i;
   announced = Π_prop (λ ring. Π_prop (λ _. Bool-set _ _)) a.announced b.announced i;
+  halt_is = ℕ-set _ _ a.halt_is b.halt_is i;
   halt_seen = Π_prop (λ k. Π_prop (λ stand. Π_prop (λ _. Π_prop (λ _. ℕ-set _ _)))) a.halt_seen b.halt_seen i;
   failed = Π_prop (λ k. Π_prop (λ stand. Π_prop (λ _. Π_prop (λ _. ℕ-set _ _)))) a.failed b.failed i;
   posted = Π_prop (λ k. Π_prop (λ j. Π_prop (λ stand. Π_prop (λ _. Π_prop (λ _. ℕ-set _ _))))) a.posted b.posted i;

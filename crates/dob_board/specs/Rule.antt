@@ -3,7 +3,7 @@ use Rattle.std.specs.Prelude.{◌≡◌, ℕ, ◌+◌, ◌<◌, Bool, List, [], 
 use mathlib.Core.Option.{some}
 use lib.ListN.{get_elem?}
 use Rattle.dob_safra.specs.declared.token.Token.{Token}
-use Rattle.dob_safra.specs.declared.event.RingEvent.{RingEvent}
+use Rattle.dob_board.specs.declared.view.BoardEvent.{BoardEvent}
 use Rattle.dob_safra.specs.Tokens.{IsPacked}
 use Rattle.dob_safra.specs.Rings.{Ring, IsLawfulRing}
 use Rattle.dob_safra.specs.Laws.{IsSize}
@@ -11,7 +11,7 @@ use Rattle.dob_board.specs.declared.view.Stand.{Stand}
 use Rattle.dob_board.specs.declared.view.View.{View}
 use Rattle.dob_board.specs.Words.{word_count, ring_of}
 use Rattle.dob_board.specs.Views.{IsStand}
-use Rattle.dob_board.specs.Histories.{Runs, GoesOn}
+use Rattle.dob_board.specs.Histories.{Runs, GoesOn, halt_told, moves_of}
 
 -- What a seat's view says of a node is right: the view is of n nodes, the node is this seat's, and what it knows is right.
 pub record IsNode (n : ℕ) (owner : ℕ → ℕ) (ring : Ring) (halt port size node : ℕ) (stand : Stand) : Type 0 where
@@ -21,20 +21,24 @@ pub record IsNode (n : ℕ) (owner : ℕ → ℕ) (ring : Ring) (halt port size 
   pub is_stand : IsStand n ring halt node stand
 
 -- A view that is closed is that of all nodes, and has witnessed the whole log: nothing happens any more without its seat.
-pub record IsClosed (n : ℕ) (log : List RingEvent) (view : View) : Type 0 where
+pub record IsClosed (n : ℕ) (log : List BoardEvent) (view : View) : Type 0 where
   pub from_first : view.from ≡ 0
   pub all_nodes : length view.stands ≡ n
   pub all_witnessed : view.witnessed ≡ log
 
 -- The view of a seat is right: the log went on from what it has witnessed; what it says of each of its nodes, from the first one
--- on, is right; and if it is closed it is that of all nodes.
-pub record IsView (n : ℕ) (owner : ℕ → ℕ) (ring : Ring) (halt : ℕ) (log : List RingEvent) (port : ℕ) (view : View) : Type 0 where
+-- on, is right; if it has all that they did, none of them moved the token or announced the end since; and if it is closed it is
+-- that of all nodes.
+pub record IsView (n : ℕ) (owner : ℕ → ℕ) (ring : Ring) (halt : ℕ) (log : List BoardEvent) (port : ℕ) (view : View) : Type 0 where
   pub was_witnessed : GoesOn view.witnessed log
   pub nodes : (k : ℕ) (stand : Stand) → get_elem? view.stands k ≡ some stand → IsNode n owner ring halt port view.size (view.from + k) stand
+  pub alone : view.own ≡ true → (k : ℕ) (stand : Stand) → get_elem? view.stands k ≡ some stand →
+      moves_of (view.from + k) log ≡ moves_of (view.from + k) view.witnessed
   pub is_closed : view.closed ≡ true → IsClosed n log view
 
 -- The words and the views of a board of n nodes are right: word 0 is n; word 1 is the token's; the ring that the words
--- show, with some colours, is lawful, and the events of some log led to it; word 2 is the halt's; and each view is right.
+-- show, with some colours, is lawful, and the events of some log led to it; word 2 is the halt that they tell; and each view is
+-- right.
 pub record IsHeld (n : ℕ) (words : List ℕ) (views : List View) : Type 0 where
   pub size : IsSize n
   pub wide : length words ≡ word_count n
@@ -44,8 +48,9 @@ pub record IsHeld (n : ℕ) (words : List ℕ) (views : List View) : Type 0 wher
   pub packed : IsPacked token (slice_index words 1)
   pub lawful : IsLawfulRing n (ring_of n words black token)
   pub halt_within : slice_index words 2 < 2 + n
-  pub log : List RingEvent
+  pub log : List BoardEvent
   pub runs : Runs n log (ring_of n words black token)
+  pub told : slice_index words 2 ≡ halt_told log
   pub owner : ℕ → ℕ
   pub views_are : (port : ℕ) (view : View) → get_elem? views port ≡ some view →
       IsView n owner (ring_of n words black token) (slice_index words 2) log port view
@@ -56,4 +61,4 @@ fresh n = record { posted = replicate n 0; taken = replicate n 0; seen = replica
 
 -- all nodes at the start, in one view
 abbrev pub whole : ℕ → View
-whole n = record { size = n; from = 0; stands = replicate n (fresh n); witnessed = []; closed = false }
+whole n = record { size = n; from = 0; stands = replicate n (fresh n); witnessed = []; own = true; closed = false }

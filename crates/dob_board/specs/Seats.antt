@@ -2,7 +2,7 @@
 use Rattle.std.specs.Prelude.{◌≡◌, ◌≢◌, ℕ, ◌+◌, ◌<◌, ◌≤◌, ◌⊎◌, ◌==◌, List, Some, length, slice_get, slice_index, true, false}
 use Rattle.atomic_table.specs.Seated.{TableId}
 use Rattle.dob_safra.specs.declared.token.Token.{Token}
-use Rattle.dob_safra.specs.declared.event.RingEvent.{RingEvent}
+use Rattle.dob_board.specs.declared.view.BoardEvent.{BoardEvent}
 use Rattle.dob_safra.specs.declared.event.RingEvent.TheVariants.{Take, Announce}
 use Rattle.dob_safra.specs.Tokens.{IsPacked, MayAnnounce}
 use Rattle.dob_safra.specs.Rings.{Ring, IsLawfulRing}
@@ -12,7 +12,7 @@ use Rattle.dob_board.specs.declared.view.Stand.{Stand}
 use Rattle.dob_board.specs.declared.seat.NodeSeat.{NodeSeat}
 use Rattle.dob_board.specs.declared.board.Closed.{Closed}
 use Rattle.dob_board.specs.Words.{posted_word, taken_word, word_count, halt_word}
-use Rattle.dob_board.specs.Histories.{Runs, GoesOn, MakesEvent, Observes, HasPosted, HasHalt}
+use Rattle.dob_board.specs.Histories.{Runs, GoesOn, MakesEvent, Observes, HasPosted, HasHalt, halt_told, moves_of}
 use Rattle.dob_board.specs.Views.{Shows, stand_from, sees, takes_more, counter_of, finds}
 
 -- what the seat knows of its node
@@ -20,7 +20,7 @@ abbrev pub stand_of : NodeSeat → Stand
 stand_of seat = stand_from seat.posted.items seat.taken.items seat.seen.items seat.black seat.token seat.halt
 
 -- the events that the seat has witnessed
-abbrev pub witnessed_by : NodeSeat → List RingEvent
+abbrev pub witnessed_by : NodeSeat → List BoardEvent
 witnessed_by seat = seat.seat.me.0.witnessed
 
 -- it is the seat of the same node of the same board
@@ -82,6 +82,14 @@ KnewEnd old halt = old.node ≡ 0 → halt ≡ Ended → old.halt ≡ Ended
 abbrev pub ObservesHalt : NodeSeat → NodeSeat → Halt → Type 0
 ObservesHalt old new halt = Observes old.nodes old.node (stand_of new) (witnessed_by old) (witnessed_by new) (HasHalt (halt_word halt))
 
+-- The events that the seat has witnessed tell of that halt: none of them is a failure, or an announcement, where the run goes on.
+abbrev pub TellsHalt : NodeSeat → Halt → Type 0
+TellsHalt seat halt = halt_word halt ≡ halt_told (witnessed_by seat)
+
+-- the seat's node didn't pass the token, and announced no end
+abbrev pub MovesNothing : NodeSeat → NodeSeat → Type 0
+MovesNothing old new = moves_of old.node (witnessed_by new) ≡ moves_of old.node (witnessed_by old)
+
 -- the halt where that one was found, and the node said that it failed the run if it went on
 abbrev pub failed_after : Halt → ℕ → Halt
 failed_after Running node = Failed node
@@ -119,12 +127,12 @@ pub record AreWords (n : ℕ) (seats : List NodeSeat) (words : List ℕ) : Type 
   pub all_taken : slice_index words 2 ≡ 1 → (i j : ℕ) → i < n → j < n → slice_index words (posted_word n i j) ≡ slice_index words (taken_word n i j)
 
 -- the events of a board that is closed
-abbrev pub log_of : Closed → List RingEvent
+abbrev pub log_of : Closed → List BoardEvent
 log_of closed = closed.rest.me.0.witnessed
 
 -- What happened on a board of n nodes with these seats until it was closed, the first of it as the seat of node 0 has witnessed:
--- it led to this lawful ring, which shows how each node stands; word 1 is that of its token; and its end is announced where
--- word 2 is 1, and nowhere else.
+-- it led to this lawful ring, which shows how each node stands; word 1 is that of its token; its end is announced where word 2 is
+-- 1, and nowhere else; and word 2 is the halt that the events tell.
 pub record IsHistory (n : ℕ) (seats : List NodeSeat) (closed : Closed) : Type 0 where
   pub witnessed : (seat : NodeSeat) → slice_get seats 0 ≡ Some seat → GoesOn (witnessed_by seat) (log_of closed)
   pub ring : Ring
@@ -133,3 +141,4 @@ pub record IsHistory (n : ℕ) (seats : List NodeSeat) (closed : Closed) : Type 
   pub shows : (i : ℕ) (seat : NodeSeat) → slice_get seats i ≡ Some seat → Shows n ring i (stand_of seat)
   pub token : IsPacked ring.token (slice_index closed.words.items 1)
   pub announced : ring.announced ≡ (slice_index closed.words.items 2 == 1)
+  pub halt_is : slice_index closed.words.items 2 ≡ halt_told (log_of closed)

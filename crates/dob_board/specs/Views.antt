@@ -2,7 +2,7 @@
 use Rattle.std.specs.Prelude.{◌≡◌, ◌≢◌, ℕ, suc, ◌+◌, ◌-◌, ◌*◌, ◌^◌, ◌<◌, ◌≤◌, Bool, true, false, cond, ◌==◌, List, [], ◌∷◌, Option, Some, None, slice_index}
 use Rattle.std.specs.Prelude.{slice_set, length, sum, ℤ, pos, neg_ℤ, ◌-ℤ◌, ◌≤ℤ◌}
 use Rattle.dob_safra.specs.declared.token.Token.{Token}
-use Rattle.dob_safra.specs.declared.event.RingEvent.{RingEvent}
+use Rattle.dob_board.specs.declared.view.BoardEvent.{BoardEvent}
 use Rattle.dob_safra.specs.Tokens.{passed_on}
 use Rattle.dob_safra.specs.Rings.{Ring}
 use Rattle.dob_board.specs.declared.halt.Halt.{Halt}
@@ -11,8 +11,8 @@ use Rattle.dob_board.specs.declared.view.View.{View}
 use Rattle.dob_board.specs.Words.{halt_word}
 
 -- the view of the seat of node i alone
-abbrev pub one : ℕ → ℕ → Stand → List RingEvent → View
-one n i stand witnessed = record { size = n; from = i; stands = stand ∷ []; witnessed = witnessed; closed = false }
+abbrev pub one : ℕ → ℕ → Stand → List BoardEvent → View
+one n i stand witnessed = record { size = n; from = i; stands = stand ∷ []; witnessed = witnessed; own = true; closed = false }
 
 -- one batch more was posted to j
 abbrev pub posts_more : Stand → ℕ → Stand

@@ -41,7 +41,7 @@ fn join_all(shared: &Arc<Words>, rest: &mut Seat<(), View>, mut seats: Vec<NodeS
     requires seats { AreSeats rest.old.table_id nodes seats.items }
     requires rest { rest.old.me ≡ (behind nodes nodes, []) }
     ensures of_board { rest.new.table_id ≡ rest.old.table_id }
-    ensures rest { rest.new.me ≡ (gathered nodes (map stand_of seats.items) rest.new.me.0.witnessed, []) }
+    ensures rest { rest.new.me ≡ (gathered nodes (map stand_of seats.items) rest.new.me.0.witnessed rest.new.me.0.own, []) }
     ensures witnessed { (seat : NodeSeat) → slice_get seats.items 0 ≡ Some seat → rest.new.me.0.witnessed ≡ witnessed_by seat }
 {
     while let Some(seat) = seats.pop() {

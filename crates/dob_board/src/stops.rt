@@ -1,7 +1,7 @@
 // How a seat finds out that the run ended or failed, and says so.
 ghost use Rattle.std.specs.Prelude.{◌≡◌, ◌≢◌, true};
 ghost use Rattle.dob_board.specs.declared.halt.Halt.TheVariants.{Running, Ended};
-ghost use Rattle.dob_board.specs.Seats.{stand_of, IsSameSeat, MayEnd, FindsHalt, KnewOwnFailure, KnewEnd, ObservesHalt, FailsAfter, HasAnnounced};
+ghost use Rattle.dob_board.specs.Seats.{stand_of, IsSameSeat, MayEnd, FindsHalt, KnewOwnFailure, KnewEnd, ObservesHalt, TellsHalt, FailsAfter, HasAnnounced};
 
 use crate::rule::{Announces, Fails, Halts};
 use crate::words::{ENDED, FAILED, HALT, RUNNING, halt_after, halt_of};
@@ -14,6 +14,7 @@ impl NodeSeat {
         ensures found { FindsHalt self.old self.new result }
         ensures same { IsSameSeat self.old self.new }
         ensures observed { ObservesHalt self.old self.new result }
+        ensures told { TellsHalt self.new result }
         ensures own { KnewOwnFailure self.old result }
         ensures unannounced { KnewEnd self.old result }
         ensures black { self.old.black ≡ true → result ≢ Ended }
@@ -31,6 +32,7 @@ impl NodeSeat {
         ensures stopped { result ≢ Running }
         ensures same { IsSameSeat self.old self.new }
         ensures event { HasAnnounced self.old self.new result }
+        ensures told { TellsHalt self.new result }
         ensures own { KnewOwnFailure self.old result }
     {
         let found = self
@@ -48,6 +50,7 @@ impl NodeSeat {
         ensures stopped { result ≢ Running }
         ensures same { IsSameSeat self.old self.new }
         ensures observed { FailsAfter self.old self.new result }
+        ensures told { TellsHalt self.new result }
         ensures unannounced { KnewEnd self.old result }
         ensures black { self.old.black ≡ true → result ≢ Ended }
     {

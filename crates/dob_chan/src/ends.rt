@@ -44,14 +44,35 @@ pub struct Full {
 }
 
 /// What went through an inbox from one sender: how many batches were sent and received, and those that are left. Only the
-/// rejoining of an inbox makes one.
+/// rejoining of an inbox makes one, and no other crate can change it.
 #[derive(Debug, Drop)]
 pub struct Rejoined {
-    pub sent: u64,
-    pub received: u64,
-    pub waiting: Vec<Batch>,
-    // It takes no room, and no other crate can write it.
-    pub(crate) seal: (),
+    pub(crate) sent: u64,
+    pub(crate) received: u64,
+    pub(crate) waiting: Vec<Batch>,
+}
+
+impl Rejoined {
+    /// How many batches were sent.
+    pub fn sent(&self) -> u64
+        ensures { result ≡ self.now.sent }
+    {
+        self.sent
+    }
+
+    /// How many of them were received.
+    pub fn received(&self) -> u64
+        ensures { result ≡ self.now.received }
+    {
+        self.received
+    }
+
+    /// Those that are left, in order.
+    pub fn waiting(&self) -> &[Batch]
+        ensures { result.now ≡ self.now.waiting.items }
+    {
+        &self.waiting
+    }
 }
 
 /// No memory for the batches that are left: the sending end or ends and the taking end as they were.

@@ -60,7 +60,6 @@ fn room_for(alloc: Global, sent: u64, received: u64) -> Result<Rejoined, AllocEr
         sent,
         received,
         waiting,
-        seal: (),
     })
 }
 

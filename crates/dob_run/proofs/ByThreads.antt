@@ -7,9 +7,9 @@ use Rattle.dob_pieces.specs.declared.profile.Family.{Family}
 use Rattle.dob_update.specs.Batches.{BatchView}
 use Rattle.dob_board.specs.declared.board.Board.{Board}
 use Rattle.dob_chan.specs.Ends.{sent_by, taken_by}
-use Rattle.dob_node.specs.declared.cause.Cause.{Cause}
-use Rattle.dob_run.specs.declared.fault.Fault.{Fault}
-use Rattle.dob_run.specs.declared.fault.Fault.TheVariants.{Nodes, Sizes, Stopped, Memory}
+use Rattle.dob_stops.specs.declared.cause.Cause.{Cause}
+use Rattle.dob_stops.specs.declared.fault.Fault.{Fault}
+use Rattle.dob_stops.specs.declared.fault.Fault.TheVariants.{Nodes, Sizes, Stopped, Memory}
 use Rattle.dob_run.specs.declared.build_end.Built.{Built}
 use Rattle.dob_run.specs.declared.hands.Outlet.{Outlet}
 use Rattle.dob_run.specs.declared.runner.Runner.{Runner}

@@ -19,11 +19,12 @@ use Rattle.dob_board.specs.Seats.{AreWords}
 use Rattle.dob_board.proofs.Halting.{same_halt}
 use Rattle.dob_chan.specs.declared.ends.Rejoined.{Rejoined}
 use Rattle.dob_chan.specs.Ends.{sent_by, taken_of}
-use Rattle.dob_node.specs.declared.cause.Cause.{Cause}
+use Rattle.dob_stops.specs.declared.cause.Cause.{Cause}
 use Rattle.dob_node.specs.declared.node.Node.{Node}
+use Rattle.dob_share.specs.declared.share.Share.{Share}
 use Rattle.dob_node.specs.Nodes.{IsIdle}
-use Rattle.dob_run.specs.declared.fault.Fault.{Fault}
-use Rattle.dob_run.specs.declared.fault.Fault.TheVariants.{Nodes, Sizes, Stopped, Memory}
+use Rattle.dob_stops.specs.declared.fault.Fault.{Fault}
+use Rattle.dob_stops.specs.declared.fault.Fault.TheVariants.{Nodes, Sizes, Stopped, Memory}
 use Rattle.dob_run.specs.declared.hands.Outlet.{Outlet}
 use Rattle.dob_run.specs.declared.hands.Inlet.{Inlet}
 use Rattle.dob_run.specs.declared.runner.Runner.{Runner}
@@ -40,7 +41,7 @@ use Rattle.dob_run.specs.BoundedRun.{IsFirstFailed}
 use Rattle.dob_run.specs.LawfulRunners.{IsLawfulRunner}
 use Rattle.dob_run.specs.Built.{needed, IsDone, IsBuilt}
 use Rattle.dob_run.specs.Finished.{AreJoinedBy, AreFinished, AreShown}
-use Rattle.dob_run.specs.BuildEnd.{HaveStopped, IsFailure, IsFailureOf, failed_of, IsOwner, AreOwners, AreShownBelow}
+use Rattle.dob_run.specs.BuildEnd.{HaveStopped, IsFailure, IsFailureOf, failed_of, share_in, IsOwner, AreOwners, AreShownBelow}
 use Rattle.dob_run.proofs.CrewFinished.{nothing_of, finished_right}
 use Rattle.dob_run.proofs.CrewRunners.{seat_there, are_linked, seat_at, crew_many, crew_low, outlet_at}
 use Rattle.dob_run.proofs.Needed.{needed_fits}
@@ -133,24 +134,30 @@ module _ (board : Board) (family : Family) (size : ℕ) (runners : List Runner) 
     n_is : (k : ℕ) (runner : Runner) → slice_get runners k ≡ Some runner → runner.node.n ≡ board.nodes
     n_is k runner at = (law k runner at).of.2 ∙ (seat_at board runners crew k runner at).nodes
 
+    -- there are as many shares as nodes
+    count_is : (shares : List Share) → shares ≡ map share_in (map node_of runners) → length shares ≡ board.nodes
+    count_is shares is = ap length is ∙ length-map (map node_of runners) share_in ∙ length-map runners node_of ∙ crew_many board runners crew
+
     -- the nodes own their classes
-    pub owners_are : (nodes : List Node) → nodes ≡ map node_of runners → AreOwners family (length nodes) nodes
-    owners_are nodes is k node at =
-        let got = map_got node_of runners k node (ap (λ (l : List Node). slice_get l k) (sym is) ∙ at) in
-        let count : board.nodes ≡ length nodes = sym (ap length is ∙ length-map runners node_of ∙ crew_many board runners crew) in
+    pub owners_are : (shares : List Share) → shares ≡ map share_in (map node_of runners) → AreOwners family (length shares) shares
+    owners_are shares is k share at =
+        let had = map_got share_in (map node_of runners) k share (ap (λ (l : List Share). slice_get l k) (sym is) ∙ at) in
+        let got = map_got node_of runners k had.0 had.1 in
         let owner = owner_is family size board.nodes k got.0.node got.0.endpoint (law k got.0 got.1) (id_is k got.0 got.1) (n_is k got.0 got.1) in
-        subst (λ (m : ℕ). IsOwner family m k node) count (subst (λ (x : Node). IsOwner family board.nodes k x) got.2 owner)
+        subst (λ (m : ℕ). IsOwner family m k share) (sym (count_is shares is))
+        (subst (λ (x : Share). IsOwner family board.nodes k x) (ap share_in got.2 ∙ had.2) owner)
 
     -- what the nodes show is what the runners show
-    shown_by : (nodes : List Node) (values : List Value) → nodes ≡ map node_of runners →
-        AreShownBelow (length nodes) (classes_of family) nodes values → AreShown family board.nodes runners values
-    shown_by nodes values is shown =
-        let count : length nodes ≡ board.nodes = ap length is ∙ length-map runners node_of ∙ crew_many board runners crew in
-        let by_nodes : AreShownBelow board.nodes (classes_of family) (map node_of runners) values =
-        subst (λ (p : ℕ × List Node). AreShownBelow p.0 (classes_of family) p.1 values) (λ q. (count q, is q)) shown in
+    shown_by : (shares : List Share) (values : List Value) → shares ≡ map share_in (map node_of runners) →
+        AreShownBelow (length shares) (classes_of family) shares values → AreShown family board.nodes runners values
+    shown_by shares values is shown =
+        let count : length shares ≡ board.nodes = count_is shares is in
+        let by_shares : AreShownBelow board.nodes (classes_of family) (map share_in (map node_of runners)) values =
+        subst (λ (p : ℕ × List Share). AreShownBelow p.0 (classes_of family) p.1 values) (λ q. (count q, is q)) shown in
         record {
-          whole = by_nodes.whole;
-          each = λ class value runner at owns. by_nodes.each class value at runner.node (get_map node_of runners (owner_of board.nodes class) runner owns);
+          whole = by_shares.whole;
+          each = λ class value runner at owns. by_shares.each class value at runner.node.share
+              (get_map share_in (map node_of runners) (owner_of board.nodes class) runner.node (get_map node_of runners (owner_of board.nodes class) runner owns));
         }
 
     -- as many batches were posted as were taken
@@ -223,12 +230,12 @@ module _ (board : Board) (family : Family) (size : ℕ) (runners : List Runner) 
           took : length (worked_from inlet i) ≤ length (taken_of inlet.end i)
           took = omega (arith, ap length (parts inlet i), length-append (worked_from inlet i) (in_hand (held_from inlet.hand i)))
 
-      pub built_is : (nodes : List Node) (built : Built) → nodes ≡ map node_of runners → built.table.family ≡ family →
-          AreShownBelow (length nodes) (classes_of family) nodes built.table.values → built.closed ≡ left.closed → built.links ≡ left.links →
+      pub built_is : (shares : List Share) (built : Built) → shares ≡ map share_in (map node_of runners) → built.table.family ≡ family →
+          AreShownBelow (length shares) (classes_of family) shares built.table.values → built.closed ≡ left.closed → built.links ≡ left.links →
           IsBuilt family board.nodes size built
-      built_is nodes built nodes_is family_is shown closed links =
+      built_is shares built shares_are family_is shown closed links =
           let values : List Value = built.table.values in
-          let by_runners : AreShown family board.nodes runners values = shown_by nodes values nodes_is shown in
+          let by_runners : AreShown family board.nodes runners values = shown_by shares values shares_are shown in
           let openings = some_openings family in
           let items : words ≡ built.closed.words.items = words_are ∙ ap (λ (c : Closed). c.words.items) (sym closed) in
           record {

@@ -16,9 +16,10 @@ use Rattle.dob_board.specs.declared.seat.NodeSeat.{NodeSeat}
 use Rattle.dob_board.specs.declared.halt.Halt.{Halt}
 use Rattle.dob_board.specs.declared.halt.Halt.TheVariants.{Running, Ended, Failed}
 use Rattle.dob_board.specs.Words.{halt_word}
-use Rattle.dob_board.specs.Seats.{IsSameSeat, KnewOwnFailure}
-use Rattle.dob_node.specs.declared.cause.Cause.{Cause}
-use Rattle.dob_node.specs.declared.cause.Cause.TheVariants.{TooDeep, Contradiction, Memory, Held, Counts}
+use Rattle.dob_board.specs.Seats.{IsSameSeat, KnewOwnFailure, MovesNothing, witnessed_by}
+use Rattle.dob_board.specs.Histories.{moves_of}
+use Rattle.dob_stops.specs.declared.cause.Cause.{Cause}
+use Rattle.dob_stops.specs.declared.cause.Cause.TheVariants.{TooDeep, Contradiction, Memory, Held, Counts}
 use Rattle.dob_node.specs.declared.node.Node.{Node}
 use Rattle.dob_node.specs.TakenItems.{IsReason}
 use Rattle.dob_node.specs.Outboxes.{outbox_in}
@@ -34,7 +35,8 @@ use Rattle.dob_run.specs.Links.{KeepsOutlet, KeepsInlet}
 use Rattle.dob_run.specs.LawfulRunners.{IsSpared}
 use Rattle.dob_run.specs.Endpoints.{KeepsEach, AreOut}
 use Rattle.dob_run.specs.Keeps.{KeepsEndpoint, HasSameLinks}
-use Rattle.dob_run.specs.Runners.{KeepsRunner, GoesOn, HasFailed, HasBroken, HasTurned, HasRefused, HasCutAll, IsReasonFor, IsReasoned, IsAsked, no_gate, StepsBy, Steps}
+use Rattle.dob_run.specs.Runners.{KeepsRunner, GoesOn, HasFailed, HasBroken, HasRefused, HasCutAll, IsReasonFor, IsReasoned, IsAsked, no_gate, StepsBy, Steps}
+use Rattle.dob_run.specs.Turns.{HasTurned, HasSameWork}
 use Rattle.dob_run.proofs.Counted.{there_set}
 
 -- ---- lists of batches
@@ -109,6 +111,13 @@ seat_same seat = record { node = refl; nodes = refl; board = refl }
 
 pub seat_trans : (a b c : NodeSeat) → IsSameSeat a b → IsSameSeat b c → IsSameSeat a c
 seat_trans a b c one two = record { node = two.node ∙ one.node; nodes = two.nodes ∙ one.nodes; board = two.board ∙ one.board }
+
+-- a seat that is as it was moved nothing, nor did one in two steps that moved nothing
+pub still_same : (a b : NodeSeat) → b ≡ a → MovesNothing a b
+still_same a b same = ap (λ (s : NodeSeat). moves_of a.node (witnessed_by s)) same
+
+pub still_trans : (a b c : NodeSeat) → b.node ≡ a.node → MovesNothing a b → MovesNothing b c → MovesNothing a c
+still_trans a b c node one two = subst (λ (k : ℕ). moves_of k (witnessed_by c) ≡ moves_of k (witnessed_by b)) node two ∙ one
 
 pub endpoint_same : (endpoint : Endpoint) → KeepsEndpoint endpoint endpoint
 endpoint_same endpoint = record {
@@ -246,7 +255,19 @@ pub runner_trans : (a b c : Runner) → KeepsRunner a b → KeepsRunner b c → 
 runner_trans a b c one two = record { endpoint = endpoint_trans a.endpoint b.endpoint c.endpoint one.endpoint two.endpoint; family = two.family ∙ one.family; size = two.size ∙ one.size }
 
 pub goes_trans : (a b c : Runner) → GoesOn a b → GoesOn b c → GoesOn a c
-goes_trans a b c one two = record { keeps = runner_trans a b c one.keeps two.keeps; unfailed = two.unfailed; halt = two.halt ∙ one.halt }
+goes_trans a b c one two = record {
+  keeps = runner_trans a b c one.keeps two.keeps;
+  unfailed = two.unfailed;
+  halt = two.halt ∙ one.halt;
+  still = still_trans a.endpoint.seat b.endpoint.seat c.endpoint.seat one.keeps.endpoint.seat.node one.still two.still;
+}
+
+pub links_trans : (a b c : Endpoint) → HasSameLinks a b → HasSameLinks b c → HasSameLinks a c
+links_trans a b c one two = record { seat = seat_trans a.seat b.seat c.seat one.seat two.seat; outlets = two.outlets ∙ one.outlets; inlet = two.inlet ∙ one.inlet }
+
+-- a runner of which nothing has changed
+pub work_same : (r : Runner) → HasSameWork r r
+work_same r = record { node = refl; links = record { seat = seat_same r.endpoint.seat; outlets = refl; inlet = refl } }
 
 pub failed_after : (a b c : Runner) (why : Cause) → KeepsRunner a b → HasFailed b c why → HasFailed a c why
 failed_after a b c why kept failed = record { keeps = runner_trans a b c kept failed.keeps; cause = failed.cause; stopped = failed.stopped }

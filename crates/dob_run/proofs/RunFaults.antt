@@ -2,8 +2,8 @@
 use Rattle.std.proofs.Common.{ℕ, List}
 use Rattle.dob_pieces.specs.declared.profile.Family.{Family}
 use Rattle.dob_board.specs.declared.board.Board.{Board}
-use Rattle.dob_run.specs.declared.fault.Fault.{Fault}
-use Rattle.dob_run.specs.declared.fault.Fault.TheVariants.{Nodes, Sizes, Stopped, Memory}
+use Rattle.dob_stops.specs.declared.fault.Fault.{Fault}
+use Rattle.dob_stops.specs.declared.fault.Fault.TheVariants.{Nodes, Sizes, Stopped, Memory}
 use Rattle.dob_run.specs.declared.runner.Runner.{Runner}
 use Rattle.dob_run.specs.declared.turn_loop.Until.{Until}
 use Rattle.dob_run.specs.TurnLoop.{HasRun}

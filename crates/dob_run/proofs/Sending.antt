@@ -8,7 +8,7 @@ use Rattle.std.proofs.lemmas.List.{append-nil, append_cancel_right}
 use Rattle.dob_update.specs.Batches.{BatchView, OutboxView}
 use Rattle.dob_chan.specs.declared.ends.SendEnd.{SendEnd}
 use Rattle.dob_chan.specs.Ends.{sent_by}
-use Rattle.dob_node.specs.declared.cause.Cause.{Cause}
+use Rattle.dob_stops.specs.declared.cause.Cause.{Cause}
 use Rattle.dob_node.specs.Nodes.{outbox_to, HasCut}
 use Rattle.dob_run.specs.declared.hands.Outlet.{Outlet}
 use Rattle.dob_run.specs.declared.endpoint.Endpoint.{Endpoint}
@@ -19,7 +19,7 @@ use Rattle.dob_run.specs.Links.{offered, KeepsOutlet, IsFull}
 use Rattle.dob_run.specs.Endpoints.{HasChangedOne}
 use Rattle.dob_run.specs.TurnRounds.{HasToSend, IsToFill, IsMoreOut, CutsFor, CutsLeft, FillsFor, IsSent, HasSentOne, SendsTo, SendsBelow}
 use Rattle.dob_run.specs.Runners.{GoesOn, StepsBy}
-use Rattle.dob_run.proofs.Keeping.{endpoint_same, runner_same, goes_trans}
+use Rattle.dob_run.proofs.Keeping.{endpoint_same, runner_same, goes_trans, still_same}
 use Rattle.dob_run.proofs.Taking.{changed_there, changed_at, changed_else}
 
 -- ---- to all nodes
@@ -42,7 +42,7 @@ sent_still small to b c one before after outbox size sent = record {
 -- none yet
 pub none_sent : (small : Bool) (r : Runner) → r.failed ≡ None → SendsBelow 0 small r r false
 none_sent small r unfailed = record {
-  goes = record { keeps = runner_same r; unfailed = unfailed; halt = refl };
+  goes = record { keeps = runner_same r; unfailed = unfailed; halt = refl; still = refl };
   sent = λ to low apart before after was is. absurd (omega (arith, low));
   some = λ never. absurd (cc);
   itself = refl;
@@ -102,7 +102,7 @@ sends_more small k a b c did one so_far next = record {
 -- nothing is cut
 pub uncut : (to : ℕ) (r : Runner) → r.failed ≡ None → CutsFor to r r false
 uncut to r unfailed = record {
-  goes = record { keeps = runner_same r; unfailed = unfailed; halt = refl };
+  goes = record { keeps = runner_same r; unfailed = unfailed; halt = refl; still = refl };
   one = λ never. absurd (cc);
   nothing = λ is. (refl, refl);
   own = refl;
@@ -119,6 +119,7 @@ cut_nothing to old new going unfailed node endpoint family size empty = (
       keeps = record { endpoint = subst (KeepsEndpoint old.endpoint) (sym endpoint) (endpoint_same old.endpoint); family = family; size = size };
       unfailed = unfailed;
       halt = ap (λ (m : Endpoint). m.seat.halt) endpoint;
+      still = still_same old.endpoint.seat new.endpoint.seat (ap (λ (m : Endpoint). m.seat) endpoint);
     };
     one = λ never. absurd (cc);
     nothing = λ is. (node, endpoint);
@@ -165,7 +166,7 @@ fills_of to small old new (Err why) fill broken = broken
 -- nothing to itself
 pub own_unsent : (small : Bool) (r : Runner) (to : ℕ) → r.failed ≡ None → to ≡ r.endpoint.seat.node → SendsTo to small r r false
 own_unsent small r to unfailed is = record {
-  goes = record { keeps = runner_same r; unfailed = unfailed; halt = refl };
+  goes = record { keeps = runner_same r; unfailed = unfailed; halt = refl; still = refl };
   itself = λ same. (refl, refl);
   sent = λ apart before after was there. absurd (apart is);
   some = λ never. absurd (cc);

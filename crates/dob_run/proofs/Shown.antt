@@ -14,6 +14,7 @@ use Rattle.dob_value.specs.Follows.{IsEntry}
 use Rattle.dob_share.specs.declared.news.Settlement.{Settlement}
 use Rattle.dob_share.specs.Owners.{owner_of}
 use Rattle.dob_node.specs.declared.node.Node.{Node}
+use Rattle.dob_share.specs.declared.share.Share.{Share}
 use Rattle.dob_node.proofs.Kept.{last_now-entry}
 use Rattle.dob_node.proofs.Rest.{below_owner}
 use Rattle.dob_run.specs.declared.endpoint.Endpoint.{Endpoint}
@@ -23,7 +24,7 @@ use Rattle.dob_run.specs.Scans.{AreFrom}
 use Rattle.dob_run.proofs.Places.{map_got}
 
 -- a lawful runner's node owns its classes
-pub owner_is : (family : Family) (size n k : ℕ) (node : Node) (endpoint : Endpoint) → IsLawfulRunner family size node endpoint → node.id ≡ k → node.n ≡ n → IsOwner family n k node
+pub owner_is : (family : Family) (size n k : ℕ) (node : Node) (endpoint : Endpoint) → IsLawfulRunner family size node endpoint → node.id ≡ k → node.n ≡ n → IsOwner family n k node.share
 owner_is family size n k node endpoint law id_is n_is = record {
   own = λ class low is. (law.sound.kept.owned class).1 (owner class is, few class low);
   entries = λ class value low is has. subst IsEntry (sym (law.knows.values class value (few class low) (owner class is) has))
@@ -37,22 +38,22 @@ owner_is family size n k node endpoint law id_is n_is = record {
     few class low = subst (λ (s : Family). class < classes_of s) (sym law.of.0) low
 
 -- what a class's owner shows is such a value as a table can have
-pub shown_entry : (family : Family) (nodes : List Node) (class : ℕ) (value : Value) → 0 < length nodes → AreOwners family (length nodes) nodes →
-    class < classes_of family → IsShown (length nodes) nodes class value → IsEntry value
-shown_entry family nodes class value some owners low shown =
-    let owner = some_at nodes (owner_of (length nodes) class) (below_owner (length nodes) class some) in
-    (owners (owner_of (length nodes) class) owner.0 owner.1).entries class value low refl (shown owner.0 owner.1)
+pub shown_entry : (family : Family) (shares : List Share) (class : ℕ) (value : Value) → 0 < length shares → AreOwners family (length shares) shares →
+    class < classes_of family → IsShown (length shares) shares class value → IsEntry value
+shown_entry family shares class value some owners low shown =
+    let owner = some_at shares (owner_of (length shares) class) (below_owner (length shares) class some) in
+    (owners (owner_of (length shares) class) owner.0 owner.1).entries class value low refl (shown owner.0 owner.1)
 
 -- codes of what the nodes show are those of a table, and their values what the nodes show
-module _ (n count : ℕ) (nodes : List Node) (codes : List ℕ) (are : AreFrom (IsCodeShown n nodes) 0 count codes) where
+module _ (n count : ℕ) (shares : List Share) (codes : List ℕ) (are : AreFrom (IsCodeShown n shares) 0 count codes) where
   pub codes_fit : All (λ (code : ℕ). code < 65536) codes
   codes_fit = λ k d low. (are.each k (slice_index_or codes k d) (slice_get-get_or codes k d low)).0
 
-  pub values_shown : AreShownBelow n count nodes (values_of_codes codes)
+  pub values_shown : AreShownBelow n count shares (values_of_codes codes)
   values_shown = record {
     whole = omega (arith, length-map codes value_of_code, are.whole);
     each = λ class value at.
         let got = map_got value_of_code codes class value at in
         let here : 0 + class ≡ class = omega arith in
-        subst (λ (p : ℕ × Value). IsShown n nodes p.0 p.1) (λ i. (here i, got.2 i)) (are.each class got.0 got.1).1;
+        subst (λ (p : ℕ × Value). IsShown n shares p.0 p.1) (λ i. (here i, got.2 i)) (are.each class got.0 got.1).1;
   }

@@ -16,7 +16,7 @@ use Rattle.dob_run.specs.declared.runner.Runner.{Runner}
 use Rattle.dob_run.specs.Batches.{IsBatchFor}
 use Rattle.dob_run.specs.Links.{worked, HoldsFor}
 use Rattle.dob_run.specs.Endpoints.{HasChangedOne}
-use Rattle.dob_run.specs.TurnRounds.{IsReceived, IsWorkedIn, TakesBatch}
+use Rattle.dob_run.specs.TurnRounds.{IsReceived, IsWorkedIn, IsUnwanted, TakesBatch}
 use Rattle.dob_run.specs.Runners.{GoesOn}
 
 -- ---- one of several links
@@ -58,8 +58,8 @@ unchanged_same node = record { same = (refl, refl, refl, refl); kept = (refl, re
 module _ (old new : Runner) (mid : Endpoint) (goes : GoesOn old new) (received : worked mid.inlet ≡ worked old.endpoint.inlet)
     (asked : IsReceived old.endpoint.inlet mid.inlet) (outlets : new.endpoint.outlets.items ≡ old.endpoint.outlets.items) where
   -- none came, or it isn't worked in
-  pub takes_none : new.endpoint.inlet ≡ mid.inlet → IsUnchanged old.node new.node → TakesBatch old new false
-  takes_none same unchanged = record {
+  pub takes_none : new.endpoint.inlet ≡ mid.inlet → IsUnchanged old.node new.node → IsUnwanted old new → TakesBatch old new false
+  takes_none same unchanged unwanted = record {
     goes = goes;
     taken = subst (λ i. IsWorkedIn false old.endpoint.inlet i) (sym same) (record {
       few = asked.few;
@@ -69,6 +69,7 @@ module _ (old new : Runner) (mid : Endpoint) (goes : GoesOn old new) (received :
     });
     outlets = outlets;
     nothing = λ _. unchanged;
+    unwanted = λ _. unwanted;
   }
 
   -- one is
@@ -83,4 +84,5 @@ module _ (old new : Runner) (mid : Endpoint) (goes : GoesOn old new) (received :
     };
     outlets = outlets;
     nothing = λ never. absurd (cc);
+    unwanted = λ never. absurd (cc);
   }

@@ -7,12 +7,13 @@ use Rattle.std.specs.declared.vec.Vec.{Vec}
 use Rattle.dob_pieces.proofs.Elements.{middle}
 use Rattle.std.proofs.lemmas.Bool.{cases_Bool}
 use Rattle.dob_board.specs.declared.halt.Halt.{Halt}
-use Rattle.dob_node.specs.declared.cause.Cause.{Cause}
-use Rattle.dob_node.specs.declared.cause.Cause.TheVariants.{Memory}
+use Rattle.dob_stops.specs.declared.cause.Cause.{Cause}
+use Rattle.dob_stops.specs.declared.cause.Cause.TheVariants.{Memory}
 use Rattle.dob_run.specs.declared.runner.Runner.{Runner}
 use Rattle.dob_run.specs.declared.threads.Started.{Started}
 use Rattle.dob_run.specs.declared.threads.Started.TheVariants.{Runs, GaveUp}
-use Rattle.dob_run.specs.Runners.{KeepsRunner, GoesOn, HasFailed, HasTurned, IsAsked, IsReasonFor, IsReasoned, says_no}
+use Rattle.dob_run.specs.Turns.{HasTurned}
+use Rattle.dob_run.specs.Runners.{KeepsRunner, GoesOn, HasFailed, IsAsked, IsReasonFor, IsReasoned, says_no}
 use Rattle.dob_run.specs.declared.turn_loop.Until.{Until}
 use Rattle.dob_run.specs.declared.turn_loop.Until.TheVariants.{Turns, Halted}
 use Rattle.dob_run.specs.Started.{IsStartOf, IsEndOf}

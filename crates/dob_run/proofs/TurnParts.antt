@@ -1,14 +1,15 @@
 -- What the parts of a turn do, by what their steps do.
-use Rattle.std.proofs.Common.{◌≡◌, ◌≢◌, ◌↔◌, ℕ, ◌+◌, ◌<◌, length, Bool, IsTrue, true, false, Result, Ok, None}
-use Rattle.std.proofs.Common.{refl, ap, subst, inl, inr, arith}
+use Rattle.std.proofs.Common.{◌≡◌, ◌≢◌, ◌↔◌, ℕ, ◌+◌, ◌-◌, ◌<◌, length, Bool, IsTrue, true, false, Result, Ok, None}
+use Rattle.std.proofs.Common.{refl, sym, ap, subst, inl, inr, arith}
 use Rattle.std.proofs.lemmas.Bool.{cases_Bool, both_ways}
 use Rattle.dob_node.specs.declared.node.Node.{Node}
 use Rattle.dob_board.specs.declared.seat.NodeSeat.{NodeSeat}
-use Rattle.dob_node.specs.declared.cause.Cause.{Cause}
+use Rattle.dob_stops.specs.declared.cause.Cause.{Cause}
 use Rattle.dob_run.specs.declared.runner.Runner.{Runner}
 use Rattle.dob_run.specs.TurnRounds.{IsHeldUp, ExpandsOne, ExpandsSome, AppliesOne}
 use Rattle.dob_run.specs.Runners.{GoesOn}
 use Rattle.dob_run.specs.TurnToken.{HasLooked, HandsOn, MovesToken}
+use Rattle.dob_run.specs.Turns.{HasSameWork, IsTold}
 
 -- ---- answers
 
@@ -73,3 +74,11 @@ one_applied old new did k all one count low = elim (cases_Bool did) [
   | inl is ↦ (let more = one.applied is in omega (arith, ap length more.first, count))
   | inr none ↦ absurd (let nothing = ap length (one.done.0 none) in omega (arith, nothing, count, low))
 ]
+
+-- ---- what a gate is told
+
+-- what was told of the work is told of the turn, since its look and its rest expand nothing
+pub told_of : (Told : ℕ → ℕ → Type 0) (old seen worked new : Runner) → HasSameWork old seen →
+    Told seen.endpoint.seat.node (worked.node.expanded - seen.node.expanded) → new.node ≡ worked.node → IsTold Told old new
+told_of Told old seen worked new same told node = inr (subst (λ (p : ℕ × ℕ × ℕ). Told p.0 (p.1 - p.2))
+    (λ q. (same.links.seat.node q, sym (ap (λ (n : Node). n.expanded) node) q, ap (λ (n : Node). n.expanded) same.node q)) told)

@@ -9,10 +9,11 @@ use Rattle.dob_share.specs.Owners.{owner_of}
 use Rattle.dob_share.specs.Shares.{IsOwn, HasValueNow}
 use Rattle.dob_board.specs.declared.halt.Halt.{Halt}
 use Rattle.dob_board.specs.declared.halt.Halt.TheVariants.{Running, Ended, Failed}
-use Rattle.dob_node.specs.declared.cause.Cause.{Cause}
+use Rattle.dob_stops.specs.declared.cause.Cause.{Cause}
 use Rattle.dob_node.specs.declared.node.Node.{Node}
-use Rattle.dob_run.specs.declared.fault.Fault.{Fault}
-use Rattle.dob_run.specs.declared.fault.Fault.TheVariants.{Nodes, Sizes, Stopped, Memory}
+use Rattle.dob_share.specs.declared.share.Share.{Share}
+use Rattle.dob_stops.specs.declared.fault.Fault.{Fault}
+use Rattle.dob_stops.specs.declared.fault.Fault.TheVariants.{Nodes, Sizes, Stopped, Memory}
 use Rattle.dob_run.specs.declared.runner.Runner.{Runner}
 
 -- The runner works for that family with batches of at most that size, and its seat knows that the run ended or failed.
@@ -27,6 +28,10 @@ HaveStopped family size runners = (k : ℕ) (runner : Runner) → slice_get runn
 
 abbrev pub failed_of : Runner → Option Cause
 failed_of runner = runner.failed
+
+-- the share of a node
+abbrev pub share_in : Node → Share
+share_in node = node.share
 
 -- each seat knows of that halt
 abbrev pub AllKnow : Halt → List Runner → Type 0
@@ -51,24 +56,24 @@ IsFailureOf runners Memory = ⊤
 IsFailureOf runners Nodes = ⊥
 IsFailureOf runners Sizes = ⊥
 
--- Node k, one of n, has each class of the family that is its own, and shows for it such a value as a table can have.
-pub record IsOwner (family : Family) (n k : ℕ) (node : Node) : Type 0 where
-  pub own : (class : ℕ) → class < classes_of family → owner_of n class ≡ k → IsOwn node.share class
-  pub entries : (class : ℕ) (value : Value) → class < classes_of family → owner_of n class ≡ k → HasValueNow node.share class value →
+-- The share of node k, one of n, has each class of the family that is its own, and shows for it such a value as a table can have.
+pub record IsOwner (family : Family) (n k : ℕ) (share : Share) : Type 0 where
+  pub own : (class : ℕ) → class < classes_of family → owner_of n class ≡ k → IsOwn share class
+  pub entries : (class : ℕ) (value : Value) → class < classes_of family → owner_of n class ≡ k → HasValueNow share class value →
       IsEntry value
 
 -- so do they all
-abbrev pub AreOwners : Family → ℕ → List Node → Type 0
-AreOwners family n nodes = (k : ℕ) (node : Node) → slice_get nodes k ≡ Some node → IsOwner family n k node
+abbrev pub AreOwners : Family → ℕ → List Share → Type 0
+AreOwners family n shares = (k : ℕ) (share : Share) → slice_get shares k ≡ Some share → IsOwner family n k share
 
 -- the value is one that the class's owner, of n nodes, shows for it
-abbrev pub IsShown : ℕ → List Node → ℕ → Value → Type 0
-IsShown n nodes class value = (node : Node) → slice_get nodes (owner_of n class) ≡ Some node → HasValueNow node.share class value
+abbrev pub IsShown : ℕ → List Share → ℕ → Value → Type 0
+IsShown n shares class value = (share : Share) → slice_get shares (owner_of n class) ≡ Some share → HasValueNow share class value
 
 -- the code is one of 16 bits, of a value that the class's owner shows
-abbrev pub IsCodeShown : ℕ → List Node → ℕ → ℕ → Type 0
-IsCodeShown n nodes class code = (code < 65536) × IsShown n nodes class (value_of_code code)
+abbrev pub IsCodeShown : ℕ → List Share → ℕ → ℕ → Type 0
+IsCodeShown n shares class code = (code < 65536) × IsShown n shares class (value_of_code code)
 
 -- the values of the classes below a number are those that their owners show
-abbrev pub AreShownBelow : ℕ → ℕ → List Node → List Value → Type 0
-AreShownBelow n upto nodes values = AreGiven (IsShown n nodes) upto values
+abbrev pub AreShownBelow : ℕ → ℕ → List Share → List Value → Type 0
+AreShownBelow n upto shares values = AreGiven (IsShown n shares) upto values

@@ -1,20 +1,9 @@
--- What each fault of a run by threads is called, and why no crew is opened or one leaves nothing.
-use Rattle.std.specs.Prelude.{ℕ, ◌<◌, List}
-use Rattle.dob_pieces.specs.Faults.{memory_text}
-use Rattle.dob_update.specs.Faults.{sizes_text}
+-- Why no crew is opened or one leaves nothing.
+use Rattle.std.specs.Prelude.{ℕ, ◌<◌}
 use Rattle.dob_update.specs.Batches.{AreSizes}
-use Rattle.dob_safra.specs.Faults.{nodes_text}
 use Rattle.dob_safra.specs.Laws.{IsSize}
-use Rattle.dob_node.specs.Causes.{stopped_text}
-use Rattle.dob_run.specs.declared.fault.Fault.{Fault}
-use Rattle.dob_run.specs.declared.fault.Fault.TheVariants.{Nodes, Sizes, Stopped, Memory}
-
--- the fault's number and name, and of a stopped node which one and why
-abbrev pub fault_text : Fault → List ℕ
-fault_text Nodes = nodes_text
-fault_text Sizes = sizes_text
-fault_text (Stopped node why) = stopped_text node why
-fault_text Memory = memory_text
+use Rattle.dob_stops.specs.declared.fault.Fault.{Fault}
+use Rattle.dob_stops.specs.declared.fault.Fault.TheVariants.{Nodes, Sizes, Stopped, Memory}
 
 -- a crew may have so many nodes, such batches and such inboxes
 abbrev pub AreWithin : ℕ → ℕ → ℕ → Type 0

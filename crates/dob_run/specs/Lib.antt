@@ -21,6 +21,7 @@ pub mod Runners
 pub mod Seating
 pub mod Started
 pub mod TurnToken
+pub mod Turns
 pub mod BoundedRun
 pub mod TurnLoop
 pub mod LawfulRunners

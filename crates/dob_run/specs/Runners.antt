@@ -2,12 +2,10 @@
 use Rattle.std.specs.Prelude.{◌≡◌, ◌≢◌, ◌↔◌, ◌⊎◌, ⊤, ℕ, ◌^◌, ◌≤◌, ◌++◌, List, [], Bool, Some, None, Err, Result, MatchResult, true, false, slice_get}
 use Rattle.dob_pieces.specs.declared.profile.Family.{Family}
 use Rattle.dob_share.specs.declared.opening.Opening.{Opening}
-use Rattle.dob_board.specs.declared.halt.Halt.{Halt}
 use Rattle.dob_board.specs.declared.halt.Halt.TheVariants.{Running}
-use Rattle.dob_board.specs.declared.seat.NodeSeat.{NodeSeat}
-use Rattle.dob_board.specs.Seats.{IsSameSeat, ObservesHalt}
-use Rattle.dob_node.specs.declared.cause.Cause.{Cause}
-use Rattle.dob_node.specs.declared.cause.Cause.TheVariants.{TooDeep, Contradiction, Memory, Held, Counts}
+use Rattle.dob_board.specs.Seats.{MovesNothing}
+use Rattle.dob_stops.specs.declared.cause.Cause.{Cause}
+use Rattle.dob_stops.specs.declared.cause.Cause.TheVariants.{TooDeep, Contradiction, Memory, Held, Counts}
 use Rattle.dob_node.specs.declared.node.Node.{Node}
 use Rattle.dob_node.specs.Openings.{AreOpenings}
 use Rattle.dob_node.specs.Nodes.{outbox_to, HasItemFault, HasTakenBefore, IsIdle, IsSound, IsOpened}
@@ -27,11 +25,12 @@ pub record KeepsRunner (old new : Runner) : Type 0 where
   pub family : new.family ≡ old.family
   pub size : new.size ≡ old.size
 
--- it has done something and goes on
+-- it has done something and goes on, and didn't move the token or announce the end
 pub record GoesOn (old new : Runner) : Type 0 where
   pub keeps : KeepsRunner old new
   pub unfailed : new.failed ≡ None
   pub halt : new.endpoint.seat.halt ≡ old.endpoint.seat.halt
+  pub still : MovesNothing old.endpoint.seat new.endpoint.seat
 
 -- it goes on, or its seat has found that the run doesn't
 pub record GoesRound (old new : Runner) : Type 0 where
@@ -98,17 +97,6 @@ pub record IsHeldBack (old new : Runner) : Type 0 where
   pub node : new.node ≡ old.node
   pub links : HasSameLinks old.endpoint new.endpoint
   pub colour : new.endpoint.seat.black ≡ old.endpoint.seat.black
-
--- It has made a turn, and the halt is the one that its seat knows: first it looked at the halt word, and where it found that
--- the run doesn't go on this is what it found.
-pub record HasTurned (old new : Runner) (halt : Halt) : Type 0 where
-  pub keeps : KeepsRunner old new
-  pub unfailed : new.failed ≡ None
-  pub halt_is : halt ≡ new.endpoint.seat.halt
-  pub looked : NodeSeat
-  pub same : IsSameSeat old.endpoint.seat looked
-  pub observed : ObservesHalt old.endpoint.seat looked looked.halt
-  pub first : looked.halt ≢ Running → halt ≡ looked.halt
 
 -- a step of a runner: it has done that and answers so, or its node has failed
 abbrev pub StepsBy : {A : Type 0} → (Runner → Runner → A → Type 0) → Runner → Runner → Result A Cause → Type 0

@@ -1,6 +1,7 @@
 -- What the parts of a runner's turn do, and when each has something to do.
 use Rattle.std.specs.Prelude.{◌≡◌, ◌≢◌, ◌↔◌, ◌⊎◌, ℕ, ◌+◌, ◌<◌, ◌≤◌, List, [], ◌∷◌, ◌++◌, Bool, IsTrue, ◌||◌, true, false, None, Some, length, slice_get}
 use Rattle.dob_update.specs.Batches.{BatchView}
+use Rattle.dob_board.specs.Seats.{TakesNone}
 use Rattle.dob_chan.specs.Ends.{sent_by, taken_by, take_told, WasEmpty}
 use Rattle.dob_node.specs.Nodes.{outbox_to, IsExpanded, HasApplied, IsUnchanged}
 use Rattle.dob_run.specs.declared.hands.Outlet.{Outlet}
@@ -67,12 +68,21 @@ pub record IsWorkedIn (did : Bool) (before after : Inlet) : Type 0 where
   pub none : did ≡ false → worked after ≡ worked before
   pub empty : did ≡ false → after.hand ≡ None → WasEmpty (taken_by after.end) (take_told after.end)
 
--- It has taken from its inbox, and nothing has changed of what it sends; where nothing was worked in its node is as it was.
+-- Why a batch wasn't worked in: what lies in the hand, if anything, is none that another node cut for this one; or it is one, and
+-- the board doesn't say that it was posted.
+abbrev pub IsUnwanted : Runner → Runner → Type 0
+IsUnwanted old new = let seat = old.endpoint.seat in
+    ((from : ℕ) → ¬ HoldsFor old.family seat.nodes from seat.node new.endpoint.inlet)
+    ⊎ ((from : ℕ) × (seen : ℕ) × HoldsFor old.family seat.nodes from seat.node new.endpoint.inlet × TakesNone seat new.endpoint.seat from seen)
+
+-- It has taken from its inbox, and nothing has changed of what it sends; where nothing was worked in its node is as it was, and
+-- there is a reason.
 pub record TakesBatch (old new : Runner) (did : Bool) : Type 0 where
   pub goes : GoesOn old new
   pub taken : IsWorkedIn did old.endpoint.inlet new.endpoint.inlet
   pub outlets : new.endpoint.outlets.items ≡ old.endpoint.outlets.items
   pub nothing : did ≡ false → IsUnchanged old.node new.node
+  pub unwanted : did ≡ false → IsUnwanted old new
 
 -- No memory was found for a batch that is for the node: it lies in the taking hand, nothing was worked in, nothing has changed of
 -- what it sends, and its node is as it was.

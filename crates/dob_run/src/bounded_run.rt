@@ -9,7 +9,6 @@ ghost use Rattle.dob_run.specs.BoundedRun.{IsTurned, CarriesFew, AreUnfailed, Is
 
 use crate::crew_close::{ClosedCrew, close_endpoints};
 use crate::endpoint::Endpoint;
-use crate::fault::Fault;
 use crate::gate::Gate;
 use crate::runner::Runner;
 use crate::threads::run_crew;
@@ -18,6 +17,7 @@ use dob_board::{Board, Closed};
 use dob_chan::Rejoined;
 use dob_node::{Cause, Node};
 use dob_pieces::{Family, Memory};
+use dob_stops::Fault;
 use dob_update::Batch;
 use std::alloc::Global;
 use std::sync::Wait;

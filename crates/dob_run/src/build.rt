@@ -8,11 +8,11 @@ ghost use Rattle.dob_run.specs.TurnLoop.{until_halted};
 ghost use Rattle.dob_run.specs.BoundedRun.{StopsSo, IsUnheld};
 
 use crate::build_end::{Built, finish};
-use crate::fault::Fault;
 use crate::gate::Gate;
 use crate::threads::run_crew;
 use crate::turn_loop::Until;
 use dob_pieces::Family;
+use dob_stops::Fault;
 use std::alloc::Global;
 use std::sync::Wait;
 use std::thread::Threads;

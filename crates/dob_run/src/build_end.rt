@@ -4,19 +4,18 @@ ghost use Rattle.dob_pieces.specs.declared.profile.Family.{Family};
 ghost use Rattle.dob_rank.specs.Families.{classes_of};
 ghost use Rattle.dob_share.specs.Owners.{owner_of};
 ghost use Rattle.dob_share.specs.Shares.{IsOwn};
-ghost use Rattle.dob_node.specs.declared.cause.Cause.{Cause};
-ghost use Rattle.dob_node.specs.declared.node.Node.{Node as Shower};
+ghost use Rattle.dob_stops.specs.declared.cause.Cause.{Cause};
+ghost use Rattle.dob_share.specs.declared.share.Share.{Share as Shower};
 ghost use Rattle.dob_run.specs.declared.runner.Runner.{Runner};
 ghost use Rattle.dob_run.specs.CrewRunners.{endpoint_of, node_of};
 ghost use Rattle.dob_run.specs.CrewClose.{IsCrew, AreClosed};
 ghost use Rattle.dob_run.specs.Built.{IsBuilt};
 ghost use Rattle.dob_run.specs.BoundedRun.{AreUnfailed};
-ghost use Rattle.dob_run.specs.BuildEnd.{HaveStopped, IsFailureOf, AreOwners, IsShown, IsCodeShown, AreShownBelow, failed_of};
+ghost use Rattle.dob_run.specs.BuildEnd.{HaveStopped, IsFailureOf, AreOwners, IsShown, IsCodeShown, AreShownBelow, failed_of, share_in};
 ghost use Rattle.dob_run.specs.Scans.{AreFrom};
 
 use crate::bounded_run::{find_failed, part_runners};
 use crate::crew_close::{ClosedCrew, close_endpoints};
-use crate::fault::Fault;
 use crate::runner::Runner;
 use crate::scans::AT_A_TIME;
 use dob_board::{Board, Closed, Halt};
@@ -24,7 +23,8 @@ use dob_chan::Rejoined;
 use dob_node::{Cause, Node};
 use dob_pieces::{Family, Memory};
 use dob_rank::{Classes, SegmentLength, Segments};
-use dob_share::owner;
+use dob_share::{Share, owner};
+use dob_stops::Fault;
 use dob_value::{Table, Value, code_of_value};
 use rayon::prelude::*;
 use std::alloc::Global;
@@ -70,7 +70,8 @@ pub fn finish<R: Threads + Wait + Sync>(
     if let Err(fault) = late {
         return Err(fault);
     }
-    let table = table_of(rt, alloc, classes, &nodes)?;
+    let shares = shares_of(alloc, nodes)?;
+    let table = table_of(rt, alloc, classes, &shares)?;
     let ClosedCrew { closed, links, .. } = ended;
     Ok(Built {
         table,
@@ -129,71 +130,82 @@ fn cause_at(causes: &[Option<Cause>], place: usize) -> Cause
     cause
 }
 
-// The table of the values that the nodes show, which threads gather part after part.
+// The share of each node. All else that the nodes have is given back.
+fn shares_of(alloc: Global, nodes: Vec<Node>) -> Result<Vec<Share>, Memory>
+    ensures { IfOk result (λ shares. shares.items ≡ map share_in nodes.items) }
+{
+    let mut shares = Vec::with_capacity(alloc, nodes.len())?;
+    for node in nodes {
+        shares.push(node.into_share())?;
+    }
+    Ok(shares)
+}
+
+// The table of the values that the nodes' shares show, which threads gather part after part.
 fn table_of(
     rt: &(impl Threads + Sync),
     alloc: Global,
     classes: Classes,
-    nodes: &[Node],
+    shares: &[Share],
 ) -> Result<Table, Memory>
-    requires some { 0 < length nodes.now }
-    requires owners { AreOwners classes.family (length nodes.now) nodes.now }
+    requires some { 0 < length shares.now }
+    requires owners { AreOwners classes.family (length shares.now) shares.now }
     ensures family { IfOk result (λ table. table.family ≡ classes.family) }
-    ensures values { IfOk result (λ table. AreShownBelow (length nodes.now) (classes_of classes.family) nodes.now table.values) }
+    ensures values { IfOk result (λ table. AreShownBelow (length shares.now) (classes_of classes.family) shares.now table.values) }
 {
     let count = classes.class_count();
     let mut codes = Segments::new(alloc, SegmentLength::longest());
     let mut class = 0;
     'parts: while class < count {
         let end = count.min(class + AT_A_TIME);
-        let part = codes_of(rt, alloc, nodes, class, end)?;
+        let part = codes_of(rt, alloc, shares, class, end)?;
         codes.append(&part)?;
         class = end;
     }
     Ok(Table::new(classes, codes))
 }
 
-// The codes of the values that the nodes show for the classes from `first` on, before `end`.
+// The codes of the values that the shares show for the classes from `first` on, before `end`.
 fn codes_of(
     rt: &(impl Threads + Sync),
     alloc: Global,
-    nodes: &[Node],
+    shares: &[Share],
     first: u64,
     end: u64,
 ) -> Result<Vec<u16>, Memory>
     requires order { first ≤ end }
-    requires some { 0 < length nodes.now }
-    requires owned { (family : Family) × (end ≤ classes_of family) × AreOwners family (length nodes.now) nodes.now }
-    ensures { IfOk result (λ codes. AreFrom (IsCodeShown (length nodes.now) nodes.now) first end codes.items) }
+    requires some { 0 < length shares.now }
+    requires owned { (family : Family) × (end ≤ classes_of family) × AreOwners family (length shares.now) shares.now }
+    ensures { IfOk result (λ codes. AreFrom (IsCodeShown (length shares.now) shares.now) first end codes.items) }
 {
     let codes = (first..end)
         .into_par_iter()
         .map(
             |class: u64| -> u16
-                requires some { 0 < length nodes.now }
-                requires owned { (family : Family) × (class < classes_of family) × AreOwners family (length nodes.now) nodes.now }
-                ensures { IsCodeShown (length nodes.entry.now) nodes.entry.now class result }
-            { code_of(nodes, class) },
+                requires some { 0 < length shares.now }
+                requires owned { (family : Family) × (class < classes_of family) × AreOwners family (length shares.now) shares.now }
+                ensures { IsCodeShown (length shares.entry.now) shares.entry.now class result }
+            { code_of(shares, class) },
         )
         .collect::<Vec<_>>(rt, alloc)?;
     Ok(codes)
 }
 
 // The code of the value that the class's owner shows.
-fn code_of(nodes: &[Node], class: u64) -> u16
-    requires some { 0 < length nodes.now }
-    requires owned { (family : Family) × (class < classes_of family) × AreOwners family (length nodes.now) nodes.now }
-    ensures { IsCodeShown (length nodes.now) nodes.now class result }
+fn code_of(shares: &[Share], class: u64) -> u16
+    requires some { 0 < length shares.now }
+    requires owned { (family : Family) × (class < classes_of family) × AreOwners family (length shares.now) shares.now }
+    ensures { IsCodeShown (length shares.now) shares.now class result }
 {
-    code_of_value(value_of(nodes, class))
+    code_of_value(value_of(shares, class))
 }
 
 // The value that the class's owner shows.
-fn value_of(nodes: &[Node], class: u64) -> Value
-    requires some { 0 < length nodes.now }
-    requires own { (node : Shower) → slice_get nodes.now (owner_of (length nodes.now) class) ≡ Some node → IsOwn node.share class }
-    ensures { IsShown (length nodes.now) nodes.now class result }
+fn value_of(shares: &[Share], class: u64) -> Value
+    requires some { 0 < length shares.now }
+    requires own { (share : Shower) → slice_get shares.now (owner_of (length shares.now) class) ≡ Some share → IsOwn share class }
+    ensures { IsShown (length shares.now) shares.now class result }
 {
-    let node = owner(class, nodes.len());
-    nodes[node].value(class)
+    let node = owner(class, shares.len());
+    shares[node].value(class)
 }

@@ -14,7 +14,6 @@ ghost use Rattle.dob_run.specs.Seating.{AreSeated, CanSeat, CanSeatAll};
 ghost use Rattle.dob_update.specs.Batches.{most_items};
 
 use crate::endpoint::Endpoint;
-use crate::fault::Fault;
 use crate::hands::{Inlet, Outlet};
 use crate::inbox_open::lay;
 use crate::limits::size_passed;
@@ -23,6 +22,7 @@ use dob_board::{Board, NodeSeat};
 use dob_node::{Node, Opening, opening};
 use dob_pieces::{Family, Memory};
 use dob_rank::{Classes, SegmentLength, Segments};
+use dob_stops::Fault;
 use rayon::prelude::*;
 use std::alloc::Global;
 use std::thread::Threads;

@@ -4,7 +4,7 @@ ghost use Rattle.std.specs.Prelude.{slice_index, length, vec_len, slice_set, IfS
 ghost use Rattle.dob_safra.specs.declared.event.RingEvent.TheVariants.{Post};
 ghost use Rattle.dob_board.specs.Views.{posts_more};
 ghost use Rattle.dob_board.specs.Histories.{MakesEvent};
-ghost use Rattle.dob_board.specs.Seats.{IsSameSeat, TakesOne, stand_of, witnessed_by};
+ghost use Rattle.dob_board.specs.Seats.{IsSameSeat, TakesOne, TakesNone, MovesNothing, stand_of, witnessed_by};
 ghost use Rattle.dob_chan.specs.Ends.{senders_of};
 ghost use Rattle.dob_update.specs.Batches.{BatchView};
 ghost use Rattle.dob_run.specs.Links.{offered, worked, HoldsFor, IsFull, KeepsOutlet, KeepsInlet};
@@ -141,8 +141,10 @@ impl Endpoint {
         ensures taken { IfSome result (λ batch. TakesOne self.old.seat self.new.seat batch.from) }
         ensures worked { IfSome result (λ batch. (self.new.inlet.end ≡ self.old.inlet.end) × (worked self.new.inlet ≡ worked self.old.inlet ++ batch ∷ [])) }
         ensures kept { IfNone result (self.new.inlet ≡ self.old.inlet) }
+        ensures refused { IfNone result ((seen : ℕ) × TakesNone self.old.seat self.new.seat from seen) }
         ensures uncounted { IfNone result ((self.new.seat.taken.items ≡ self.old.seat.taken.items) × (self.new.seat.black ≡ self.old.seat.black)) }
         ensures halt { self.new.seat.halt ≡ self.old.seat.halt }
+        ensures still { MovesNothing self.old.seat self.new.seat }
         ensures keeps { KeepsEndpoint self.old self.new }
     {
         if self.seat.take(from).is_err() {

@@ -8,12 +8,16 @@ pub trait Gate {
     // By `says gate node yes` the gate may answer so of that node.
     ghost says: { Self → ℕ → Bool → Type 0 };
 
+    // By `told gate node expanded` it may have been told so of that node.
+    ghost told: { Self → ℕ → ℕ → Type 0 };
+
     /// Whether the runner of that node may go on.
     fn enter(&self, node: usize) -> bool
         ensures { says self.now node result };
 
-    /// Told after a turn's work how many settlements the node has expanded in it. Where it is left out, nothing is done.
-    fn worked(&self, _node: usize, _expanded: u64) {}
+    /// Told after a turn's work how many settlements the node has expanded in it.
+    fn worked(&self, node: usize, expanded: u64)
+        ensures { told self.now node expanded };
 }
 
 /// A gate that always answers yes.
@@ -24,7 +28,11 @@ impl Gate for Free {
 
     ghost says = { λ _ _ yes. yes ≡ true };
 
+    ghost told = { λ _ _ _. Unit {0} };
+
     fn enter(&self, _node: usize) -> bool {
         true
     }
+
+    fn worked(&self, _node: usize, _expanded: u64) {}
 }

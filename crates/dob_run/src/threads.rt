@@ -7,7 +7,6 @@ ghost use Rattle.dob_run.specs.Runners.{says_no};
 ghost use Rattle.dob_run.specs.Started.{IsStartOf, IsEndOf};
 
 use crate::crew_open::crew_of;
-use crate::fault::Fault;
 use crate::gate::Gate;
 use crate::limits::classes_within;
 use crate::runner::Runner;
@@ -17,6 +16,7 @@ use dob_board::Board;
 use dob_node::Cause;
 use dob_pieces::{Family, Memory};
 use dob_rank::{Classes, SegmentLength};
+use dob_stops::Fault;
 use std::alloc::Global;
 use std::snapshot::Snapshot;
 use std::sync::Wait;

@@ -1,10 +1,10 @@
 // A turn of a runner.
-ghost use Rattle.std.specs.Prelude.{◌≡◌, ◌≢◌, ◌↔◌, ◌<◌, ◌≤◌, IsTrue, Err, None, IfErr, MatchResult, length, false};
+ghost use Rattle.std.specs.Prelude.{◌≡◌, ◌≢◌, ◌↔◌, ◌<◌, ◌≤◌, ◌-◌, IsTrue, Err, None, IfErr, MatchResult, length, false};
 ghost use Rattle.dob_board.specs.declared.halt.Halt.TheVariants.{Running};
-ghost use Rattle.dob_node.specs.declared.cause.Cause.TheVariants.{Held};
-ghost use Rattle.dob_board.specs.Seats.{ObservesHalt};
-ghost use Rattle.dob_run.specs.Runners.{StepsBy, GoesRound, HasFailed, HasTurned, IsHeldBack, IsNew, IsAsked, IsReasonFor, says_no};
+ghost use Rattle.dob_stops.specs.declared.cause.Cause.TheVariants.{Held};
+ghost use Rattle.dob_run.specs.Runners.{StepsBy, GoesRound, HasFailed, IsHeldBack, IsNew, IsAsked, IsReasonFor, says_no};
 ghost use Rattle.dob_run.specs.TurnRounds.{Works};
+ghost use Rattle.dob_run.specs.Turns.{HasTurned, HasSeen, EndsTurn, IsTold};
 ghost use Rattle.dob_update.specs.Batches.{most_items};
 
 use crate::endpoint::Endpoint;
@@ -58,8 +58,8 @@ impl Runner {
         self.endpoint.fail();
     }
 
-    /// One turn: a runner that the gate lets pass and whose run goes on does a turn's work for its node, and if there was
-    /// none it looks for the token, or pauses. The answer is the halt that its seat knows.
+    /// One turn: a runner that the gate lets pass and whose run goes on does a turn's work for its node, of which the gate is told,
+    /// and if there was none it looks for the token, or pauses. The answer is the halt that its seat knows.
     ///
     /// Errors, after which the run has failed, if it hadn't ended or failed before: `Held` just where the gate says no, and then
     /// the runner has done nothing: its node and what went over its links are as they were; else the cause of the node: an
@@ -76,6 +76,7 @@ impl Runner {
         ensures asked { IsAsked (G.says gate.now) self.old.endpoint.seat.node result }
         ensures reason { IfErr result (IsReasonFor (says_no (G.says gate.now)) self.new) }
         ensures held { result ≡ Err Held → IsHeldBack self.old self.new }
+        ensures told { IsTold (G.told gate.now) self.old self.new }
     {
         if !gate.enter(self.endpoint.seat.node) {
             self.abandon(Cause::Held);
@@ -94,7 +95,7 @@ impl Runner {
     fn looks(&mut self) -> Halt
         requires { self.old.failed ≡ None }
         ensures goes { GoesRound self.old self.new }
-        ensures observed { ObservesHalt self.old.endpoint.seat self.new.endpoint.seat self.new.endpoint.seat.halt }
+        ensures seen { HasSeen self.old self.new }
         ensures halt { result ≡ self.new.endpoint.seat.halt }
     {
         self.endpoint.halted()
@@ -103,7 +104,8 @@ impl Runner {
     // What is left of a turn that did something, or nothing.
     fn ends_turn(&mut self, did: bool)
         requires { self.old.failed ≡ None }
-        ensures { GoesRound self.old self.new }
+        ensures goes { GoesRound self.old self.new }
+        ensures ends { EndsTurn did self.old self.new }
     {
         if did {
             self.backoff.reset();
@@ -121,7 +123,8 @@ impl Runner {
     ) -> Result<bool, Cause>
         requires unfailed { self.old.failed ≡ None }
         requires family { classes.now.family ≡ self.old.family }
-        ensures { StepsBy Works self.old self.new result }
+        ensures works { StepsBy Works self.old self.new result }
+        ensures told { G.told gate.now self.old.endpoint.seat.node (self.new.node.expanded - self.old.node.expanded) }
     {
         let before = self.node.expanded();
         let did = self.work(rt, classes);

@@ -1,6 +1,6 @@
 // What a runner does for its node: it takes batches, expands settlements, applies items and sends batches.
 ghost use Rattle.std.specs.Prelude.{◌≡◌, ◌≢◌, ◌↔◌, ◌<◌, IsTrue, Err, Some, None, slice_get};
-ghost use Rattle.dob_node.specs.declared.cause.Cause.TheVariants.{Memory};
+ghost use Rattle.dob_stops.specs.declared.cause.Cause.TheVariants.{Memory};
 ghost use Rattle.dob_run.specs.Runners.{StepsBy};
 ghost use Rattle.dob_run.specs.TurnRounds.{TakesBatch, LeavesBatch, ExpandsOne, AppliesOne, HasToSend, CutsLeft, FillsFor, SendsTo};
 

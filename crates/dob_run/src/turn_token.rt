@@ -3,6 +3,7 @@
 ghost use Rattle.std.specs.Prelude.{◌≡◌, ◌↔◌, IsTrue, None};
 ghost use Rattle.dob_run.specs.Runners.{GoesRound, IsAtRest};
 ghost use Rattle.dob_run.specs.TurnToken.{MovesToken};
+ghost use Rattle.dob_run.specs.Turns.{HasSameWork, SeeksToken, Rests};
 
 use crate::runner::Runner;
 
@@ -20,7 +21,8 @@ impl Runner {
     /// Looks for the token if it is idle, and pauses if it isn't or hasn't got it.
     pub(crate) fn rest(&mut self)
         requires { self.old.failed ≡ None }
-        ensures { GoesRound self.old self.new }
+        ensures goes { GoesRound self.old self.new }
+        ensures rests { Rests self.old self.new }
     {
         if self.seeks_token() {
             self.backoff.reset();
@@ -32,7 +34,8 @@ impl Runner {
     // Whether the runner is idle and its node has the token, which it then moves.
     fn seeks_token(&mut self) -> bool
         requires { self.old.failed ≡ None }
-        ensures { GoesRound self.old self.new }
+        ensures goes { GoesRound self.old self.new }
+        ensures seeks { SeeksToken self.old self.new result }
     {
         if !self.is_idle() {
             return false;
@@ -47,6 +50,7 @@ impl Runner {
         requires idle { IsAtRest self.old }
         ensures goes { GoesRound self.old self.new }
         ensures moves { MovesToken self.old.endpoint.seat self.new.endpoint.seat result }
+        ensures same { HasSameWork self.old self.new }
     {
         if !self.endpoint.finds_token() {
             return false;

@@ -1,7 +1,7 @@
 // What a runner does with the words of the board besides its counts: the token and the halt.
 ghost use Rattle.std.specs.Prelude.{◌≡◌, ◌≢◌, ◌↔◌, ℕ, IsTrue, Some, None, true, false};
 ghost use Rattle.dob_board.specs.declared.halt.Halt.TheVariants.{Running, Ended};
-ghost use Rattle.dob_board.specs.Seats.{stand_of, MayEnd, KnewOwnFailure, ObservesHalt, HasAnnounced};
+ghost use Rattle.dob_board.specs.Seats.{stand_of, MayEnd, KnewOwnFailure, ObservesHalt, TellsHalt, HasAnnounced};
 ghost use Rattle.dob_run.specs.Endpoints.{AreOut};
 ghost use Rattle.dob_run.specs.Keeps.{HasSameLinks};
 ghost use Rattle.dob_run.specs.TurnToken.{HasLooked, HasPassed};
@@ -66,7 +66,8 @@ impl Endpoint {
         let _ = self.seat.fail();
     }
 
-    /// Whether the run goes on, as the board says now. It says that the node itself failed only where the seat knew that.
+    /// Whether the run goes on, as the board says now: just where no node has failed and no end was announced so far. It says that
+    /// the node itself failed only where the seat knew that.
     pub(crate) fn halted(&mut self) -> Halt
         ensures halt { result ≡ self.new.seat.halt }
         ensures links { HasSameLinks self.old self.new }
@@ -74,6 +75,7 @@ impl Endpoint {
         ensures stays { self.old.seat.halt ≢ Running → self.new.seat.halt ≡ self.old.seat.halt }
         ensures own { KnewOwnFailure self.old.seat self.new.seat.halt }
         ensures observed { ObservesHalt self.old.seat self.new.seat self.new.seat.halt }
+        ensures told { TellsHalt self.new.seat self.new.seat.halt }
     {
         self.seat.halted()
     }

@@ -18,13 +18,13 @@ collect-requires-clause-ready g c = λ κs lives.
 
 pub returns : goal.returns
 returns g c =
-    let nodes = c.args.nodes.now in
+    let shares = c.args.shares.now in
     let first = c.args.first in
     let end = c.args.end in
     let done = c.in_ok-codes.ensures in
     let ends = c.into_par_iter.ensures in
     let chain = rw (c.map.ensures.base, c.map.ensures.f) at done.1 in
     let places = chain.1 ∙ (λ i. nat_range (ends.0 i) (ends.1 i)) in
-    let are : AllZip (IsCodeShown (length nodes) nodes) (range_with_len first (end - first)) done.0 =
-    subst (λ (classes : List ℕ). AllZip (IsCodeShown (length nodes) nodes) classes done.0) places chain.2 in
-    subst (AreFrom (IsCodeShown (length nodes) nodes) first end) (sym done.2) (found_are (IsCodeShown (length nodes) nodes) first end done.0 c.requires.order are)
+    let are : AllZip (IsCodeShown (length shares) shares) (range_with_len first (end - first)) done.0 =
+    subst (λ (classes : List ℕ). AllZip (IsCodeShown (length shares) shares) classes done.0) places chain.2 in
+    subst (AreFrom (IsCodeShown (length shares) shares) first end) (sym done.2) (found_are (IsCodeShown (length shares) shares) first end done.0 c.requires.order are)

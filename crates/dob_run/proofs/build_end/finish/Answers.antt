@@ -1,8 +1,9 @@
 -- What the words say decides between a failure and the table.
 use Rattle.std.proofs.Common.{◌≡◌, List, map, refl, ap, ◌∙◌, subst}
+use Rattle.dob_node.specs.declared.node.Node.{Node}
 use Rattle.dob_run.specs.declared.runner.Runner.{Runner}
 use Rattle.dob_run.specs.BoundedRun.{AreUnfailed, IsFirstFailed}
-use Rattle.dob_run.specs.BuildEnd.{failed_of}
+use Rattle.dob_run.specs.BuildEnd.{failed_of, share_in}
 use Rattle.dob_run.proofs.CrewStopped.{not_running, some_cause, is_failure, late_failure, owners_are, built_is}
 use Rattle.dob_run.proofs.build_end.finish.Goals as goal
 use Rattle.dob_run.proofs.build_end.finish.Goals.{In_ok-nodes}
@@ -45,19 +46,19 @@ pub table_of-requires-clause-owners : goal.table_of-requires-clause-owners
 table_of-requires-clause-owners g c = λ κs lives.
     let here = (goal.at.table_of-requires-clause-owners g c).In_ok-nodes in
     let stopped = c.requires.stopped in
-    let nodes = c.deref-3.result.now in
+    let shares = c.deref-3.result.now in
     (owners_are c.args.board c.args.classes.family stopped.0 c.args.runners.items c.in_ok-nodes.ended.closed.words.items c.requires.crew stopped.1
-    c.in_ok-nodes.ensures.ended.words c.in_default.ensures nodes
-    (c.deref-3.ensures.value ∙ c.in_ok-nodes.ensures.nodes))
+    c.in_ok-nodes.ensures.ended.words c.in_default.ensures shares
+    (c.deref-3.ensures.value ∙ c.in_ok-shares.ensures ∙ ap (λ (l : List Node). map share_in l) c.in_ok-nodes.ensures.nodes))
 
 pub returns-clause-built : goal.returns-clause-built
 returns-clause-built g c = λ size stopped.
     let here = (goal.at.returns-clause-built g c).In_ok-nodes in
-    let nodes = c.deref-3.result.now in
+    let shares = c.deref-3.result.now in
     built_is c.args.board c.args.classes.family size c.args.runners.items c.in_ok-nodes.ended.closed.words.items c.requires.crew stopped
     c.in_ok-nodes.ensures.ended.words c.in_default.ensures
-    c.in_ok-nodes.ended refl c.in_ok-nodes.ensures.ended nodes _
-    (c.deref-3.ensures.value ∙ c.in_ok-nodes.ensures.nodes) c.in_ok-table.ensures.family
+    c.in_ok-nodes.ended refl c.in_ok-nodes.ensures.ended shares _
+    (c.deref-3.ensures.value ∙ c.in_ok-shares.ensures ∙ ap (λ (l : List Node). map share_in l) c.in_ok-nodes.ensures.nodes) c.in_ok-table.ensures.family
     c.in_ok-table.ensures.values refl refl
 
 pub returns-clause-unfailed : goal.returns-clause-unfailed

@@ -1,6 +1,6 @@
 -- A runner for which no thread can be made keeps its place when it is handed back, and has failed, at the latest for lack of memory.
 use Rattle.std.proofs.Common.{◌≡◌, rules, subst}
-use Rattle.dob_node.specs.declared.cause.Cause.TheVariants.{Memory}
+use Rattle.dob_stops.specs.declared.cause.Cause.TheVariants.{Memory}
 use Rattle.dob_run.specs.declared.runner.Runner.{Runner}
 use Rattle.dob_run.specs.declared.turn_loop.Until.{Until}
 use Rattle.dob_run.specs.TurnLoop.{EndsBy}

@@ -58,6 +58,16 @@ returns-clause-found c =
     seat.seat.me.0.witnessed c.compare_exchange-found.new.seat.me witnessed.0 (c.halt_of-self.ensures ∙ c.halt_after.ensures) in
     record { noted = refl; halt_is = refl; within = done.within; stays = done.stays }
 
+pub returns-clause-told : goal.returns-clause-told
+returns-clause-told c =
+    let seat = c.args.self.now in
+    let witnessed = fails_tell seat.nodes seat.node c.compare_exchange-found.result _ seat.seat.me c.compare_exchange-found.new.seat.me
+    (stand_from seat.posted.items seat.taken.items seat.seen.items seat.black seat.token seat.halt) seat.seat.me.0.witnessed seat.view_is
+    (omega arith) c.compare_exchange-found.ensures.2 in
+    let done = found_done seat.nodes seat.node _ seat.posted.items seat.taken.items seat.seen.items seat.black seat.token seat.halt c.halt_of-self.result
+    seat.seat.me.0.witnessed c.compare_exchange-found.new.seat.me witnessed.0 (c.halt_of-self.ensures ∙ c.halt_after.ensures) in
+    done.told
+
 pub returns-clause-observed : goal.returns-clause-observed
 returns-clause-observed c =
     let seat = c.args.self.now in

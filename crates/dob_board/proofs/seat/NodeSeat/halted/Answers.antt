@@ -58,6 +58,17 @@ returns-clause-found c =
     seat.seat.me.0.witnessed c.load-word.new.seat.me witnessed.0 c.halt_of-self.ensures in
     record { noted = refl; halt_is = refl; within = done.within; stays = done.stays }
 
+pub returns-clause-told : goal.returns-clause-told
+returns-clause-told c =
+    let seat = c.args.self.now in
+    let witnessed = halts_tell seat.nodes seat.node c.load-word.result seat.seat.me c.load-word.new.seat.me
+    (stand_from seat.posted.items seat.taken.items seat.seen.items seat.black seat.token seat.halt) seat.seat.me.0.witnessed seat.view_is c.load-word.ensures.2 in
+    let done =
+    found_done seat.nodes seat.node c.load-word.result seat.posted.items seat.taken.items seat.seen.items seat.black seat.token seat.halt
+    c.halt_of-self.result
+    seat.seat.me.0.witnessed c.load-word.new.seat.me witnessed.0 c.halt_of-self.ensures in
+    done.told
+
 pub returns-clause-observed : goal.returns-clause-observed
 returns-clause-observed c =
     let seat = c.args.self.now in

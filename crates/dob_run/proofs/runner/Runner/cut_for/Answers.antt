@@ -4,8 +4,9 @@ use Rattle.std.proofs.lemmas.Bool.{cases_Bool}
 use Rattle.dob_pieces.proofs.Elements.{some_at}
 use Rattle.dob_update.specs.Batches.{BatchView, OutboxView}
 use Rattle.dob_board.specs.declared.view.Stand.{Stand}
+use Rattle.dob_board.specs.Histories.{moves_of}
 use Rattle.dob_board.proofs.Halting.{same_halt}
-use Rattle.dob_node.specs.declared.cause.Cause.{Cause}
+use Rattle.dob_stops.specs.declared.cause.Cause.{Cause}
 use Rattle.dob_node.specs.Nodes.{outbox_to, HasCut}
 use Rattle.dob_run.proofs.Keeping.{own_still, links_kept, cut_reason, outbox_still, some_cause, node_goes, agrees_going, agrees_failed}
 use Rattle.dob_run.proofs.Lawfuls.{cut_one, few_cut, unchanged_failed}
@@ -108,6 +109,7 @@ returns c =
       keeps = record { endpoint = c.post.ensures.keeps; family = refl; size = refl };
       unfailed = c.requires.unfailed;
       halt = same_halt c.post.new.self.seat.halt r.endpoint.seat.halt (ap (λ (s : Stand). s.halt) c.post.ensures.counted);
+      still = ap (moves_of r.endpoint.seat.node) c.post.ensures.event.is_next ∙ c.post.ensures.event.alone;
     })
     cut c.post.ensures.offered c.post.ensures.inlet
     (λ empty. cut_none c.in-Ok.cut c.in-Some.batch c.in-Some.is (c.in-Ok.ensures.none.1 empty))

@@ -52,7 +52,7 @@ returns-in-Err c = record {
 
 pub returns-in-Ok : goal.returns-in-Ok
 returns-in-Ok c = record {
-  goes = record { keeps = record { endpoint = endpoint_same c.args.self.now.endpoint; family = refl; size = refl }; unfailed = c.requires.unfailed; halt = refl };
+  goes = record { keeps = record { endpoint = endpoint_same c.args.self.now.endpoint; family = refl; size = refl }; unfailed = c.requires.unfailed; halt = refl; still = refl };
   endpoint = refl;
   done = (λ none. c.in-Ok.ensures.done.0 (ap Ok none), λ none. same_answer _ _ (c.in-Ok.ensures.done.1 none));
   expanded = λ did. c.in-Ok.ensures.expanded (ap Ok did);

@@ -1,5 +1,5 @@
 -- A runner that looks for the halt stays lawful, and its seat finds its own failure only where it knew of it.
-use Rattle.std.proofs.Common.{sym, ap, ◌∙◌, inl}
+use Rattle.std.proofs.Common.{refl, sym, ap, ◌∙◌, inl}
 use Rattle.dob_run.proofs.Keeping.{own_before}
 use Rattle.dob_run.proofs.Lawfuls.{recoloured, same_inlet}
 use Rattle.dob_run.proofs.runner.Runner.looks.Goals as goal
@@ -18,3 +18,11 @@ invariant_of-self c =
           (same_inlet r.endpoint c.halted.new.self c.halted.ensures.links.inlet)
           (λ is. (r.lawful (inl c.requires)).white (sym c.halted.ensures.colour ∙ is));
     }
+
+pub returns-clause-seen : goal.returns-clause-seen
+returns-clause-seen c = record {
+  same = record { node = refl; links = c.halted.ensures.links };
+  observed = c.halted.ensures.observed;
+  told = c.halted.ensures.told;
+  still = c.halted.ensures.observed.alone;
+}

@@ -1,8 +1,8 @@
 -- A runner at rest stays lawful without the token, when it announces the end, and when it passes the token on; and it announces
 -- just where it may.
-use Rattle.std.proofs.Common.{sym, ap, ◌∙◌, inl}
+use Rattle.std.proofs.Common.{refl, sym, ap, ◌∙◌, inl}
 use Rattle.std.proofs.lemmas.Bool.{both_ways}
-use Rattle.dob_run.proofs.Keeping.{own_before, own_still}
+use Rattle.dob_run.proofs.Keeping.{own_before, own_still, links_trans}
 use Rattle.dob_run.proofs.Lawfuls.{recoloured, same_inlet}
 use Rattle.dob_run.proofs.TurnParts.{token_away, token_moved}
 use Rattle.dob_run.proofs.runner.Runner.move_token.Goals as goal
@@ -73,3 +73,18 @@ returns-else-may_announce-clause-moves c =
     token_moved c.args.self.now.endpoint.seat c.finds_token.new.self.seat c.pass.new.self.seat c.finds_token.result c.if-not-finds_token.false
     c.finds_token.ensures.looked c.finds_token.ensures.found
     (record { announced = λ may. absurd (both_ways _ c.if-may_announce.false (c.may_announce.ensures.1 may)); passed = λ unable. c.pass.ensures.passed })
+
+pub returns-then-not-finds_token-clause-same : goal.returns-then-not-finds_token-clause-same
+returns-then-not-finds_token-clause-same c = record { node = refl; links = c.finds_token.ensures.links }
+
+pub returns-then-may_announce-clause-same : goal.returns-then-may_announce-clause-same
+returns-then-may_announce-clause-same c = record {
+  node = refl;
+  links = links_trans c.args.self.now.endpoint c.finds_token.new.self c.announce.new.self c.finds_token.ensures.links c.announce.ensures.links;
+}
+
+pub returns-else-may_announce-clause-same : goal.returns-else-may_announce-clause-same
+returns-else-may_announce-clause-same c = record {
+  node = refl;
+  links = links_trans c.args.self.now.endpoint c.finds_token.new.self c.pass.new.self c.finds_token.ensures.links c.pass.ensures.links;
+}

@@ -2,7 +2,7 @@
 use Rattle.std.proofs.Common.{refl, ap, ◌∙◌, inl}
 use Rattle.dob_run.specs.TurnRounds.{SendsTo}
 use Rattle.dob_run.specs.Runners.{GoesOn}
-use Rattle.dob_run.proofs.Keeping.{runner_same, broken_on, endpoint_trans, own_still, out_still}
+use Rattle.dob_run.proofs.Keeping.{runner_same, broken_on, endpoint_trans, own_still, out_still, still_same, still_trans}
 use Rattle.dob_run.proofs.Lawfuls.{offered_again}
 use Rattle.dob_run.proofs.Sending.{own_unsent, sends_none, sends_offered}
 use Rattle.dob_run.proofs.runner.Runner.send_to.Goals as goal
@@ -47,6 +47,8 @@ returns g c =
       };
       unfailed = fills.0.goes.unfailed;
       halt = ap (λ s. s.halt) c.offer.ensures.seat ∙ fills.0.goes.halt;
+      still = still_trans r.endpoint.seat f.endpoint.seat c.offer.new.self.seat fills.0.goes.keeps.endpoint.seat.node fills.0.goes.still
+          (still_same f.endpoint.seat c.offer.new.self.seat c.offer.ensures.seat);
     })
     refl c.offer.ensures.inlet (c.is_full.ensures.full c.if-not-is_full.false) c.offer.ensures.offered c.offer.ensures.tried c.offer.ensures.full
     c.is_full-2.result c.is_full-2.ensures.full c.is_full-2.ensures.empty

@@ -1,10 +1,10 @@
 -- The runner is lawful whether no batch came or one was applied; a refused one blackened its seat before any end, and one for which
 -- there is no memory lies in the hand.
-use Rattle.std.proofs.Common.{◌≡◌, ◌≢◌, ◌<◌, true, None, Err, refl, sym, ap, subst, arith, ◌∙◌, ◌++◌, inl}
+use Rattle.std.proofs.Common.{◌≡◌, ◌≢◌, ◌<◌, true, None, Err, refl, sym, ap, subst, arith, ◌∙◌, ◌++◌, ℕ, inl, inr}
 use Rattle.dob_board.specs.declared.view.Stand.{Stand}
-use Rattle.dob_board.specs.Seats.{TakesOne}
+use Rattle.dob_board.specs.Seats.{TakesOne, TakesNone}
 use Rattle.dob_board.specs.declared.seat.NodeSeat.{NodeSeat}
-use Rattle.dob_node.specs.declared.cause.Cause.TheVariants.{Memory}
+use Rattle.dob_stops.specs.declared.cause.Cause.TheVariants.{Memory}
 use Rattle.dob_node.specs.declared.node.Node.{Node}
 use Rattle.dob_node.specs.Nodes.{IsSound, IsUnchanged}
 use Rattle.dob_run.specs.declared.hands.Inlet.{Inlet}
@@ -14,7 +14,7 @@ use Rattle.dob_run.specs.LawfulRunners.{IsLawfulRunner}
 use Rattle.dob_run.specs.Batches.{IsBatchFor}
 use Rattle.dob_run.specs.Links.{worked, HoldsFor}
 use Rattle.dob_run.specs.Runners.{no_gate}
-use Rattle.dob_run.proofs.Keeping.{endpoint_trans, links_kept, own_still, some_cause, failed_first, refused_reason, node_goes, agrees_going, agrees_failed, unspared_reason, memory_reason}
+use Rattle.dob_run.proofs.Keeping.{endpoint_trans, links_kept, own_still, some_cause, failed_first, refused_reason, node_goes, agrees_going, agrees_failed, unspared_reason, memory_reason, still_same, still_trans}
 use Rattle.dob_node.proofs.TakenLists.{before_since}
 use Rattle.dob_run.proofs.Applied.{worked_again, worked_else, worked_more}
 use Rattle.dob_run.proofs.Lawfuls.{recoloured, same_inlet, applied_batch, unchanged_node, unchanged_failed}
@@ -130,8 +130,10 @@ returns-in_default-clause-step g c =
       keeps = record { endpoint = c.receive.ensures.keeps; family = refl; size = refl };
       unfailed = c.requires;
       halt = ap (λ (s : NodeSeat). s.halt) c.receive.ensures.seat;
+      still = still_same r.endpoint.seat c.receive.new.self.seat c.receive.ensures.seat;
     })
     c.receive.ensures.worked c.receive.ensures.asked (ap (λ v. v.items) c.receive.ensures.outlets) refl (unchanged_same r.node)
+    (inl (subst (λ (s : NodeSeat). (from : ℕ) → ¬ HoldsFor r.family s.nodes from s.node c.receive.new.self.inlet) c.receive.ensures.seat c.in_default.ensures))
 
 pub returns-in-Err-clause-step : goal.returns-in-Err-clause-step
 returns-in-Err-clause-step g c = record {
@@ -170,9 +172,19 @@ returns-in_default-accept-clause-step g c =
       keeps = record { endpoint = endpoint_trans r.endpoint c.receive.new.self c.accept.new.self c.receive.ensures.keeps c.accept.ensures.keeps; family = refl; size = refl };
       unfailed = c.requires;
       halt = c.accept.ensures.halt ∙ ap (λ s. s.halt) c.receive.ensures.seat;
+      still = still_trans r.endpoint.seat c.receive.new.self.seat c.accept.new.self.seat (ap (λ (s : NodeSeat). s.node) c.receive.ensures.seat)
+          (still_same r.endpoint.seat c.receive.new.self.seat c.receive.ensures.seat) c.accept.ensures.still;
     })
     c.receive.ensures.worked c.receive.ensures.asked (ap (λ v. v.items) (c.accept.ensures.outlets ∙ c.receive.ensures.outlets))
     c.in_default-accept.ensures.kept c.reserve.ensures.unchanged
+    (let refused = c.in_default-accept.ensures.refused in inr (
+      c.in-Some.from,
+      refused.0,
+      subst (λ (s : NodeSeat). HoldsFor r.family s.nodes c.in-Some.from s.node c.accept.new.self.inlet) c.receive.ensures.seat
+          (subst (λ (i : Inlet). HoldsFor r.family c.receive.new.self.seat.nodes c.in-Some.from c.receive.new.self.seat.node i) (sym c.in_default-accept.ensures.kept)
+          c.in-Some.ensures),
+      subst (λ (s : NodeSeat). TakesNone s c.accept.new.self.seat c.in-Some.from refused.0) c.receive.ensures.seat refused.1,
+    ))
 
 pub returns-in-Ok-apply_batch-clause-step : goal.returns-in-Ok-apply_batch-clause-step
 returns-in-Ok-apply_batch-clause-step g c =
@@ -182,6 +194,8 @@ returns-in-Ok-apply_batch-clause-step g c =
       keeps = record { endpoint = endpoint_trans r.endpoint c.receive.new.self c.accept.new.self c.receive.ensures.keeps c.accept.ensures.keeps; family = refl; size = refl };
       unfailed = c.requires;
       halt = c.accept.ensures.halt ∙ ap (λ s. s.halt) c.receive.ensures.seat;
+      still = still_trans r.endpoint.seat c.receive.new.self.seat c.accept.new.self.seat (ap (λ (s : NodeSeat). s.node) c.receive.ensures.seat)
+          (still_same r.endpoint.seat c.receive.new.self.seat c.receive.ensures.seat) c.accept.ensures.still;
     })
     c.receive.ensures.worked c.receive.ensures.asked (ap (λ v. v.items) (c.accept.ensures.outlets ∙ c.receive.ensures.outlets))
     c.in-Some-accept.batch c.in-Some-accept.ensures.worked.0 c.in-Some-accept.ensures.worked.1
