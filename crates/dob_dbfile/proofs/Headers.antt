@@ -73,13 +73,13 @@ module _ (n : ℕ) (bytes : List ℕ) (long : 20 ≤ n) (there : n ≤ length by
   profile_falls First profile says = says
   profile_falls Second profile says = part 12 1 n bytes (omega (arith, long)) ∙ says
 
-  family_lifts : (format : Format) (family : Family) → NamesFamily format family (take n bytes) → NamesFamily format family bytes
+  pub family_lifts : (format : Format) (family : Family) → NamesFamily format family (take n bytes) → NamesFamily format family bytes
   family_lifts format family names = (header_lifts format family.set names.0, profile_lifts format family.profile names.1)
 
   family_falls : (format : Format) (family : Family) → header_len format ≤ n → NamesFamily format family bytes → NamesFamily format family (take n bytes)
   family_falls format family fits names = (header_falls format family.set fits names.0, profile_falls format family.profile names.1)
 
-  count_part : (format : Format) → header_len format ≤ n → take 8 (drop (count_place format) (take n bytes)) ≡ take 8 (drop (count_place format) bytes)
+  pub count_part : (format : Format) → header_len format ≤ n → take 8 (drop (count_place format) (take n bytes)) ≡ take 8 (drop (count_place format) bytes)
   count_part format fits = let last = count_last format in part (count_place format) 8 n bytes (omega (arith, last, fits))
 
   fits_in : (format : Format) (set : PieceSet) → HasHeader format set (take n bytes) → header_len format ≤ n
@@ -92,7 +92,7 @@ module _ (n : ℕ) (bytes : List ℕ) (long : 20 ≤ n) (there : n ≤ length by
   counts_lifts format family counts =
       (family_lifts format family counts.0, sym (count_part format (fits_in format family.set counts.0.0)) ∙ counts.1)
 
-  counts_falls : (format : Format) (family : Family) → header_len format ≤ n → CountsClasses format family bytes → CountsClasses format family (take n bytes)
+  pub counts_falls : (format : Format) (family : Family) → header_len format ≤ n → CountsClasses format family bytes → CountsClasses format family (take n bytes)
   counts_falls format family fits counts =
       (family_falls format family fits counts.0, count_part format fits ∙ counts.1)
 

@@ -1,14 +1,9 @@
 -- What the bytes of a file that is held show of the whole of it.
-use Rattle.std.proofs.Common.{ℕ, ◌+◌, ◌*◌, ◌≤◌, ◌<◌, ◌≡◌, List, take, length, inl, inr, refl, arith}
-use Rattle.dob_pieces.specs.declared.piece_set.PieceSet.{PieceSet}
-use Rattle.dob_pieces.specs.declared.profile.Family.{Family}
-use Rattle.dob_rank.specs.Families.{classes_of}
+use Rattle.std.proofs.Common.{ℕ, ◌≡◌, List}
 use Rattle.dob_dbfile.specs.declared.fault.Fault.{Fault}
 use Rattle.dob_dbfile.specs.declared.fault.Fault.TheVariants as fault
-use Rattle.dob_dbfile.specs.declared.header.Format.{Format}
 use Rattle.dob_dbfile.specs.Devices.{whole}
-use Rattle.dob_dbfile.specs.Faults.{header_len, NamesSet, CountsClasses, HasHeaderFault, HasReadFault, file_len}
-use Rattle.dob_dbfile.proofs.Headers.{set_lifts, counts_lifts, fault_lifts}
+use Rattle.dob_dbfile.specs.Faults.{HasHeaderFault, HasReadFault}
 
 -- a fault of the header is one of the file
 pub refused : (bytes : List ℕ) (given : Fault) → HasHeaderFault bytes given → HasReadFault (whole bytes) given

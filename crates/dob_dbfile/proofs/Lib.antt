@@ -11,6 +11,7 @@ mod Endings  -- what the end of a file shows
 mod Headers  -- what the tests say of the first bytes
 pub mod Places  -- at most one fault holds
 mod HeldBytes  -- what the bytes of a file show
+mod FrontBytes  -- what the first bytes show of the file
 mod Verdicts  -- what the steps say of the whole stream
 pub mod Written  -- the file of a table passes
 pub mod Looked  -- what was read by place, and the records in a table's file

@@ -3,6 +3,7 @@ use Rattle.std.proofs.Common.{◌≡◌, ◌∙◌, ℕ, zero, suc, ◌*◌, ◌
 use Rattle.std.proofs.Common.{Some, slice_get, slice_index, take_all}
 use Rattle.std.specs.Prelude.{unwrap_or}
 use Rattle.std.proofs.lemmas.List.{drop-drop}
+use Rattle.std.proofs.lemmas.Option.{get_or_from_slice_get, same_Some, slice_get_within}
 use Rattle.std.proofs.lemmas.List.Elements.{All-tail}
 use Rattle.std.specs.List.{All}
 use Rattle.byteorder.specs.Endian.{little_bytes, little_number}
@@ -69,6 +70,16 @@ entry_at (v ∷ values) (suc class) value behind entries below entry same =
     entry_at values class value behind (All-tail IsEntry v values entries) (omega (arith, below)) entry
     (subst (λ (n : ℕ). take 2 (drop n (records (v ∷ values) ++ behind)) ≡ little_bytes 2 (code_of_value value)) place same)
 
+-- the record of a class is that of its value
+record_at : (values : List Value) (class : ℕ) (value : Value) (behind : List ℕ) → slice_get values class ≡ Some value
+    → take 2 (drop (2 * class) (records values ++ behind)) ≡ little_bytes 2 (code_of_value value)
+record_at [] class value behind stands = absurd (let below : class < 0 = slice_get_within {A = Value} [] class value stands in omega (arith, below))
+record_at (v ∷ values) zero value behind stands = ap (λ (x : Value). little_bytes 2 (code_of_value x)) (same_Some v value stands)
+record_at (v ∷ values) (suc class) value behind stands =
+    let place : 2 * suc class ≡ suc (suc (2 * class)) = omega arith in
+    subst (λ (n : ℕ). take 2 (drop n (records (v ∷ values) ++ behind)) ≡ little_bytes 2 (code_of_value value)) (sym place)
+    (record_at values class value behind stands)
+
 -- the header of a table's file names its family alone
 pub table_family : (table : ClassTable) (bytes : List ℕ) (format : Format) (family : Family) → IsTable table.family table.values → IsFile bytes table
     → CountsClasses format family bytes → family ≡ table.family
@@ -96,3 +107,22 @@ pub table_record : (table : ClassTable) (bytes : List ℕ) (format : Format) (fa
 table_record table bytes format family class value is file counts below has =
     records_are_entries table bytes format family class value is file counts
     (let counted : length table.values ≡ classes_of table.family = table_classes table is in omega (arith, counted, below)) has
+
+-- in the file of a table each class has its value's record
+pub table_has_record : (table : ClassTable) (bytes : List ℕ) (format : Format) (family : Family) (class : ℕ) (value : Value) → IsTable table.family table.values
+    → IsFile bytes table → CountsClasses format family bytes → slice_get table.values class ≡ Some value → HasRecord (whole bytes) format class value
+table_has_record table bytes format family class value is file counts stands =
+    let found = format_of bytes table file in
+    let one = same_head format found.0 family table.family bytes counts.0 (counts_file found.0 bytes table found.1 is).0 in
+    let digest : List ℕ = sha256 (contents_in found.0 table) in
+    let behind : drop (header_len found.0) bytes ≡ records table.values ++ digest =
+    ap (drop (header_len found.0)) found.1.same ∙ behind_header found.0 table in
+    let rest : drop (2 * class) (records table.values ++ digest) ≡ drop (place_of format class) bytes =
+    ap (drop (2 * class)) (sym behind)
+    ∙ drop-drop (2 * class) (header_len found.0) bytes
+    ∙ ap (λ (f : Format). drop (place_of f class) bytes) (sym one.0) in
+    record {
+      entry = subst IsEntry (get_or_from_slice_get table.values class value value stands)
+          (is.entries class value (slice_get_within table.values class value stands));
+      same = ap (take 2) (sym rest) ∙ record_at table.values class value digest stands;
+    }

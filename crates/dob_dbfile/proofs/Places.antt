@@ -38,10 +38,10 @@ same_profile Second p q bytes at_p at_q =
     let same : profile_byte p ∷ [] ≡ profile_byte q ∷ [] = sym at_p ∙ at_q in
     same_byte p q (ap (λ (xs : List ℕ). slice_index xs 0) same)
 
-same_format : (f g : Format) (bytes : List ℕ) → HasTitle f bytes → HasTitle g bytes → f ≡ g
+pub same_format : (f g : Format) (bytes : List ℕ) → HasTitle f bytes → HasTitle g bytes → f ≡ g
 same_format f g bytes at_f at_g = same_title f g (sym at_f.1 ∙ at_g.1)
 
-same_set : (f g : Format) (p q : PieceSet) (bytes : List ℕ) → NamesSet f p bytes → NamesSet g q bytes → p ≡ q
+pub same_set : (f g : Format) (p q : PieceSet) (bytes : List ℕ) → NamesSet f p bytes → NamesSet g q bytes → p ≡ q
 same_set f g p q bytes at_p at_q =
     let same : set_bytes p ≡ set_bytes q = sym at_p.1 ∙ at_q.1 in
     same_numbers p q (cc) (cc) (cc)

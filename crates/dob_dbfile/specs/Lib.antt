@@ -6,4 +6,5 @@ pub mod Faults
 pub mod FaultTexts
 pub mod Reading
 pub mod Looking
+pub mod Fronts
 pub mod Writing

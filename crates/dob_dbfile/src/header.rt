@@ -1,11 +1,12 @@
 // What stands before the records of a file: its format, its family, and how many classes there are.
-ghost use Rattle.std.specs.Prelude.{◌≡◌, ◌≢◌, ◌++◌, ◌≤◌, ◌↔◌, ◌∷◌, [], length, IsTrue, OnOk, IfOk, IfErr, MatchOption, vec_capacity};
+ghost use Rattle.std.specs.Prelude.{◌≡◌, ◌≢◌, ◌++◌, ◌≤◌, ◌↔◌, ◌∷◌, [], length, take, drop, Some, IsTrue, OnOk, IfOk, IfErr, IfSome, MatchOption, vec_capacity};
+ghost use Rattle.dob_pieces.specs.declared.profile.Family.{Family as AnyFamily};
 ghost use Rattle.dob_pieces.specs.declared.piece_set.PieceSet.{PieceSet as AnySet};
 ghost use Rattle.dob_pieces.specs.declared.profile.Profile.{Profile as AnyProfile};
 ghost use Rattle.dob_dbfile.specs.declared.header.Format.{Format as AnyFormat};
 ghost use Rattle.dob_dbfile.specs.declared.header.Format.TheVariants.{Second};
 ghost use Rattle.dob_dbfile.specs.Format.{title, set_bytes, profile_byte, profile_bytes, count_bytes};
-ghost use Rattle.dob_dbfile.specs.Faults.{SaysProfile, NamesSet, HasHeader, CountsClasses, HasHeaderFault, header_len};
+ghost use Rattle.dob_dbfile.specs.Faults.{SaysProfile, NamesSet, NamesFamily, HasHeader, CountsClasses, HasHeaderFault, count_place, header_len};
 
 use crate::fault::Fault;
 use byteorder::{ByteOrder, LittleEndian};
@@ -103,6 +104,28 @@ pub(crate) fn family_counted(format: Format, set: PieceSet, header: &[u8]) -> Re
         Ok(family)
     } else {
         Err(Fault::ClassCount)
+    }
+}
+
+/// The family of that set that the whole header names, where the header counts so many classes, as many as that may be.
+pub(crate) fn family_saying(
+    format: Format,
+    set: PieceSet,
+    header: &[u8],
+    classes: u64,
+) -> Option<Family>
+    requires named { HasHeader format set header.now }
+    requires long { length header.now ≡ header_len format }
+    ensures some { IfSome result (λ family. NamesFamily format family header.now
+        × (take 8 (drop (count_place format) header.now) ≡ count_bytes classes)) }
+    ensures none { (family : AnyFamily) → family.set ≡ set → NamesFamily format family header.now
+        → take 8 (drop (count_place format) header.now) ≡ count_bytes classes → result ≡ Some family }
+{
+    let profile = profile_named(format, header)?;
+    if is_count(&header[format.header_len() - COUNT_LEN..], classes) {
+        Some(Family { set, profile })
+    } else {
+        None
     }
 }
 

@@ -1,14 +1,17 @@
 // A file whose bytes the caller holds or has mapped: what it says of itself, and the record of one class. No memory is taken.
-ghost use Rattle.std.specs.Prelude.{◌≡◌, ◌≢◌, ◌⊎◌, ◌+◌, ◌*◌, ◌≤◌, ◌<◌, length, Err, IfOk, IfErr, IsErrOf, ◌↔◌};
+ghost use Rattle.std.specs.Prelude.{◌≡◌, ◌≢◌, ◌⊎◌, ◌+◌, ◌*◌, ◌^◌, ◌≤◌, ◌<◌, length, take, drop, Some, Err, IfOk, IfErr, IfSome, IsErrOf, ◌↔◌};
+ghost use Rattle.dob_pieces.specs.declared.profile.Family.{Family as AnyFamily};
 ghost use Rattle.dob_rank.specs.Families.{classes_of};
 ghost use Rattle.dob_value.specs.Follows.{IsEntry};
 ghost use Rattle.dob_dbfile.specs.declared.fault.Fault.{Fault as AnyFault};
+ghost use Rattle.dob_dbfile.specs.declared.header.Format.{Format as AnyFormat};
 ghost use Rattle.dob_dbfile.specs.Devices.{whole};
-ghost use Rattle.dob_dbfile.specs.Faults.{CountsClasses, HasReadFault, HasHeaderFault, IsHeaderShort, IsNoLonger, file_len, header_len};
-ghost use Rattle.dob_dbfile.specs.Looking.{HasRecord, place_of};
+ghost use Rattle.dob_dbfile.specs.Format.{count_bytes};
+ghost use Rattle.dob_dbfile.specs.Faults.{CountsClasses, NamesFamily, HasReadFault, HasHeaderFault, IsHeaderShort, IsNoLonger, count_place, file_len, header_len};
+ghost use Rattle.dob_dbfile.specs.Looking.{HasFrontFault, HasRecord, place_of};
 
 use crate::fault::Fault;
-use crate::header::{FRONT_LEN, Format, family_counted, front_named};
+use crate::header::{FRONT_LEN, Format, family_counted, family_saying, front_named};
 use crate::read::DIGEST_LEN;
 use crate::records::{RECORD_LEN, value_in};
 use dob_pieces::Family;
@@ -33,8 +36,7 @@ fn held_whole(bytes: &[u8]) -> Result<(Format, Family), Fault>
     ensures known { IfErr result (λ given. given ≢ Fault.Digest) }
 {
     let (format, family) = held_header(bytes)?;
-    let records = RECORD_LEN * count_classes(family) as usize;
-    let wanted = format.header_len() + records + DIGEST_LEN;
+    let wanted = file_len(format, family);
     if bytes.len() < wanted {
         Err(Fault::Truncated)
     } else if wanted < bytes.len() {
@@ -44,10 +46,19 @@ fn held_whole(bytes: &[u8]) -> Result<(Format, Family), Fault>
     }
 }
 
-// What the header says.
-fn held_header(bytes: &[u8]) -> Result<(Format, Family), Fault>
+/// How many bytes a file of that format and family has.
+pub(crate) fn file_len(format: Format, family: Family) -> usize
+    ensures { result ≡ file_len format family }
+{
+    let records = RECORD_LEN * count_classes(family) as usize;
+    format.header_len() + records + DIGEST_LEN
+}
+
+/// What the header says.
+pub(crate) fn held_header(bytes: &[u8]) -> Result<(Format, Family), Fault>
     ensures counted { IfOk result (λ held. CountsClasses held.0 held.1 bytes.now) }
     ensures fault { IfErr result (HasReadFault (whole bytes.now)) }
+    ensures front { IfErr result (HasFrontFault (whole bytes.now)) }
     ensures known { IfErr result (λ given. given ≢ Fault.Digest) }
 {
     if bytes.len() < FRONT_LEN {
@@ -61,6 +72,29 @@ fn held_header(bytes: &[u8]) -> Result<(Format, Family), Fault>
         format,
         family_counted(format, set, &bytes[..format.header_len()])?,
     ))
+}
+
+/// The format and the family that the header names, where it counts so many classes and there are just as many bytes as a file of these has. The digest
+/// isn't read. Where the family has so many classes, that is so of each file of its own.
+pub fn held_counted(bytes: &[u8], classes: u64) -> Option<(Format, Family)>
+    requires few { classes ≤ 2 ^ 42 }
+    ensures named { IfSome result (λ held. NamesFamily held.0 held.1 bytes.now) }
+    ensures counted { IfSome result (λ held. take 8 (drop (count_place held.0) bytes.now) ≡ count_bytes classes) }
+    ensures long { IfSome result (λ held. length bytes.now ≡ header_len held.0 + 2 * classes + 32) }
+    ensures some { (format : AnyFormat) (family : AnyFamily) → classes ≡ classes_of family → IsNoLonger format family (whole bytes.now)
+        → result ≡ Some (format, family) }
+{
+    if bytes.len() < FRONT_LEN {
+        return None;
+    }
+    let Ok((format, set)) = front_named(&bytes[..FRONT_LEN]) else {
+        return None;
+    };
+    if bytes.len() != format.header_len() + RECORD_LEN * classes as usize + DIGEST_LEN {
+        return None;
+    }
+    let family = family_saying(format, set, &bytes[..format.header_len()], classes)?;
+    Some((format, family))
 }
 
 /// The value that the class's record says, in a file of that format.

@@ -35,7 +35,7 @@ pub fn read_classes<R: Source>(alloc: Global, source: &mut R) -> Result<(Format,
 }
 
 /// The value that the class's record says, in a file of that format, which is read by its place. Neither another record nor
-/// the digest is read.
+/// the digest is read, and the next record can be.
 ///
 /// Errors: `Truncated` where the source ends before the record's last byte; `Io` where it fails there or can't go to its
 /// place, with how many bytes stand before that.
@@ -48,6 +48,7 @@ pub fn read_value<R: PlacedSource>(
     ensures read { (stream : Stream) → R.shows source.old stream → IfOk result (HasRecord stream format class) }
     ensures entry { IfOk result IsEntry }
     ensures fault { (stream : Stream) → R.shows source.old stream → IfErr result (HasRecordFault stream format class) }
+    ensures shown { (stream : Stream) → R.shows source.old stream → R.shows source.new stream }
     ensures failed { R.has_failed source.new ≡ (R.has_failed source.old || is_io_error result) }
 {
     let place = format.header_len() + RECORD_LEN * class as usize;

@@ -1,5 +1,6 @@
 // A sink in memory, for tests: it takes pieces of a set length, and fails where it is told to.
-ghost use Rattle.std.specs.Prelude.{◌≡◌, ◌<◌, ◌-◌, ◌^◌, [], None, Some, false, true};
+ghost use Rattle.std.specs.Prelude.{◌≡◌, ◌<◌, ◌≤◌, ◌-◌, ◌^◌, ◌||◌, [], ◌∷◌, ◌++◌, None, Some, false, true};
+ghost use Rattle.std.specs.Prelude.{IfOk, OnErr, OnOk, is_err, length, min, take};
 
 use crate::device::{Failed, Sink};
 use std::alloc::Global;
@@ -141,9 +142,21 @@ impl MemSink {
 }
 
 impl Sink for MemSink {
+    ghost use Rattle.dob_dbfile.specs.Memory.{longest_piece};
+
     ghost state = { λ sink. record { received = Some sink.bytes.items; flushes = Some sink.flushes.items; has_failed = sink.has_failed; writer = None } };
 
-    fn write(&mut self, piece: &[u8]) -> Result<usize, Failed> {
+    fn write(&mut self, piece: &[u8]) -> Result<usize, Failed>
+        ensures count { IfOk result (λ count. count ≡ longest_piece self.old (length piece.now)) }
+        ensures some { IfOk result (λ count. 0 < length piece.now → 0 < count) }
+        ensures bytes { IfOk result (λ count. self.new.bytes.items ≡ self.old.bytes.items ++ take count piece.now) }
+        ensures room { IfOk result (λ count. self.new.room ≡ self.old.room - count) }
+        ensures unchanged { OnErr result ((self.new.bytes.items ≡ self.old.bytes.items) × (self.new.room ≡ self.old.room)) }
+        ensures flushes { self.new.flushes.items ≡ self.old.flushes.items }
+        ensures pieces { self.new.longest ≡ self.old.longest }
+        ensures place { self.new.fails_at_flush ≡ self.old.fails_at_flush }
+        ensures failed { self.new.has_failed ≡ (self.old.has_failed || is_err result) }
+    {
         let count = piece.len().min(self.longest).min(self.room);
         if count == 0 && !piece.is_empty() {
             self.has_failed = true;
@@ -157,7 +170,16 @@ impl Sink for MemSink {
         Ok(count)
     }
 
-    fn flush(&mut self) -> Result<(), Failed> {
+    fn flush(&mut self) -> Result<(), Failed>
+        ensures flushed { OnOk result ((self.old.fails_at_flush ≡ false)
+            × (self.new.flushes.items ≡ self.old.flushes.items ++ length self.old.bytes.items ∷ [])) }
+        ensures unflushed { OnErr result (self.new.flushes.items ≡ self.old.flushes.items) }
+        ensures bytes { self.new.bytes.items ≡ self.old.bytes.items }
+        ensures pieces { self.new.longest ≡ self.old.longest }
+        ensures room { self.new.room ≡ self.old.room }
+        ensures place { self.new.fails_at_flush ≡ self.old.fails_at_flush }
+        ensures failed { self.new.has_failed ≡ (self.old.has_failed || is_err result) }
+    {
         if self.fails_at_flush || self.flushes.push(self.bytes.len()).is_err() {
             self.has_failed = true;
             return Err(Failed);

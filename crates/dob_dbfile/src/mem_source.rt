@@ -1,6 +1,6 @@
 // A source of bytes in memory, for tests: in pieces of a set length, and failing where it is told to.
-ghost use Rattle.std.specs.Prelude.{◌≡◌, ◌<◌, ◌≤◌, ◌+◌, ◌-◌, ◌^◌, false, vec_len};
-ghost use Rattle.dob_dbfile.specs.Devices.{whole};
+ghost use Rattle.std.specs.Prelude.{◌≡◌, ◌<◌, ◌≤◌, ◌+◌, ◌-◌, ◌^◌, ◌||◌, [], false, IfOk, OnErr, is_err, length, vec_len};
+ghost use Rattle.dob_dbfile.specs.Devices.{GivesFirst, Stream, after, broken, whole};
 
 use crate::device::{Failed, PlacedSource, Source};
 
@@ -95,7 +95,7 @@ impl MemSource {
 }
 
 impl Source for MemSource {
-    ghost use Rattle.dob_dbfile.specs.Memory.{all_of, stream_of};
+    ghost use Rattle.dob_dbfile.specs.Memory.{all_of, longest_read, stream_of};
 
     ghost gives = { λ source stream. stream ≡ stream_of source };
 
@@ -103,7 +103,17 @@ impl Source for MemSource {
 
     ghost has_failed = { λ source. source.has_failed };
 
-    fn read(&mut self, room: &mut [u8]) -> Result<usize, Failed> {
+    fn read(&mut self, room: &mut [u8]) -> Result<usize, Failed>
+        ensures count { IfOk result (λ count. count ≡ longest_read self.old (length room.new)) }
+        ensures within { IfOk result (λ count. count ≤ length room.new) }
+        ensures given { (stream : Stream) → stream ≡ stream_of self.old
+            → IfOk result (λ count. GivesFirst stream count room.new × (after count stream ≡ stream_of self.new)) }
+        ensures broken { (stream : Stream) → stream ≡ stream_of self.old
+            → OnErr result ((stream ≡ broken []) × (stream ≡ stream_of self.new)) }
+        ensures shown { (stream : Stream) → stream ≡ all_of self.old → stream ≡ all_of self.new }
+        ensures pieces { self.new.longest ≡ self.old.longest }
+        ensures failed { self.new.has_failed ≡ (self.old.has_failed || is_err result) }
+    {
         let left = self.bytes.len() - self.start;
         if left == 0 && self.fails {
             self.has_failed = true;

@@ -49,8 +49,8 @@ pub(crate) fn put_records(bytes: &mut Vec<u8>, table: &Table, first: u64, end: u
     }
 }
 
-/// The value of a record.
-pub(crate) fn value_in(bytes: &[u8]) -> Value
+/// The value of a record, two bytes.
+pub fn value_in(bytes: &[u8]) -> Value
     requires { length bytes.now ≡ 2 }
     ensures bytes { little_bytes 2 (code_of_value result) ≡ bytes.now }
     ensures entry { IsEntry result }

@@ -6,5 +6,6 @@ pub mod Kept  -- what is kept of a list of values, as the list grows
 pub mod Following  -- the one value that follows from the successors' values
 pub mod Verdicts  -- the first fault among the verdicts of all classes
 pub mod ByValue  -- moves with their values, best first, as the list grows
-pub mod Slotted  -- what is counted of each code, and the groups that are there
-pub mod OnlyMoves  -- the only move to a value, and the puzzles of the classes so far
+pub mod Slotted  -- what is counted of each code, part by part, and the groups that are there
+pub mod Walked  -- places in the order of a walk, and their classes
+pub mod OnlyMoves  -- the only move to a value, and the puzzles of the places so far

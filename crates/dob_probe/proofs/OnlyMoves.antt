@@ -1,4 +1,4 @@
--- The only move to a value, and the puzzles of the classes so far.
+-- The only move to a value, and the puzzles of the places so far of a walk over the classes.
 use Rattle.std.proofs.Common.{◌≡◌, ℕ, ◌+◌, ◌-◌, ◌≤◌, ◌<◌, ◌⊎◌, inl, inr, refl, sym, subst, ap, ap₂, ◌∙◌, arith, List, [], ◌∷◌, ◌++◌, length, get_or}
 use Rattle.std.proofs.Common.{Bool, true, false, true≢false, is_some, Option, Some, None, Contains, AllPairs, slice_get}
 use Rattle.std.proofs.lemmas.Bool.{cases_lt}
@@ -18,9 +18,12 @@ use Rattle.dob_value.specs.Follows.{ClassTable, IsEntry, IsTable}
 use Rattle.dob_probe.specs.declared.puzzles.Puzzle.{Puzzle}
 use Rattle.dob_probe.specs.Checks.{HasEntry}
 use Rattle.dob_probe.specs.Lines.{GivenBy, LeadsTo}
-use Rattle.dob_probe.specs.Puzzles.{ArePuzzles, IsOnlyTo, IsPuzzle}
+use Rattle.dob_probe.specs.Puzzles.{ArePuzzles, IsOnlyTo, IsPuzzle, IsWalked, place_in}
+use Rattle.dob_probe.specs.Walks.{begin_at, class_on, first_class}
+use Rattle.dob_probe.specs.declared.walks.Walk.{Walk}
 use Rattle.dob_probe.specs.SoleMoves.{IsPuzzleOf, IsSoleMove}
 use Rattle.dob_probe.proofs.Entries.{all_at}
+use Rattle.dob_probe.proofs.Walked.{begin_behind, behind_begin, class_only, first_below, place_below, place_class}
 use Rattle.dob_probe.proofs.Ways.{NoneBelow, none_below_more, none_leads}
 
 -- ---- the only move to a value
@@ -161,94 +164,124 @@ module _ (table : ClassTable) (plies : ℕ) where
       let choice = of_a.solved.only b.choice solved.outcome solved.leads in
       ap₂ (λ (k : ℕ) (m : Move). let x : Puzzle = record { class = k; choice = m } in x) is choice
 
-  -- the puzzles of the classes below a number
-  pub record ArePuzzlesBelow (upto : ℕ) (list : List Puzzle) : Type 0 where
-    pub sound : (puzzle : Puzzle) → Contains list puzzle → (puzzle.class < upto) × IsPuzzle table plies puzzle
-    pub whole : (puzzle : Puzzle) → puzzle.class < upto → IsPuzzle table plies puzzle → Contains list puzzle
-    pub ordered : AllPairs (λ a b. a.class < b.class) list
+module _ (table : ClassTable) (plies : ℕ) (walk : Walk) where
+  -- the first place of the walk
+  abbrev pub begin : ℕ
+  begin = begin_at walk.behind (first_class walk.seed (length table.values)) (length table.values)
 
-  pub puzzles_none : ArePuzzlesBelow 0 []
+  -- the puzzles of the walk's places below one
+  pub record ArePuzzlesBelow (upto : ℕ) (list : List Puzzle) : Type 0 where
+    pub sound : (puzzle : Puzzle) → Contains list puzzle
+        → (begin ≤ place_in table walk puzzle.class) × (place_in table walk puzzle.class < upto) × IsPuzzle table plies puzzle
+    pub whole : (puzzle : Puzzle) → IsPuzzle table plies puzzle → begin ≤ place_in table walk puzzle.class → place_in table walk puzzle.class < upto
+        → Contains list puzzle
+    pub ordered : AllPairs (λ a b. place_in table walk a.class < place_in table walk b.class) list
+
+  pub puzzles_none : ArePuzzlesBelow begin []
   puzzles_none = record {
     sound = λ puzzle there. absurd (omega (arith, there.1));
-    whole = λ puzzle below is. absurd (omega (arith, below));
+    whole = λ puzzle is from below. absurd (omega (arith, from, below));
     ordered = λ i j d before within. absurd (omega (arith, within));
   }
 
-  pub puzzles_same : (upto : ℕ) (list : List Puzzle) → IsPuzzleOf table plies upto None → ArePuzzlesBelow upto list → ArePuzzlesBelow (upto + 1) list
-  puzzles_same upto list none are = record {
-    sound = λ puzzle there.
-        let found = are.sound puzzle there in
-        let below : puzzle.class < upto = found.0 in
-        (omega (arith, below), found.1);
-    whole = λ puzzle below is. elim (cases_lt puzzle.class upto) [
-      | inl earlier ↦ are.whole puzzle earlier is
-      | inr later ↦
-          let same : puzzle.class ≡ upto = omega (arith, below, later) in
-          absurd (none puzzle same is)
-    ];
-    ordered = are.ordered;
-  }
+  -- a puzzle is of a class of the table
+  class_of : (puzzle : Puzzle) → IsPuzzle table plies puzzle → puzzle.class < length table.values
+  class_of puzzle is = slice_get_within table.values puzzle.class (Win plies) is.won.entry
 
-  pub puzzles_more : (upto : ℕ) (list : List Puzzle) (more : Puzzle) → IsPuzzleOf table plies upto (Some more) → ArePuzzlesBelow upto list →
-      ArePuzzlesBelow (upto + 1) (list ++ more ∷ [])
-  puzzles_more upto list more found are =
-      let here : more.class ≡ upto = found.0 in record {
-        sound = λ puzzle there. elim (Contains-push_cases list more puzzle there) [
-          | inl earlier ↦
-              let known = are.sound puzzle earlier in
-              let below : puzzle.class < upto = known.0 in
-              (omega (arith, below), known.1)
-          | inr same ↦
-              let class : more.class ≡ puzzle.class = ap (λ (x : Puzzle). x.class) same in
-              (omega (arith, class, here), subst (λ x. IsPuzzle table plies x) same found.1)
-        ];
-        whole = λ puzzle below is. elim (cases_lt puzzle.class upto) [
-          | inl earlier ↦ Contains-append_left list (more ∷ []) puzzle (are.whole puzzle earlier is)
-          | inr later ↦
-              let class : more.class ≡ puzzle.class = omega (arith, below, later, here) in
-              subst (λ x. Contains (list ++ more ∷ []) x) (one_puzzle more puzzle class found.1 is) (Contains-push list more)
-        ];
-        ordered = all_pairs_push (λ a b. a.class < b.class) list more are.ordered
-            (λ k d within.
-            let below : (get_or list k d).class < upto = (are.sound (get_or list k d) (Contains-get_or list k d within)).0 in
-            omega (arith, below, here));
-      }
+  module _ (upto class : ℕ) (here : upto < length table.values) (on : class ≡ class_on (first_class walk.seed (length table.values)) (length table.values) upto) where
+    -- a puzzle of the place is of its class
+    of_place : (puzzle : Puzzle) → IsPuzzle table plies puzzle → place_in table walk puzzle.class < upto + 1 → upto ≤ place_in table walk puzzle.class
+        → puzzle.class ≡ class
+    of_place puzzle is below later =
+        let same : place_in table walk puzzle.class ≡ upto = omega (arith, below, later) in
+        class_only _ (length table.values) upto puzzle.class (first_below walk.seed (length table.values) (omega (arith, here))) (class_of puzzle is) same ∙ sym on
+
+    pub puzzles_same : (list : List Puzzle) → IsPuzzleOf table plies class None → ArePuzzlesBelow upto list → ArePuzzlesBelow (upto + 1) list
+    puzzles_same list none are = record {
+      sound = λ puzzle there.
+          let found = are.sound puzzle there in
+          let below : place_in table walk puzzle.class < upto = found.1 in
+          (found.0, omega (arith, below), found.2);
+      whole = λ puzzle is from below. elim (cases_lt (place_in table walk puzzle.class) upto) [
+        | inl earlier ↦ are.whole puzzle is from earlier
+        | inr later ↦ absurd (none puzzle (of_place puzzle is below later) is)
+      ];
+      ordered = are.ordered;
+    }
+
+    pub puzzles_more : (list : List Puzzle) (more : Puzzle) → begin ≤ upto → IsPuzzleOf table plies class (Some more) → ArePuzzlesBelow upto list
+        → ArePuzzlesBelow (upto + 1) (list ++ more ∷ [])
+    puzzles_more list more from found are =
+        let here_is : place_in table walk more.class ≡ upto =
+        ap (place_in table walk) (found.0 ∙ on) ∙ place_class _ (length table.values) upto (first_below walk.seed (length table.values) (omega (arith, here))) here in record {
+          sound = λ puzzle there. elim (Contains-push_cases list more puzzle there) [
+            | inl earlier ↦
+                let known = are.sound puzzle earlier in
+                let below : place_in table walk puzzle.class < upto = known.1 in
+                (known.0, omega (arith, below), known.2)
+            | inr same ↦
+                let place : place_in table walk more.class ≡ place_in table walk puzzle.class = ap (λ (x : Puzzle). place_in table walk x.class) same in
+                (omega (arith, place, here_is, from), omega (arith, place, here_is), subst (λ x. IsPuzzle table plies x) same found.1)
+          ];
+          whole = λ puzzle is first below. elim (cases_lt (place_in table walk puzzle.class) upto) [
+            | inl earlier ↦ Contains-append_left list (more ∷ []) puzzle (are.whole puzzle is first earlier)
+            | inr later ↦
+                let class_is : more.class ≡ puzzle.class = found.0 ∙ sym (of_place puzzle is below later) in
+                subst (λ x. Contains (list ++ more ∷ []) x) (one_puzzle table plies more puzzle class_is found.1 is) (Contains-push list more)
+          ];
+          ordered = all_pairs_push (λ a b. place_in table walk a.class < place_in table walk b.class) list more are.ordered
+              (λ k d within.
+              let below : place_in table walk (get_or list k d).class < upto = (are.sound (get_or list k d) (Contains-get_or list k d within)).1 in
+              omega (arith, below, here_is));
+        }
+
+  -- what is listed is walked over
+  sound_walked : (upto : ℕ) (list : List Puzzle) → ArePuzzlesBelow upto list → (puzzle : Puzzle) → Contains list puzzle
+      → IsPuzzle table plies puzzle × IsWalked table walk puzzle.class
+  sound_walked upto list are puzzle there =
+      let found = are.sound puzzle there in
+      let within = class_of puzzle found.2 in (
+        found.2,
+        begin_behind walk.behind _ (length table.values) puzzle.class (first_below walk.seed (length table.values) (omega (arith, within))) within found.0,
+      )
 
   -- as many as were asked for, or all of them
-  pub puzzles_full : (upto count : ℕ) (list : List Puzzle) → length list ≡ count → ArePuzzlesBelow upto list → ArePuzzles table plies count list
+  pub puzzles_full : (upto count : ℕ) (list : List Puzzle) → length list ≡ count → ArePuzzlesBelow upto list → ArePuzzles table walk plies count list
   puzzles_full upto count list full are = record {
-    sound = λ puzzle there. (are.sound puzzle there).1;
+    sound = sound_walked upto list are;
     ordered = are.ordered;
     few = omega (arith, full);
-    whole = λ puzzle is. elim (cases_lt puzzle.class upto) [
-      | inl earlier ↦ inl (are.whole puzzle earlier is)
+    whole = λ puzzle is walked. elim (cases_lt (place_in table walk puzzle.class) upto) [
+      | inl earlier ↦ inl (are.whole puzzle is (behind_begin walk.behind _ (length table.values) puzzle.class (class_of puzzle is) walked) earlier)
       | inr later ↦ inr (
         full,
         λ listed there.
-            let below : listed.class < upto = (are.sound listed there).0 in
+            let below : place_in table walk listed.class < upto = (are.sound listed there).1 in
             omega (arith, below, later),
       )
     ];
   }
 
   pub puzzles_all : (upto count : ℕ) (list : List Puzzle) → length table.values ≤ upto → length list ≤ count → ArePuzzlesBelow upto list →
-      ArePuzzles table plies count list
+      ArePuzzles table walk plies count list
   puzzles_all upto count list all few are = record {
-    sound = λ puzzle there. (are.sound puzzle there).1;
+    sound = sound_walked upto list are;
     ordered = are.ordered;
     few = few;
-    whole = λ puzzle is.
-        let within = slice_get_within table.values puzzle.class (Win plies) is.won.entry in
-        inl (are.whole puzzle (omega (arith, within, all)) is);
+    whole = λ puzzle is walked.
+        let within = class_of puzzle is in
+        let first = first_below walk.seed (length table.values) (omega (arith, within)) in
+        let below = place_below _ (length table.values) puzzle.class first within in
+        inl (are.whole puzzle is (behind_begin walk.behind _ (length table.values) puzzle.class within walked) (omega (arith, below, all)));
   }
 
   -- no table has so long a distance
-  pub puzzles_too_long : (count : ℕ) → IsTable table.family table.values → 65535 < plies → ArePuzzles table plies count []
+  pub puzzles_too_long : (count : ℕ) → IsTable table.family table.values → 65535 < plies → ArePuzzles table walk plies count []
   puzzles_too_long count is long = record {
     sound = λ puzzle there. absurd (omega (arith, there.1));
     ordered = λ i j d before within. absurd (omega (arith, within));
     few = omega arith;
-    whole = λ puzzle given.
+    whole = λ puzzle given walked.
         let entry : IsEntry (Win plies) = all_at IsEntry table.values puzzle.class (Win plies) is.entries given.won.entry in
         let short : plies ≤ MAX_DISTANCE = entry.1 in
         absurd (omega (arith, short, long));

@@ -1,9 +1,9 @@
--- What is counted of each code, as classes are gone over.
-use Rattle.std.proofs.Common.{◌≡◌, ◌≢◌, ℕ, zero, suc, ◌+◌, ◌≤◌, ◌<◌, inl, inr, refl, sym, subst, ap, ◌∙◌, arith, List, [], ◌∷◌, ◌++◌}
+-- What is counted of each code, as classes are gone over and parts of them are added up.
+use Rattle.std.proofs.Common.{◌≡◌, ◌≢◌, ℕ, zero, suc, ◌+◌, ◌-◌, ◌%◌, ◌≤◌, ◌<◌, drop, take, ap₂, inl, inr, refl, sym, subst, ap, ◌∙◌, arith, List, [], ◌∷◌, ◌++◌}
 use Rattle.std.proofs.Common.{rules, length, get_or, set, All, Bool, true, false, cond, Option, Some, None, Contains, AllPairs, slice_get, count_by, option_to_list, ◌^◌, append-nil}
 use Rattle.std.proofs.lemmas.Bool.{cases_lt, cases_eq}
-use Rattle.std.proofs.lemmas.Option.{slice_get-get_or, slice_get_within, same_Some}
-use Rattle.std.proofs.lemmas.List.{get_or-set_same, get_or-set_other, get_or_past, get_or_default}
+use Rattle.std.proofs.lemmas.Option.{get_or_from_slice_get, slice_get-get_or, slice_get_within, same_Some}
+use Rattle.std.proofs.lemmas.List.{drop-take, get_or-drop, get_or-set_same, get_or-set_other, get_or_past, get_or_default, length-append, length-drop, length-take, take-append-drop, take-take, take_more}
 use Rattle.std.proofs.lemmas.List.Elements.{Contains-push, Contains-push_cases, Contains-get_or, Contains-append_left}
 use Rattle.std.proofs.lemmas.List.Sums.{sum_by-append, sum_by-cons, count_by-le-length}
 use Rattle.std.proofs.lemmas.List.Quantifiers.{all_pairs_push}
@@ -15,7 +15,7 @@ use Rattle.dob_value.specs.Follows.{IsEntry}
 use Rattle.dob_probe.specs.declared.groups.Group.{Group}
 use Rattle.dob_probe.specs.Statistics.{has_code, IsGroup, AreGroups}
 use Rattle.dob_probe.proofs.Entries.{all_at}
-use Rattle.dob_probe.specs.Slots.{HasSlot, AreSlots, with_class, HasRoom}
+use Rattle.dob_probe.specs.Slots.{HasSlot, AreSlots, both_slots, part_of, with_class, HasRoom}
 
 -- entries of one code are the same
 pub one_of_code : (v w : Value) → IsEntry v → IsEntry w → code_of_value v ≡ code_of_value w → v ≡ w
@@ -173,6 +173,164 @@ none_behind (slot ∷ slots) (suc k) = none_behind slots k
 
 pub slots_none : AreSlots [] []
 slots_none code = refl
+
+-- ---- parts of the classes
+
+module _ (values : List Value) where
+  pub part_none : (first : ℕ) → part_of values first (first - first) ≡ []
+  part_none first = let none : first - first ≡ 0 = omega arith in ap (λ (n : ℕ). part_of values first n) none
+
+  pub part_more : (first class : ℕ) (v : Value) → first ≤ class → slice_get values class ≡ Some v
+      → part_of values first (class + 1 - first) ≡ part_of values first (class - first) ++ v ∷ []
+  part_more first class v from there =
+      let within : class < length values = slice_get_within values class v there in
+      let long = length-drop first values in
+      let next : class + 1 - first ≡ class - first + 1 = omega (arith, from) in
+      let place : first + (class - first) ≡ class = omega (arith, from) in
+      ap (λ (n : ℕ). part_of values first n) next
+      ∙ (take_more (drop first values) (class - first) v (omega (arith, from, within, long))
+      ∙ ap (λ (x : Value). part_of values first (class - first) ++ x ∷ [])
+      (get_or-drop first values (class - first) v ∙ (ap (λ (n : ℕ). get_or values n v) place ∙ get_or_from_slice_get values class v v there)))
+
+  pub part_long : (first end : ℕ) → first ≤ end → end ≤ length values → length (part_of values first (end - first)) ≡ end - first
+  part_long first end from within =
+      let long = length-drop first values in
+      let cut = length-take (end - first) (drop first values) in
+      omega (arith, from, within, long, cut)
+
+  pub part_joins : (first count : ℕ) → take first values ++ part_of values first count ≡ take (first + count) values
+  part_joins first count =
+      ap₂ (λ (l r : List Value). l ++ r) (sym (take-take first (first + count) values (omega arith))) (sym (drop-take first count values))
+      ∙ take-append-drop first (take (first + count) values)
+
+-- what stands in two lists joined stands in one of them
+in_front : (xs ys : List Value) (v : Value) (j : ℕ) → j < length xs → slice_get (xs ++ ys) j ≡ Some v → slice_get xs j ≡ Some v
+in_front [] ys v j within there = absurd (omega (arith, within))
+in_front (x ∷ xs) ys v zero within there = there
+in_front (x ∷ xs) ys v (suc j) within there = in_front xs ys v j (omega (arith, within)) there
+
+in_rest : (xs ys : List Value) (v : Value) (j : ℕ) → slice_get ys j ≡ Some v → slice_get (xs ++ ys) (length xs + j) ≡ Some v
+in_rest [] ys v j there = let same : 0 + j ≡ j = omega arith in subst (λ (n : ℕ). slice_get ys n ≡ Some v) (sym same) there
+in_rest (x ∷ xs) ys v j there =
+    let same : length (x ∷ xs) + j ≡ suc (length xs + j) = omega arith in
+    subst (λ (n : ℕ). slice_get (x ∷ xs ++ ys) n ≡ Some v) (sym same) (in_rest xs ys v j there)
+
+from_rest : (xs ys : List Value) (v : Value) (j : ℕ) → slice_get (xs ++ ys) (length xs + j) ≡ Some v → slice_get ys j ≡ Some v
+from_rest [] ys v j there = let same : 0 + j ≡ j = omega arith in subst (λ (n : ℕ). slice_get ys n ≡ Some v) same there
+from_rest (x ∷ xs) ys v j there =
+    let same : length (x ∷ xs) + j ≡ suc (length xs + j) = omega arith in
+    from_rest xs ys v j (subst (λ (n : ℕ). slice_get (x ∷ xs ++ ys) n ≡ Some v) same there)
+
+-- of the first values and the rest the codes below a number have their slots, and the others those of the first values still
+abbrev pub AreAdded : List Value → List Value → ℕ → List (Option Group) → Type 0
+AreAdded xs ys upto slots =
+    (code : ℕ) → (code < upto → HasSlot (xs ++ ys) code (get_or slots code None)) × (upto ≤ code → HasSlot xs code (get_or slots code None))
+
+module _ (xs ys : List Value) (classes : ℕ) (long : length xs ≡ classes) (few : length (xs ++ ys) < 2 ^ 64) where
+  count_both : (p : Value → Bool) → count_by p (xs ++ ys) ≡ count_by p xs + count_by p ys
+  count_both p = sum_by-append (λ x. cond {A = ℕ} (p x) 1 0) xs ys
+
+  -- a code in both parts
+  slot_joined : (code : ℕ) (slot more : Option Group) → HasSlot xs code slot → HasSlot ys code more → HasSlot (xs ++ ys) code (both_slots slot more classes)
+  slot_joined code None None none none_more = let both = count_both (has_code code) in omega (arith, both, none, none_more)
+  slot_joined code (Some group) None has none = (
+    has.0,
+    record {
+      entry = has.1.entry;
+      classes =
+          let both = count_both (has_code (code_of_value group.value)) in
+          let old = has.1.classes in
+          let no : count_by (has_code (code_of_value group.value)) ys ≡ 0 = subst (λ (n : ℕ). count_by (has_code n) ys ≡ 0) (sym has.0) none in
+          omega (arith, both, old, no);
+      first = get_front xs ys group.value group.first has.1.first;
+      before = λ class below there.
+          let within = slice_get_within xs group.first group.value has.1.first in
+          has.1.before class below (in_front xs ys group.value class (omega (arith, below, within)) there);
+    },
+  )
+  slot_joined code None (Some further) none has =
+      let within = slice_get_within ys further.first further.value has.1.first in
+      let whole = length-append xs ys in
+      let first : (classes + further.first) % 2 ^ 64 ≡ length xs + further.first = omega (arith, long, few, within, whole) in
+      let no : count_by (has_code (code_of_value further.value)) xs ≡ 0 = subst (λ (n : ℕ). count_by (has_code n) xs ≡ 0) (sym has.0) none in (
+        has.0,
+        record {
+          entry = has.1.entry;
+          classes =
+              let both = count_both (has_code (code_of_value further.value)) in
+              let old = has.1.classes in
+              omega (arith, both, old, no);
+          first = subst (λ (n : ℕ). slice_get (xs ++ ys) n ≡ Some further.value) (sym first) (in_rest xs ys further.value further.first has.1.first);
+          before = λ class below there. elim (cases_lt class (length xs)) [
+            | inl front ↦
+                none_counted (has_code (code_of_value further.value)) xs further.value class no (has_own further.value (code_of_value further.value) refl)
+                (in_front xs ys further.value class front there)
+            | inr behind ↦
+                let place : class ≡ length xs + (class - length xs) = omega (arith, behind) in
+                has.1.before (class - length xs) (omega (arith, below, first, behind))
+                (from_rest xs ys further.value (class - length xs) (subst (λ (n : ℕ). slice_get (xs ++ ys) n ≡ Some further.value) place there))
+          ];
+        },
+      )
+  slot_joined code (Some group) (Some further) has more = (
+    has.0,
+    record {
+      entry = has.1.entry;
+      classes =
+          let both = count_both (has_code (code_of_value group.value)) in
+          let old = has.1.classes in
+          let new : further.classes ≡ count_by (has_code (code_of_value group.value)) ys =
+          more.1.classes ∙ ap (λ (n : ℕ). count_by (has_code n) ys) (more.0 ∙ sym has.0) in
+          let low = count_by-le-length (has_code (code_of_value group.value)) xs in
+          let high = count_by-le-length (has_code (code_of_value group.value)) ys in
+          let whole = length-append xs ys in
+          omega (arith, both, old, new, low, high, whole, few);
+      first = get_front xs ys group.value group.first has.1.first;
+      before = λ class below there.
+          let within = slice_get_within xs group.first group.value has.1.first in
+          has.1.before class below (in_front xs ys group.value class (omega (arith, below, within)) there);
+    },
+  )
+
+  pub added_none : (slots : List (Option Group)) → AreSlots xs slots → AreAdded xs ys 0 slots
+  added_none slots are code = (λ below. absurd (omega (arith, below)), λ from. are code)
+
+  pub added_more : (slots wide more : List (Option Group)) (upto : ℕ) (slot next new : Option Group) → slot ≡ get_or wide upto slot
+      → next ≡ get_or more upto next → new ≡ both_slots slot next classes → upto < length wide → upto < length more
+      → ((k : ℕ) → get_or wide k None ≡ get_or slots k None) → AreSlots ys more → AreAdded xs ys upto slots → AreAdded xs ys (upto + 1) (set wide upto new)
+  added_more slots wide more upto slot next new read read_next made within within_more same are added code = elim (cases_eq upto code) [
+    | inl own ↦
+        let is_slot : slot ≡ get_or slots upto None = read ∙ (get_or_default wide upto slot None within ∙ same upto) in
+        let is_next : next ≡ get_or more upto None = read_next ∙ get_or_default more upto next None within_more in
+        let joined : HasSlot (xs ++ ys) upto new =
+        subst (λ (o : Option Group). HasSlot (xs ++ ys) upto o) (sym made)
+        (slot_joined upto slot next (subst (λ (o : Option Group). HasSlot xs upto o) (sym is_slot) ((added upto).1 (omega arith)))
+        (subst (λ (o : Option Group). HasSlot ys upto o) (sym is_next) (are upto))) in
+        let here : HasSlot (xs ++ ys) upto (get_or (set wide upto new) upto None) =
+        subst (λ (o : Option Group). HasSlot (xs ++ ys) upto o) (sym (get_or-set_same wide upto new None within)) joined in (
+          λ below. subst (λ (k : ℕ). HasSlot (xs ++ ys) k (get_or (set wide upto new) k None)) own here,
+          λ from. absurd (omega (arith, own, from)),
+        )
+    | inr other ↦
+        let stays : get_or slots code None ≡ get_or (set wide upto new) code None =
+        sym (same code) ∙ sym (get_or-set_other wide upto code new None (λ e. other (sym e))) in (
+          λ below. subst (λ (o : Option Group). HasSlot (xs ++ ys) code o) stays ((added code).0 (omega (arith, below, other))),
+          λ from. subst (λ (o : Option Group). HasSlot xs code o) stays ((added code).1 (omega (arith, from))),
+        )
+  ]
+
+  -- the codes behind the last of the second part are in the first one alone
+  only_first : (code : ℕ) (slot : Option Group) → HasSlot xs code slot → HasSlot ys code None → HasSlot (xs ++ ys) code slot
+  only_first code None has none = slot_joined code None None has none
+  only_first code (Some group) has none = slot_joined code (Some group) None has none
+
+  pub added_all : (slots more : List (Option Group)) (upto : ℕ) → length more ≤ upto → AreSlots ys more → AreAdded xs ys upto slots → AreSlots (xs ++ ys) slots
+  added_all slots more upto all are added code = elim (cases_lt code upto) [
+    | inl below ↦ (added code).0 below
+    | inr from ↦
+        only_first code (get_or slots code None) ((added code).1 from)
+        (subst (λ (o : Option Group). HasSlot ys code o) (get_or_past more code None (omega (arith, all, from))) (are code))
+  ]
 
 -- ---- the groups that are there
 

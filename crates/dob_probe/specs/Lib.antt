@@ -2,6 +2,7 @@ pub mod Lines
 pub mod Checks
 pub mod Sums
 pub mod Choices
+pub mod Walks
 pub mod Puzzles
 pub mod SoleMoves
 pub mod Statistics

@@ -1,5 +1,5 @@
 -- Puzzles of a table: classes that are won in so many plies, by one move alone.
-use Rattle.std.specs.Prelude.{◌≡◌, ◌⊎◌, ℕ, ◌-◌, ◌<◌, ◌≤◌, List, length, Contains, AllPairs}
+use Rattle.std.specs.Prelude.{◌≡◌, ◌⊎◌, ℕ, ◌-◌, ◌<◌, ◌≤◌, List, Option, length, Contains, AllPairs}
 use Rattle.dob_pieces.specs.declared.profile.Profile.{Profile}
 use Rattle.dob_pieces.specs.declared.setup.Setup.{Setup}
 use Rattle.dob_moves.specs.declared.game_move.Move.{Move}
@@ -9,6 +9,8 @@ use Rattle.dob_value.specs.Follows.{ClassTable}
 use Rattle.dob_probe.specs.declared.puzzles.Puzzle.{Puzzle}
 use Rattle.dob_probe.specs.Checks.{HasEntry}
 use Rattle.dob_probe.specs.Lines.{GivenBy, LeadsTo}
+use Rattle.dob_probe.specs.declared.walks.Walk.{Walk}
+use Rattle.dob_probe.specs.Walks.{IsBehind, first_class, place_from}
 
 -- the move leads to a position with that value, and it is the only one that does
 pub record IsOnlyTo (profile : Profile) (Has : Setup → Value → Type 0) (p : Setup) (wanted : Value) (move : Move) : Type 0 where
@@ -23,10 +25,19 @@ pub record IsPuzzle (table : ClassTable) (plies : ℕ) (puzzle : Puzzle) : Type 
   pub won : HasEntry table puzzle.class representative (Win plies)
   pub solved : IsOnlyTo table.family.profile (GivenBy table) representative (Loss (plies - 1)) puzzle.choice
 
--- The first puzzles in the order of the classes, at most so many: each one that isn't listed stands behind as many as were asked for.
-pub record ArePuzzles (table : ClassTable) (plies count : ℕ) (list : List Puzzle) : Type 0 where
-  pub sound : (puzzle : Puzzle) → Contains list puzzle → IsPuzzle table plies puzzle
-  pub ordered : AllPairs (λ a b. a.class < b.class) list
+-- the place of a class in the walk's order
+abbrev pub place_in : ClassTable → Walk → ℕ → ℕ
+place_in table walk class = place_from (first_class walk.seed (length table.values)) (length table.values) class
+
+-- the walk goes over the class
+abbrev pub IsWalked : ClassTable → Walk → ℕ → Type 0
+IsWalked table walk class = IsBehind walk.behind (first_class walk.seed (length table.values)) (length table.values) class
+
+-- The first puzzles of a walk, at most so many, each once: each one that isn't listed stands behind as many as were asked for.
+pub record ArePuzzles (table : ClassTable) (walk : Walk) (plies count : ℕ) (list : List Puzzle) : Type 0 where
+  pub sound : (puzzle : Puzzle) → Contains list puzzle → IsPuzzle table plies puzzle × IsWalked table walk puzzle.class
+  pub ordered : AllPairs (λ a b. place_in table walk a.class < place_in table walk b.class) list
   pub few : length list ≤ count
-  pub whole : (puzzle : Puzzle) → IsPuzzle table plies puzzle
-      → Contains list puzzle ⊎ ((length list ≡ count) × ((listed : Puzzle) → Contains list listed → listed.class < puzzle.class))
+  pub whole : (puzzle : Puzzle) → IsPuzzle table plies puzzle → IsWalked table walk puzzle.class
+      → Contains list puzzle
+      ⊎ ((length list ≡ count) × ((listed : Puzzle) → Contains list listed → place_in table walk listed.class < place_in table walk puzzle.class))

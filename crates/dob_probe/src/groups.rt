@@ -1,10 +1,10 @@
-// How many classes of a table have which value, and which class is the first to have it.
-ghost use Rattle.std.specs.Prelude.{◌≡◌, ◌+◌, ◌<◌, ◌^◌, ℕ, None, List, length, slice_get, Some, get_or, [], ◌∷◌, ◌++◌, IfOk, OnOk, vec_len, All, option_to_list};
+// How many of some classes of a table have which value, and which class is the first to have it: counted part by part, and added up.
+ghost use Rattle.std.specs.Prelude.{◌≡◌, ◌+◌, ◌-◌, ◌<◌, ◌≤◌, ◌^◌, ℕ, None, List, length, slice_get, Some, get_or, [], ◌∷◌, ◌++◌, IfOk, OnOk, vec_len, All, option_to_list};
 ghost use Rattle.dob_value.specs.declared.value.Value.{Value as Valued};
 ghost use Rattle.dob_value.specs.Codes.{code_of_value};
 ghost use Rattle.dob_value.specs.Follows.{IsEntry};
 ghost use Rattle.dob_probe.specs.Statistics.{AreGroups};
-ghost use Rattle.dob_probe.specs.Slots.{HasSlot, AreSlots, with_class, HasRoom};
+ghost use Rattle.dob_probe.specs.Slots.{HasSlot, AreSlots, both_slots, part_of, with_class, HasRoom};
 
 use dob_pieces::Memory;
 use dob_value::{Table, Value, code_of_value};
@@ -18,28 +18,24 @@ pub struct Group {
     pub first: u64,
 }
 
-/// The groups of the table's classes that have one value: the draws first, where there are any, and then by ascending distance, so
-/// odd ones of wins and even ones of losses. The last win and the last loss are the longest. The classes are gone over once,
-/// with some 40 bytes for each distance up to the greatest.
+/// What is counted of each code among the classes from `first` on, before `end`, as a list in their order: nothing, or the group of its classes, whose
+/// first one is told by its place in that list. It takes some 32 bytes for each distance up to the greatest.
 ///
 /// Error: `Memory`.
-pub fn statistics(alloc: Global, table: &Table) -> Result<Vec<Group>, Memory>
-    ensures { IfOk result (λ groups. AreGroups table.now.values groups.items) }
+pub fn slots_between(
+    alloc: Global,
+    table: &Table,
+    first: u64,
+    end: u64,
+) -> Result<Vec<Option<Group>>, Memory>
+    requires order { first ≤ end }
+    requires within { end ≤ length table.now.values }
+    ensures { IfOk result (λ slots. AreSlots (part_of table.now.values first (end - first)) slots.items) }
 {
-    let slots = slots_of(alloc, table)?;
-    groups_of(alloc, &slots)
-}
-
-// What is counted of each code: nothing, or its group.
-//
-// Error: `Memory`.
-fn slots_of(alloc: Global, table: &Table) -> Result<Vec<Option<Group>>, Memory>
-    ensures slots { IfOk result (λ slots. AreSlots table.now.values slots.items) }
-    ensures entries { All IsEntry table.now.values }
-{
+    let _family = table.family();
     let mut slots = Vec::new(alloc);
-    for class in 0..table.classes().class_count() {
-        count_class(&mut slots, table.value(class), class)?;
+    for class in first..end {
+        count_class(&mut slots, table.value(class), class - first)?;
     }
     Ok(slots)
 }
@@ -92,10 +88,50 @@ fn with_class(slot: Option<Group>, value: Value, class: u64) -> Group
     }
 }
 
-// The groups that are there.
-//
-// Error: `Memory`.
-fn groups_of(alloc: Global, slots: &[Option<Group>]) -> Result<Vec<Group>, Memory>
+/// Adds what is counted of some classes to what is counted of those before them, of which there are so many. Both together fit where one list can
+/// have them all.
+///
+/// Error: `Memory`, and the first slots are as good as before.
+pub fn add_slots(
+    slots: &mut Vec<Option<Group>>,
+    more: &[Option<Group>],
+    classes: u64,
+) -> Result<(), Memory>
+    ensures { OnOk result ((values rest : List Valued) → length values ≡ classes → length (values ++ rest) < 2 ^ 64
+        → AreSlots values slots.old.items → AreSlots rest more.now → AreSlots (values ++ rest) slots.new.items) }
+{
+    for code in 0..more.len() {
+        make_room(slots, code)?;
+        let slot = slots[code];
+        let further = more[code];
+        slots[code] = both_slots(slot, further, classes);
+    }
+    Ok(())
+}
+
+// What is counted of a code in both parts of the classes, of which the first has so many.
+fn both_slots(slot: Option<Group>, more: Option<Group>, classes: u64) -> Option<Group>
+    ensures { result ≡ both_slots slot more classes }
+{
+    match (slot, more) {
+        (Some(group), Some(further)) => Some(Group {
+            classes: group.classes.wrapping_add(further.classes),
+            ..group
+        }),
+        (None, Some(further)) => Some(Group {
+            first: classes.wrapping_add(further.first),
+            ..further
+        }),
+        (Some(_), None) => slot,
+        (None, None) => None,
+    }
+}
+
+/// The groups of the slots that have one: the draws first, where there are any, and then by ascending distance, so odd ones of wins and even ones
+/// of losses. The last win and the last loss are the longest.
+///
+/// Error: `Memory`.
+pub fn groups_of(alloc: Global, slots: &[Option<Group>]) -> Result<Vec<Group>, Memory>
     ensures { IfOk result (λ groups. (values : List Valued) → All IsEntry values → AreSlots values slots.now → AreGroups values groups.items) }
 {
     let mut groups = Vec::new(alloc);

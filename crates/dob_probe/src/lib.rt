@@ -12,12 +12,14 @@ mod members;
 mod probes;
 mod puzzles;
 mod successors;
+mod walks;
 
-pub use checks::{Watch, check, check_alone, check_watched};
+pub use checks::{check, check_class};
 pub use choices::{ValuedMove, insert_by_value, value_seen, valued_moves};
 pub use fault::Fault;
-pub use groups::{Group, statistics};
+pub use groups::{Group, add_slots, groups_of, slots_between};
 pub use lines::line;
 pub use members::check_member;
 pub use probes::probe;
 pub use puzzles::{Puzzle, first_puzzles};
+pub use walks::Walk;

@@ -9,6 +9,7 @@ ghost use Rattle.dob_probe.specs.Puzzles.{ArePuzzles};
 ghost use Rattle.dob_probe.specs.SoleMoves.{IsPuzzleOf, IsSoleMove};
 
 use crate::successors::{list_moves, value_to};
+use crate::walks::{Walk, begin_at, class_on, first_class};
 use dob_moves::Move;
 use dob_pieces::{Memory, Position};
 use dob_value::{Table, Value};
@@ -21,42 +22,52 @@ pub struct Puzzle {
     pub choice: Move,
 }
 
-/// The first classes, at most so many, that the table says are won in so many plies and of whose representative just one move
-/// leads to a position lost in one ply less, each with that move. They come in the order of their numbers. The classes are
-/// looked at up to the last one listed, and all of them where there are fewer; one room is kept for lists of moves.
+/// The first classes of the walk, at most so many, that the table says are won in so many plies and of whose representative just one
+/// move leads to a position lost in one ply less, each with that move, in the walk's order. The classes are looked at up to the last one
+/// listed, and all of the walk where there are fewer; one room is kept for lists of moves.
 ///
 /// Error: `Memory`.
 pub fn first_puzzles(
     alloc: Global,
     table: &Table,
+    walk: Walk,
     plies: u64,
     count: u64,
 ) -> Result<Vec<Puzzle>, Memory>
     requires { 0 < plies }
-    ensures { IfOk result (λ list. ArePuzzles table.now plies count list.items) }
+    ensures { IfOk result (λ list. ArePuzzles table.now walk plies count list.items) }
 {
     // That a table has no longer distance bounds the plies.
     let _family = table.family();
     if plies > u16::MAX as u64 {
         return Ok(Vec::new(alloc));
     }
-    list_puzzles(alloc, table, plies as u16, count)
+    list_puzzles(alloc, table, walk, plies as u16, count)
 }
 
 // The same of a distance that a table may have.
 //
 // Error: `Memory`.
-fn list_puzzles(alloc: Global, table: &Table, plies: u16, count: u64) -> Result<Vec<Puzzle>, Memory>
+fn list_puzzles(
+    alloc: Global,
+    table: &Table,
+    walk: Walk,
+    plies: u16,
+    count: u64,
+) -> Result<Vec<Puzzle>, Memory>
     requires { 0 < plies }
-    ensures { IfOk result (λ list. ArePuzzles table.now plies count list.items) }
+    ensures { IfOk result (λ list. ArePuzzles table.now walk plies count list.items) }
 {
+    let classes = table.class_count();
+    let first = first_class(walk.seed, classes);
+    let begin = begin_at(walk.behind, first, classes);
     let mut list = Vec::new(alloc);
     let mut room = Vec::new(alloc);
-    for class in 0..table.class_count() {
+    for place in begin..classes {
         if list.len() as u64 >= count {
             return Ok(list);
         }
-        if let Some(puzzle) = puzzle_of(&mut room, table, plies, class)? {
+        if let Some(puzzle) = puzzle_of(&mut room, table, plies, class_on(first, classes, place))? {
             list.push(puzzle)?;
         }
     }

@@ -1,8 +1,9 @@
 -- What the header's bytes are refused for is a fault of the file.
-use Rattle.std.proofs.Common.{◌≡◌, ◌∙◌, ◌≤◌, ℕ, List, arith, inl, inr, refl, sym, subst, ap, length, take}
+use Rattle.std.proofs.Common.{◌≤◌, ℕ, arith, inl, inr, refl, subst, length, take}
 use Rattle.std.proofs.lemmas.Result.{err_from_is_err_and}
-use Rattle.dob_dbfile.specs.Faults.{CountsClasses, HasHeader, HasHeaderFault, header_len}
-use Rattle.dob_dbfile.proofs.Headers.{set_lifts, counts_lifts, fault_lifts, header_long}
+use Rattle.dob_dbfile.specs.Faults.{CountsClasses, HasHeaderFault, header_len}
+use Rattle.dob_dbfile.proofs.Headers.{set_lifts, counts_lifts, fault_lifts, front_refused, header_long}
+use Rattle.dob_dbfile.specs.Devices.{whole}
 use Rattle.dob_dbfile.proofs.HeldBytes.{refused}
 use Rattle.dob_dbfile.proofs.held.held_header.Goals as goal
 
@@ -37,3 +38,27 @@ returns-clause-counted c =
     let there : header_len format ≤ length c.args.bytes.now = omega (arith, c.header_len.ensures, c.if-bytes-header_len.false) in
     counts_lifts (header_len format) c.args.bytes.now (header_long format) there format family
     (subst (λ (n : ℕ). CountsClasses format family (take n c.args.bytes.now)) c.header_len-2.ensures c.in_ok-family_counted.ensures.counted)
+
+pub returns-in_err-format-clause-front : goal.returns-in_err-format-clause-front
+returns-in_err-format-clause-front c =
+    let p = err_from_is_err_and c.from_residual.result c.from_residual.ensures.1 in
+    let given = c.in_err-format.field-0.0 in
+    rw (p.1, p.2) (front_refused (whole c.args.bytes.now) given
+    (fault_lifts 20 c.args.bytes.now (omega arith) (omega (arith, c.if-bytes-lt-FRONT_LEN.false)) given c.in_err-format.ensures.fault))
+
+pub returns-then-bytes-header_len-clause-front : goal.returns-then-bytes-header_len-clause-front
+returns-then-bytes-header_len-clause-front c =
+    let format = c.in_ok-format.format in
+    let names = set_lifts 20 c.args.bytes.now (omega arith) (omega (arith, c.if-bytes-lt-FRONT_LEN.false)) format c.in_ok-format.set c.in_ok-format.ensures.named in (
+      inr (format, c.in_ok-format.set, names, λ has. let le : header_len format ≤ length c.args.bytes.now = has.1 in omega (arith, le, c.header_len.ensures, c.if-bytes-header_len.true)),
+      refl,
+    )
+
+pub returns-in_err-family_counted-clause-front : goal.returns-in_err-family_counted-clause-front
+returns-in_err-family_counted-clause-front c =
+    let p = err_from_is_err_and c.from_residual-in_err-family_counted.result c.from_residual-in_err-family_counted.ensures.1 in
+    let format = c.in_ok-format.format in
+    let given = c.in_err-family_counted.field-0.0 in
+    let there : header_len format ≤ length c.args.bytes.now = omega (arith, c.header_len.ensures, c.if-bytes-header_len.false) in
+    rw (p.1, p.2) (front_refused (whole c.args.bytes.now) given (fault_lifts (header_len format) c.args.bytes.now (header_long format) there given
+    (subst (λ (n : ℕ). HasHeaderFault (take n c.args.bytes.now) given) c.header_len-2.ensures c.in_err-family_counted.ensures.fault)))

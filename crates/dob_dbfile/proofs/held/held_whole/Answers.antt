@@ -1,6 +1,5 @@
 -- How many bytes there are tells whether the file is cut or goes on.
-use Rattle.std.proofs.Common.{◌≡◌, ◌≤◌, ◌+◌, ◌*◌, arith, inr, refl, length}
-use Rattle.dob_rank.specs.Families.{classes_of}
+use Rattle.std.proofs.Common.{◌≤◌, arith, inr, refl, length}
 use Rattle.dob_dbfile.specs.Faults.{file_len}
 use Rattle.dob_dbfile.proofs.held.held_whole.Goals as goal
 
@@ -13,7 +12,7 @@ returns-then-bytes-wanted-clause-fault c =
         family,
         c.in_ok-format.ensures.counted,
         λ is. let le : file_len format family ≤ length c.args.bytes.now = is.1 in
-            omega (arith, le, c.header_len.ensures, c.count_classes.ensures.number, c.if-bytes-wanted.true),
+            omega (arith, le, c.file_len-wanted.ensures, c.if-bytes-wanted.true),
       ),
       refl,
     )
@@ -24,7 +23,7 @@ returns-then-wanted-bytes-clause-fault c =
     let family = c.in_ok-format.family in (
       format,
       family,
-      (c.in_ok-format.ensures.counted, omega (arith, c.header_len.ensures, c.count_classes.ensures.number, c.if-wanted-bytes.true)),
+      (c.in_ok-format.ensures.counted, omega (arith, c.file_len-wanted.ensures, c.if-wanted-bytes.true)),
       λ is. let le : length c.args.bytes.now ≤ file_len format family = is.1 in
-          omega (arith, le, c.header_len.ensures, c.count_classes.ensures.number, c.if-wanted-bytes.true),
+          omega (arith, le, c.file_len-wanted.ensures, c.if-wanted-bytes.true),
     )

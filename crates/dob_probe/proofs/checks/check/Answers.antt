@@ -8,7 +8,7 @@ use Rattle.dob_value.proofs.Consistency.{consistent_is_right}
 use Rattle.dob_probe.specs.Checks.{ClassFollows}
 use Rattle.dob_probe.proofs.Following.{consistent_of_all}
 use Rattle.dob_probe.proofs.Verdicts.{fault_holds, passed_answered}
-use Rattle.dob_probe.proofs.checks.check_alone.Goals as goal
+use Rattle.dob_probe.proofs.checks.check.Goals as goal
 
 pub loop-class-init : goal.loop-class-init
 loop-class-init c = λ other below. absurd (omega (arith, below))
@@ -43,3 +43,10 @@ returns-clause-right c =
     c.class_count-class-end.ensures.number ∙ ap (λ (family : Family). classes_of family) c.classes.ensures.family ∙ c.classes.ensures.count in
     consistent_is_right table.family table.values
     (consistent_of_all table c.classes.ensures.table (λ class within. c.loop-class.invariant class (omega (arith, within, count, c.loop-class-test.false))))
+
+pub returns-clause-consistent : goal.returns-clause-consistent
+returns-clause-consistent c =
+    let table = c.args.table.now in
+    let count : c.class_count-class-end.result ≡ length table.values =
+    c.class_count-class-end.ensures.number ∙ ap (λ (family : Family). classes_of family) c.classes.ensures.family ∙ c.classes.ensures.count in
+    consistent_of_all table c.classes.ensures.table (λ class within. c.loop-class.invariant class (omega (arith, within, count, c.loop-class-test.false)))

@@ -1,7 +1,7 @@
 -- The values of the classes so far follow.
 use Rattle.std.proofs.Common.{ℕ, ◌<◌}
 use Rattle.dob_probe.specs.Checks.{ClassFollows}
-use Rattle.dob_probe.proofs.checks.check_alone.Given as goal
+use Rattle.dob_probe.proofs.checks.check.Given as goal
 
 abbrev pub invariant-loop-class : goal.invariant-loop-class
 invariant-loop-class l = (other : ℕ) → other < l.class → ClassFollows l.table other

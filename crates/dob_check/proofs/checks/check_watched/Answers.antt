@@ -9,8 +9,9 @@ use Rattle.rayon.proofs.ToStd.{nat_range-All}
 use Rattle.dob_pieces.specs.declared.profile.Family.{Family}
 use Rattle.dob_rank.specs.Families.{classes_of}
 use Rattle.dob_probe.specs.Faults.{IsVerdict}
-use Rattle.dob_probe.proofs.Verdicts.{Verdict, IsFirstFault, first_fault, consistent_answered, fault_answered, right_answered, passed_answered}
-use Rattle.dob_probe.proofs.checks.check_watched.Goals as goal
+use Rattle.dob_probe.proofs.Verdicts.{Verdict, IsFirstFault, passed_answered}
+use Rattle.dob_check.proofs.Found.{first_fault, consistent_answered, fault_answered, right_answered}
+use Rattle.dob_check.proofs.checks.check_watched.Goals as goal
 
 pub find_first-first_fault-requires-clause-items : goal.find_first-first_fault-requires-clause-items
 find_first-first_fault-requires-clause-items g c = λ κs lives.

@@ -1,0 +1,3 @@
+-- The lemmas.
+pub mod Found  -- the first fault among the verdicts of all classes, as a search over them finds it
+pub mod Counted  -- what is counted of parts of the classes, and of all of them

@@ -1,0 +1,104 @@
+// Whether a table is consistent, looked at by as many threads as there are processors.
+ghost use Rattle.std.specs.Prelude.{◌≡◌, ◌⊎◌, ◌<◌, ◌≤◌, ◌+◌, length, IfOk, IfErr, is_err};
+ghost use Rattle.dob_value.specs.Follows.{IsConsistent, IsValueTable};
+ghost use Rattle.dob_probe.specs.Faults.{IsFaultOfCheck, IsVerdict};
+ghost use Rattle.dob_check.specs.Watching.{told_of};
+
+use dob_moves::Move;
+use dob_probe::{Fault, check_class};
+use dob_value::Table;
+use rayon::prelude::*;
+use std::alloc::Global;
+use std::thread::Threads;
+
+/// How many classes are looked at between two words to a watch: a power of 2, so that a place among them is a mask.
+const EACH: u64 = 65_536;
+
+/// Is told how far a check is.
+pub trait Watch {
+    /// Told that so many more classes were looked at, 65,536 at most. More may have been, and which they are is left open.
+    fn passed(&self, classes: u64);
+}
+
+// Nobody is told.
+struct Unwatched;
+
+impl Watch for Unwatched {
+    fn passed(&self, _classes: u64) {}
+}
+
+/// Passes the table just where each class's value follows from its status and its successors' values, so only where it
+/// is the value table. The classes are looked at by themselves, in as many threads as there are processors, each thread with
+/// one room for lists of moves.
+///
+/// Errors: `Inconsistent` with the least class whose value doesn't follow; `Memory`.
+pub fn check(rt: &(impl Threads + Sync), alloc: Global, table: &Table) -> Result<(), Fault>
+    ensures consistent { IfOk result (λ _. IsConsistent table.now.family table.now.values) }
+    ensures right { IfOk result (λ _. IsValueTable table.now.family table.now.values) }
+    ensures fault { IfErr result (IsFaultOfCheck table.now) }
+    ensures passed { IsConsistent table.now.family table.now.values → (result ≡ Ok tt) ⊎ (result ≡ Err Fault.Memory) }
+{
+    check_watched(rt, alloc, table, &Unwatched)
+}
+
+/// The same, where the watch is told at each 65,536th class, and at the last one of all that are left: of a table that passes it is
+/// told of as many classes as there are.
+///
+/// Errors: those of [`check`].
+pub fn check_watched<R: Threads + Sync, W: Watch + Sync>(
+    rt: &R,
+    alloc: Global,
+    table: &Table,
+    watch: &W,
+) -> Result<(), Fault>
+    ensures consistent { IfOk result (λ _. IsConsistent table.now.family table.now.values) }
+    ensures right { IfOk result (λ _. IsValueTable table.now.family table.now.values) }
+    ensures fault { IfErr result (IsFaultOfCheck table.now) }
+    ensures passed { IsConsistent table.now.family table.now.values → (result ≡ Ok tt) ⊎ (result ≡ Err Fault.Memory) }
+{
+    let first_fault = (0..table.classes().class_count())
+        .into_par_iter()
+        .map_init(
+            || -> Vec<Move> { Vec::new(alloc) },
+            |room: &mut Vec<Move>, class: u64| -> Result<(), Fault>
+                requires { class < length table.now.values }
+                ensures { IsVerdict table.entry.now class result }
+            {
+                tell(watch, table.class_count(), class);
+                check_class(room, table, class)
+            },
+        )
+        .find_first(
+            rt,
+            |verdict: &Result<(), Fault>| -> bool
+                ensures { result ≡ is_err verdict.now }
+            { verdict.is_err() },
+        );
+    first_fault.unwrap_or(Ok(()))
+}
+
+// Tells the watch at the class, one of so many, where it is due.
+fn tell<W: Watch>(watch: &W, count: u64, class: u64)
+    requires { class < count }
+{
+    let news = news_at(count, class);
+    if news > 0 {
+        watch.passed(news);
+    }
+}
+
+// How many more classes the watch is told of at that one of so many.
+fn news_at(count: u64, class: u64) -> u64
+    requires { class < count }
+    ensures adds { told_of count class + result ≡ told_of count (class + 1) }
+    ensures few { result ≤ 65536 }
+{
+    let behind = class + 1;
+    if behind % EACH == 0 {
+        EACH
+    } else if behind == count {
+        behind % EACH
+    } else {
+        0
+    }
+}

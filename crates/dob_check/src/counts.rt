@@ -1,0 +1,91 @@
+// How many classes of a table have which value, counted in parts by as many threads as there are processors.
+ghost use Rattle.std.specs.Prelude.{◌≡◌, IfOk};
+ghost use Rattle.std.specs.List.{AllZip, range_with_len};
+ghost use Rattle.dob_probe.specs.Slots.{AreSlots};
+ghost use Rattle.dob_probe.specs.Statistics.{AreGroups};
+ghost use Rattle.dob_check.specs.Parts.{IsPart, IsPlace, part_count};
+
+use dob_pieces::Memory;
+use dob_probe::{Group, add_slots, groups_of, slots_between};
+use dob_value::Table;
+use rayon::prelude::*;
+use std::alloc::Global;
+use std::thread::Threads;
+
+/// How many classes are counted by themselves. What is counted of them takes some 32 bytes for each distance that they have.
+const PART: u64 = 65_536;
+
+// What is counted of each code in a part of the classes.
+#[derive(Drop)]
+struct Part {
+    slots: Vec<Option<Group>>,
+}
+
+/// The groups of the table's classes that have one value: the draws first, where there are any, and then by ascending distance, so
+/// odd ones of wins and even ones of losses. The last win and the last loss are the longest. Parts of the classes are counted by as
+/// many threads as there are processors, and added up in their order.
+///
+/// Error: `Memory`.
+pub fn statistics(
+    rt: &(impl Threads + Sync),
+    alloc: Global,
+    table: &Table,
+) -> Result<Vec<Group>, Memory>
+    ensures { IfOk result (λ groups. AreGroups table.now.values groups.items) }
+{
+    let _family = table.family();
+    let parts = slots_of_parts(rt, alloc, table)?;
+    let slots = joined_slots(alloc, table, &parts)?;
+    groups_of(alloc, &slots)
+}
+
+// What is counted of each part, in their order; the last one may have no class.
+fn slots_of_parts(
+    rt: &(impl Threads + Sync),
+    alloc: Global,
+    table: &Table,
+) -> Result<Vec<Part>, Memory>
+    ensures { IfOk result (λ parts. AllZip (IsPart table.now.values) (range_with_len 0 (part_count table.now.values)) parts.items) }
+{
+    (0..part_count(table))
+        .into_par_iter()
+        .map(
+            |place: u64| -> Result<Part, Memory>
+                requires { IsPlace table.now.values place }
+                ensures { IfOk result (IsPart table.entry.now.values place) }
+            { slots_of_part(alloc, table, place) },
+        )
+        .collect::<Result<Vec<Part>, Memory>>(rt, alloc)?
+}
+
+// How many parts there are.
+fn part_count(table: &Table) -> u64
+    ensures { result ≡ part_count table.now.values }
+{
+    table.class_count() / PART + 1
+}
+
+// What is counted of the part of that place.
+fn slots_of_part(alloc: Global, table: &Table, place: u64) -> Result<Part, Memory>
+    requires { IsPlace table.now.values place }
+    ensures { IfOk result (IsPart table.now.values place) }
+{
+    let count = table.class_count();
+    let first = place * PART;
+    let size = PART.min(count - first);
+    let slots = slots_between(alloc, table, first, first + size)?;
+    Ok(Part { slots })
+}
+
+// What is counted of all parts.
+fn joined_slots(alloc: Global, table: &Table, parts: &[Part]) -> Result<Vec<Option<Group>>, Memory>
+    requires { AllZip (IsPart table.now.values) (range_with_len 0 (part_count table.now.values)) parts.now }
+    ensures { IfOk result (λ slots. AreSlots table.now.values slots.items) }
+{
+    let _count = table.class_count();
+    let mut slots = Vec::new(alloc);
+    for place in 0..parts.len() {
+        add_slots(&mut slots, &parts[place].slots, place as u64 * PART)?;
+    }
+    Ok(slots)
+}

@@ -1,0 +1,33 @@
+-- Each class is counted with its value.
+use Rattle.std.proofs.Common.{◌≡◌, ◌-◌, ◌<◌, ◌≤◌, ℕ, sym, subst, arith, length, List}
+use Rattle.std.proofs.lemmas.Option.{slice_get_within}
+use Rattle.dob_value.specs.declared.value.Value.{Value}
+use Rattle.dob_probe.specs.Slots.{AreSlots, part_of}
+use Rattle.dob_probe.specs.declared.groups.Group.{Group}
+use Rattle.dob_probe.proofs.Slotted.{part_long, part_more, part_none, slots_none}
+use Rattle.dob_probe.proofs.groups.slots_between.Goals as goal
+
+pub loop-class-init : goal.loop-class-init
+loop-class-init c = (
+  omega arith,
+  subst (λ (xs : List Value). AreSlots xs c.new-slots.result.items) (sym (part_none c.args.table.now.values c.args.first))
+      (rw c.new-slots.ensures.items slots_none),
+)
+
+pub count_class-requires-clause-slots : goal.count_class-requires-clause-slots
+count_class-requires-clause-slots c =
+    let values = c.args.table.now.values in
+    let from : c.args.first ≤ c.loop-class.class = c.loop-class.invariant.0 in
+    let within = slice_get_within values c.loop-class.class c.value.result c.value.ensures in
+    (part_of values c.args.first (c.loop-class.class - c.args.first), part_long values c.args.first c.loop-class.class from (omega (arith, within)), c.loop-class.invariant.1)
+
+pub loop-class-preserved : goal.loop-class-preserved
+loop-class-preserved c =
+    let values = c.args.table.now.values in
+    let from : c.args.first ≤ c.loop-class.class = c.loop-class.invariant.0 in
+    let within = slice_get_within values c.loop-class.class c.value.result c.value.ensures in (
+      omega (arith, from),
+      subst (λ (xs : List Value). AreSlots xs c.count_class.new.slots.items) (sym (part_more values c.args.first c.loop-class.class c.value.result from c.value.ensures))
+          (c.in_ok-count_class.ensures (part_of values c.args.first (c.loop-class.class - c.args.first))
+          (part_long values c.args.first c.loop-class.class from (omega (arith, within))) c.loop-class.invariant.1),
+    )
