@@ -1,20 +1,20 @@
 -- What a build leaves, `probe` finds: the value by definition.
 use Rattle.std.proofs.Common.{◌≡◌, ◌∙◌, ℕ, List, arith, inl, inr, refl, sym}
 use Rattle.std.specs.Prelude.{IsTrue}
-use Rattle.dob_run.specs.declared.fault.Fault.TheVariants as run_fault
+use Rattle.dob_stops.specs.declared.fault.Fault.TheVariants as run_fault
 use Rattle.dob_dbfile.specs.declared.fault.Fault.TheVariants as file_fault
 use Rattle.dob_dbfile.specs.Format.{bytes_of}
 use Rattle.dob_dbfile.specs.Sinks.{Change}
 use Rattle.dob_probe.specs.declared.fault.Fault.TheVariants as table_fault
-use Rattle.dob_cli.specs.declared.fault.Fault.{Fault}
-use Rattle.dob_cli.specs.declared.fault.Fault.TheVariants.{Text, SetText, TooDeep, Run, File, Table, PuzzlePlies, Memory, Io}
-use Rattle.dob_cli.specs.Faults.{status_of}
-use Rattle.dob_cli.specs.Endings.{Ending, TellsOneFault}
-use Rattle.dob_cli.specs.Shelves.{ShelfChange, ShelfState}
+use Rattle.dob_query.specs.declared.fault.Fault.{Fault}
+use Rattle.dob_query.specs.declared.fault.Fault.TheVariants.{Text, SetText, TooDeep, Run, File, Table, PuzzlePlies, Memory, Io}
+use Rattle.dob_query.specs.Faults.{status_of}
+use Rattle.dob_query.specs.Endings.{Ending, TellsOneFault}
+use Rattle.dob_query.specs.Shelves.{ShelfChange, ShelfState}
 use Rattle.dob_cli.specs.Builds.{AnswersBuild}
-use Rattle.dob_cli.specs.Tables.{HasValueFile}
+use Rattle.dob_query.specs.Tables.{HasValueFile}
 use Rattle.dob_cli.specs.Laws.{BuildThenProbe}
-use Rattle.dob_cli.specs.Words.{profile_named}
+use Rattle.dob_words.specs.Words.{profile_named}
 use Rattle.dob_pieces.specs.declared.profile.Profile.{Profile}
 
 -- no fault has the status of what is done

@@ -3,40 +3,40 @@ use Rattle.std.proofs.Common.{◌≡◌, ◌⊎◌, ℕ, Bool, List, [], ◌∷�
 use Rattle.std.specs.Borrow.{Bor}
 use Rattle.dob_pieces.specs.declared.profile.Profile.{Profile}
 use Rattle.std.specs.Str.{bytes_eq}
-use Rattle.dob_cli.specs.Forms.{Text}
-use Rattle.dob_cli.specs.declared.command.Order.{Order}
-use Rattle.dob_cli.specs.declared.command.Order.TheVariants.{Value, Count, Build, Probe, Each, Line, Check, Look, Show, Moves, Stats, Puzzles, Migrate}
-use Rattle.dob_cli.specs.Endings.{Ending}
-use Rattle.dob_cli.specs.Shelves.{SameFiles, SameOthers, ShelfChange}
-use Rattle.dob_cli.specs.Words.{Meaning, asks, build, flag_text, help, migrate, number_of, profile_named, show, usage, version}
-use Rattle.dob_cli.specs.declared.command.Reading.TheVariants as reading
-use Rattle.dob_cli.specs.Readings.{IsOrder, IsReadingOf, name_of_order, text_given}
-use Rattle.dob_cli.specs.Orders.{AnswersByLines, AnswersOrder, IsByLines, KeepsFiles}
-use Rattle.dob_cli.specs.Program.{AnswersValue}
-use Rattle.dob_cli.specs.Sizes.{AnswersCount}
+use Rattle.dob_words.specs.Forms.{Text}
+use Rattle.dob_words.specs.declared.command.Order.{Order}
+use Rattle.dob_words.specs.declared.command.Order.TheVariants.{Value, Count, Build, Probe, Each, Line, Check, Look, LookEach, Show, Moves, Best, Stats, Puzzles, Migrate}
+use Rattle.dob_query.specs.Endings.{Ending}
+use Rattle.dob_query.specs.Shelves.{SameFiles, SameOthers, ShelfChange}
+use Rattle.dob_words.specs.Words.{Meaning, asks, build, flag_text, help, migrate, number_of, profile_named, show, usage, version}
+use Rattle.dob_words.specs.declared.command.Reading.TheVariants as reading
+use Rattle.dob_words.specs.Readings.{IsOrder, IsReadingOf, name_of_order, text_given}
+use Rattle.dob_cli.specs.Orders.{AnswersByLines, AnswersOrder, IsByLines, KeepsFiles, search_of}
+use Rattle.std.specs.Prelude.{option_map}
+use Rattle.dob_query.specs.Program.{AnswersValue}
+use Rattle.dob_query.specs.Sizes.{AnswersCount}
 use Rattle.dob_cli.specs.Builds.{AnswersBuild}
-use Rattle.dob_cli.specs.Looks.{AnswersLook}
-use Rattle.dob_cli.specs.Choices.{AnswersMoves}
-use Rattle.dob_cli.specs.Each.{AnswersEach}
-use Rattle.dob_cli.specs.Shows.{AnswersShow, KeepsButPicture}
-use Rattle.dob_cli.specs.Stats.{AnswersStats}
-use Rattle.dob_cli.specs.Puzzles.{AnswersPuzzles}
-use Rattle.dob_cli.specs.Migrations.{AnswersMigrate}
-use Rattle.dob_cli.specs.Tables.{AnswersCheck, AnswersLine, AnswersProbe}
+use Rattle.dob_query.specs.Looks.{AnswersLook}
+use Rattle.dob_query.specs.Choices.{AnswersBest, AnswersMoves}
+use Rattle.dob_query.specs.Each.{AnswersEach}
+use Rattle.dob_query.specs.LooksEach.{AnswersLookEach}
+use Rattle.dob_query.specs.Shows.{AnswersShow, KeepsButPicture}
+use Rattle.dob_query.specs.Stats.{AnswersStats}
+use Rattle.dob_query.specs.Puzzles.{AnswersPuzzles}
+use Rattle.dob_query.specs.Migrations.{AnswersMigrate}
+use Rattle.dob_query.specs.Tables.{AnswersCheck, AnswersLine, AnswersProbe}
 
 -- two names that differ aren't one
 differs : (a b : Text) → bytes_eq a a ≡ true → bytes_eq a b ≡ false → a ≡ b → ⊥
 differs a b own other e = true≢false (sym own ∙ subst (λ (x : Text). bytes_eq a x ≡ false) (sym e) other)
 
--- the one text of a list, the two and the three
-pub one_text : (x a : Text) → Some x ∷ [] ≡ Some a ∷ [] → x ≡ a
-one_text x a e = cc
-
+-- the two texts of a list, and three before what may be left out
 two_texts : (x y a b : Text) → Some x ∷ Some y ∷ [] ≡ Some a ∷ Some b ∷ [] → (x ≡ a) × (y ≡ b)
 two_texts x y a b e = (cc, cc)
 
-three_texts : (x y z a b c : Text) → Some x ∷ Some y ∷ Some z ∷ [] ≡ Some a ∷ Some b ∷ Some c ∷ [] → (x ≡ a) × (y ≡ b) × (z ≡ c)
-three_texts x y z a b c e = (cc, cc, cc)
+six_texts : (x y z a b c : Text) (u v w d f g : Option Text) → Some x ∷ Some y ∷ Some z ∷ u ∷ v ∷ w ∷ [] ≡ Some a ∷ Some b ∷ Some c ∷ d ∷ f ∷ g ∷ []
+    → (x ≡ a) × (y ≡ b) × (z ≡ c) × (u ≡ d) × (v ≡ f) × (w ≡ g)
+six_texts x y z a b c u v w d f g e = (cc, cc, cc, cc, cc, cc)
 
 -- a text that may be left out before one and behind one, and two of them behind three
 ruled_text : (x a : Option Text) (y b : Text) → x ∷ Some y ∷ [] ≡ a ∷ Some b ∷ [] → (x ≡ a) × (y ≡ b)
@@ -127,11 +127,17 @@ module _ (c : ShelfChange) (e : Ending) where
       subst (λ (x : Text). AnswersCheck c x e) (text_ruled f.now file is.1.0 progress is.1.1).0 answers
   done_check o file progress is answers = absurd (differs (name_of_order o) (codes "check") refl refl is.0)
 
-  pub done_look : (o : Order) (file text : Text) → IsOrder (codes "look") (Some file ∷ Some text ∷ []) o → AnswersOrder c o e → AnswersLook c file text e
+  pub done_look : (o : Order) (file text : Text) → IsOrder (codes "look") (Some file ∷ None ∷ Some text ∷ []) o → AnswersOrder c o e → AnswersLook c file text e
   done_look (Look f t) file text is answers =
-      let same = two_texts f.now t.now file text is.1 in
+      let same = asked_texts f.now t.now file text is.1 in
       subst (λ (x : Text). AnswersLook c x text e) same.0 (subst (λ (x : Text). AnswersLook c f.now x e) same.1 answers)
+  done_look (LookEach f) file text is answers = absurd (unlike_texts f.now is.1.0 file text is.1.1)
   done_look o file text is answers = absurd (differs (name_of_order o) (codes "look") refl refl is.0)
+
+  pub done_look_each : (o : Order) (file : Text) → IsOrder (codes "look") (Some file ∷ Some [] ∷ None ∷ []) o → AnswersOrder c o e → AnswersLookEach c file e
+  done_look_each (LookEach f) file is answers = subst (λ (x : Text). AnswersLookEach c x e) (flagged_text f.now is.1.0 file [] is.1.1) answers
+  done_look_each (Look f t) file is answers = absurd (unlike_texts file [] f.now t.now (sym is.1))
+  done_look_each o file is answers = absurd (differs (name_of_order o) (codes "look") refl refl is.0)
 
   pub done_show : (o : Order) (file picture : Option Text) (text : Text) → IsOrder (codes "show") (file ∷ picture ∷ Some text ∷ []) o
       → AnswersOrder c o e → AnswersShow c file picture text e
@@ -148,18 +154,35 @@ module _ (c : ShelfChange) (e : Ending) where
       subst (λ (x : Text). AnswersMoves c x text e) same.0 (subst (λ (x : Text). AnswersMoves c f.now x e) same.1 answers)
   done_moves o file text is answers = absurd (differs (name_of_order o) (codes "moves") refl refl is.0)
 
-  pub done_stats : (o : Order) (file : Text) → IsOrder (codes "stats") (Some file ∷ []) o → AnswersOrder c o e → AnswersStats c file e
-  done_stats (Stats f) file is answers = subst (λ (x : Text). AnswersStats c x e) (one_text f.now file is.1) answers
-  done_stats o file is answers = absurd (differs (name_of_order o) (codes "stats") refl refl is.0)
+  pub done_best : (o : Order) (file text : Text) → IsOrder (codes "best") (Some file ∷ Some text ∷ []) o → AnswersOrder c o e → AnswersBest c file text e
+  done_best (Best f t) file text is answers =
+      let same = two_texts f.now t.now file text is.1 in
+      subst (λ (x : Text). AnswersBest c x text e) same.0 (subst (λ (x : Text). AnswersBest c f.now x e) same.1 answers)
+  done_best o file text is answers = absurd (differs (name_of_order o) (codes "best") refl refl is.0)
 
-  pub done_puzzles : (o : Order) (file plies count : Text) → IsOrder (codes "puzzles") (Some file ∷ Some plies ∷ Some count ∷ []) o → AnswersOrder c o e
-      → AnswersPuzzles c file (number_of plies) (number_of count) e
-  done_puzzles (Puzzles f d n) file plies count is answers =
-      let same = three_texts f.now is.1.0 is.1.1 file plies count is.1.2 in
-      subst (λ (x : Text). AnswersPuzzles c x (number_of plies) (number_of count) e) same.0
-      (subst (λ (k : ℕ). AnswersPuzzles c f.now k (number_of count) e) (is.1.4 ∙ ap number_of same.1)
-      (subst (λ (k : ℕ). AnswersPuzzles c f.now d k e) (is.1.6 ∙ ap number_of same.2) answers))
-  done_puzzles o file plies count is answers = absurd (differs (name_of_order o) (codes "puzzles") refl refl is.0)
+  pub done_stats : (o : Order) (file : Text) (is_csv : Bool) → IsOrder (codes "stats") (Some file ∷ flag_text is_csv ∷ []) o → AnswersOrder c o e
+      → AnswersStats c file is_csv e
+  done_stats (Stats f b) file is_csv is answers =
+      let same = text_ruled f.now file is.1.0 (flag_text is_csv) is.1.1 in
+      let given : b ≡ is_csv = is.1.2 ∙ ap (λ (x : Option Text). is_some x) same.1 ∙ flag_given is_csv in
+      subst (λ (x : Text). AnswersStats c x is_csv e) same.0 (subst (λ (t : Bool). AnswersStats c f.now t e) given answers)
+  done_stats o file is_csv is answers = absurd (differs (name_of_order o) (codes "stats") refl refl is.0)
+
+  pub done_puzzles : (o : Order) (file plies count : Text) (from seed : Option Text) (is_numbered : Bool)
+      → IsOrder (codes "puzzles") (Some file ∷ Some plies ∷ Some count ∷ from ∷ seed ∷ flag_text is_numbered ∷ []) o → AnswersOrder c o e
+      → AnswersPuzzles c file (search_of (number_of plies) (number_of count) (option_map number_of from) (option_map number_of seed) is_numbered) e
+  done_puzzles (Puzzles f d n k s b) file plies count from seed is_numbered is answers =
+      let same = six_texts f.now is.1.0 is.1.1 file plies count is.1.2 is.1.3 is.1.4 from seed (flag_text is_numbered) is.1.5 in
+      let given : b ≡ is_numbered = is.1.12 ∙ ap (λ (x : Option Text). is_some x) same.5 ∙ flag_given is_numbered in
+      subst (λ (x : Text). AnswersPuzzles c x (search_of (number_of plies) (number_of count) (option_map number_of from) (option_map number_of seed) is_numbered) e) same.0
+      (subst (λ (x : ℕ). AnswersPuzzles c f.now (search_of x (number_of count) (option_map number_of from) (option_map number_of seed) is_numbered) e)
+      (is.1.7 ∙ ap number_of same.1)
+      (subst (λ (x : ℕ). AnswersPuzzles c f.now (search_of d x (option_map number_of from) (option_map number_of seed) is_numbered) e)
+      (is.1.9 ∙ ap number_of same.2)
+      (subst (λ (x : Option ℕ). AnswersPuzzles c f.now (search_of d n x (option_map number_of seed) is_numbered) e) (is.1.10 ∙ ap (option_map number_of) same.3)
+      (subst (λ (x : Option ℕ). AnswersPuzzles c f.now (search_of d n k x is_numbered) e) (is.1.11 ∙ ap (option_map number_of) same.4)
+      (subst (λ (x : Bool). AnswersPuzzles c f.now (search_of d n k s x) e) given answers)))))
+  done_puzzles o file plies count from seed is_numbered is answers = absurd (differs (name_of_order o) (codes "puzzles") refl refl is.0)
 
   pub done_migrate : (o : Order) (file out : Text) → IsOrder (codes "migrate") (Some file ∷ Some out ∷ []) o → AnswersOrder c o e
       → AnswersMigrate c file out e
@@ -172,23 +195,32 @@ module _ (c : ShelfChange) (e : Ending) where
 abbrev IsEach : Order → Type 0
 IsEach o = (file : Bor Text) × (o ≡ Each file)
 
+abbrev IsLookEach : Order → Type 0
+IsLookEach o = (file : Bor Text) × (o ≡ LookEach file)
+
 -- where it isn't for each line
-pub is_by_lines : (o : Order) → ((file : Bor Text) → o ≡ Each file → ⊥) → IsByLines o
-is_by_lines (Each f) other = absurd (other f refl)
-is_by_lines o other = tt
+pub is_by_lines : (o : Order) → ((file : Bor Text) → o ≡ Each file → ⊥) → ((file : Bor Text) → o ≡ LookEach file → ⊥) → IsByLines o
+is_by_lines (Each f) other another = absurd (other f refl)
+is_by_lines (LookEach f) other another = absurd (another f refl)
+is_by_lines o other another = tt
 
 module _ (c : ShelfChange) (e : Ending) where
   abbrev IsLined : Order → Type 0
   IsLined o = (AnswersOrder c o e → AnswersByLines c o e) × (AnswersByLines c o e → AnswersOrder c o e)
 
-  pub order_ways : (o : Order) → IsEach o ⊎ IsLined o
+  pub order_ways : (o : Order) → IsEach o ⊎ (IsLookEach o ⊎ IsLined o)
   order_ways (Each f) = inl (f, refl)
-  order_ways o = inr (λ a. a, λ a. a)
+  order_ways (LookEach f) = inr (inl (f, refl))
+  order_ways o = inr (inr (λ a. a, λ a. a))
 
-  pub answered_by_lines : (o : Order) → ((file : Bor Text) → o ≡ Each file → ⊥) → AnswersByLines c o e → AnswersOrder c o e
-  answered_by_lines o other answers = elim (order_ways o) [
+  pub answered_by_lines : (o : Order) → ((file : Bor Text) → o ≡ Each file → ⊥) → ((file : Bor Text) → o ≡ LookEach file → ⊥) → AnswersByLines c o e
+      → AnswersOrder c o e
+  answered_by_lines o other another answers = elim (order_ways o) [
     | inl is ↦ absurd (other is.0 is.1)
-    | inr lined ↦ lined.1 answers
+    | inr more ↦ elim more [
+      | inl is ↦ absurd (another is.0 is.1)
+      | inr lined ↦ lined.1 answers
+    ]
   ]
 
 -- ---- files
@@ -256,6 +288,8 @@ module _ (c : ShelfChange) where
   kept_files m (Line f n t) is none undrawn still keeps = keeps
   kept_files m (Check f b) is none undrawn still keeps = keeps
   kept_files m (Look f t) is none undrawn still keeps = keeps
+  kept_files m (LookEach f) is none undrawn still keeps = keeps
   kept_files m (Moves f t) is none undrawn still keeps = keeps
-  kept_files m (Stats f) is none undrawn still keeps = keeps
-  kept_files m (Puzzles f d n) is none undrawn still keeps = keeps
+  kept_files m (Best f t) is none undrawn still keeps = keeps
+  kept_files m (Stats f b) is none undrawn still keeps = keeps
+  kept_files m (Puzzles f d n k s b) is none undrawn still keeps = keeps

@@ -1,27 +1,31 @@
 -- From what the program does with what it read to what it owes for the words.
-use Rattle.std.proofs.Common.{◌≡◌, ◌||◌, ℕ, Bool, true, false, inl, inr, List, refl, subst}
+use Rattle.std.proofs.Common.{◌≡◌, ◌||◌, ℕ, Bool, true, false, inl, inr, List, Some, refl, subst}
 use Rattle.dob_dbfile.specs.Sinks.{Change, IsSame, IsUntouched, Says}
-use Rattle.dob_cli.specs.declared.fault.Fault.{Fault}
-use Rattle.dob_cli.specs.declared.fault.Fault.TheVariants.{Memory, Io}
-use Rattle.dob_cli.specs.declared.command.Order.{Order}
-use Rattle.dob_cli.specs.declared.command.Reading.{Reading}
-use Rattle.dob_cli.specs.declared.command.Reading.TheVariants as reading
-use Rattle.dob_cli.specs.Forms.{Text}
-use Rattle.dob_cli.specs.Words.{Meaning, meaning_of}
-use Rattle.dob_cli.specs.Readings.{IsReadingOf}
+use Rattle.dob_query.specs.declared.fault.Fault.{Fault}
+use Rattle.dob_query.specs.declared.fault.Fault.TheVariants.{Memory, Io}
+use Rattle.dob_words.specs.declared.command.Order.{Order}
+use Rattle.dob_words.specs.declared.command.Reading.{Reading}
+use Rattle.dob_words.specs.declared.command.Reading.TheVariants as reading
+use Rattle.dob_words.specs.Forms.{Text}
+use Rattle.dob_words.specs.Words.{Meaning, meaning_of}
+use Rattle.dob_words.specs.Readings.{IsReadingOf}
 use Rattle.dob_value.specs.declared.value.Value.{Value}
 use Rattle.dob_value.specs.Follows.{ClassTable}
-use Rattle.dob_cli.specs.Each.{AnswersEachBy, IsGivenTo}
-use Rattle.dob_cli.specs.Endings.{Answers, Ending, Tells, TellsMemory, TellsOneFault, version_line}
-use Rattle.dob_cli.specs.Shelves.{FailsWhere, SameFiles, ShelfChange}
-use Rattle.dob_cli.specs.Faults.{is_io}
+use Rattle.dob_query.specs.Each.{AnswersLines, AreEachLines, IsEachFault, IsGivenTo}
+use Rattle.dob_query.specs.Looks.{GivesWhole}
+use Rattle.dob_query.specs.LooksEach.{ArePlaceLines, IsLookedFor, IsPlacesFault}
+use Rattle.dob_query.specs.Endings.{Answers, Ending, Tells, TellsMemory, TellsOneFault, version_line}
+use Rattle.dob_query.specs.Shelves.{FailsWhere, SameFiles, ShelfChange}
+use Rattle.dob_query.specs.Faults.{is_io}
 use Rattle.dob_cli.specs.Orders.{AnswersOrder, AreLinesFor, IsFaultFor, KeepsFiles}
 use Rattle.dob_cli.specs.Runs.{Ran, RanOn}
-use Rattle.dob_cli.proofs.Shelves.{others_kept}
-use Rattle.dob_cli.proofs.TableFaults.{moves_right, probe_right}
-use Rattle.dob_cli.proofs.EachLine.{each_memory, each_right}
-use Rattle.dob_cli.proofs.ByPlace.{look_right}
-use Rattle.dob_cli.proofs.Orders.{done_build, done_check, done_count, done_each, done_line, done_look, done_migrate, done_moves, done_probe, done_puzzles, done_show, done_stats, done_value, kept_but_picture, kept_files, kept_migrated, kept_others, order_ways}
+use Rattle.dob_query.proofs.Shelves.{others_kept}
+use Rattle.dob_query.proofs.TableFaults.{best_right, moves_right, probe_right}
+use Rattle.dob_query.proofs.Rightly.{line_right, puzzles_right, show_right, stats_right}
+use Rattle.dob_query.proofs.EachLine.{each_memory, each_right}
+use Rattle.dob_query.proofs.ByPlace.{look_right}
+use Rattle.dob_query.proofs.Placed.{look_each_right}
+use Rattle.dob_cli.proofs.Orders.{done_best, done_build, done_check, done_count, done_each, done_line, done_look, done_look_each, done_migrate, done_moves, done_probe, done_puzzles, done_show, done_stats, done_value, kept_but_picture, kept_files, kept_migrated, kept_others, order_ways}
 
 -- ---- the streams are those that they were
 
@@ -45,17 +49,23 @@ answers_same AreLines Holds e (inl lines) = (lines.told.same, untouched_same e.e
 answers_same AreLines Holds e (inr (inl is)) = (untouched_same e.out is.silent, fault_same is.fault e.status e.err is.told)
 answers_same AreLines Holds e (inr (inr failed)) = (failed.part.1.same, fault_same Io e.status e.err failed.told)
 
-each_same : (IsTold : ClassTable → List ℕ → Value → Type 0) (c : ShelfChange) (file : List ℕ) (e : Ending) → AnswersEachBy IsTold c file e
+each_same : (c : ShelfChange) (AreLines : Bool → List ℕ → Type 0) (Holds : Fault → Type 0) (e : Ending) → AnswersLines c AreLines Holds e
     → IsSame e.out × IsSame e.err
-each_same IsTold c file e (inl lines) = (lines.told.same, untouched_same e.err lines.silent)
-each_same IsTold c file e (inr (inl is)) = (untouched_same e.out is.silent, fault_same is.fault e.status e.err is.told)
-each_same IsTold c file e (inr (inr failed)) = (failed.part.1.same, fault_same Io e.status e.err failed.told)
+each_same c AreLines Holds e (inl lines) = (lines.told.same, untouched_same e.err lines.silent)
+each_same c AreLines Holds e (inr (inl is)) = (untouched_same e.out is.silent, fault_same is.fault e.status e.err is.told)
+each_same c AreLines Holds e (inr (inr failed)) = (failed.part.1.same, fault_same Io e.status e.err failed.told)
 
 order_same : (c : ShelfChange) (o : Order) (e : Ending) → AnswersOrder c o e → IsSame e.out × IsSame e.err
 order_same c o e answers = elim (order_ways c e o) [
-  | inl is ↦ each_same IsGivenTo c is.0.now e (subst (λ (x : Order). AnswersOrder c x e) is.1 answers)
-  | inr lined ↦ answers_same (λ lines. AreLinesFor c o lines × FailsWhere c false) (λ fault. IsFaultFor c o fault × FailsWhere c (is_io fault)) e
-      (lined.0 answers)
+  | inl is ↦ each_same c (AreEachLines IsGivenTo c is.0.now) (IsEachFault c is.0.now) e (subst (λ (x : Order). AnswersOrder c x e) is.1 answers)
+  | inr more ↦ elim more [
+    | inl is ↦
+        each_same c (ArePlaceLines (IsLookedFor (GivesWhole (c.before.has is.0.now))) c is.0.now) (IsPlacesFault c is.0.now) e
+        (subst (λ (x : Order). AnswersOrder c x e) is.1 answers)
+    | inr lined ↦
+        answers_same (λ lines. AreLinesFor c o lines × FailsWhere c false) (λ fault. IsFaultFor c o fault × FailsWhere c (is_io fault)) e
+        (lined.0 answers)
+  ]
 ]
 
 -- ---- what was done is what the words ask for
@@ -72,17 +82,25 @@ module _ (c : ShelfChange) (words : List Text) (e : Ending) where
     build = λ rules set nodes file progress _. memory_answered _ _ e (same, works) told;
     probe_right = λ profile file text _ _. memory_answered _ _ e (tt, works) told;
     probe = λ file text _. memory_answered _ _ e (tt, works) told;
-    each_right = λ profile file _ _. each_memory _ c file e works told;
-    each = λ file _. each_memory _ c file e works told;
+    each_right = λ profile file _ _. each_memory c _ _ e tt works told;
+    each = λ file _. each_memory c _ _ e tt works told;
+    look_each_right = λ profile file _ _. each_memory c _ _ e tt works told;
+    look_each = λ file _. each_memory c _ _ e tt works told;
+    line_right = λ profile file is_numbered text _ _. memory_answered _ _ e (tt, works) told;
     line = λ file is_numbered text _. memory_answered _ _ e (tt, works) told;
     check = λ file progress _. memory_answered _ _ e (tt, works) told;
     look_right = λ profile file text _ _. memory_answered _ _ e (tt, works) told;
     look = λ file text _. memory_answered _ _ e (tt, works) told;
+    show_right = λ profile file picture text _ _. memory_answered _ _ e (same, works) told;
     show = λ file picture text _. memory_answered _ _ e (same, works) told;
     moves_right = λ profile file text _ _. memory_answered _ _ e (tt, works) told;
     moves = λ file text _. memory_answered _ _ e (tt, works) told;
-    stats = λ file _. memory_answered _ _ e (tt, works) told;
-    puzzles = λ file plies count _. memory_answered _ _ e (tt, works) told;
+    best_right = λ profile file text _ _. memory_answered _ _ e (tt, works) told;
+    best = λ file text _. memory_answered _ _ e (tt, works) told;
+    stats_right = λ profile file is_csv _ _. memory_answered _ _ e (tt, works) told;
+    stats = λ file is_csv _. memory_answered _ _ e (tt, works) told;
+    puzzles_right = λ profile file plies count from seed is_numbered _ _. memory_answered _ _ e (tt, works) told;
+    puzzles = λ file plies count from seed is_numbered _. memory_answered _ _ e (tt, works) told;
     migrate = λ file out _. memory_answered _ _ e (same, works) told;
     help = λ _. inr told;
     version = λ _. inr told;
@@ -109,14 +127,28 @@ module _ (c : ShelfChange) (words : List Text) (e : Ending) where
         probe_right c profile file text e right (done_probe c e o file text (asked (reading.Order o) read _ is) answers);
     each = λ file is. done_each c e o file (asked (reading.Order o) read _ is) answers;
     each_right = λ profile file is right. each_right c profile file e right (done_each c e o file (asked (reading.Order o) read _ is) answers);
+    line_right = λ profile file is_numbered text is right.
+        line_right c profile file e right is_numbered text (done_line c e o file is_numbered text (asked (reading.Order o) read _ is) answers);
     line = λ file is_numbered text is. done_line c e o file is_numbered text (asked (reading.Order o) read _ is) answers;
     check = λ file progress is. done_check c e o file progress (asked (reading.Order o) read _ is) answers;
+    look_each = λ file is. done_look_each c e o file (asked (reading.Order o) read _ is) answers;
+    look_each_right = λ profile file is right.
+        look_each_right c profile file e right (done_look_each c e o file (asked (reading.Order o) read _ is) answers);
     look = λ file text is. done_look c e o file text (asked (reading.Order o) read _ is) answers;
+    show_right = λ profile file picture text is right.
+        show_right c profile file e right picture text (done_show c e o (Some file) picture text (asked (reading.Order o) read _ is) answers);
     show = λ file picture text is. done_show c e o file picture text (asked (reading.Order o) read _ is) answers;
     moves_right = λ profile file text is right. moves_right c profile file text e right (done_moves c e o file text (asked (reading.Order o) read _ is) answers);
     moves = λ file text is. done_moves c e o file text (asked (reading.Order o) read _ is) answers;
-    stats = λ file is. done_stats c e o file (asked (reading.Order o) read _ is) answers;
-    puzzles = λ file plies count is. done_puzzles c e o file plies count (asked (reading.Order o) read _ is) answers;
+    best_right = λ profile file text is right. best_right c profile file text e right (done_best c e o file text (asked (reading.Order o) read _ is) answers);
+    best = λ file text is. done_best c e o file text (asked (reading.Order o) read _ is) answers;
+    stats_right = λ profile file is_csv is right.
+        stats_right c profile file e right is_csv (done_stats c e o file is_csv (asked (reading.Order o) read _ is) answers);
+    stats = λ file is_csv is. done_stats c e o file is_csv (asked (reading.Order o) read _ is) answers;
+    puzzles_right = λ profile file plies count from seed is_numbered is right.
+        puzzles_right c profile file e right _ (done_puzzles c e o file plies count from seed is_numbered (asked (reading.Order o) read _ is) answers);
+    puzzles = λ file plies count from seed is_numbered is.
+        done_puzzles c e o file plies count from seed is_numbered (asked (reading.Order o) read _ is) answers;
     migrate = λ file out is. done_migrate c e o file out (asked (reading.Order o) read _ is) answers;
     look_right = λ profile file text is right. look_right c profile file text e right (done_look c e o file text (asked (reading.Order o) read _ is) answers);
     help = λ is. absurd (asked (reading.Order o) read _ is);
@@ -139,14 +171,22 @@ module _ (c : ShelfChange) (words : List Text) (e : Ending) where
     probe_right = λ profile file text is. absurd (asked reading.Version read _ is);
     each = λ file is. absurd (asked reading.Version read _ is);
     each_right = λ profile file is. absurd (asked reading.Version read _ is);
+    line_right = λ profile file is_numbered text is. absurd (asked reading.Version read _ is);
     line = λ file is_numbered text is. absurd (asked reading.Version read _ is);
     check = λ file progress is. absurd (asked reading.Version read _ is);
     look = λ file text is. absurd (asked reading.Version read _ is);
+    look_each = λ file is. absurd (asked reading.Version read _ is);
+    look_each_right = λ profile file is. absurd (asked reading.Version read _ is);
+    show_right = λ profile file picture text is. absurd (asked reading.Version read _ is);
     show = λ file picture text is. absurd (asked reading.Version read _ is);
     moves_right = λ profile file text is. absurd (asked reading.Version read _ is);
     moves = λ file text is. absurd (asked reading.Version read _ is);
-    stats = λ file is. absurd (asked reading.Version read _ is);
-    puzzles = λ file plies count is. absurd (asked reading.Version read _ is);
+    best_right = λ profile file text is. absurd (asked reading.Version read _ is);
+    best = λ file text is. absurd (asked reading.Version read _ is);
+    stats_right = λ profile file is_csv is. absurd (asked reading.Version read _ is);
+    stats = λ file is_csv is. absurd (asked reading.Version read _ is);
+    puzzles_right = λ profile file plies count from seed is_numbered is. absurd (asked reading.Version read _ is);
+    puzzles = λ file plies count from seed is_numbered is. absurd (asked reading.Version read _ is);
     migrate = λ file out is. absurd (asked reading.Version read _ is);
     look_right = λ profile file text is. absurd (asked reading.Version read _ is);
     help = λ is. absurd (asked reading.Version read _ is);

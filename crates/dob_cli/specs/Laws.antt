@@ -1,9 +1,9 @@
 -- What the program does in turn.
 use Rattle.std.specs.Prelude.{◌≡◌, IsTrue, List, Option}
-use Rattle.dob_cli.specs.Words.{Text, build, meaning_of, probe, profile_named}
-use Rattle.dob_cli.specs.Endings.{Ending}
-use Rattle.dob_cli.specs.Shelves.{ShelfState, shelf_change}
-use Rattle.dob_cli.specs.Tables.{AnswersProbeRight}
+use Rattle.dob_words.specs.Words.{Text, build, meaning_of, probe, profile_named}
+use Rattle.dob_query.specs.Endings.{Ending}
+use Rattle.dob_query.specs.Shelves.{ShelfState, shelf_change}
+use Rattle.dob_query.specs.Tables.{AnswersProbeRight}
 use Rattle.dob_cli.specs.Runs.{Ran}
 
 -- Where the words of a build were done, over a shelf that tells its bytes, words that probe its file tell the value that the

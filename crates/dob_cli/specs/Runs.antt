@@ -1,22 +1,24 @@
 -- What the program does with its words, whatever they are.
-use Rattle.std.specs.Prelude.{◌≡◌, ◌≢◌, ◌⊎◌, ℕ, Bool, false, List, [], ◌∷◌, ◌++◌, Option, Some, codes}
+use Rattle.std.specs.Prelude.{◌≡◌, ◌≢◌, ◌⊎◌, ℕ, Bool, false, List, [], ◌∷◌, ◌++◌, Option, Some, codes, option_map}
 use Rattle.dob_dbfile.specs.Sinks.{Change, IsSame, IsUntouched, Says}
-use Rattle.dob_cli.specs.Words.{Text, build, check, count, each, help, line, look, meaning_of, migrate, moves, number_of, probe, profile_named, puzzles, show, stats, usage, value, version}
+use Rattle.dob_words.specs.Words.{Text, best, build, check, count, each, help, line, look, look_each, meaning_of, migrate, moves, number_of, probe, profile_named, puzzles, show, stats, usage, value, version}
 use Rattle.dob_pieces.specs.Bytes.{line_feed}
 use Rattle.dob_pieces.specs.declared.profile.Profile.{Profile}
-use Rattle.dob_cli.specs.Endings.{AnswersHelp, AnswersUsage, AnswersVersion, Ending, TellsMemory, ended}
-use Rattle.dob_cli.specs.Shelves.{SameFiles, SameOthers, ShelfChange}
-use Rattle.dob_cli.specs.Program.{AnswersValue}
-use Rattle.dob_cli.specs.Sizes.{AnswersCount}
+use Rattle.dob_query.specs.Endings.{AnswersHelp, AnswersUsage, AnswersVersion, Ending, TellsMemory, ended}
+use Rattle.dob_query.specs.Shelves.{SameFiles, SameOthers, ShelfChange}
+use Rattle.dob_query.specs.Program.{AnswersValue}
+use Rattle.dob_query.specs.Sizes.{AnswersCount}
 use Rattle.dob_cli.specs.Builds.{AnswersBuild}
-use Rattle.dob_cli.specs.Looks.{AnswersLook, AnswersLookRight}
-use Rattle.dob_cli.specs.Choices.{AnswersMoves, AnswersMovesRight}
-use Rattle.dob_cli.specs.Each.{AnswersEach, AnswersEachRight}
-use Rattle.dob_cli.specs.Shows.{AnswersShow}
-use Rattle.dob_cli.specs.Stats.{AnswersStats}
-use Rattle.dob_cli.specs.Puzzles.{AnswersPuzzles}
-use Rattle.dob_cli.specs.Migrations.{AnswersMigrate}
-use Rattle.dob_cli.specs.Tables.{AnswersCheck, AnswersLine, AnswersProbe, AnswersProbeRight, HasValueFile}
+use Rattle.dob_query.specs.Looks.{AnswersLook, AnswersLookRight}
+use Rattle.dob_query.specs.Choices.{AnswersBest, AnswersBestRight, AnswersMoves, AnswersMovesRight}
+use Rattle.dob_query.specs.Each.{AnswersEach, AnswersEachRight}
+use Rattle.dob_query.specs.LooksEach.{AnswersLookEach, AnswersLookEachRight}
+use Rattle.dob_query.specs.Shows.{AnswersShow, AnswersShowRight}
+use Rattle.dob_query.specs.Stats.{AnswersStats, AnswersStatsRight}
+use Rattle.dob_query.specs.Puzzles.{AnswersPuzzles, AnswersPuzzlesRight}
+use Rattle.dob_query.specs.Migrations.{AnswersMigrate}
+use Rattle.dob_query.specs.Tables.{AnswersCheck, AnswersLine, AnswersLineRight, AnswersProbe, AnswersProbeRight, HasValueFile}
+use Rattle.dob_cli.specs.Orders.{search_of}
 
 -- It does what these words ask for, over a shelf that changes so.
 pub record Ran (c : ShelfChange) (words : List Text) (e : Ending) : Type 0 where
@@ -42,18 +44,36 @@ pub record Ran (c : ShelfChange) (words : List Text) (e : Ending) : Type 0 where
   pub each_right : (profile : Profile) (file : Text) → meaning_of words ≡ each file → HasValueFile (c.before.has file) profile
       → AnswersEachRight c profile file e
   pub each : (file : Text) → meaning_of words ≡ each file → AnswersEach c file e
+  pub line_right : (profile : Profile) (file : Text) (is_numbered : Bool) (position : Text) → meaning_of words ≡ line file is_numbered position
+      → HasValueFile (c.before.has file) profile → AnswersLineRight c profile file is_numbered position e
   pub line : (file : Text) (is_numbered : Bool) (position : Text) → meaning_of words ≡ line file is_numbered position
       → AnswersLine c file is_numbered position e
   pub check : (file : Text) (progress : Option Text) → meaning_of words ≡ check file progress → AnswersCheck c file e
   pub look_right : (profile : Profile) (file position : Text) → meaning_of words ≡ look file position → HasValueFile (c.before.has file) profile
       → AnswersLookRight c profile file position e
   pub look : (file position : Text) → meaning_of words ≡ look file position → AnswersLook c file position e
+  pub look_each_right : (profile : Profile) (file : Text) → meaning_of words ≡ look_each file → HasValueFile (c.before.has file) profile
+      → AnswersLookEachRight c profile file e
+  pub look_each : (file : Text) → meaning_of words ≡ look_each file → AnswersLookEach c file e
+  pub show_right : (profile : Profile) (file : Text) (picture : Option Text) (position : Text) → meaning_of words ≡ show (Some file) picture position
+      → HasValueFile (c.before.has file) profile → AnswersShowRight c profile file picture position e
   pub show : (file picture : Option Text) (position : Text) → meaning_of words ≡ show file picture position → AnswersShow c file picture position e
   pub moves_right : (profile : Profile) (file position : Text) → meaning_of words ≡ moves file position → HasValueFile (c.before.has file) profile
       → AnswersMovesRight c profile file position e
   pub moves : (file position : Text) → meaning_of words ≡ moves file position → AnswersMoves c file position e
-  pub stats : (file : Text) → meaning_of words ≡ stats file → AnswersStats c file e
-  pub puzzles : (file plies count : Text) → meaning_of words ≡ puzzles file plies count → AnswersPuzzles c file (number_of plies) (number_of count) e
+  pub best_right : (profile : Profile) (file position : Text) → meaning_of words ≡ best file position → HasValueFile (c.before.has file) profile
+      → AnswersBestRight c profile file position e
+  pub best : (file position : Text) → meaning_of words ≡ best file position → AnswersBest c file position e
+  pub stats_right : (profile : Profile) (file : Text) (is_csv : Bool) → meaning_of words ≡ stats file is_csv → HasValueFile (c.before.has file) profile
+      → AnswersStatsRight c profile file is_csv e
+  pub stats : (file : Text) (is_csv : Bool) → meaning_of words ≡ stats file is_csv → AnswersStats c file is_csv e
+  pub puzzles_right : (profile : Profile) (file plies count : Text) (from seed : Option Text) (is_numbered : Bool)
+      → meaning_of words ≡ puzzles file plies count from seed is_numbered → HasValueFile (c.before.has file) profile
+      → AnswersPuzzlesRight c profile file
+      (search_of (number_of plies) (number_of count) (option_map number_of from) (option_map number_of seed) is_numbered) e
+  pub puzzles : (file plies count : Text) (from seed : Option Text) (is_numbered : Bool)
+      → meaning_of words ≡ puzzles file plies count from seed is_numbered
+      → AnswersPuzzles c file (search_of (number_of plies) (number_of count) (option_map number_of from) (option_map number_of seed) is_numbered) e
   pub migrate : (file out : Text) → meaning_of words ≡ migrate file out → AnswersMigrate c file out e
   pub help : meaning_of words ≡ help → AnswersHelp e
   pub version : meaning_of words ≡ version → AnswersVersion e

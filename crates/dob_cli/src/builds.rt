@@ -1,23 +1,17 @@
 // Building a database file.
-ghost use Rattle.std.specs.Prelude.{◌≡◌, IfOk, IfErr, OnOk, IsTrue, string_bytes};
-ghost use Rattle.dob_dbfile.specs.Format.{bytes_of};
-ghost use Rattle.dob_cli.specs.Shelves.{FailsWhere, HasJust, SameOthers, shelf_change};
-ghost use Rattle.dob_cli.specs.Faults.{is_io_error};
+ghost use Rattle.std.specs.Prelude.{◌≡◌, IfOk, IfErr, OnOk, string_bytes};
+ghost use Rattle.dob_query.specs.Shelves.{FailsWhere, SameOthers, shelf_change};
+ghost use Rattle.dob_query.specs.Faults.{is_io_error};
 ghost use Rattle.dob_run.specs.BoundedRun.{IsUnheld};
 ghost use Rattle.dob_run.specs.Built.{IsBuilt};
 ghost use Rattle.dob_run.specs.Faults.{AreWithin, HasBuildFault};
-ghost use Rattle.dob_cli.specs.Builds.{AreBuildLines, IsBuildFault, IsKeepingFault, class_lines};
+ghost use Rattle.dob_cli.specs.Builds.{AreBuildLines, IsBuildFault};
 
-use crate::fault::Fault;
-use crate::progress::{Console, Progress, tell_need};
-use crate::shelf::Shelf;
-use crate::tally::tally_of;
-use dob_dbfile::{Failed, write_table};
 use dob_pieces::{Family, PieceSet, Profile};
+use dob_query::{Console, Fault, Progress, Shelf, keep_table, lines_of, tell_need};
 use dob_rank::count_classes;
-use dob_run::{BATCH, Built, CAPACITY, run_nodes};
-use dob_value::Table;
-use std::alloc::{AllocError, Global};
+use dob_run::{BATCH, Built, CAPACITY, Gate, run_nodes};
+use std::alloc::Global;
 use std::sync::Wait;
 use std::thread::Threads;
 
@@ -63,10 +57,30 @@ fn run_watched<R: Threads + Wait + Sync + Console>(
     ensures fault { IfErr result (HasBuildFault nodes 256 64) }
     ensures unheld { IfErr result IsUnheld }
 {
-    let progress = progress_of(rt, family, is_watched);
-    let built = run_nodes(rt, alloc, family, nodes, BATCH, CAPACITY, &progress);
-    progress.end();
+    let steps = Steps(progress_of(rt, family, is_watched));
+    let built = run_nodes(rt, alloc, family, nodes, BATCH, CAPACITY, &steps);
+    steps.0.end();
     built
+}
+
+// The progress of a build, which its gate is told.
+#[derive(Drop)]
+struct Steps<'a, C>(Progress<'a, C>);
+
+impl<C: Console> Gate for Steps<'_, C> {
+    ghost use Rattle.std.specs.Prelude.{◌≡◌, true};
+
+    ghost says = { λ _ _ yes. yes ≡ true };
+
+    ghost told = { λ _ _ _. Unit {0} };
+
+    fn enter(&self, _node: usize) -> bool {
+        true
+    }
+
+    fn worked(&self, _node: usize, expanded: u64) {
+        self.0.add(expanded);
+    }
 }
 
 // The progress of a build of the family. Where it is watched, the console is told what memory that takes.
@@ -77,46 +91,4 @@ fn progress_of<C: Console>(console: &C, family: Family, is_watched: bool) -> Pro
     let classes = count_classes(family);
     tell_need(console, classes);
     Progress::new(console, true, classes)
-}
-
-/// Keeps the table's file under the name. Where it can't be written its sink is given up.
-pub(crate) fn keep_table<S: Shelf>(
-    alloc: Global,
-    shelf: &mut S,
-    file: &str,
-    table: &Table,
-) -> Result<(), Fault>
-    ensures kept { OnOk result (IsTrue (S.state shelf.old).tells → HasJust file.now (bytes_of table.now) (S.state shelf.new).has) }
-    ensures err { IfErr result (IsKeepingFault (shelf_change (S.state shelf.old) (S.state shelf.new)) file.now table.now) }
-    ensures others { SameOthers file.now (S.state shelf.old).has (S.state shelf.new).has }
-    ensures failed { FailsWhere (shelf_change (S.state shelf.old) (S.state shelf.new)) (is_io_error result) }
-{
-    let mut sink = shelf.make(file)?;
-    match write_table(alloc, table, &mut sink) {
-        Ok(()) => {}
-        Err(fault) => {
-            shelf.discard(file, sink);
-            return Err(Fault::File(fault));
-        }
-    }
-    match shelf.keep(file, sink) {
-        Ok(()) => Ok(()),
-        Err(Failed) => Err(Fault::Io),
-    }
-}
-
-/// The lines that tell how many classes the table has, and how many of them have which value.
-pub(crate) fn lines_of(
-    rt: &(impl Threads + Sync),
-    alloc: Global,
-    table: &Table,
-) -> Result<String, AllocError>
-    ensures { IfOk result (λ lines. string_bytes lines ≡ class_lines table.now.values) }
-{
-    let classes = table.class_count();
-    let tally = tally_of(rt, table);
-    let wins = tally.wins;
-    let losses = tally.losses;
-    let draws = tally.draws;
-    format!(in alloc; "classes {classes}\nwin {wins}\nloss {losses}\ndraw {draws}\n")
 }

@@ -5,32 +5,23 @@ ghost use Rattle.std.specs.declared.io.ErrorKind.TheVariants.{OutOfMemory};
 ghost use Rattle.std.specs.Vec.Iter.{into_iter_items};
 ghost use Rattle.dob_dbfile.specs.Sinks.{Says, change};
 ghost use Rattle.dob_cli.specs.Runs.{Ran, RanOn, RanOver, TellsNoText, contents};
-ghost use Rattle.dob_cli.specs.Each.{AnswersEach};
-ghost use Rattle.dob_cli.specs.Orders.{AnswersByLines, AnswersOrder, AreLinesFor, IsByLines, IsFaultFor, KeepsFiles};
-ghost use Rattle.dob_cli.specs.Shelves.{FailsWhere, SameFiles, shelf_change};
-ghost use Rattle.dob_cli.specs.Faults.{is_io_error};
-ghost use Rattle.dob_cli.specs.Endings.{TellsAs, TellsFaultAs, TellsMemory, TellsOneFault, ended};
-ghost use Rattle.dob_cli.specs.Program.{IsValueLineOf, IsFaultOf, value_line};
-ghost use Rattle.dob_cli.specs.declared.fault.Fault.TheVariants.{Memory};
+ghost use Rattle.dob_query.specs.Each.{AnswersEach};
+ghost use Rattle.dob_query.specs.LooksEach.{AnswersLookEach};
+ghost use Rattle.dob_cli.specs.Orders.{AnswersByLines, AnswersOrder, AreLinesFor, IsByLines, IsFaultFor, KeepsFiles, search_of};
+ghost use Rattle.dob_query.specs.Shelves.{FailsWhere, SameFiles, shelf_change};
+ghost use Rattle.dob_query.specs.Faults.{is_io_error};
+ghost use Rattle.dob_query.specs.Endings.{TellsAs, TellsFaultAs, TellsMemory, TellsOneFault, ended};
+ghost use Rattle.dob_query.specs.declared.fault.Fault.TheVariants.{Memory};
 
 use crate::builds::answer_build;
-use crate::choices::answer_moves;
-use crate::command::{Order, Reading, read_words};
-use crate::counts::answer_count;
-use crate::each::answer_each;
-use crate::fault::Fault;
-use crate::looks::answer_look;
-use crate::migrations::answer_migrate;
-use crate::progress::Console;
-use crate::puzzles::answer_puzzles;
-use crate::shelf::Shelf;
-use crate::shows::answer_show;
-use crate::stats::answer_stats;
-use crate::tables::{answer_check, answer_line, answer_probe};
 use dob_dbfile::{Lent, Sink, put_all, write_all};
-use dob_pieces::Profile;
-use dob_text::read_position;
-use dob_value::{Value, sweep_value};
+use dob_probe::Walk;
+use dob_query::{
+    Console, Fault, PuzzleSearch, Shelf, answer_best, answer_check, answer_count, answer_each,
+    answer_line, answer_look, answer_look_each, answer_migrate, answer_moves, answer_probe,
+    answer_puzzles, answer_show, answer_stats, answer_value,
+};
+use dob_words::command::{Order, Reading, read_words};
 use std::alloc::{AllocError, Global};
 use std::env::Args;
 use std::io::{self, Write};
@@ -116,6 +107,7 @@ fn run_order<S: Shelf, O: Sink, E: Sink>(
 {
     match order {
         Order::Each(file) => run_each(alloc, file, shelf, out, err),
+        Order::LookEach(file) => run_look_each(alloc, file, shelf, out, err),
         _ => run_by_lines(rt, alloc, order, shelf, out, err),
     }
 }
@@ -133,6 +125,24 @@ fn run_each<S: Shelf, O: Sink, E: Sink>(
     ensures files { SameFiles (S.state shelf.old).has (S.state shelf.new).has }
 {
     match answer_each(alloc, shelf, file) {
+        Ok(answers) => tell(alloc, answers.status(), answers.lines.as_str(), out, err),
+        Err(fault) => tell_fault(alloc, fault, err),
+    }
+}
+
+// Looks for each line of standard input in the file of that name.
+fn run_look_each<S: Shelf, O: Sink, E: Sink>(
+    alloc: Global,
+    file: &str,
+    shelf: &mut S,
+    out: &mut O,
+    err: &mut E,
+) -> u8
+    ensures done { AnswersLookEach (shelf_change (S.state shelf.old) (S.state shelf.new)) file.now
+        (ended result (change (O.state out.old) (O.state out.new)) (change (E.state err.old) (E.state err.new))) }
+    ensures files { SameFiles (S.state shelf.old).has (S.state shelf.new).has }
+{
+    match answer_look_each(alloc, shelf, file) {
         Ok(answers) => tell(alloc, answers.status(), answers.lines.as_str(), out, err),
         Err(fault) => tell_fault(alloc, fault, err),
     }
@@ -183,6 +193,7 @@ fn answer<S: Shelf>(
         } => answer_build(rt, alloc, shelf, profile, set, nodes, file, is_watched),
         Order::Probe { file, position } => answer_probe(alloc, shelf, file, position),
         Order::Each(_) => unreachable!(),
+        Order::LookEach(_) => unreachable!(),
         Order::Line {
             file,
             is_numbered,
@@ -196,30 +207,38 @@ fn answer<S: Shelf>(
             position,
         } => answer_show(alloc, shelf, file, picture, position),
         Order::Moves { file, position } => answer_moves(alloc, shelf, file, position),
-        Order::Stats(file) => answer_stats(rt, alloc, shelf, file),
-        Order::Puzzles { file, plies, count } => answer_puzzles(alloc, shelf, file, plies, count),
+        Order::Best { file, position } => answer_best(alloc, shelf, file, position),
+        Order::Stats { file, is_csv } => answer_stats(rt, alloc, shelf, file, is_csv),
+        Order::Puzzles {
+            file,
+            plies,
+            count,
+            from,
+            seed,
+            is_numbered,
+        } => {
+            let search = search_of(plies, count, from, seed, is_numbered);
+            answer_puzzles(alloc, shelf, file, search)
+        }
         Order::Migrate { file, out } => answer_migrate(alloc, shelf, file, out),
     }
 }
 
-// The line that tells the value of the position that the text names, by the rules of the profile.
-fn answer_value(alloc: Global, profile: Profile, text: &str) -> Result<String, Fault>
-    ensures ok { IfOk result (λ line. IsValueLineOf profile text.now (string_bytes line)) }
-    ensures err { IfErr result (IsFaultOf profile text.now) }
+// Which puzzles are looked for.
+fn search_of(
+    plies: u64,
+    count: u64,
+    from: Option<u64>,
+    seed: Option<u64>,
+    is_numbered: bool,
+) -> PuzzleSearch
+    ensures { result ≡ search_of plies count from seed is_numbered }
 {
-    let position = read_position(profile, text)?;
-    let value = sweep_value(alloc, profile, &position)?;
-    Ok(line_of(alloc, value)?)
-}
-
-// The line that tells a value.
-pub(crate) fn line_of(alloc: Global, value: Value) -> Result<String, AllocError>
-    ensures { IfOk result (λ line. string_bytes line ≡ value_line value) }
-{
-    match value {
-        Value::Win(plies) => format!(in alloc; "win {plies}\n"),
-        Value::Loss(plies) => format!(in alloc; "loss {plies}\n"),
-        Value::Draw => "draw\n".to_string(alloc),
+    PuzzleSearch {
+        plies,
+        count,
+        walk: Walk { seed, behind: from },
+        is_numbered,
     }
 }
 

@@ -31,14 +31,17 @@ returns-in-Moves-clause-ok g c = rw c.in-Moves.is c.answer_moves.ensures.ok
 pub returns-in-Show-clause-ok : goal.returns-in-Show-clause-ok
 returns-in-Show-clause-ok g c = rw c.in-Show.is c.answer_show.ensures.ok
 
+pub returns-in-Best-clause-ok : goal.returns-in-Best-clause-ok
+returns-in-Best-clause-ok g c = rw c.in-Best.is c.answer_best.ensures.ok
+
 pub returns-in-Stats-clause-ok : goal.returns-in-Stats-clause-ok
 returns-in-Stats-clause-ok g c = rw c.in-Stats.is c.answer_stats.ensures.ok
 
 pub returns-in-Puzzles-clause-ok : goal.returns-in-Puzzles-clause-ok
-returns-in-Puzzles-clause-ok g c = rw c.in-Puzzles.is c.answer_puzzles.ensures.ok
+returns-in-Puzzles-clause-ok g c = rw c.in-Puzzles.is (rw c.search_of-search.ensures at c.answer_puzzles.ensures.ok)
 
 pub returns-in-Puzzles-clause-err : goal.returns-in-Puzzles-clause-err
-returns-in-Puzzles-clause-err g c = rw c.in-Puzzles.is c.answer_puzzles.ensures.err
+returns-in-Puzzles-clause-err g c = rw c.in-Puzzles.is (rw c.search_of-search.ensures at c.answer_puzzles.ensures.err)
 
 pub returns-in-Migrate-clause-ok : goal.returns-in-Migrate-clause-ok
 returns-in-Migrate-clause-ok g c = rw c.in-Migrate.is c.answer_migrate.ensures.ok

@@ -1,9 +1,9 @@
 -- What is told goes with the lines, or with the fault.
 use Rattle.std.proofs.Common.{false}
-use Rattle.dob_cli.specs.Faults.{is_io}
+use Rattle.dob_query.specs.Faults.{is_io}
 use Rattle.dob_cli.specs.Orders.{AreLinesFor, IsFaultFor}
-use Rattle.dob_cli.specs.Shelves.{FailsWhere, shelf_change}
-use Rattle.dob_cli.proofs.Endings.{answered, faulty}
+use Rattle.dob_query.specs.Shelves.{FailsWhere, shelf_change}
+use Rattle.dob_query.proofs.Endings.{answered, faulty}
 use Rattle.dob_cli.proofs.program.run_by_lines.Goals as goal
 
 pub returns-in-Ok-clause-done : goal.returns-in-Ok-clause-done

@@ -1,7 +1,7 @@
 -- What was done with what was read is what the words ask for.
 use Rattle.std.proofs.Common.{refl}
-use Rattle.dob_cli.specs.Shelves.{shelf_change}
-use Rattle.dob_cli.proofs.Shelves.{unchanged}
+use Rattle.dob_query.specs.Shelves.{shelf_change}
+use Rattle.dob_query.proofs.Shelves.{unchanged}
 use Rattle.dob_cli.proofs.Runs.{none_failed, ran_memory, ran_order, ran_version}
 use Rattle.dob_cli.proofs.program.run_over.Goals as goal
 

@@ -1,7 +1,7 @@
 -- What was done is what the words that were given ask for, or nothing where no memory is left for them.
 use Rattle.std.proofs.Common.{◌∙◌, ap, inr, map, refl}
-use Rattle.dob_cli.specs.Shelves.{shelf_change}
-use Rattle.dob_cli.proofs.Shelves.{unchanged}
+use Rattle.dob_query.specs.Shelves.{shelf_change}
+use Rattle.dob_query.proofs.Shelves.{unchanged}
 use Rattle.dob_cli.proofs.Runs.{ran_on}
 use Rattle.dob_cli.proofs.program.run_texts.Goals as goal
 

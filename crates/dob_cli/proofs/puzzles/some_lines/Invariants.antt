@@ -1,7 +1,0 @@
--- The lines of the puzzles so far.
-use Rattle.std.proofs.Common.{◌≡◌, flat_map, string_bytes, take}
-use Rattle.dob_cli.specs.Puzzles.{line_of_puzzle}
-use Rattle.dob_cli.proofs.puzzles.some_lines.Given as goal
-
-abbrev pub invariant-loop-puzzle : goal.invariant-loop-puzzle
-invariant-loop-puzzle l = string_bytes l.lines ≡ flat_map (line_of_puzzle l.table.family) (take l.puzzle-index l.puzzles)

@@ -1,9 +1,0 @@
--- A file that the shelf has isn't opened only for lack of memory.
-use Rattle.std.proofs.lemmas.Result.{err_from_is_err_and}
-use Rattle.dob_cli.proofs.TableFaults.{shelf_fault_holds}
-use Rattle.dob_cli.proofs.tables.open.Goals as goal
-
-pub returns-in_err-source-clause-fault : goal.returns-in_err-source-clause-fault
-returns-in_err-source-clause-fault g c =
-    let p = err_from_is_err_and c.from_residual.result c.from_residual.ensures.1 in
-    rw (p.1, p.2) (shelf_fault_holds ((g.S.Shelf.state c.args.shelf.now).has c.args.file.now) c.in_err-source.field-0.0 c.in_err-source.ensures.found)

@@ -1,0 +1,15 @@
+-- The lemmas, in the order in which they are read.
+pub mod Kept  -- the lines that tell the counts of a table, and its file
+pub mod Endings  -- lines or a fault that were told are what is owed
+pub mod TableFaults  -- the faults of a table are those of the file it was read from, and by a value table's file what is told is right
+pub mod FirstLine  -- the first line of bytes, by the place of their first line feed
+pub mod EachLine  -- the answers to lines, one more at a time, and that what was told of them is owed and right
+pub mod ByPlace  -- by the file of a value table what is looked up is right
+pub mod Tallies  -- the tally of a list from those of its parts
+pub mod Statistics  -- the longest win and loss of a table are among its groups
+pub mod Shelves  -- what a map has after one name is given other bytes
+pub mod Rightly  -- by a value table's file lines, drawings, counts and puzzles are right
+pub mod Showing  -- the faults of drawing a position, and of keeping its picture, are those of showing it
+pub mod Migrating  -- the faults of reading a file and of keeping its table are those of migrating it
+pub mod Puzzling  -- the lines of puzzles, and which classes they are of
+pub mod Placed  -- what lines come to by the records of a source is what is owed for looking for each

@@ -1,0 +1,95 @@
+-- The faults of drawing a position, and of keeping its picture, are those of showing it.
+use Rattle.std.proofs.Common.{◌≡◌, ℕ, Bool, List, Option, Some, None, inl, inr, subst, sym}
+use Rattle.std.specs.Prelude.{IsTrue}
+use Rattle.dob_pieces.specs.declared.setup.Setup.{Setup}
+use Rattle.dob_text.specs.declared.fault.TextFault.{TextFault}
+use Rattle.dob_value.specs.Follows.{ClassTable}
+use Rattle.dob_probe.specs.declared.fault.Fault as probing
+use Rattle.dob_probe.specs.declared.fault.Fault.TheVariants as table_fault
+use Rattle.dob_probe.specs.Faults.{IsFaultOfLine}
+use Rattle.dob_query.specs.declared.fault.Fault.{Fault}
+use Rattle.dob_query.specs.declared.fault.Fault.TheVariants.{Text, SetText, TooDeep, Run, File, Table, PuzzlePlies, Memory, Io}
+use Rattle.dob_query.specs.Shelves.{Files, SameFiles, SameOthers, ShelfChange, ShelfState, shelf_change}
+use Rattle.dob_query.specs.Shows.{IsDrawingFault, IsFaultBy, IsPictureFault, IsShowFault}
+use Rattle.dob_query.specs.Tables.{IsFileOf, IsOpeningFault, IsProbingFault, IsTextOf}
+use Rattle.dob_query.proofs.Shelves.{others_chain, others_kept}
+
+-- ---- files
+
+pub same_chain : (Old Mid New : Files) → SameFiles Old Mid → SameFiles Mid New → SameFiles Old New
+same_chain Old Mid New first second name bytes =
+    (λ h. (second name bytes).0 ((first name bytes).0 h), λ h. (first name bytes).1 ((second name bytes).1 h))
+
+pub others_after : (name : List ℕ) (Old Mid New : Files) → SameFiles Old Mid → SameOthers name Mid New → SameOthers name Old New
+others_after name Old Mid New same others = others_chain name Old Mid New (others_kept name Old Mid same) others
+
+-- ---- a fault of the file
+
+module _ (Has : List ℕ → Type 0) (position : Setup) where
+  pub opening_probes : (fault : Fault) → IsOpeningFault Has fault → IsProbingFault Has position fault
+  opening_probes (File f) holds = holds
+  opening_probes Io holds = holds
+  opening_probes Memory holds = tt
+  opening_probes (Text f) holds = absurd holds
+  opening_probes SetText holds = absurd holds
+  opening_probes TooDeep holds = absurd holds
+  opening_probes PuzzlePlies holds = absurd holds
+  opening_probes (Run f) holds = absurd holds
+  opening_probes (Table f) holds = absurd holds
+
+  pub line_probes : (table : ClassTable) → IsFileOf Has table → (fault : probing.Fault) → IsFaultOfLine table position fault
+      → IsProbingFault Has position (Table fault)
+  line_probes table file table_fault.FarChick holds = (table, file, holds)
+  line_probes table file table_fault.OtherSet holds = (table, file, holds)
+  line_probes table file (table_fault.Inconsistent class) holds = (table, file, holds.1)
+  line_probes table file table_fault.Memory holds = tt
+
+pub probing_draws : (Has : Files) (file : List ℕ) (position : Setup) (fault : Fault) → IsProbingFault (Has file) position fault
+    → IsDrawingFault Has (Some file) position fault
+probing_draws Has file position (File f) holds = holds
+probing_draws Has file position Io holds = holds
+probing_draws Has file position Memory holds = tt
+probing_draws Has file position (Text f) holds = absurd holds
+probing_draws Has file position SetText holds = absurd holds
+probing_draws Has file position TooDeep holds = absurd holds
+probing_draws Has file position PuzzlePlies holds = absurd holds
+probing_draws Has file position (Run f) holds = absurd holds
+probing_draws Has file position (Table f) holds = holds
+
+-- ---- a fault of showing
+
+module _ (c : ShelfChange) (file : Option (List ℕ)) (words : List ℕ) (position : Setup) (named : IsTextOf words position) where
+  no_text : (name : Option (List ℕ)) (f : TextFault) → IsFaultBy c.before.has name position (Text f) → ⊥
+  no_text None f holds = holds
+  no_text (Some name) f holds = holds
+
+  pub drawing_shows : (picture : Option (List ℕ)) (fault : Fault) → SameFiles c.before.has c.after.has
+      → IsDrawingFault c.before.has file position fault → IsShowFault c file picture words fault
+  drawing_shows picture (Text f) same holds = absurd (no_text file f holds)
+  drawing_shows picture Memory same holds = same
+  drawing_shows picture Io same holds = (position, named, inl (holds, same))
+  drawing_shows picture (File f) same holds = (position, named, holds, same)
+  drawing_shows picture (Table f) same holds = (position, named, holds, same)
+  drawing_shows picture (Run f) same holds = (position, named, holds, same)
+  drawing_shows picture SetText same holds = (position, named, holds, same)
+  drawing_shows picture TooDeep same holds = (position, named, holds, same)
+  drawing_shows picture PuzzlePlies same holds = (position, named, holds, same)
+
+  pub picture_shows : (mid : ShelfState) (name : List ℕ) (fault : Fault) → SameFiles c.before.has mid.has → mid.tells ≡ c.before.tells
+      → IsPictureFault (shelf_change mid c.after) name fault → IsShowFault c file (Some name) words fault
+  picture_shows mid name Memory same told holds = same_chain c.before.has mid.has c.after.has same holds
+  picture_shows mid name Io same told holds = (
+    position,
+    named,
+    inr (elim holds [
+      | inl still ↦ inl (same_chain c.before.has mid.has c.after.has same still)
+      | inr made ↦ inr (λ tells. made (subst (λ (b : Bool). IsTrue b) (sym told) tells))
+    ]),
+  )
+  picture_shows mid name (Text f) same told holds = absurd holds
+  picture_shows mid name SetText same told holds = absurd holds
+  picture_shows mid name TooDeep same told holds = absurd holds
+  picture_shows mid name PuzzlePlies same told holds = absurd holds
+  picture_shows mid name (Run f) same told holds = absurd holds
+  picture_shows mid name (File f) same told holds = absurd holds
+  picture_shows mid name (Table f) same told holds = absurd holds

@@ -1,0 +1,155 @@
+-- The faults of a table are those of the file that it was read from, and by the file of a value table the value told is right.
+use Rattle.std.proofs.Common.{◌≡◌, ℕ, false, List, inl, inr, subst}
+use Rattle.dob_pieces.specs.declared.setup.Setup.{Setup}
+use Rattle.dob_pieces.specs.Profiles.{IsAllowed}
+use Rattle.dob_pieces.specs.declared.profile.Profile.{Profile}
+use Rattle.dob_value.specs.Values.{HasValue}
+use Rattle.dob_value.specs.declared.value.Value.{Value}
+use Rattle.dob_value.specs.Follows.{ClassTable, IsValueTable}
+use Rattle.dob_dbfile.proofs.Written.{same_files}
+use Rattle.dob_probe.specs.declared.fault.Fault as probing
+use Rattle.dob_probe.specs.declared.fault.Fault.TheVariants as table_fault
+use Rattle.dob_probe.specs.Choices.{AreValuedMoves}
+use Rattle.dob_probe.proofs.ByValue.{valued_rightly}
+use Rattle.dob_probe.specs.Faults.{IsFaultOfCheck, IsFaultOfLine, IsFaultOfMoves, IsRefusal}
+use Rattle.dob_query.specs.declared.fault.Fault.{Fault}
+use Rattle.dob_query.specs.declared.fault.Fault.TheVariants.{Text, SetText, TooDeep, Run, File, Table, PuzzlePlies, Memory, Io}
+use Rattle.dob_query.specs.Shelves.{FailsWhere, ShelfChange}
+use Rattle.dob_query.specs.Faults.{fault_of_shelf, is_io}
+use Rattle.dob_query.specs.declared.shelf.ShelfFault.{ShelfFault}
+use Rattle.dob_query.specs.declared.shelf.ShelfFault.TheVariants as shelf_fault
+use Rattle.dob_query.specs.Endings.{Answers, AnswersOver, Ending}
+use Rattle.dob_query.specs.Each.{IsGivenTo}
+use Rattle.dob_query.specs.Program.{IsValueLineOf, IsValueOf}
+use Rattle.dob_query.specs.Choices.{AnswersBest, AnswersBestRight, AnswersMoves, AnswersMovesRight, AreChoicesOf, AreRightChoicesOf, TellsChoices, best_line, choice_lines}
+use Rattle.dob_probe.specs.declared.choices.ValuedMove.{ValuedMove}
+use Rattle.dob_query.specs.Tables.{AnswersProbe, AnswersProbeRight, HasValueFile, IsCheckFault, IsFileOf, IsOpeningFault, IsPositionFault, IsProbingFault, IsShut}
+use Rattle.dob_query.specs.Tables.{IsProbeLine, IsTextOf}
+
+module _ (Has : List ℕ → Type 0) (table : ClassTable) (file : IsFileOf Has table) where
+  pub check_fault_holds : (fault : probing.Fault) → IsFaultOfCheck table fault → IsCheckFault Has (Table fault)
+  check_fault_holds table_fault.FarChick holds = absurd holds
+  check_fault_holds table_fault.OtherSet holds = absurd holds
+  check_fault_holds (table_fault.Inconsistent class) holds = (table, file, holds)
+  check_fault_holds table_fault.Memory holds = tt
+
+  pub line_fault_holds : (words : List ℕ) (position : Setup) (fault : probing.Fault) → IsTextOf words position →
+      IsFaultOfLine table position fault → IsPositionFault Has words (Table fault)
+  line_fault_holds words position table_fault.FarChick named holds = (position, named, (table, file, holds))
+  line_fault_holds words position table_fault.OtherSet named holds = (position, named, (table, file, holds))
+  line_fault_holds words position (table_fault.Inconsistent class) named holds = (position, named, (table, file, holds.1))
+  line_fault_holds words position table_fault.Memory named holds = (position, named, tt)
+
+  pub choice_fault_holds : (words : List ℕ) (position : Setup) (fault : probing.Fault) → IsTextOf words position →
+      IsFaultOfMoves table position fault → IsPositionFault Has words (Table fault)
+  choice_fault_holds words position table_fault.FarChick named holds = (position, named, (table, file, holds))
+  choice_fault_holds words position table_fault.OtherSet named holds = (position, named, (table, file, holds))
+  choice_fault_holds words position (table_fault.Inconsistent class) named holds = absurd holds
+  choice_fault_holds words position table_fault.Memory named holds = (position, named, tt)
+
+  -- a position that the table refuses
+  pub refusal_probes : (position : Setup) (fault : probing.Fault) → IsRefusal table.family position fault → IsProbingFault Has position (Table fault)
+  refusal_probes position table_fault.FarChick refused = (table, file, refused)
+  refusal_probes position table_fault.OtherSet refused = (table, file, refused)
+  refusal_probes position (table_fault.Inconsistent class) refused = absurd refused
+  refusal_probes position table_fault.Memory refused = tt
+
+  pub refusal_holds : (words : List ℕ) (position : Setup) (fault : probing.Fault) → IsTextOf words position
+      → IsRefusal table.family position fault → IsPositionFault Has words (Table fault)
+  refusal_holds words position fault named refused = (position, named, refusal_probes position fault refused)
+
+-- where a file that a shelf has isn't opened for lack of memory alone, it isn't there where the cause is another one
+pub is_shut : (Has : List ℕ → Type 0) → ((bytes : List ℕ) → Has bytes → shelf_fault.Failed ≡ shelf_fault.Memory) → IsShut Has
+is_shut Has found bytes has = let never : shelf_fault.Failed ≡ shelf_fault.Memory = found bytes has in absurd (cc)
+
+pub shelf_fault_holds : (Has : List ℕ → Type 0) (lower : ShelfFault) → ((bytes : List ℕ) → Has bytes → lower ≡ shelf_fault.Memory)
+    → IsOpeningFault Has (fault_of_shelf lower)
+shelf_fault_holds Has shelf_fault.Memory found = tt
+shelf_fault_holds Has shelf_fault.Failed found = is_shut Has found
+
+-- a fault of opening the file is one of asking for the position of a text
+pub opening_fault_holds : (Has : List ℕ → Type 0) (words : List ℕ) (position : Setup) (fault : Fault) → IsTextOf words position
+    → IsOpeningFault Has fault → IsPositionFault Has words fault
+opening_fault_holds Has words position (File fault) named holds = (position, named, holds)
+opening_fault_holds Has words position Io named holds = (position, named, holds)
+opening_fault_holds Has words position (Text fault) named holds = absurd holds
+opening_fault_holds Has words position SetText named holds = absurd holds
+opening_fault_holds Has words position TooDeep named holds = absurd holds
+opening_fault_holds Has words position PuzzlePlies named holds = absurd holds
+opening_fault_holds Has words position (Run fault) named holds = absurd holds
+opening_fault_holds Has words position (Table fault) named holds = absurd holds
+opening_fault_holds Has words position Memory named holds = tt
+
+module _ (Has : List ℕ → Type 0) (profile : Profile) (file : HasValueFile Has profile) where
+  -- the table that was read is the value table
+  pub right_table : (table : ClassTable) → IsFileOf Has table → IsValueTable table.family table.values × (table.family.profile ≡ profile)
+  right_table table is =
+      let same : file.table ≡ table =
+      same_files file.bytes file.table table file.right.table is.whole file.file (is.same file.bytes file.has) in (
+        subst (λ (t : ClassTable). IsValueTable t.family t.values) same file.right,
+        subst (λ (t : ClassTable). t.family.profile ≡ profile) same file.rules,
+      )
+
+  -- so the value that it gives a text's position is the one that this has by definition
+  pub value_right : (table : ClassTable) → IsFileOf Has table → (words : List ℕ) (value : Value) → IsGivenTo table words value → IsValueOf profile words value
+  value_right table file words value told =
+      let is = right_table table file in record {
+        position = told.0;
+        legal = told.1.0;
+        allowed = subst (λ (p : Profile). IsAllowed p told.0) is.1 told.2.number.position.allowed;
+        spelled = told.1.1;
+        right = subst (λ (p : Profile). HasValue p told.0 value) is.1 (is.0.values_are told.0 value told.2.number.position told.2);
+      }
+
+  -- and the line tells it
+  line_right : (words lines : List ℕ) → IsProbeLine Has words lines → IsValueLineOf profile words lines
+  line_right words lines told =
+      (told.value, value_right told.table told.file words told.value (told.position, told.named, told.given), told.same)
+
+  -- and the moves have the values told by definition
+  choices_right : (words : List ℕ) (choices : List ValuedMove) → AreChoicesOf Has words choices → AreRightChoicesOf profile words choices
+  choices_right words choices told =
+      let is = right_table told.table told.file in record {
+        position = told.position;
+        named = told.named;
+        valued = subst (λ (p : Profile). AreValuedMoves p (HasValue p) told.position choices) is.1
+            (valued_rightly told.table is.0 told.position told.member choices told.valued);
+      }
+
+-- where lines of one kind are of another one
+pub answers_weaker : (A B : List ℕ → Type 0) (Holds : Fault → Type 0) (e : Ending) → ((lines : List ℕ) → A lines → B lines)
+    → Answers A Holds e → Answers B Holds e
+answers_weaker A B Holds e weaker (inl t) =
+    inl (record { lines = t.lines; right = weaker t.lines t.right; done = t.done; told = t.told; silent = t.silent })
+answers_weaker A B Holds e weaker (inr (inl t)) = inr (inl t)
+answers_weaker A B Holds e weaker (inr (inr t)) =
+    inr (inr (record { lines = t.lines; right = weaker t.lines t.right; part = t.part; told = t.told }))
+
+pub probe_right : (c : ShelfChange) (profile : Profile) (file words : List ℕ) (e : Ending) → HasValueFile (c.before.has file) profile
+    → AnswersProbe c file words e → AnswersProbeRight c profile file words e
+probe_right c profile file words e right =
+    answers_weaker (λ lines. IsProbeLine (c.before.has file) words lines × FailsWhere c false)
+    (λ lines. IsValueLineOf profile words lines × FailsWhere c false)
+    (λ fault. IsPositionFault (c.before.has file) words fault × FailsWhere c (is_io fault)) e
+    (λ lines told. (line_right (c.before.has file) profile right words lines told.0, told.1))
+
+-- of moves with their values, however they are told
+choices_answered : (c : ShelfChange) (profile : Profile) (file words : List ℕ) (tell : List ValuedMove → List ℕ) (e : Ending)
+    → HasValueFile (c.before.has file) profile
+    → AnswersOver c (TellsChoices (AreChoicesOf (c.before.has file) words) tell) (IsPositionFault (c.before.has file) words) e
+    → AnswersOver c (TellsChoices (AreRightChoicesOf profile words) tell) (IsPositionFault (c.before.has file) words) e
+choices_answered c profile file words tell e right =
+    answers_weaker (λ lines. TellsChoices (AreChoicesOf (c.before.has file) words) tell lines × FailsWhere c false)
+    (λ lines. TellsChoices (AreRightChoicesOf profile words) tell lines × FailsWhere c false)
+    (λ fault. IsPositionFault (c.before.has file) words fault × FailsWhere c (is_io fault)) e
+    (λ lines told. ((told.0.0, choices_right (c.before.has file) profile right words told.0.0 told.0.1, told.0.2), told.1))
+
+pub moves_right : (c : ShelfChange) (profile : Profile) (file words : List ℕ) (e : Ending) → HasValueFile (c.before.has file) profile
+    → AnswersMoves c file words e → AnswersMovesRight c profile file words e
+moves_right c profile file words e right =
+    choices_answered c profile file words choice_lines e right
+
+pub best_right : (c : ShelfChange) (profile : Profile) (file words : List ℕ) (e : Ending) → HasValueFile (c.before.has file) profile
+    → AnswersBest c file words e → AnswersBestRight c profile file words e
+best_right c profile file words e right =
+    choices_answered c profile file words best_line e right

@@ -1,0 +1,20 @@
+-- The puzzles are those of the file's table.
+use Rattle.std.proofs.Common.{◌∙◌, ap}
+use Rattle.dob_query.specs.Puzzles.{puzzle_lines}
+use Rattle.dob_query.proofs.Puzzling.{puzzle_within}
+use Rattle.dob_query.proofs.puzzles.answer_puzzles.Goals as goal
+
+pub puzzle_lines-requires : goal.puzzle_lines-requires
+puzzle_lines-requires g c = λ puzzle listed.
+    puzzle_within c.in_ok-table.table c.args.search.walk c.args.search.plies c.args.search.count c.in_ok-puzzles.puzzles.items c.deref.result.now puzzle c.in_ok-puzzles.ensures
+    c.deref.ensures.value listed
+
+pub returns-clause-ok : goal.returns-clause-ok
+returns-clause-ok g c = record {
+  proper = c.is_puzzle_length.ensures.0 c.if-not-is_puzzle_length.false;
+  table = c.in_ok-table.table;
+  is = c.in_ok-table.ensures.table;
+  puzzles = c.in_ok-puzzles.puzzles.items;
+  first = c.in_ok-puzzles.ensures;
+  same = c.in_ok-puzzle_lines.ensures ∙ ap (puzzle_lines c.in_ok-table.table.family c.args.search.is_numbered) c.deref.ensures.value;
+}

@@ -1,0 +1,71 @@
+-- The program's faults as they are printed, and their exit statuses.
+use Rattle.std.specs.Prelude.{ℕ, Bool, true, false, List, [], ◌∷◌, ◌++◌, Result, Ok, Err, codes}
+use Rattle.dob_pieces.specs.Faults.{memory_text, set_fault_text}
+use Rattle.dob_text.specs.Faults as position
+use Rattle.dob_value.specs.Faults as value_texts
+use Rattle.dob_value.specs.declared.fault.Fault as value
+use Rattle.dob_value.specs.declared.fault.Fault.TheVariants as value_fault
+use Rattle.dob_dbfile.specs.FaultTexts as file
+use Rattle.dob_dbfile.specs.Faults as reading
+use Rattle.dob_dbfile.specs.declared.fault.Fault.TheVariants as file_fault
+use Rattle.dob_stops.specs.Faults as run
+use Rattle.dob_stops.specs.declared.fault.Fault.TheVariants as run_fault
+use Rattle.dob_probe.specs.Faults as table
+use Rattle.dob_probe.specs.declared.fault.Fault.TheVariants as table_fault
+use Rattle.dob_pieces.specs.Bytes.{line_feed}
+use Rattle.dob_query.specs.declared.shelf.ShelfFault as shelf
+use Rattle.dob_query.specs.declared.shelf.ShelfFault.TheVariants as shelf_fault
+use Rattle.dob_query.specs.declared.fault.Fault.{Fault}
+use Rattle.dob_query.specs.declared.fault.Fault.TheVariants.{Text, SetText, TooDeep, Run, File, Table, PuzzlePlies, Memory, Io}
+
+abbrev pub fault_text : Fault → List ℕ
+fault_text (Text fault) = position.fault_text fault
+fault_text SetText = set_fault_text
+fault_text TooDeep = value_texts.fault_text value_fault.TooDeep
+fault_text (Run fault) = run.fault_text fault
+fault_text (File fault) = file.fault_text fault
+fault_text (Table fault) = table.fault_text fault
+fault_text PuzzlePlies = codes "--plies is an odd number of at least 3"
+fault_text Memory = memory_text
+fault_text Io = file.fault_text (file_fault.Io 0)
+
+-- the line on standard error
+abbrev pub fault_line : Fault → List ℕ
+fault_line fault = codes "dobutsu: " ++ fault_text fault ++ line_feed ∷ []
+
+-- whether it is the fault of a device that failed
+abbrev pub is_io : Fault → Bool
+is_io (File fault) = reading.is_io fault
+is_io Io = true
+is_io _ = false
+
+abbrev pub is_io_error : {X : Type 0} → Result X Fault → Bool
+is_io_error (Ok x) = false
+is_io_error (Err fault) = is_io fault
+
+-- 1 where what was asked is refused, 2 where the words make no sense, 3 where the program failed
+abbrev pub status_of : Fault → ℕ
+status_of (Text _) = 1
+status_of SetText = 1
+status_of TooDeep = 3
+status_of (Run (run_fault.Stopped node why)) = 3
+status_of (Run run_fault.Memory) = 3
+status_of (Run _) = 1
+status_of (File file_fault.Memory) = 3
+status_of (File (file_fault.Io _)) = 3
+status_of (File _) = 1
+status_of (Table table_fault.Memory) = 3
+status_of (Table _) = 1
+status_of PuzzlePlies = 2
+status_of Memory = 3
+status_of Io = 3
+
+-- a fault of finding a value
+abbrev pub fault_of_value : value.Fault → Fault
+fault_of_value value_fault.TooDeep = TooDeep
+fault_of_value value_fault.Memory = Memory
+
+-- a fault of opening or making a file
+abbrev pub fault_of_shelf : shelf.ShelfFault → Fault
+fault_of_shelf shelf_fault.Memory = Memory
+fault_of_shelf shelf_fault.Failed = Io

@@ -1,0 +1,16 @@
+pub mod Faults
+pub mod Shelves
+pub mod Endings
+pub mod Program
+pub mod Tables
+pub mod Each
+pub mod Looks
+pub mod Shows
+pub mod Choices
+pub mod Sizes
+pub mod Keeping
+pub mod Progress
+pub mod Migrations
+pub mod Stats
+pub mod Puzzles
+pub mod LooksEach

@@ -1,0 +1,48 @@
+-- What the program owes where it is asked for the value of a position.
+use Rattle.std.specs.Prelude.{◌≡◌, ℕ, List, [], ◌∷◌, ◌++◌, codes}
+use Rattle.std.specs.Fmt.{decimal}
+use Rattle.dob_pieces.specs.declared.profile.Profile.{Profile}
+use Rattle.dob_pieces.specs.declared.setup.Setup.{Setup}
+use Rattle.dob_pieces.specs.Profiles.{IsAllowed}
+use Rattle.dob_pieces.specs.Setups.{IsLegal}
+use Rattle.dob_text.specs.PositionText.{Spells}
+use Rattle.dob_text.specs.Faults.{HasTextFault}
+use Rattle.dob_value.specs.declared.value.Value.{Value}
+use Rattle.dob_value.specs.declared.value.Value.TheVariants.{Win, Loss, Draw}
+use Rattle.dob_value.specs.Values.{HasValue}
+use Rattle.dob_value.specs.Rosters.{SomeTooDeep, HasSamePieces}
+use Rattle.dob_query.specs.declared.fault.Fault.{Fault}
+use Rattle.dob_query.specs.declared.fault.Fault.TheVariants.{Text, TooDeep, Memory}
+use Rattle.dob_pieces.specs.Bytes.{line_feed}
+use Rattle.dob_query.specs.Endings.{AnswersOver, Ending}
+use Rattle.dob_query.specs.Shelves.{ShelfChange}
+
+-- the line that tells a value, with its line feed
+abbrev pub value_line : Value → List ℕ
+value_line (Win plies) = codes "win " ++ decimal plies ++ line_feed ∷ []
+value_line (Loss plies) = codes "loss " ++ decimal plies ++ line_feed ∷ []
+value_line Draw = codes "draw" ++ line_feed ∷ []
+
+-- the text is that of a position of the profile, whose value this is by definition
+pub record IsValueOf (profile : Profile) (text : List ℕ) (value : Value) : Type 0 where
+  pub position : Setup
+  pub legal : IsLegal position
+  pub allowed : IsAllowed profile position
+  pub spelled : Spells text position
+  pub right : HasValue profile position value
+
+-- the bytes are the line of the value that the text's position has by the rules of the profile
+abbrev pub IsValueLineOf : Profile → List ℕ → List ℕ → Type 0
+IsValueLineOf profile text line = (value : Value) × IsValueOf profile text value × (line ≡ value_line value)
+
+-- The fault is given only where it is the text's first one, E26 behind all others, or memory failed.
+abbrev pub IsFaultOf : Profile → List ℕ → Fault → Type 0
+IsFaultOf profile text (Text fault) = HasTextFault profile text fault
+IsFaultOf profile text TooDeep =
+    (position : Setup) × IsLegal position × Spells text position × SomeTooDeep profile (HasSamePieces profile position)
+IsFaultOf profile text Memory = Unit {0}
+IsFaultOf profile text _ = ⊥
+
+-- what the program does where it is asked for the value of the position that a text names, by the rules of a profile
+abbrev pub AnswersValue : ShelfChange → Profile → List ℕ → Ending → Type 0
+AnswersValue c profile text = AnswersOver c (IsValueLineOf profile text) (IsFaultOf profile text)

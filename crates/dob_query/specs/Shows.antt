@@ -1,0 +1,118 @@
+-- What the program owes where it is asked to show a position.
+use Rattle.std.specs.Prelude.{◌≡◌, ◌⊎◌, ℕ, IsTrue, List, [], ◌∷◌, ◌++◌, Option, None, Some}
+use Rattle.dob_pieces.specs.declared.profile.Profile.TheVariants.{A}
+use Rattle.dob_pieces.specs.declared.setup.Setup.{Setup}
+use Rattle.dob_pieces.specs.Bytes.{line_feed}
+use Rattle.dob_text.specs.Drawings.{drawing_of}
+use Rattle.dob_text.specs.Pictures.{picture_of}
+use Rattle.dob_text.specs.MoveText.{numbered_text}
+use Rattle.dob_text.specs.Faults.{HasTextFault}
+use Rattle.dob_moves.specs.declared.game_move.Move.{Move}
+use Rattle.dob_value.specs.declared.value.Value.{Value}
+use Rattle.dob_pieces.specs.declared.profile.Profile.{Profile}
+use Rattle.dob_value.specs.Follows.{ClassTable}
+use Rattle.dob_value.specs.Values.{HasValue}
+use Rattle.dob_probe.specs.Lines.{GivenBy, IsLine}
+use Rattle.dob_query.specs.declared.fault.Fault.{Fault}
+use Rattle.dob_query.specs.declared.fault.Fault.TheVariants.{Text, Memory, Io}
+use Rattle.dob_query.specs.Endings.{AnswersOver, Ending}
+use Rattle.dob_query.specs.Program.{value_line}
+use Rattle.dob_query.specs.Shelves.{Files, HasJust, SameFiles, SameOthers, ShelfChange}
+use Rattle.dob_query.specs.Tables.{IsFileOf, IsProbingFault, IsTextOf}
+
+-- ---- lines
+
+-- the drawing, and after an empty line the value and the moves of the line, each on a line with its number
+abbrev pub played_drawing : Setup → Value → List Move → List ℕ
+played_drawing position value moves = drawing_of position ++ (line_feed ∷ [] ++ (value_line value ++ numbered_text moves))
+
+-- the lines draw the position, and tell its value and its line by the file's table
+pub record AreDrawnBy (Has : List ℕ → Type 0) (position : Setup) (lines : List ℕ) : Type 0 where
+  pub table : ClassTable
+  pub file : IsFileOf Has table
+  pub value : Value
+  pub given : GivenBy table position value
+  pub moves : List Move
+  pub line : IsLine table.family.profile (GivenBy table) position moves
+  pub same : lines ≡ played_drawing position value moves
+
+-- the lines draw the position, and tell its value and its best play by definition and the rules of the profile
+pub record AreDrawnRight (profile : Profile) (position : Setup) (lines : List ℕ) : Type 0 where
+  pub value : Value
+  pub right : HasValue profile position value
+  pub moves : List Move
+  pub line : IsLine profile (HasValue profile) position moves
+  pub same : lines ≡ played_drawing position value moves
+
+-- the lines draw the position, by the file of that name where one is named
+abbrev pub AreDrawn : Files → Option (List ℕ) → Setup → List ℕ → Type 0
+AreDrawn Has None position lines = lines ≡ drawing_of position
+AreDrawn Has (Some file) position lines = AreDrawnBy (Has file) position lines
+
+-- where a picture is asked for, the file of that name has just these bytes on a shelf that tells its bytes
+abbrev pub IsKept : ShelfChange → Option (List ℕ) → List ℕ → Type 0
+IsKept c None bytes = Unit {0}
+IsKept c (Some name) bytes = IsTrue c.before.tells → HasJust name bytes c.after.has
+
+-- the lines draw the position that the text names, and so does the file that is named for its picture
+pub record AreShowLines (c : ShelfChange) (file picture : Option (List ℕ)) (words lines : List ℕ) : Type 0 where
+  pub position : Setup
+  pub named : IsTextOf words position
+  pub drawn : AreDrawn c.before.has file position lines
+  pub kept : IsKept c picture (picture_of position)
+
+-- the same, where the lines tell what is right by definition
+pub record AreRightShowLines (c : ShelfChange) (profile : Profile) (picture : Option (List ℕ)) (words lines : List ℕ) : Type 0 where
+  pub position : Setup
+  pub named : IsTextOf words position
+  pub drawn : AreDrawnRight profile position lines
+  pub kept : IsKept c picture (picture_of position)
+
+-- ---- faults
+
+-- a fault of asking the file that is named, if one is
+abbrev pub IsFaultBy : Files → Option (List ℕ) → Setup → Fault → Type 0
+IsFaultBy Has None position fault = ⊥
+IsFaultBy Has (Some file) position fault = IsProbingFault (Has file) position fault
+
+-- a fault of drawing a position, by the file that is named if one is: the file's, or memory failed
+abbrev pub IsDrawingFault : Files → Option (List ℕ) → Setup → Fault → Type 0
+IsDrawingFault Has file position Memory = Unit {0}
+IsDrawingFault Has file position fault = IsFaultBy Has file position fault
+
+-- The fault of keeping a picture's file, by its moment. Memory for the picture or for making the file was refused, or the file couldn't
+-- be made: each file has what it had. Or it was made and nothing of it is kept: where the shelf tells its bytes it is empty.
+abbrev pub IsPictureFault : ShelfChange → List ℕ → Fault → Type 0
+IsPictureFault c name Memory = SameFiles c.before.has c.after.has
+IsPictureFault c name Io = SameFiles c.before.has c.after.has ⊎ (IsTrue c.before.tells → HasJust name [] c.after.has)
+IsPictureFault c name _ = ⊥
+
+-- the picture that is asked for, if one is, failed
+abbrev pub IsUnkept : ShelfChange → Option (List ℕ) → Type 0
+IsUnkept c None = ⊥
+IsUnkept c (Some name) = IsPictureFault c name Io
+
+-- The fault of showing, by its moment. While each file has what it had: the text is no position's, or asking the file failed, or memory
+-- was refused. Then the picture's file failed.
+abbrev pub IsShowFault : ShelfChange → Option (List ℕ) → Option (List ℕ) → List ℕ → Fault → Type 0
+IsShowFault c file picture words (Text fault) = HasTextFault A words fault × SameFiles c.before.has c.after.has
+IsShowFault c file picture words Memory = SameFiles c.before.has c.after.has
+IsShowFault c file picture words Io = (position : Setup) × IsTextOf words position
+    × ((IsFaultBy c.before.has file position Io × SameFiles c.before.has c.after.has) ⊎ IsUnkept c picture)
+IsShowFault c file picture words fault = (position : Setup) × IsTextOf words position
+    × IsFaultBy c.before.has file position fault × SameFiles c.before.has c.after.has
+
+-- ---- what the program does
+
+-- each file has what it had, but the one of the picture where one is asked for
+abbrev pub KeepsButPicture : Option (List ℕ) → Files → Files → Type 0
+KeepsButPicture None = SameFiles
+KeepsButPicture (Some name) = SameOthers name
+
+-- what the program does where it is asked to show the position that a text names
+abbrev pub AnswersShow : ShelfChange → Option (List ℕ) → Option (List ℕ) → List ℕ → Ending → Type 0
+AnswersShow c file picture words = AnswersOver c (AreShowLines c file picture words) (IsShowFault c file picture words)
+
+-- the same, by a file whose values are right
+abbrev pub AnswersShowRight : ShelfChange → Profile → List ℕ → Option (List ℕ) → List ℕ → Ending → Type 0
+AnswersShowRight c profile file picture words = AnswersOver c (AreRightShowLines c profile picture words) (IsShowFault c (Some file) picture words)

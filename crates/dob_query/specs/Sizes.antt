@@ -1,0 +1,45 @@
+-- What the program owes where it is asked for the sizes of a piece set.
+use Rattle.std.specs.Prelude.{◌≡◌, ◌≢◌, ℕ, List, [], ◌∷◌, ◌++◌, codes}
+use Rattle.std.specs.Fmt.{decimal}
+use Rattle.dob_pieces.specs.declared.piece_set.PieceSet.{PieceSet}
+use Rattle.dob_pieces.specs.declared.profile.Family.{Family}
+use Rattle.dob_pieces.specs.declared.profile.Profile.{Profile}
+use Rattle.dob_pieces.specs.Sets.{set_text}
+use Rattle.dob_rank.specs.Families.{HasClasses, HasSize, family_of}
+use Rattle.dob_query.specs.declared.counts.Counts.{Counts}
+use Rattle.dob_query.specs.declared.fault.Fault.{Fault}
+use Rattle.dob_query.specs.declared.fault.Fault.TheVariants.{SetText, Memory}
+use Rattle.dob_pieces.specs.Bytes.{line_feed}
+use Rattle.dob_query.specs.Endings.{AnswersOver, Ending}
+use Rattle.dob_query.specs.Shelves.{ShelfChange}
+
+-- these are the family's numbers of positions and classes
+pub record HasCounts (family : Family) (counts : Counts) : Type 0 where
+  pub positions : HasSize family counts.positions
+  pub classes : HasClasses family counts.classes
+
+-- the text is that of a piece set with these numbers by the rules of the profile
+abbrev pub AreCountsOf : Profile → List ℕ → Counts → Type 0
+AreCountsOf profile text counts = (set : PieceSet) × (text ≡ set_text set) × HasCounts (family_of set profile) counts
+
+-- a line with a name and a number, and its line feed
+abbrev pub count_line : List ℕ → ℕ → List ℕ
+count_line name number = name ++ decimal number ++ line_feed ∷ []
+
+-- the two lines that tell the numbers
+abbrev pub count_lines : Counts → List ℕ
+count_lines counts = count_line (codes "positions ") counts.positions ++ count_line (codes "classes ") counts.classes
+
+-- the bytes are the lines of the numbers of the text's piece set
+abbrev pub AreCountLinesOf : Profile → List ℕ → List ℕ → Type 0
+AreCountLinesOf profile text lines = (counts : Counts) × AreCountsOf profile text counts × (lines ≡ count_lines counts)
+
+-- the fault is given only where no set has the text, or memory failed for the lines
+abbrev pub IsCountFaultOf : List ℕ → Fault → Type 0
+IsCountFaultOf text SetText = (set : PieceSet) → text ≢ set_text set
+IsCountFaultOf text Memory = Unit {0}
+IsCountFaultOf text _ = ⊥
+
+-- what the program does where it is asked for the numbers of the piece set that a text names, by the rules of a profile
+abbrev pub AnswersCount : ShelfChange → Profile → List ℕ → Ending → Type 0
+AnswersCount c profile text = AnswersOver c (AreCountLinesOf profile text) (IsCountFaultOf text)

@@ -1,0 +1,102 @@
+// The answers to the lines of standard input, by the table of a database file.
+ghost use Rattle.std.specs.Prelude.{◌≡◌, ◌++◌, ◌||◌, [], false, IfErr, IfOk, OnOk, is_err, string_bytes};
+ghost use Rattle.dob_query.specs.Each.{AreEachLines, IsAnswer, IsEachFault, IsGivenTo, TellsLinesOf, answer_line, status_of_lines};
+ghost use Rattle.dob_query.specs.Faults.{is_io_error};
+ghost use Rattle.dob_query.specs.Shelves.{FailsWhere, SameFiles, shelf_change};
+
+use crate::fault::Fault;
+use crate::inputs::first_line;
+use crate::shelf::Shelf;
+use crate::tables::open;
+use crate::values::line_of;
+use dob_pieces::Profile;
+use dob_probe::probe;
+use dob_text::read_position_bytes;
+use dob_value::{Table, Value};
+use std::alloc::{AllocError, Global};
+
+/// The answers to some lines, each on a line of its own, and whether one of these was refused.
+#[derive(Drop)]
+pub struct LineAnswers {
+    pub lines: String,
+    pub is_refused: bool,
+}
+
+impl LineAnswers {
+    /// The exit status that goes with them.
+    pub fn status(&self) -> u8
+        ensures { result ≡ status_of_lines self.now.is_refused }
+    {
+        if self.is_refused { 1 } else { 0 }
+    }
+
+    /// No answers.
+    pub(crate) fn none(alloc: Global) -> LineAnswers
+        ensures lines { string_bytes result.lines ≡ [] }
+        ensures refused { result.is_refused ≡ false }
+    {
+        LineAnswers {
+            lines: String::new(alloc),
+            is_refused: false,
+        }
+    }
+
+    /// Adds an answer behind the others.
+    pub(crate) fn add(
+        &mut self,
+        alloc: Global,
+        answer: Result<Value, Fault>,
+    ) -> Result<(), AllocError>
+        ensures lines { OnOk result (string_bytes self.new.lines ≡ string_bytes self.old.lines ++ answer_line answer) }
+        ensures refused { OnOk result (self.new.is_refused ≡ (self.old.is_refused || is_err answer)) }
+    {
+        let line = answer_line(alloc, answer)?;
+        self.lines.push_str(line.as_str())?;
+        self.is_refused |= answer.is_err();
+        Ok(())
+    }
+}
+
+/// The answers to the lines of standard input by the table of the file, which is read before them.
+pub fn answer_each<S: Shelf>(alloc: Global, shelf: &mut S, file: &str) -> Result<LineAnswers, Fault>
+    ensures ok { IfOk result (λ answers. AreEachLines IsGivenTo (shelf_change (S.state shelf.old) (S.state shelf.new)) file.now
+        answers.is_refused (string_bytes answers.lines)) }
+    ensures err { IfErr result (IsEachFault (shelf_change (S.state shelf.old) (S.state shelf.new)) file.now) }
+    ensures files { SameFiles (S.state shelf.old).has (S.state shelf.new).has }
+    ensures failed { FailsWhere (shelf_change (S.state shelf.old) (S.state shelf.new)) (is_io_error result) }
+{
+    let table = open(alloc, shelf, file)?;
+    let input = shelf.input()?;
+    Ok(answers_to(alloc, &table, &input)?)
+}
+
+// The answers to the lines of the bytes.
+fn answers_to(alloc: Global, table: &Table, input: &[u8]) -> Result<LineAnswers, AllocError>
+    ensures { IfOk result (λ answers. TellsLinesOf (IsAnswer (IsGivenTo table.now) table.now) input.now answers.is_refused (string_bytes answers.lines)) }
+{
+    let mut answers = LineAnswers::none(alloc);
+    let mut left = input;
+    while let Some((line, rest)) = first_line(left) {
+        answers.add(alloc, answer_to(table, line))?;
+        left = rest;
+    }
+    Ok(answers)
+}
+
+// The value that the table gives the line's position, or why there is none.
+fn answer_to(table: &Table, line: &[u8]) -> Result<Value, Fault>
+    ensures { IsAnswer (IsGivenTo table.now) table.now line.now result }
+{
+    let position = read_position_bytes(Profile::A, line)?;
+    Ok(probe(table, &position)?)
+}
+
+// The line that tells an answer.
+fn answer_line(alloc: Global, answer: Result<Value, Fault>) -> Result<String, AllocError>
+    ensures { IfOk result (λ line. string_bytes line ≡ answer_line answer) }
+{
+    match answer {
+        Ok(value) => line_of(alloc, value),
+        Err(fault) => format!(in alloc; "{fault}\n"),
+    }
+}

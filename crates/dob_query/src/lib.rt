@@ -1,0 +1,38 @@
+// What the program answers by database files and by definition: the lines of each query, over shelves of files.
+#![tactic(auto)]
+
+mod choices;
+mod counts;
+mod disk;
+mod each;
+mod fault;
+mod inputs;
+mod keeping;
+mod looks;
+mod looks_each;
+mod migrations;
+mod progress;
+mod puzzles;
+mod shelf;
+mod shows;
+mod stats;
+mod tables;
+mod tally;
+mod values;
+
+pub use choices::{answer_best, answer_moves};
+pub use counts::answer_count;
+pub use disk::{DiskFile, DiskShelf};
+pub use each::{LineAnswers, answer_each};
+pub use fault::Fault;
+pub use keeping::{keep_table, lines_of};
+pub use looks::answer_look;
+pub use looks_each::answer_look_each;
+pub use migrations::answer_migrate;
+pub use progress::{Console, Progress, tell_need};
+pub use puzzles::{PuzzleSearch, answer_puzzles};
+pub use shelf::{MemShelf, Shelf, ShelfFault};
+pub use shows::answer_show;
+pub use stats::answer_stats;
+pub use tables::{answer_check, answer_line, answer_probe};
+pub use values::answer_value;

@@ -1,0 +1,210 @@
+// How many classes of a database file's table have which value, and examples of the longest win and the longest loss.
+ghost use Rattle.std.specs.Prelude.{◌≡◌, ◌++◌, ◌<◌, IfOk, IfErr, IfSome, OnOk, flat_map, length, string_bytes};
+ghost use Rattle.dob_probe.specs.Statistics.{AreGroups};
+ghost use Rattle.dob_query.specs.Faults.{is_io_error};
+ghost use Rattle.dob_query.specs.Shelves.{FailsWhere, SameFiles, shelf_change};
+ghost use Rattle.dob_query.specs.Tables.{IsFileOf};
+ghost use Rattle.dob_query.specs.Stats.{AreStatsFor, AreStatsLines, AreStatsOf, IsLongestLine, IsStatsFault, csv_lines, csv_row, group_line, group_text, longest_of, longest_text, with_group};
+
+use crate::fault::Fault;
+use crate::keeping::lines_of;
+use crate::shelf::Shelf;
+use crate::tables::open;
+use dob_check::statistics;
+use dob_pieces::Memory;
+use dob_probe::Group;
+use dob_text::write_position;
+use dob_value::{Table, Value};
+use std::alloc::Global;
+use std::thread::Threads;
+
+/// The last group of wins and the last of losses, where there are any.
+#[derive(Clone, Copy)]
+pub(crate) struct Longest {
+    pub(crate) win: Option<Group>,
+    pub(crate) loss: Option<Group>,
+}
+
+/// The lines that tell how many classes of the file's table have which value, and the longest win and loss with an example each; or,
+/// for scripts, a line of two fields for each value that occurs, below their names.
+pub fn answer_stats<S: Shelf>(
+    rt: &(impl Threads + Sync),
+    alloc: Global,
+    shelf: &mut S,
+    file: &str,
+    is_csv: bool,
+) -> Result<String, Fault>
+    ensures ok { IfOk result (λ lines. AreStatsLines (IsFileOf ((S.state shelf.old).has file.now)) is_csv (string_bytes lines)) }
+    ensures err { IfErr result (IsStatsFault ((S.state shelf.old).has file.now)) }
+    ensures files { SameFiles (S.state shelf.old).has (S.state shelf.new).has }
+    ensures failed { FailsWhere (shelf_change (S.state shelf.old) (S.state shelf.new)) (is_io_error result) }
+{
+    let table = open(alloc, shelf, file)?;
+    let groups = statistics(rt, alloc, &table)?;
+    Ok(told_lines(rt, alloc, &table, &groups, is_csv)?)
+}
+
+// The lines that tell of the table, by its groups, in one of the two ways.
+fn told_lines(
+    rt: &(impl Threads + Sync),
+    alloc: Global,
+    table: &Table,
+    groups: &[Group],
+    is_csv: bool,
+) -> Result<String, Memory>
+    requires { AreGroups table.now.values groups.now }
+    ensures { IfOk result (λ lines. AreStatsFor is_csv table.now groups.now (string_bytes lines)) }
+{
+    if is_csv {
+        csv_lines(alloc, groups)
+    } else {
+        stats_lines(rt, alloc, table, groups)
+    }
+}
+
+// A line of two fields for each group, below their names.
+fn csv_lines(alloc: Global, groups: &[Group]) -> Result<String, Memory>
+    ensures { IfOk result (λ lines. string_bytes lines ≡ csv_lines groups.now) }
+{
+    let mut lines = "value,classes\n".to_string(alloc)?;
+    push_groups(alloc, &mut lines, true, groups)?;
+    Ok(lines)
+}
+
+// The lines that tell of the table, by its groups.
+fn stats_lines(
+    rt: &(impl Threads + Sync),
+    alloc: Global,
+    table: &Table,
+    groups: &[Group],
+) -> Result<String, Memory>
+    requires { AreGroups table.now.values groups.now }
+    ensures { IfOk result (λ lines. AreStatsOf table.now groups.now (string_bytes lines)) }
+{
+    let mut lines = lines_of(rt, alloc, table)?;
+    push_groups(alloc, &mut lines, false, groups)?;
+    let longest = longest_of(groups);
+    let win = longest_line(alloc, table, longest.win)?;
+    let loss = longest_line(alloc, table, longest.loss)?;
+    lines.push_str(win.as_str())?;
+    lines.push_str(loss.as_str())?;
+    Ok(lines)
+}
+
+// Writes the lines of the groups at the end.
+fn push_groups(
+    alloc: Global,
+    lines: &mut String,
+    is_csv: bool,
+    groups: &[Group],
+) -> Result<(), Memory>
+    ensures { OnOk result (string_bytes lines.new ≡ string_bytes lines.old ++ flat_map (group_text is_csv) groups.now) }
+{
+    for group in groups {
+        push_group(alloc, lines, is_csv, *group)?;
+    }
+    Ok(())
+}
+
+// Writes the line of the group at the end.
+fn push_group(alloc: Global, lines: &mut String, is_csv: bool, group: Group) -> Result<(), Memory>
+    ensures { OnOk result (string_bytes lines.new ≡ string_bytes lines.old ++ group_text is_csv group) }
+{
+    let line = group_text(alloc, is_csv, group)?;
+    lines.push_str(line.as_str())?;
+    Ok(())
+}
+
+// The line of the group, in one of the two ways.
+fn group_text(alloc: Global, is_csv: bool, group: Group) -> Result<String, Memory>
+    ensures { IfOk result (λ line. string_bytes line ≡ group_text is_csv group) }
+{
+    if is_csv {
+        csv_row(alloc, group)
+    } else {
+        group_line(alloc, group)
+    }
+}
+
+// The group's value and how many classes it has.
+fn csv_row(alloc: Global, group: Group) -> Result<String, Memory>
+    ensures { IfOk result (λ line. string_bytes line ≡ csv_row group) }
+{
+    let classes = group.classes;
+    match group.value {
+        Value::Win(plies) => Ok(format!(in alloc; "win {plies},{classes}\n")?),
+        Value::Loss(plies) => Ok(format!(in alloc; "loss {plies},{classes}\n")?),
+        Value::Draw => Ok(format!(in alloc; "draw,{classes}\n")?),
+    }
+}
+
+// The line of the group.
+fn group_line(alloc: Global, group: Group) -> Result<String, Memory>
+    ensures { IfOk result (λ line. string_bytes line ≡ group_line group) }
+{
+    let classes = group.classes;
+    match group.value {
+        Value::Win(plies) => Ok(format!(in alloc; "win {plies} {classes}\n")?),
+        Value::Loss(plies) => Ok(format!(in alloc; "loss {plies} {classes}\n")?),
+        Value::Draw => Ok(String::new(alloc)),
+    }
+}
+
+// The last group of wins and the last of losses.
+fn longest_of(groups: &[Group]) -> Longest
+    ensures { result ≡ longest_of groups.now }
+{
+    let mut longest = Longest {
+        win: None,
+        loss: None,
+    };
+    let mut left = groups;
+    while let Some((first, rest)) = left.split_first() {
+        longest = with_group(longest, *first);
+        left = rest;
+    }
+    longest
+}
+
+// The same with one group more.
+fn with_group(longest: Longest, group: Group) -> Longest
+    ensures { result ≡ with_group longest group }
+{
+    match group.value {
+        Value::Win(_) => Longest {
+            win: Some(group),
+            ..longest
+        },
+        Value::Loss(_) => Longest {
+            loss: Some(group),
+            ..longest
+        },
+        Value::Draw => longest,
+    }
+}
+
+// The line of the group's value with the position of its first class, or nothing where there is no group.
+fn longest_line(alloc: Global, table: &Table, group: Option<Group>) -> Result<String, Memory>
+    requires { IfSome group (λ group. group.first < length table.now.values) }
+    ensures { IfOk result (λ line. IsLongestLine table.now group (string_bytes line)) }
+{
+    match group {
+        None => Ok(String::new(alloc)),
+        Some(group) => {
+            let position = table.classes().class_at(group.first);
+            let text = write_position(alloc, &position)?;
+            longest_text(alloc, group.value, text.as_str())
+        }
+    }
+}
+
+// The line of a longest win or loss with that example.
+fn longest_text(alloc: Global, value: Value, text: &str) -> Result<String, Memory>
+    ensures { IfOk result (λ line. string_bytes line ≡ longest_text value text.now) }
+{
+    match value {
+        Value::Win(plies) => Ok(format!(in alloc; "longest win {plies} {text}\n")?),
+        Value::Loss(plies) => Ok(format!(in alloc; "longest loss {plies} {text}\n")?),
+        Value::Draw => Ok(String::new(alloc)),
+    }
+}

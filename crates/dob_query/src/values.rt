@@ -1,0 +1,30 @@
+// Values by definition, and how a value is told.
+ghost use Rattle.std.specs.Prelude.{◌≡◌, IfOk, IfErr, string_bytes};
+ghost use Rattle.dob_query.specs.Program.{IsFaultOf, IsValueLineOf, value_line};
+
+use crate::fault::Fault;
+use dob_pieces::Profile;
+use dob_text::read_position;
+use dob_value::{Value, sweep_value};
+use std::alloc::{AllocError, Global};
+
+/// The line that tells the value of the position that the text names, by the rules of the profile.
+pub fn answer_value(alloc: Global, profile: Profile, text: &str) -> Result<String, Fault>
+    ensures ok { IfOk result (λ line. IsValueLineOf profile text.now (string_bytes line)) }
+    ensures err { IfErr result (IsFaultOf profile text.now) }
+{
+    let position = read_position(profile, text)?;
+    let value = sweep_value(alloc, profile, &position)?;
+    Ok(line_of(alloc, value)?)
+}
+
+/// The line that tells a value.
+pub(crate) fn line_of(alloc: Global, value: Value) -> Result<String, AllocError>
+    ensures { IfOk result (λ line. string_bytes line ≡ value_line value) }
+{
+    match value {
+        Value::Win(plies) => format!(in alloc; "win {plies}\n"),
+        Value::Loss(plies) => format!(in alloc; "loss {plies}\n"),
+        Value::Draw => "draw\n".to_string(alloc),
+    }
+}

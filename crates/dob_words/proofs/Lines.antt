@@ -1,0 +1,507 @@
+-- The lines that ask for something are just those that the words' meaning says.
+use Rattle.std.proofs.Common.{rules, ◌≡◌, ◌∙◌, ◌+◌, ℕ, Bool, arith, suc, drop, refl, sym, ap, subst, cond, codes, inl, inr, true, false, [], ◌∷◌, ◌++◌, List, Option}
+use Rattle.std.proofs.Common.{Some, None, append_assoc, append-nil, true≢false}
+use Rattle.std.specs.Prelude.{find, fold, is_some, not, option_map, ◌||◌, ◌&&◌, ◌==◌, unwrap_or}
+use Rattle.std.specs.Option.{option_map_or}
+use Rattle.std.specs.List.{after_first, before_first}
+use Rattle.std.specs.Str.{bytes_eq}
+use Rattle.std.proofs.lemmas.Slice.Eq.{bytes_eq-Decides}
+use Rattle.std.proofs.lemmas.Bool.Decides.{Decides-eqb}
+use Rattle.clap.specs.Lexer.{has_byte}
+use Rattle.dob_words.specs.Forms.{is_among, is_needed}
+use Rattle.dob_words.specs.Forms.{Form, Text, forms, labels, no_form}
+use Rattle.dob_words.specs.Words.{Given, Meaning, Part, Stand, after_dashes, after_part, after_word, asked, asks, at_end, behind, between, call, dashes}
+use Rattle.dob_words.specs.Words.{ended, fits, flag, has_topic, help, kept, meaning_of_topic, named_part}
+use Rattle.dob_words.specs.Words.{is_dashes, is_help_flag, is_text, label_of, meaning_of, meaning_of_form, meaning_of_other, name_in, option}
+use Rattle.dob_words.specs.Words.{is_clear, meaning_of_command, part_of, placed, settled, takes_lines, text, text_of, texts_of, unknown, usage, valued, version, wanted, wants}
+use Rattle.dob_words.specs.Lines.{AreNew, Behind, Gives, IsAmong, IsCommandLine, by_dashes, by_flag, by_option, by_place, by_value, next, none, nothing}
+use Rattle.dob_words.specs.Shapes.{AreFit, IsFit}
+use Rattle.dob_words.specs.Readings.{ComesFromLine, IsReadingOf, SomeLine}
+use Rattle.dob_words.specs.declared.command.Reading.{Reading}
+use Rattle.dob_words.specs.declared.command.Reading.TheVariants as reading
+use Rattle.dob_words.proofs.Lexing.{hyphen_first, before_none, take_one}
+use Rattle.dob_words.proofs.Texts.{Each, kept_both}
+use Rattle.dob_words.proofs.FormWords.{each_flag, each_found}
+
+-- ---- options' words
+
+drop_more : (n x : ℕ) (xs : Text) → drop (1 + n + 1) (x ∷ xs) ≡ drop (n + 1) xs
+drop_more n x xs = let e : 1 + n + 1 ≡ suc (n + 1) = omega arith in rw e refl
+
+-- a text with `=` (61) is what stands before the first, and it, and what stands behind
+equals_split : (t : Text) → has_byte 61 t ≡ true → before_first (λ x. x == 61) t ++ 61 ∷ after_first (λ x. x == 61) t ≡ t
+equals_split [] e = absurd (true≢false (sym e))
+equals_split (x ∷ xs) e = go (x == 61) refl e (equals_split xs)
+  where
+    go : (b : Bool) → (x == 61) ≡ b → (b || has_byte 61 xs) ≡ true
+        → (has_byte 61 xs ≡ true → before_first (λ y. y == 61) xs ++ 61 ∷ after_first (λ y. y == 61) xs ≡ xs)
+        → before_first (λ y. y == 61) (x ∷ xs) ++ 61 ∷ after_first (λ y. y == 61) (x ∷ xs) ≡ x ∷ xs
+    go true t e rec = rw t (ap (λ y. y ∷ xs) (sym ((Decides-eqb x 61).0 t)))
+    go false t e rec = rw (t, take_one, drop_more) (ap (λ ys. x ∷ ys) (rec e))
+
+dashes_of : (word rest : Text) → after_dashes word ≡ Some rest → codes "--" ++ rest ≡ word
+dashes_of [] rest e = absurd (true≢false (sym (ap is_some e)))
+dashes_of (a ∷ []) rest e = absurd (true≢false (sym (ap is_some e)))
+dashes_of (a ∷ b ∷ more) rest e = go (a == 45) (b == 45) refl refl e
+  where
+    go : (x y : Bool) → (a == 45) ≡ x → (b == 45) ≡ y → cond (x && y) (Some more) None ≡ Some rest → codes "--" ++ rest ≡ a ∷ b ∷ more
+    go false y p q e = absurd (true≢false (sym (ap is_some e)))
+    go true false p q e = absurd (true≢false (sym (ap is_some e)))
+    go true true p q e = rw ((Decides-eqb a 45).0 p, (Decides-eqb b 45).0 q) (ap (λ (o : Option Text). 45 ∷ 45 ∷ unwrap_or o []) (sym e))
+
+abbrev asked_name : Meaning → Text
+asked_name (asks name texts) = name
+asked_name _ = []
+
+abbrev asked_texts : Meaning → List (Option Text)
+asked_texts (asks name texts) = texts
+asked_texts _ = []
+
+found_passes : (p : Text × Text → Bool) (os : List (Text × Text)) (o : Text × Text) → find p os ≡ Some o → p o ≡ true
+found_passes p [] o e = absurd (true≢false (sym (ap is_some e)))
+found_passes p (x ∷ xs) o e = go (p x) refl e (found_passes p xs o)
+  where
+    go : (b : Bool) → p x ≡ b → cond b (Some x) (find p xs) ≡ Some o → (find p xs ≡ Some o → p o ≡ true) → p o ≡ true
+    go true t e rec = subst (λ (m : Option (Text × Text)). option_map_or p m true ≡ true) e t
+    go false t e rec = rec e
+
+-- ---- what is asked for is given by the words
+
+module _ (f : Form) (name : Text) (texts : List (Option Text)) where
+  abbrev next_stand : Stand → Text → Stand
+  next_stand = after_word f
+
+  -- these texts came after those before
+  abbrev Came : Given → Given → Type 0
+  Came before more = AreNew f before more × (asked f (before ++ more) ≡ asks name texts)
+
+  -- the words from here on give what is asked for
+  abbrev Told : Stand → List Text → Type 0
+  Told (between before left) words = (more : Given) × Gives f left words more × Came before more
+  Told (wants label before left) words =
+      (t : Text) × (rest : List Text) × (more : Given) × (words ≡ t ∷ rest) × (is_text t ≡ true) × (fits f label t ≡ true) × Gives f left rest more
+      × Came (before ++ (label, t) ∷ []) more
+  Told (behind before left) words = (more : Given) × Behind left words more × Came before more
+  Told (ended m) words = m ≡ asks name texts
+
+  Asks : Stand → List Text → Type 0
+  Asks stand words = at_end f (fold next_stand stand words) ≡ asks name texts
+
+  ended_told : (m : Meaning) (words : List Text) → at_end f (fold next_stand (ended m) words) ≡ asks name texts → m ≡ asks name texts
+  ended_told m [] e = e
+  ended_told m (word ∷ rest) e = ended_told m rest e
+
+  is_asked : Meaning → Bool
+  is_asked (asks n ts) = true
+  is_asked _ = false
+
+  not_usage : {X : Type 0} → usage ≡ asks name texts → X
+  unfolding is_asked
+  not_usage e = absurd (true≢false (sym (ap is_asked e)))
+
+  versions_ask : {X : Type 0} → version ≡ asks name texts → X
+  unfolding is_asked
+  versions_ask e = absurd (true≢false (sym (ap is_asked e)))
+
+  not_help : {X : Type 0} → help ≡ asks name texts → X
+  unfolding is_asked
+  not_help e = absurd (true≢false (sym (ap is_asked e)))
+
+  came_more : (label t : Text) (before more : Given) → text_of label before ≡ None → fits f label t ≡ true
+      → Came (before ++ (label, t) ∷ []) more → Came before ((label, t) ∷ more)
+  came_more label t before more fresh fit came = ((fresh, fit, came.0), ap (asked f) (sym (append_assoc before ((label, t) ∷ []) more)) ∙ came.1)
+
+  module _ (word : Text) (rest : List Text) (rec : (stand : Stand) → at_end f (fold next_stand stand rest) ≡ asks name texts → Told stand rest) where
+    -- what is asked for where this word led to this stand
+    abbrev Led : Stand → Type 0
+    Led stand = at_end f (fold next_stand stand rest) ≡ asks name texts
+
+    placed_told : (before : Given) (left : List Text) → is_text word ≡ true → Led (placed f between before left word) → Told (between before left) (word ∷ rest)
+    placed_told before [] t e = not_usage (ended_told usage rest e)
+    placed_told before (label ∷ left) t e = go (is_some (text_of label before) || not (fits f label word)) refl e
+      where
+        go : (b : Bool) → (is_some (text_of label before) || not (fits f label word)) ≡ b
+            → Led (cond b (ended usage) (between (before ++ (label, word) ∷ []) left))
+            → Told (between before (label ∷ left)) (word ∷ rest)
+        go true h e = not_usage (ended_told usage rest e)
+        go false h e =
+            let both = kept_both (text_of label before) (fits f label word) h in
+            let r : Told (between (before ++ (label, word) ∷ []) left) rest = rec (between (before ++ (label, word) ∷ []) left) e in
+            ((label, word) ∷ r.0, by_place label word left rest r.0 t r.1, came_more label word before r.0 both.0 both.1 r.2)
+
+    behind_told : (before : Given) (left : List Text) → Led (placed f behind before left word) → Told (behind before left) (word ∷ rest)
+    behind_told before [] e = not_usage (ended_told usage rest e)
+    behind_told before (label ∷ left) e = go (is_some (text_of label before) || not (fits f label word)) refl e
+      where
+        go : (b : Bool) → (is_some (text_of label before) || not (fits f label word)) ≡ b
+            → Led (cond b (ended usage) (behind (before ++ (label, word) ∷ []) left))
+            → Told (behind before (label ∷ left)) (word ∷ rest)
+        go true h e = not_usage (ended_told usage rest e)
+        go false h e =
+            let both = kept_both (text_of label before) (fits f label word) h in
+            let r : Told (behind (before ++ (label, word) ∷ []) left) rest = rec (behind (before ++ (label, word) ∷ []) left) e in
+            ((label, word) ∷ r.0, next label word left rest r.0 r.1, came_more label word before r.0 both.0 both.1 r.2)
+
+    wanted_told : (label : Text) (before : Given) (left : List Text) → Led (next_stand (wants label before left) word)
+        → Told (wants label before left) (word ∷ rest)
+    wanted_told label before left e = go (is_text word) refl e
+      where
+        by_fit : (b : Bool) → fits f label word ≡ b → is_text word ≡ true
+            → Led (cond b (between (before ++ (label, word) ∷ []) left) (ended usage)) → Told (wants label before left) (word ∷ rest)
+        by_fit false fit t e = not_usage (ended_told usage rest e)
+        by_fit true fit t e =
+            let r : Told (between (before ++ (label, word) ∷ []) left) rest = rec (between (before ++ (label, word) ∷ []) left) e in
+            (word, rest, r.0, refl, t, fit, r.1, r.2)
+
+        go : (b : Bool) → is_text word ≡ b → Led (cond b (wanted f label before left word) (ended usage))
+            → Told (wants label before left) (word ∷ rest)
+        go false t e = not_usage (ended_told usage rest e)
+        go true t e = by_fit (fits f label word) refl t e
+
+    named_told : (before : Given) (left : List Text) (r : Text) → codes "--" ++ r ≡ word → Led (after_part f before left word (named_part f r))
+        → Told (between before left) (word ∷ rest)
+    named_told before left r is e = go (label_of f.options (name_in r)) (has_byte 61 r) (is_among f.flags (name_in r)) refl refl refl e
+      where
+        behind_equals : Text
+        behind_equals = after_first (λ x. x == 61) r
+
+        with_option : (label : Text) → label_of f.options r ≡ Some label → (o : Option Text) → text_of label before ≡ o
+            → Led (cond (is_some o) (ended usage) (wants label before left))
+            → Told (between before left) (word ∷ rest)
+        with_option label known (Some u) fresh e = not_usage (ended_told usage rest e)
+        with_option label known None fresh e =
+            let q : Told (wants label before left) rest = rec (wants label before left) e in (
+              (label, q.0) ∷ q.2,
+              subst (λ ws. Gives f left ws ((label, q.0) ∷ q.2)) (ap (λ ws. (codes "--" ++ r) ∷ ws) (sym q.3) ∙ ap (λ w. w ∷ rest) is)
+                  (by_option r label q.0 left q.1 q.2 known q.4 q.6),
+              came_more label q.0 before q.2 fresh q.5 q.7,
+            )
+
+        with_value : (label : Text) → label_of f.options (name_in r) ≡ Some label → name_in r ++ 61 ∷ behind_equals ≡ r → (b : Bool)
+            → (is_some (text_of label before) || not (fits f label behind_equals)) ≡ b
+            → Led (cond b (ended usage) (between (before ++ (label, behind_equals) ∷ []) left)) → Told (between before left) (word ∷ rest)
+        with_value label known split true h e = not_usage (ended_told usage rest e)
+        with_value label known split false h e =
+            let both = kept_both (text_of label before) (fits f label behind_equals) h in
+            let q : Told (between (before ++ (label, behind_equals) ∷ []) left) rest = rec (between (before ++ (label, behind_equals) ∷ []) left) e in (
+              (label, behind_equals) ∷ q.0,
+              subst (λ w. Gives f left (w ∷ rest) ((label, behind_equals) ∷ q.0)) (ap (λ x. codes "--" ++ x) split ∙ is)
+                  (by_value (name_in r) label behind_equals left rest q.0 known q.1),
+              came_more label behind_equals before q.0 both.0 both.1 q.2,
+            )
+
+        with_flag : is_among f.flags r ≡ true → (b : Bool) → (is_some (text_of r before) || not (fits f r [])) ≡ b
+            → Led (cond b (ended usage) (between (before ++ (r, []) ∷ []) left)) → Told (between before left) (word ∷ rest)
+        with_flag own true h e = not_usage (ended_told usage rest e)
+        with_flag own false h e =
+            let both = kept_both (text_of r before) (fits f r []) h in
+            let q : Told (between (before ++ (r, []) ∷ []) left) rest = rec (between (before ++ (r, []) ∷ []) left) e in (
+              (r, []) ∷ q.0,
+              subst (λ w. Gives f left (w ∷ rest) ((r, []) ∷ q.0)) is (by_flag r left rest q.0 own q.1),
+              came_more r [] before q.0 both.0 both.1 q.2,
+            )
+
+        -- without `=` all is the name
+        all_name : has_byte 61 r ≡ false → name_in r ≡ r
+        all_name h = before_none r h
+
+        go : (o : Option Text) (b own : Bool) → label_of f.options (name_in r) ≡ o → has_byte 61 r ≡ b → is_among f.flags (name_in r) ≡ own
+            → Led (after_part f before left word
+            (option_map_or (λ label. option_map_or (valued label) (cond b (Some behind_equals) None) (option label)) o
+            (cond (own && not (is_some (cond b (Some behind_equals) None))) (flag (name_in r)) unknown)))
+            → Told (between before left) (word ∷ rest)
+        go None b false known h own e = not_usage (ended_told usage rest e)
+        go None true true known h own e = not_usage (ended_told usage rest e)
+        go None false true known h own e =
+            with_flag (ap (is_among f.flags) (sym (all_name h)) ∙ own) (is_some (text_of r before) || not (fits f r [])) refl
+            (subst (λ n. Led (kept f n [] before (between (before ++ (n, []) ∷ []) left))) (all_name h) e)
+        go (Some label) false b known h own e =
+            with_option label (ap (label_of f.options) (sym (all_name h)) ∙ known) (text_of label before) refl e
+        go (Some label) true b known h own e = with_value label known (equals_split r h) (is_some (text_of label before) || not
+            (fits f label behind_equals)) refl e
+
+    hyphen_told : (before : Given) (left : List Text) (o : Option Text) → after_dashes word ≡ o
+        → Led (after_part f before left word (option_map_or (named_part f) o unknown)) → Told (between before left) (word ∷ rest)
+    hyphen_told before left None is e = not_usage (ended_told usage rest e)
+    hyphen_told before left (Some r) is e = named_told before left r (dashes_of word r is) e
+
+    between_told : (before : Given) (left : List Text) → Led (next_stand (between before left) word) → Told (between before left) (word ∷ rest)
+    between_told before left e = go (is_text word) (is_dashes word) (is_help_flag word) refl refl e
+      where
+        go : (a b c : Bool) → is_text word ≡ a → is_dashes word ≡ b
+            → Led (after_part f before left word (cond a text (cond b dashes (cond c call (option_map_or (named_part f) (after_dashes word) unknown)))))
+            → Told (between before left) (word ∷ rest)
+        go true b c t d e = placed_told before left t e
+        go false true c t d e =
+            let r : Told (behind before left) rest = rec (behind before left) e in
+            (r.0, subst (λ w. Gives f left (w ∷ rest) r.0) ((bytes_eq-Decides (codes "--") word).0 d) (by_dashes left rest r.0 r.1), r.2)
+        go false false true t d e = not_help (ended_told help rest e)
+        go false false false t d e = hyphen_told before left (after_dashes word) refl e
+
+    step_told : (stand : Stand) → Led (next_stand stand word) → Told stand (word ∷ rest)
+    step_told (between before left) e = between_told before left e
+    step_told (wants label before left) e = wanted_told label before left e
+    step_told (behind before left) e = behind_told before left e
+    step_told (ended m) e = ended_told m rest e
+
+  told : (words : List Text) (stand : Stand) → at_end f (fold next_stand stand words) ≡ asks name texts → Told stand words
+  told [] (between before left) e = ([], nothing left, (tt, ap (asked f) (append-nil before) ∙ e))
+  told [] (wants label before left) e = not_usage e
+  told [] (behind before left) e = ([], none left, (tt, ap (asked f) (append-nil before) ∙ e))
+  told [] (ended m) e = e
+  told (word ∷ rest) stand e = step_told word rest (told rest) stand e
+
+-- ---- and what a line gives is asked for
+
+-- the words of options and flags are read as such
+pub record IsSpelled (f : Form) : Type 0 where
+  pub by_name : Each (λ o. part_of f (codes "--" ++ o.0) ≡ option o.1) f.options
+  pub by_value : Each (λ o. (t : Text) → part_of f (codes "--" ++ o.0 ++ 61 ∷ t) ≡ valued o.1 t) f.options
+  pub by_flag : Each (λ n. part_of f (codes "--" ++ n) ≡ flag n) f.flags
+
+-- a word with two hyphens
+pub long_part : (f : Form) (c : ℕ) (cs : Text) → bytes_eq (codes "help") (c ∷ cs) ≡ false
+    → part_of f (45 ∷ 45 ∷ c ∷ cs) ≡ named_part f (c ∷ cs)
+long_part f c cs differs = rw (hyphen_first (c ∷ cs), differs) refl
+
+dashes_part : (f : Form) → part_of f (codes "--") ≡ dashes
+dashes_part f = rw (hyphen_first []) refl
+
+module _ (f : Form) (is : IsSpelled f) where
+  abbrev after : Stand → Text → Stand
+  after = after_word f
+
+  -- an option is one of the form's
+  known_option : (name label : Text) → label_of f.options name ≡ Some label
+      → (part_of f (codes "--" ++ name) ≡ option label) × ((t : Text) → part_of f (codes "--" ++ name ++ 61 ∷ t) ≡ valued label t)
+  known_option name label e = go (find (λ o. bytes_eq o.0 name) f.options) refl e
+    where
+      go : (m : Option (Text × Text)) → find (λ o. bytes_eq o.0 name) f.options ≡ m → option_map (λ o. o.1) m ≡ Some label
+          → (part_of f (codes "--" ++ name) ≡ option label) × ((t : Text) → part_of f (codes "--" ++ name ++ 61 ∷ t) ≡ valued label t)
+      go None found e = absurd (true≢false (sym (ap is_some e)))
+      go (Some o) found e =
+          let name_is : o.0 ≡ name = (bytes_eq-Decides o.0 name).0 (found_passes (λ x. bytes_eq x.0 name) f.options o found) in
+          let label_is : o.1 ≡ label = ap (λ (m : Option Text). unwrap_or m []) e in (
+            subst (λ n. part_of f (codes "--" ++ n) ≡ option label) name_is
+                (each_found (λ x. part_of f (codes "--" ++ x.0) ≡ option x.1) (λ x. bytes_eq x.0 name) f.options o is.by_name found
+                ∙ ap option label_is),
+            λ t. subst (λ n. part_of f (codes "--" ++ n ++ 61 ∷ t) ≡ valued label t) name_is
+                (each_found (λ x. (u : Text) → part_of f (codes "--" ++ x.0 ++ 61 ∷ u) ≡ valued x.1 u)
+                (λ x. bytes_eq x.0 name) f.options o is.by_value found t ∙ ap (λ l. valued l t) label_is),
+          )
+
+  behind_asked : (left words : List Text) (given before : Given) → Behind left words given → AreNew f before given
+      → at_end f (fold after (behind before left) words) ≡ asked f (before ++ given)
+  behind_asked _ _ _ before (none left) new = ap (asked f) (sym (append-nil before))
+  behind_asked _ _ _ before (next label t left words given more) new =
+      rw (new.0, new.1) (behind_asked left words given (before ++ (label, t) ∷ []) more new.2 ∙ ap (asked f) (append_assoc before ((label, t) ∷ []) given))
+
+  given_asked : (left words : List Text) (given before : Given) → Gives f left words given → AreNew f before given
+      → at_end f (fold after (between before left) words) ≡ asked f (before ++ given)
+  given_asked _ _ _ before (nothing left) new = ap (asked f) (sym (append-nil before))
+  given_asked _ _ _ before (by_place label t left words given plain more) new =
+      rw (plain, new.0, new.1) (given_asked left words given (before ++ (label, t) ∷ []) more new.2
+      ∙ ap (asked f) (append_assoc before ((label, t) ∷ []) given))
+  given_asked _ _ _ before (by_option name label t left words given known plain more) new =
+      rw ((known_option name label known).0, new.0, plain, new.1)
+      (given_asked left words given (before ++ (label, t) ∷ []) more new.2 ∙ ap (asked f) (append_assoc before ((label, t) ∷ []) given))
+  given_asked _ _ _ before (by_value name label t left words given known more) new =
+      rw ((known_option name label known).1 t, new.0, new.1)
+      (given_asked left words given (before ++ (label, t) ∷ []) more new.2 ∙ ap (asked f) (append_assoc before ((label, t) ∷ []) given))
+  given_asked _ _ _ before (by_flag name left words given own more) new =
+      rw (each_flag (λ n. part_of f (codes "--" ++ n) ≡ flag n) f.flags name is.by_flag own, new.0, new.1)
+      (given_asked left words given (before ++ (name, []) ∷ []) more new.2 ∙ ap (asked f) (append_assoc before ((name, []) ∷ []) given))
+  given_asked _ _ _ before (by_dashes left words given more) new = rw (dashes_part f) (behind_asked left words given before more new)
+
+  -- the words of a line ask for its texts
+  line_asked : (rest : List Text) (texts : List (Option Text)) (given : Given) → Gives f f.positions rest given → AreNew f [] given
+      → texts_of f (labels f) given ≡ Some texts
+      → meaning_of_form f rest ≡ asks f.name texts
+  line_asked rest texts given gives new complete =
+      given_asked f.positions rest given [] gives new ∙ ap (λ o. option_map_or (asks f.name) o usage) complete
+
+  -- ---- the texts of a line
+
+  -- a text that was given is what it has to be
+  given_fits : (given before : Given) → AreNew f before given → (label t : Text) → text_of label given ≡ Some t → fits f label t ≡ true
+  given_fits [] before new label t e = absurd (true≢false (sym (ap is_some e)))
+  given_fits (g ∷ given) before new label t e = go (bytes_eq g.0 label) refl e (given_fits given (before ++ g ∷ []) new.2 label t)
+    where
+      go : (b : Bool) → bytes_eq g.0 label ≡ b → option_map (λ (x : Text × Text). x.1) (cond b (Some g) (find (λ x. bytes_eq x.0 label) given)) ≡ Some t
+          → (text_of label given ≡ Some t → fits f label t ≡ true) → fits f label t ≡ true
+      go true same e rec =
+          let is_t : g.1 ≡ t = ap (λ (m : Option Text). unwrap_or m []) e in
+          subst (λ l. fits f l t ≡ true) ((bytes_eq-Decides g.0 label).0 same) (subst (λ u. fits f g.0 u ≡ true) is_t new.1)
+      go false same e rec = rec e
+
+  -- what was given for a label is fit, and so is nothing where the label may be left out
+  text_fits : (given : Given) → AreNew f [] given → (l : Text) (o : Option Text) → text_of l given ≡ o → (is_needed f l && not (is_some o)) ≡ false
+      → IsFit f l o
+  text_fits given new l None is free = and_true (is_needed f l) free
+    where
+      and_true : (b : Bool) → (b && true) ≡ false → b ≡ false
+      and_true false e = refl
+      and_true true e = e
+  text_fits given new l (Some t) is free = given_fits given [] new l t is
+
+  texts_fit : (given : Given) → AreNew f [] given → (ls : List Text) (texts : List (Option Text)) → texts_of f ls given ≡ Some texts → AreFit f ls texts
+  texts_fit given new [] texts e = tt
+  texts_fit given new (l ∷ ls) texts e =
+      go (is_needed f l && not (is_some (text_of l given))) (texts_of f ls given) refl refl e (texts_fit given new ls)
+    where
+      go : (b : Bool) (more : Option (List (Option Text))) → (is_needed f l && not (is_some (text_of l given))) ≡ b → texts_of f ls given ≡ more
+          → cond b None (option_map (λ ts. text_of l given ∷ ts) more) ≡ Some texts
+          → ((ts : List (Option Text)) → texts_of f ls given ≡ Some ts → AreFit f ls ts) → AreFit f (l ∷ ls) texts
+      go true more is are e rec = absurd (true≢false (sym (ap is_some e)))
+      go false None is are e rec = absurd (true≢false (sym (ap is_some e)))
+      go false (Some ts) is are e rec =
+          subst (AreFit f (l ∷ ls)) (ap (λ (m : Option (List (Option Text))). unwrap_or m []) e)
+          (text_fits given new l (text_of l given) refl is, rec ts are)
+
+-- each text of a line is what it has to be
+pub line_fits : (f : Form) (words : List Text) (texts : List (Option Text)) → IsSpelled f → IsCommandLine f words texts → AreFit f (labels f) texts
+line_fits f words texts is line = texts_fit f is line.given line.new (labels f) texts line.complete
+
+-- ---- the program's forms
+
+abbrev is_empty : Text → Bool
+is_empty [] = true
+is_empty (c ∷ cs) = false
+
+-- what the names of a form's options and flags come to behind `--`, which is found by computing
+record IsPlain (f : Form) : Type 0 where
+  by_name : Each (λ o. (is_empty o.0 ≡ false) × (bytes_eq (codes "help") o.0 ≡ false) × (named_part f o.0 ≡ option o.1)) f.options
+  by_value : Each (λ o. (t : Text) → (bytes_eq (codes "help") (o.0 ++ 61 ∷ t) ≡ false) × (named_part f (o.0 ++ 61 ∷ t) ≡ valued o.1 t)) f.options
+  by_flag : Each (λ n. (is_empty n ≡ false) × (bytes_eq (codes "help") n ≡ false) × (named_part f n ≡ flag n)) f.flags
+
+all_plain : Each IsPlain forms
+all_plain = search rules
+
+each_so : {X : Type 0} {P Q : X → Type 0} → ((x : X) → P x → Q x) → (xs : List X) → Each P xs → Each Q xs
+each_so so [] each = tt
+each_so so (x ∷ xs) each = (so x each.0, each_so so xs each.1)
+
+each_both : {X : Type 0} {P Q R : X → Type 0} → ((x : X) → P x → Q x → R x) → (xs : List X) → Each P xs → Each Q xs → Each R xs
+each_both so [] each other = tt
+each_both so (x ∷ xs) each other = (so x each.0 other.0, each_both so xs each.1 other.1)
+
+-- behind two hyphens
+named : (f : Form) (name : Text) (p : Part) → is_empty name ≡ false → (bytes_eq (codes "help") name ≡ false) × (named_part f name ≡ p)
+    → part_of f (codes "--" ++ name) ≡ p
+named f [] p some is = absurd (true≢false some)
+named f (c ∷ cs) p some is = long_part f c cs is.0 ∙ is.1
+
+valued_so : (f : Form) (o : Text × Text) → is_empty o.0 ≡ false
+    → ((t : Text) → (bytes_eq (codes "help") (o.0 ++ 61 ∷ t) ≡ false) × (named_part f (o.0 ++ 61 ∷ t) ≡ valued o.1 t))
+    → (t : Text) → part_of f (codes "--" ++ o.0 ++ 61 ∷ t) ≡ valued o.1 t
+valued_so f ([], label) some is t = absurd (true≢false some)
+valued_so f (c ∷ cs, label) some is t = long_part f c (cs ++ 61 ∷ t) (is t).0 ∙ (is t).1
+
+spelled : (f : Form) → IsPlain f → IsSpelled f
+spelled f is = record {
+  by_name = each_so (λ o plain. named f o.0 (option o.1) plain.0 (plain.1, plain.2)) f.options is.by_name;
+  by_value = each_both (λ o plain also. valued_so f o plain.0 also) f.options is.by_name is.by_value;
+  by_flag = each_so (λ n plain. named f n (flag n) plain.0 (plain.1, plain.2)) f.flags is.by_flag;
+}
+
+pub all_spelled : Each IsSpelled forms
+all_spelled = each_so spelled forms all_plain
+
+abbrev IsMeant : Form → Type 0
+IsMeant f = (rest : List Text) → meaning_of (f.name ∷ rest) ≡ settled (meaning_of_form f rest)
+
+all_meant : Each IsMeant forms
+all_meant = search rules
+
+abbrev IsKnown : Form → Type 0
+IsKnown f = IsSpelled f × IsMeant f
+
+all_known : Each IsKnown forms
+all_known = each_both {P = IsSpelled} {Q = IsMeant} {R = IsKnown} (λ f is meant. (is, meant)) forms all_spelled all_meant
+
+among_known : (fs : List Form) (f : Form) → Each IsKnown fs → IsAmong f fs → IsKnown f
+among_known [] f each among = absurd among
+among_known (g ∷ fs) f each (inl e) = subst IsKnown (sym e) each.0
+among_known (g ∷ fs) f each (inr more) = among_known fs f each.1 more
+
+-- a line asks for its texts, where these are clear
+pub line_means : (f : Form) (words : List Text) (texts : List (Option Text)) → IsAmong f forms → IsCommandLine f words texts
+    → meaning_of words ≡ settled (asks f.name texts)
+line_means f words texts among line =
+    let known : IsKnown f = among_known forms f all_known among in
+    ap meaning_of line.named ∙ (known.1 line.rest ∙ ap settled (line_asked f known.0 line.rest texts line.given line.gives line.new line.complete))
+
+-- and where something is asked for, the words are a line of it
+
+pub form_line : (f : Form) (rest : List Text) (name : Text) (texts : List (Option Text)) → meaning_of_form f rest ≡ asks name texts
+    → (f.name ≡ name) × IsCommandLine f (f.name ∷ rest) texts
+form_line f rest name texts e =
+    let r : Told f name texts (between [] f.positions) rest = told f name texts rest (between [] f.positions) e in
+    let p = texts_asked (texts_of f (labels f) r.0) r.2.1 in
+    (p.0, record { rest = rest; given = r.0; named = refl; gives = r.1; new = r.2.0; complete = p.1 })
+  where
+    texts_asked : (o : Option (List (Option Text))) → option_map_or (asks f.name) o usage ≡ asks name texts → (f.name ≡ name) × (o ≡ Some texts)
+    texts_asked None e = not_usage f name texts e
+    texts_asked (Some ts) e = (ap asked_name e, ap (λ m. Some (asked_texts m)) e)
+
+settled_asks : (m : Meaning) (name : Text) (texts : List (Option Text)) → settled m ≡ asks name texts → m ≡ asks name texts
+settled_asks (asks n ts) name texts e = go (takes_lines n && not (is_clear ts)) e
+  where
+    go : (b : Bool) → cond b usage (asks n ts) ≡ asks name texts → asks n ts ≡ asks name texts
+    go true e = not_usage no_form name texts e
+    go false e = e
+settled_asks help name texts e = e
+settled_asks version name texts e = e
+settled_asks usage name texts e = e
+
+pub line_of : (words : List Text) (name : Text) (texts : List (Option Text)) → meaning_of words ≡ asks name texts → SomeLine words name texts
+line_of [] name texts e = not_usage no_form name texts e
+line_of (word ∷ rest) name texts e = first (bytes_eq (codes "--version") word) (bytes_eq (codes "help") word) e
+  where
+    not_version : {X : Type 0} → version ≡ asks name texts → X
+    not_version h = versions_ask no_form name texts h
+
+    no_order : {X : Type 0} (b : Bool) → cond b help usage ≡ asks name texts → X
+    no_order true e = not_help no_form name texts e
+    no_order false e = not_usage no_form name texts e
+
+    go : (fs : List Form) → ((f : Form) → IsAmong f fs → IsAmong f forms)
+        → option_map_or (λ f. meaning_of_form f rest) (find (λ f. bytes_eq f.name word) fs) (meaning_of_other word) ≡ asks name texts
+        → SomeLine (word ∷ rest) name texts
+    go [] among e = no_order (is_help_flag word) e
+    go (f ∷ fs) among e = by (bytes_eq f.name word) refl e (go fs (λ g h. among g (inr h)))
+      where
+        by : (b : Bool) → bytes_eq f.name word ≡ b
+            → option_map_or (λ g. meaning_of_form g rest) (cond b (Some f) (find (λ g. bytes_eq g.name word) fs)) (meaning_of_other word) ≡ asks name texts
+            → (option_map_or (λ g. meaning_of_form g rest) (find (λ g. bytes_eq g.name word) fs) (meaning_of_other word) ≡ asks name texts
+            → SomeLine (word ∷ rest) name texts) → SomeLine (word ∷ rest) name texts
+        by true is e later =
+            let l = form_line f rest name texts e in
+            (f, among f (inl refl), l.0, subst (λ w. IsCommandLine f (w ∷ rest) texts) ((bytes_eq-Decides f.name word).0 is) l.1)
+        by false is e later = later e
+
+    first : (v t : Bool)
+        → cond v version (cond t (meaning_of_topic (word ∷ rest)) (settled (meaning_of_command (word ∷ rest)))) ≡ asks name texts
+        → SomeLine (word ∷ rest) name texts
+    first true t e = not_version e
+    first false true e = no_order (has_topic (word ∷ rest)) e
+    first false false e = go forms (λ f h. h) (settled_asks (meaning_of_command (word ∷ rest)) name texts e)
+
+-- an order is read only where the words are a line of it
+pub order_from_line : (words : List Text) (r : Reading) → IsReadingOf (meaning_of words) r → ComesFromLine words r
+order_from_line words (reading.Order o) h = go (meaning_of words) refl h
+  where
+    go : (m : Meaning) → meaning_of words ≡ m → IsReadingOf m (reading.Order o) → ComesFromLine words (reading.Order o)
+    go (asks name texts) e h = (texts, h.1, subst (λ n. SomeLine words n texts) (sym h.0) (line_of words name texts e))
+    go help e h = absurd h
+    go usage e h = absurd h
+    go version e h = absurd h
+order_from_line words reading.Version h = tt
+order_from_line words (reading.Help s) h = tt
+order_from_line words (reading.Usage s) h = tt
+
+-- and at each line it is read
+pub reading_at_line : (words : List Text) (f : Form) (texts : List (Option Text)) (r : Reading) → IsAmong f forms → IsCommandLine f words texts
+    → IsReadingOf (meaning_of words) r
+    → IsReadingOf (settled (asks f.name texts)) r
+reading_at_line words f texts r among line h = subst (λ m. IsReadingOf m r) (line_means f words texts among line) h

@@ -1,0 +1,22 @@
+-- The texts come from the matches of `count`.
+use Rattle.std.proofs.Common.{codes, refl, [], ◌∷◌, Some}
+use Rattle.dob_words.specs.Forms.{form_named}
+use Rattle.dob_words.specs.Readings.{text_given}
+use Rattle.dob_words.proofs.Matches.{got_some, not_missing, texts_got}
+use Rattle.dob_words.proofs.command.orders.count_order.Goals as goal
+
+pub returns-in_err-get_str : goal.returns-in_err-get_str
+returns-in_err-get_str c = λ texts found.
+    absurd (not_missing (form_named (codes "count")) texts _ found c.args.inner.now refl ([]) (codes "PROFILE" ∷ []) (codes "CEG") refl refl
+    c.get_str-2.result c.get_str-2.ensures c.in_err-get_str.was)
+
+pub returns : goal.returns
+returns c = λ texts found. (
+  refl,
+  (
+    text_given c.get_str.result,
+    texts_got (form_named (codes "count")) texts _ found c.args.inner.now refl (codes "CEG" ∷ codes "PROFILE" ∷ []) (Some c.in_ok-get_str.field-0 ∷ c.get_str.result ∷ []) refl
+        (got_some c.args.inner.now (codes "CEG") c.get_str-2.result (Some c.in_ok-get_str.field-0) c.get_str-2.ensures c.in_ok-get_str.was, (c.get_str.ensures, tt)),
+    c.profile_named.ensures,
+  ),
+)

@@ -1,0 +1,105 @@
+-- The subcommands of the program: what each of them takes, by its row in src/table.rt.
+use Rattle.std.specs.Prelude.{ℕ, Bool, true, false, not, List, [], ◌++◌, map, find, unwrap_or}
+use Rattle.std.specs.List.{filter, list_any}
+use Rattle.std.specs.Str.{bytes_eq}
+use Rattle.dob_words.specs.declared.table.Kind.{Kind}
+use Rattle.dob_words.specs.declared.table.Kind.TheVariants as kind
+use Rattle.dob_words.specs.declared.table.Need.{Need}
+use Rattle.dob_words.specs.declared.table.Need.TheVariants as need
+use Rattle.dob_words.specs.declared.table.TheConstants.{ROWS}
+
+abbrev pub Text : Type 0
+Text = List ℕ
+
+-- what a subcommand takes
+pub record Form : Type 0 where
+  pub name : Text
+  -- its options, each with one text: the name behind `--`, and what its text is called
+  pub options : List (Text × Text)
+  -- its flags, each with no text: the name behind `--`, and so it is called
+  pub flags : List Text
+  -- what the texts are called that come with no option, in the order of their places
+  pub positions : List Text
+  -- what those of its texts are called that are numbers
+  pub numbers : List Text
+  -- what those of its texts are called that name a profile of the rules
+  pub profiles : List Text
+  -- what those of its texts are called that may be left out
+  pub optional : List Text
+
+-- what all its texts are called; a flag that is given has the empty one
+abbrev pub labels : Form → List Text
+labels form = map (λ o. o.1) form.options ++ form.flags ++ form.positions
+
+-- the label is one of these
+abbrev pub is_among : List Text → Text → Bool
+is_among labels label = list_any (λ l. bytes_eq l label) labels
+
+-- the text of this label has to be given
+abbrev pub is_needed : Form → Text → Bool
+is_needed form label = not (is_among (form.optional ++ form.flags) label)
+
+-- ---- rows of the table, without what the help says of them
+
+-- a text: what it is called, what it has to be, and whether it may be left out
+abbrev pub Place : Type 0
+Place = Text × Kind × Need
+
+-- an option: the name behind `--`, and its text
+abbrev pub Choice : Type 0
+Choice = Text × Place
+
+-- a subcommand: its name, its options, its flags, and the texts that come with no option
+abbrev pub Row : Type 0
+Row = Text × List Choice × List Text × List Place
+
+-- those of src/table.rt
+abbrev pub rows : List Row
+rows = map (λ r. (
+  r.0.now,
+  map (λ c. (c.0.now, (c.1.0.now, c.1.1, c.1.2))) r.2.now,
+  map (λ f. f.0.now) r.3.now,
+  map (λ p. (p.0.now, p.1, p.2)) r.4.now,
+)) ROWS.now
+
+abbrev pub is_number_kind : Kind → Bool
+is_number_kind kind.Number = true
+is_number_kind _ = false
+
+abbrev pub is_profile_kind : Kind → Bool
+is_profile_kind kind.Profile = true
+is_profile_kind _ = false
+
+abbrev pub is_may : Need → Bool
+is_may need.May = true
+is_may need.Must = false
+
+-- the texts of a row, those of its options first
+abbrev pub places_of : Row → List Place
+places_of row = map (λ c. c.1) row.1 ++ row.3
+
+-- what those are called that pass
+abbrev pub labels_where : (Place → Bool) → Row → List Text
+labels_where passes row = map (λ p. p.0) (filter passes (places_of row))
+
+abbrev pub form_of : Row → Form
+form_of row = record {
+  name = row.0;
+  options = map (λ c. (c.0, c.1.0)) row.1;
+  flags = row.2;
+  positions = map (λ p. p.0) row.3;
+  numbers = labels_where (λ p. is_number_kind p.1) row;
+  profiles = labels_where (λ p. is_profile_kind p.1) row;
+  optional = labels_where (λ p. is_may p.2) row;
+}
+
+-- the subcommands, in the order of the help
+abbrev pub forms : List Form
+forms = map form_of rows
+
+abbrev pub no_form : Form
+no_form = record { name = []; options = []; flags = []; positions = []; numbers = []; profiles = []; optional = [] }
+
+-- the one of this name
+abbrev pub form_named : Text → Form
+form_named name = unwrap_or (find (λ form. bytes_eq form.name name) forms) no_form

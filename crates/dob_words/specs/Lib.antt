@@ -1,0 +1,5 @@
+pub mod Forms
+pub mod Words
+pub mod Lines
+pub mod Shapes
+pub mod Readings

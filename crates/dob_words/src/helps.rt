@@ -1,0 +1,242 @@
+// What the program and its subcommands say of themselves where help is asked for, behind what `clap` writes of their words.
+
+pub(crate) const PROGRAM: &str =
+    "`dobutsu value --help` says how a position is written and what the rules A and B are, `dobutsu count --help` how a
+piece set is.
+
+A fault is one line on standard error. The status is 1, and 3 for E12, E14, E23 and E24:
+
+  E1 Shape         the text isn't fifteen bytes with `/` at 3, 7 and 11, then twice a space and a word
+  E2 Letter        a square is none of `.LGECHlgech`
+  E3 Hand          a hand is neither `-` nor letters of C, E, G in that order, in the case of its side
+  E4 Lions         a side hasn't just one lion
+  E5 Count         there are more than two pieces of a kind, hens counted as chicks
+  E6 FarLion       the lion of the side to move stands on row 4
+  E7 OtherSet      the position's piece set isn't the file's
+  E9 Nodes         there aren't 1 to 16 nodes
+  E12 TooDeep      of `value`: a distance would be above 65534 plies
+  E14 Stopped node N: CAUSE
+                   node N of a build has stopped. The cause: `E12 TooDeep`, `E23 Memory`, `Counts`, or
+                   `E13 Contradiction class C`, an update for class C contradicts what the node knows
+  E15 Truncated    the file ends too early
+  E16 Magic        the file doesn't begin as database files do
+  E17 SetByte      the file names no piece set
+  E18 ClassCount   the file counts other classes than its piece set has
+  E19 Trailing     the file goes on after its end
+  E20 Digest       the file's digest isn't that of its bytes
+  E21 Inconsistent class N
+                   the value of class N doesn't follow from those one ply later
+  E23 Memory       no memory is left
+  E24 Io           standard output, standard input or the file failed
+  E25 SetText      the piece set isn't three digits, each 0, 1 or 2
+  E26 FarChick     by rules B, or of a file of rules B: a chick stands on its own far row. So
+                   `dobutsu value --rules B \"C.l/.../.../L.. - -\"` is told
+  E27 ProfileByte  byte 12 of the file says other rules than A and B
+
+Words that the program doesn't know are told with status 2.";
+
+pub(crate) const POSITION: &str =
+    "A position: four rows of three letters, row 4 (the far row of the side to move) first, joined
+by `/`, then a space and the hand of the side to move, a space and the hand of the other side.
+
+Letters: L lion, G giraffe, E elephant, C chick, H hen, upper case for the side to move and
+lower case for the other side; `.` is an empty square. A hand is `-`, or letters of C, E, G in
+that order with repeats, upper case for the side to move and lower case for the other side.
+
+Rules: both follow those that the Japanese women professionals published, and differ in one choice that these leave
+open. By A, the default, a chick may be dropped on its far row, where it has no move; by B it may not, and a position
+with a chick on its own far row, row 4 for the side to move and row 1 for the other side, is none (E26).
+
+It goes over all positions with the same pieces, in one thread: at once with up to two pieces besides the lions, in a third
+of a second and 24 MB with three, and in much longer and more than 16 GB with six. Of such a set `dobutsu build` makes
+a file once, which `dobutsu look` asks at once.
+
+Answers: `win D`, `loss D` or `draw`, where D is the distance in plies.
+
+Example: dobutsu value \"..l/.../L../... - -\" prints `win 3`.
+dobutsu value --rules B \"C.l/.../.../L.. - -\" is told `E26 FarChick`: its chick stands on row 4. By rules A it is a `draw`.";
+
+pub(crate) const SET: &str =
+    "A piece set: three digits CEG, each 0, 1 or 2: how many chicks (hens counted with them), elephants
+and giraffes there are besides the lions, on the board and in the hands together. `222` is the whole
+game.
+
+Answers: `positions N` and `classes N`, where a class is a position with its mirror image. `dobutsu value --help` says what
+the rules A and B are; by B a set with chicks has fewer positions.
+
+Example: dobutsu count --set 100 prints `positions 4158` and `classes 2124`, and with `--rules B` 3648 and 1864.";
+
+pub(crate) const BUILD: &str =
+    "A piece set: three digits CEG, as `dobutsu count --help` says. Nodes: 1 to 16. Each works in a thread of
+its own and owns a part of the positions; with more nodes than processors it works too, only slower.
+The file is the same whatever their number.
+
+The file has 2 bytes a class and 53 more, and its build takes some 9 bytes of memory a class.
+`dobutsu count --set 111` gives the classes of a set: 765360 of three pieces, which take a second or two.
+The whole game, `222`, has 588021930, which take a quarter of an hour, 16 GB of memory and 1.2 GB of disk.
+
+The table is written to FILE with `.part` behind it, and takes the place of FILE when it is whole and on
+the disk: until then FILE is as it was, whatever happens. A pipe, a device or a link is written where it is.
+
+The file says by which rules its values are, so that `dobutsu probe` and the others need no `--rules`. They read a position
+by rules A, and of a file of rules B one with a chick on its own far row is told E26. `dobutsu value --help` says what the
+rules are.
+
+With `--progress` it says on standard error what memory it takes, before it takes it, and then, a line a second at most,
+how far it is, as `12 s, 34 %, 23 s left`: the seconds since it began, what part is done, and the seconds that are left by the
+speed so far. On a terminal the lines take each other's place.
+
+Answers: `classes N`, `win N`, `loss N` and `draw N`, where a class is a position with its mirror image.
+
+Example: dobutsu build --set 000 --nodes 2 --out 000.db prints `classes 54`, `win 38`, `loss 12` and
+`draw 4`. `dobutsu check --db 000.db` then tells that the file is right.";
+
+pub(crate) const PROBE: &str =
+    "A file: what `dobutsu check --db FILE` calls consistent holds the values by definition; of any other
+file the answer is just what the file says.
+
+With `--each` in place of POSITION the positions come from standard input, one on each line, and each line is
+answered by a line, in the same order. One that is refused is answered by its fault, as `E2 Letter`, and the
+next by its own answer. The file is read once, so that this is the way to ask for many positions.
+
+Answers: `win D`, `loss D` or `draw`, where D is the distance in plies. With `--each` the status is 0 where
+all lines were told, and 1 where one was refused.
+
+Example: dobutsu probe --db 000.db \"..l/.../L../... - -\" prints `win 3`. `dobutsu value --help` says
+how a position is written. Two positions, the second with a malformed hand:
+
+  printf '%s\\n' \"..l/.../L../... - -\" \"..l/.../L../... - x\" | dobutsu probe --db 000.db --each
+
+prints `win 3` and `E3 Hand`, with status 1.";
+
+pub(crate) const LINE: &str =
+    "The moves of both sides, where the winner takes the shortest way and the loser the longest, each the
+first such move: a piece's letter, its square, `-` or `x` for a catch, the square where it goes, and
+`+` where a chick becomes a hen; or the letter of a piece in hand, `*` and a square. The moves of the
+side that isn't to move first are in lower case.
+
+Answers: the moves, `draw` where neither side can force an end, or `end` where the side to move has
+lost already. With `--numbered` each move stands on a line of its own behind its number, as `1. La2-a3`.
+
+Example: dobutsu line --db 000.db \"..l/.../L../... - -\" prints `La2-a3 lc4-b4 La3xb4`.";
+
+pub(crate) const CHECK: &str =
+    "Each value of the file is compared with what follows from those one ply later, so that a file that is
+passed holds the values by definition, whoever made it.
+
+With `--progress` it says on standard error, a line a second at most, how far it is, as `12 s, 34 %, 23 s left`: the seconds
+since the file is read, what part is done, and the seconds that are left by the speed so far. On a terminal the lines take each
+other's place.
+
+Answers: `consistent`; or `E21 Inconsistent class N` with the first class whose value doesn't follow.
+
+Example: dobutsu check --db 000.db prints `consistent`.";
+
+pub(crate) const LOOK: &str =
+    "Of the file only its first 21 bytes and the 2 bytes of the position are read, each by its place, so that
+a file of any size is asked at once. Its digest isn't read: damage isn't found, nor whether the file is
+too long or too short. `dobutsu probe` reads and tests it all.
+
+With `--each` in place of POSITION the positions come from standard input, one on each line, and each line is answered by a
+line, in the same order, as `dobutsu probe --help` says. The file is opened once, and of each position only its 2 bytes are read.
+
+Answers: `win D`, `loss D` or `draw`, where D is the distance in plies. With `--each` the status is 0 where
+all lines were told, and 1 where one was refused.
+
+Example: dobutsu look --db 000.db \"..l/.../L../... - -\" prints `win 3`. `dobutsu value --help` says
+how a position is written.";
+
+pub(crate) const SHOW: &str =
+    "The board as the side to move sees it: rows 4 to 1 from top to bottom, columns a to c from left to right,
+so that `b2` names the square where column b meets row 2. Capital letters are the pieces of the side to
+move, which go up; small letters are those of the other side, which go down. A hand holds the pieces
+that were caught and can be dropped again.
+
+With `--db FILE` an empty line follows, then the position's value and its best play, as `dobutsu probe` and
+`dobutsu line --numbered` print them. With `--svg OUT` the board is drawn as a picture too, for a browser: the
+file OUT is made anew or overwritten, as `dobutsu build --help` says of its own.
+
+Example: dobutsu show \"gle/.c./.C./ELG - -\" draws the board that a game begins with.
+`dobutsu value --help` says how a position is written.";
+
+pub(crate) const MOVES: &str =
+    "A line for each move of the side to move, with what it comes to for that side: a win in so many plies from
+here, a loss, or a draw. Wins come first, the soonest first; then draws; then losses, the latest first;
+equal ones by the squares that they leave and reach. `dobutsu line --help` says how a move is written.
+
+Answers: `MOVE win D`, `MOVE loss D` or `MOVE draw`; where the other side's lion can be caught, just that
+catch, `MOVE win 1`; and `end` where the side to move has lost already.
+
+Example: dobutsu moves --db 000.db \"..l/.../L../... - -\" prints `La2-a3 win 3` first.";
+
+pub(crate) const BEST: &str =
+    "The first of the lines that `dobutsu moves` prints: a move that the best play begins with, and what it comes to for the side
+to move.
+
+Answers: `MOVE win D`, `MOVE loss D` or `MOVE draw`; and `end` where the side to move has lost already.
+
+Example: dobutsu best --db 000.db \"..l/.../L../... - -\" prints `La2-a3 win 3`.";
+
+pub(crate) const STATS: &str =
+    "How hard a piece set is: so many of its classes are won and lost at each distance. A class is a position with its mirror
+image; a file that `dobutsu check` calls consistent holds the values by definition.
+
+Answers: the lines of `dobutsu build`, `classes N`, `win N`, `loss N` and `draw N`; then `win D N` or `loss D N`
+for each distance D in plies that occurs, the least first; then `longest win D POSITION` and `longest loss D POSITION`,
+each with the first class of that distance, where there are wins and losses.
+
+With `--csv`, for scripts: the line `value,classes`, and then a line for each value that occurs, `draw,N` first, where there are
+draws, and then `win D,N` or `loss D,N`, the least distance first.
+
+Example: dobutsu stats --db 000.db prints `classes 54` first, and with `--csv` `draw,4` below `value,classes`.";
+
+pub(crate) const PUZZLES: &str =
+    "Exercises for a class: positions in which the side to move wins, and just one move wins soonest. All other moves are
+slower, or don't win. D counts the plies of both sides up to the catch of the lion or the lion's safe arrival, so `3` is: move,
+answer, win. A file that `dobutsu check` calls consistent holds the values by definition.
+
+Answers: a line for each position, `POSITION  MOVE`, its text, two spaces and that move, in the order of the file, the first N of
+them; or `none`. Of a position and its mirror image only the one that stands first is told. `dobutsu show POSITION` draws it, and
+`dobutsu line --numbered --db FILE POSITION` plays it to its end. Where D is even or below 3, that is said with status 2.
+
+With `--numbered` the number of its class and two spaces stand before each. With `--from CLASS` only those behind the class of this
+number are told, never its own: with the number of the last one it goes on where the last call ended, so that no position comes
+twice. Behind a number that no class has there is none.
+
+With `--random SEED` the order begins at a class that the number SEED makes, the same on each machine, and goes on with the first
+class of the file behind the last one, so that N positions are found wherever there are so many. `--from` goes on in this order too,
+where both are given.
+
+Example: dobutsu puzzles --db 000.db --plies 3 --count 1 prints `.../..l/L../... - -  La2-a3`.";
+
+pub(crate) const MIGRATE: &str =
+    "Reads the whole file FILE, in either format, and tests it as `dobutsu probe` does. Only then is OUT written, with the same
+values, in the second format: its title is `DOBUTSU2`, its byte 12 says the rules, and it has 2 bytes a class and 53
+more. A file of the first format is one of rules A. A damaged file is refused, and OUT stays as it was.
+
+OUT may be FILE itself: it is written to OUT with `.part` behind it, which takes the place of OUT when it is whole and on
+the disk, as `dobutsu build --help` says.
+
+Answers: `classes N`, where a class is a position with its mirror image.
+
+Example: dobutsu migrate --db old.db --out new.db prints `classes 54` for lions alone.";
+
+/// What the subcommand of that name says of itself.
+pub(crate) fn help_of(name: &str) -> &'static str {
+    match name {
+        "value" => POSITION,
+        "count" => SET,
+        "build" => BUILD,
+        "probe" => PROBE,
+        "line" => LINE,
+        "check" => CHECK,
+        "look" => LOOK,
+        "show" => SHOW,
+        "moves" => MOVES,
+        "best" => BEST,
+        "stats" => STATS,
+        "puzzles" => PUZZLES,
+        "migrate" => MIGRATE,
+        _ => PROGRAM,
+    }
+}
