@@ -1,9 +1,9 @@
 /* Dobutsu shogi: values and moves by a database's file, its check, and the sizes of families. C99, and C++ too.
 
-   Link with libdobutsu.a or libdobutsu.so. A call keeps nothing, starts no thread and touches no file: the bytes of a database's file are the caller's,
-   read or mapped as a whole. dobutsu_probe, dobutsu_count and dobutsu_version take no memory; dobutsu_moves and dobutsu_check take some by malloc and
-   realloc and give all back by free. Calls may be made by several threads at once, and none from a signal handler. Each pointer must be valid for as
-   many items as its length says, and none may be null, also where a length is 0; what is written to is read and written by nobody else meanwhile. */
+   Link with libdobutsu.a or libdobutsu.so. A call keeps nothing, starts no thread and touches no file: the bytes of a database's file are the caller's, read
+   or mapped as a whole. Only dobutsu_moves, dobutsu_moves_by and dobutsu_check take memory, by malloc and realloc, and give all back by free. Calls may be
+   made by several threads at once, and none from a signal handler. Each pointer must be valid for as many items as its length says, aligned as its type is,
+   and none may be null, also where a length is 0; what is written to is read and written by nobody else meanwhile. */
 
 #ifndef DOBUTSU_H
 #define DOBUTSU_H
@@ -35,7 +35,8 @@ enum {
     DOBUTSU_MEMORY = 23,      /* memory ran out */
     DOBUTSU_SET_TEXT = 25,    /* a number of pieces is above 2 */
     DOBUTSU_FAR_CHICK = 26,   /* the file's rules let no chick stand where one of the position does */
-    DOBUTSU_PROFILE_BYTE = 27 /* the number is that of no profile of the rules */
+    DOBUTSU_PROFILE_BYTE = 27, /* the number is that of no profile of the rules */
+    DOBUTSU_INDEX = 29 /* the numbers are no index of the family, or too few */
 };
 
 enum { DOBUTSU_DRAW = 0, DOBUTSU_WIN = 1, DOBUTSU_LOSS = 2 };
@@ -43,7 +44,7 @@ enum { DOBUTSU_DRAW = 0, DOBUTSU_WIN = 1, DOBUTSU_LOSS = 2 };
 /* Kinds of pieces, and where a piece comes from that is dropped. */
 enum { DOBUTSU_CHICK = 0, DOBUTSU_ELEPHANT = 1, DOBUTSU_GIRAFFE = 2, DOBUTSU_HEN = 3, DOBUTSU_LION = 4, DOBUTSU_FROM_HAND = 12 };
 
-/* Room for so many moves is enough: no position was seen to have more. */
+/* A hint for how much room to give dobutsu_moves: no position was seen to have more moves, but nothing proves it. What `count` says decides. */
 enum { DOBUTSU_MOST_MOVES = 38 };
 
 /* A value for the side to move: a kind, and in how many plies it can be forced at the least; 0 for a draw. */
@@ -72,8 +73,8 @@ typedef struct {
 
 /* The value that the bytes of a database's file give the position whose text that is, as "..l/.../L../... - -" (no zero byte ends it). Answers 0 and
    writes the value, or the first fault that holds: 1 to 6, then 15 to 19 or 27 of the file's header and length, then 26, then 7. One record is
-   looked at, and no digest is read, so damage elsewhere isn't seen. It takes microseconds for small sets, and some hundredths of a second for
-   two pieces of each kind, where the classes before the position are counted. */
+   looked at, and no digest is read, so damage elsewhere isn't seen. The value is right where the file is the family's table. It takes microseconds for small
+   sets, and some hundredths of a second for two pieces of each kind, where the classes before the position are counted: dobutsu_probe_by doesn't. */
 uint32_t dobutsu_probe(const uint8_t *file, size_t file_len, const uint8_t *text, size_t text_len, DobutsuValue *answer);
 
 /* The moves of the position, each with its value, best first: wins by the least distance, draws, losses by the greatest; equal ones in the order of moves.
@@ -90,6 +91,29 @@ uint32_t dobutsu_check(const uint8_t *file, size_t file_len, uint64_t *broken);
 /* How many positions and how many classes (positions with their mirror images) a family has: so many chicks, elephants and giraffes, 0 to 2 each, by
    profile 0 (A) or 1 (B, where no chick is dropped on its far row). Answers 0 and writes both, or 25 or else 27. The two places are different. */
 uint32_t dobutsu_count(uint32_t chicks, uint32_t elephants, uint32_t giraffes, uint32_t profile, uint64_t *positions, uint64_t *classes);
+
+/* An index: numbers in the caller's memory, by which a position's class is found in microseconds, also with two pieces of each kind. It is written once for a
+   family, as dobutsu_count names it, and read by any number of calls and threads. It holds no pointer, so that it may be copied or stored. How many numbers
+   it has; 0 where there is no such family. For two pieces of each kind they are 2.2 million bytes. */
+uint64_t dobutsu_index_words(uint32_t chicks, uint32_t elephants, uint32_t giraffes, uint32_t profile);
+
+/* Writes the index of a family into the first of the numbers. Answers 0, or 25 or else 27 as dobutsu_count does, or 29 where there are fewer than
+   dobutsu_index_words says. It takes some hundredths of a second for two pieces of each kind. */
+uint32_t dobutsu_index(uint32_t chicks, uint32_t elephants, uint32_t giraffes, uint32_t profile, uint64_t *words, size_t words_len);
+
+/* What dobutsu_probe and dobutsu_moves tell, by an index. With the index of the file's family as dobutsu_index wrote it the answers are just theirs, and right
+   where the file is the family's table. With any other numbers a call still returns, reads nothing outside of them, and answers some value, a fault that
+   dobutsu_probe may answer, or 29: where the first number isn't that of an index of the file's family, where there are fewer numbers than it has, or where
+   they lead outside of the file. */
+uint32_t dobutsu_probe_by(const uint8_t *file, size_t file_len, const uint64_t *words, size_t words_len, const uint8_t *text, size_t text_len,
+                          DobutsuValue *answer);
+uint32_t dobutsu_moves_by(const uint8_t *file, size_t file_len, const uint64_t *words, size_t words_len, const uint8_t *text, size_t text_len,
+                          DobutsuMove *moves, size_t moves_len, uint64_t *count);
+
+/* The number of the position's class in a family, by its index: how many classes stand before it, so that its record is bytes 21 + 2 * class and the next of
+   a file of format 2. Answers 0 and writes it, or 1 to 6 of the text, 25 or 27 of the family, 29, 26 or 7. Of other numbers holds what is said above. */
+uint32_t dobutsu_class_by(uint32_t chicks, uint32_t elephants, uint32_t giraffes, uint32_t profile, const uint64_t *words, size_t words_len,
+                          const uint8_t *text, size_t text_len, uint64_t *class_number);
 
 /* The version, which is that of the program. */
 DobutsuVersion dobutsu_version(void);

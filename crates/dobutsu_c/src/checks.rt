@@ -1,6 +1,6 @@
 // Whether the bytes of a file are those of the value table.
 ghost use Rattle.std.specs.Prelude.{◌≡◌, ◌≢◌, ◌⊎◌};
-ghost use Rattle.dob_value.specs.Follows.{ClassTable, IsConsistent, IsValueTable};
+ghost use Rattle.dob_value.specs.Follows.{ClassTable, IsConsistent, IsTable, IsValueTable};
 ghost use Rattle.dob_dbfile.specs.declared.fault.Fault.{Fault as AnyFault};
 ghost use Rattle.dob_dbfile.specs.Devices.{whole};
 ghost use Rattle.dob_dbfile.specs.Faults.{HasReadFault};
@@ -11,7 +11,7 @@ ghost use Rattle.dobutsu_c.specs.Faults.{file_number};
 use crate::fault::file_number;
 use crate::numbers::{INCONSISTENT, MEMORY};
 use dob_dbfile::{HeldSource, read_table};
-use dob_probe::{Fault, check_alone};
+use dob_probe::{Fault, check};
 use std::alloc::Global;
 
 /// Whether the bytes are a database's file of a consistent table, which is the value table. It answers 0 where they are; 21
@@ -22,7 +22,7 @@ use std::alloc::Global;
 pub extern "C" fn dobutsu_check(alloc: Global, file: &[u8], class: &mut u64) -> u32
     ensures right { result ≡ 0 → (table : ClassTable) × IsFile file.now table × IsValueTable table.family table.values }
     ensures passed { (table : ClassTable) → IsFile file.now table → IsConsistent table.family table.values → (result ≡ 0) ⊎ (result ≡ 23) }
-    ensures broken { result ≡ 21 → (table : ClassTable) × IsFile file.now table × IsFirstBroken table class.new }
+    ensures broken { result ≡ 21 → (table : ClassTable) × IsFile file.now table × IsTable table.family table.values × IsFirstBroken table class.new }
     ensures refused { result ≢ 0 → ((result ≡ 21) ⊎ (result ≡ 23))
         ⊎ ((fault : AnyFault) × HasReadFault (whole file.now) fault × (result ≡ file_number fault)) }
     ensures fault { (fault : AnyFault) → HasReadFault (whole file.now) fault → (result ≡ file_number fault) ⊎ (result ≡ 23) }
@@ -32,7 +32,7 @@ pub extern "C" fn dobutsu_check(alloc: Global, file: &[u8], class: &mut u64) -> 
         Ok(table) => table,
         Err(fault) => return file_number(fault),
     };
-    match check_alone(alloc, &table) {
+    match check(alloc, &table) {
         Ok(()) => 0,
         Err(Fault::Inconsistent(broken)) => {
             *class = broken;

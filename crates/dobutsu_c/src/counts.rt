@@ -1,5 +1,5 @@
 // How many positions and classes a family has.
-ghost use Rattle.std.specs.Prelude.{◌≡◌, ◌≢◌, ◌≤◌, ℕ, IfSome, MatchOption};
+ghost use Rattle.std.specs.Prelude.{◌≡◌, ◌≢◌, ◌≤◌, ℕ, IfSome, MatchOption, MatchResult};
 ghost use Rattle.dob_pieces.specs.declared.profile.Family.{Family as AnyFamily};
 ghost use Rattle.dob_rank.specs.Families.{HasSize, HasClasses};
 ghost use Rattle.dobutsu_c.specs.Counts.{IsFamily, count_fault, profile_number};
@@ -26,16 +26,33 @@ pub extern "C" fn dobutsu_count(
         → HasSize family positions.new × HasClasses family classes.new }
     ensures unchanged { result ≢ 0 → (positions.new ≡ positions.old) × (classes.new ≡ classes.old) }
 {
+    match family_of(chicks, elephants, giraffes, profile) {
+        Ok(family) => {
+            *positions = size(family);
+            *classes = count_classes(family);
+            0
+        }
+        Err(fault) => fault,
+    }
+}
+
+/// The family of so many pieces by the profile of that number, or the fault's number.
+pub(crate) fn family_of(
+    chicks: u32,
+    elephants: u32,
+    giraffes: u32,
+    profile: u32,
+) -> Result<Family, u32>
+    ensures { MatchResult result (λ family. IsFamily chicks elephants giraffes profile family × (count_fault chicks elephants giraffes profile ≡ 0))
+        (λ fault. (fault ≡ count_fault chicks elephants giraffes profile) × (fault ≢ 0)) }
+{
     let Some(set) = set_of(chicks, elephants, giraffes) else {
-        return SET_TEXT;
+        return Err(SET_TEXT);
     };
     let Some(profile) = profile_of(profile) else {
-        return PROFILE_BYTE;
+        return Err(PROFILE_BYTE);
     };
-    let family = Family { set, profile };
-    *positions = size(family);
-    *classes = count_classes(family);
-    0
+    Ok(Family { set, profile })
 }
 
 // The set of so many pieces.

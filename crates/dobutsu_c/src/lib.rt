@@ -3,11 +3,16 @@
 #![tactic(auto)]
 
 mod asked;
+mod by_index;
 mod checks;
+mod class_by;
 mod counts;
 mod fault;
+mod index;
 mod moves;
+mod moves_by;
 mod numbers;
+mod probe_by;
 mod probes;
 mod value;
 mod version;

@@ -5,15 +5,17 @@ ghost use Rattle.dob_moves.specs.Moves.{Goes, CanGo};
 ghost use Rattle.dob_moves.specs.Statuses.{AreMoves, CanCatch, HasStatus};
 ghost use Rattle.dob_moves.specs.declared.position_status.Status.TheVariants.{Open};
 ghost use Rattle.dob_rank.specs.Families.{IsPositionOf};
-ghost use Rattle.dob_value.specs.Follows.{IsEntry};
+ghost use Rattle.dob_value.specs.Follows.{ClassTable, IsEntry, IsValueTable};
+ghost use Rattle.dob_value.specs.Values.{HasValue};
 ghost use Rattle.dob_dbfile.specs.Devices.{whole};
 ghost use Rattle.dob_dbfile.specs.Faults.{IsNoLonger};
+ghost use Rattle.dob_dbfile.specs.Format.{IsFile};
 ghost use Rattle.dob_probe.specs.declared.choices.ValuedMove.{ValuedMove as Valued};
 ghost use Rattle.dob_probe.specs.Choices.{AreValuedMoves};
 ghost use Rattle.dobutsu_c.specs.declared.fault.Fault.{Fault as AnyFault};
 ghost use Rattle.dobutsu_c.specs.Faults.{number_of};
 ghost use Rattle.dobutsu_c.specs.Moves.{AreToldMoves, AreWritten, shown_move, kind_number, hand_number, flag};
-ghost use Rattle.dobutsu_c.specs.Probes.{HasProbeFault, IsGiven};
+ghost use Rattle.dobutsu_c.specs.Probes.{HasProbeFault, IsGiven, IsTextOf};
 
 use crate::asked::{Asked, ask, value_of};
 use crate::numbers::MEMORY;
@@ -41,7 +43,8 @@ pub struct DobutsuMove {
 /// The moves of the position whose text that is, each with the value that the bytes of a database's file give it, best first:
 /// wins by the least distance, draws, losses by the greatest; equal ones in the move order. Where the enemy lion can be caught
 /// there is its first catch alone, and none where the position is lost already. It answers 0, writes how many there are into
-/// `count` and the first of them into `moves`, as many as there is room for: no position was seen to have more than 38. Else
+/// `count` and the first of them into `moves`, as many as there is room for: 38 is a hint for how much that is, which rests on no
+/// proof, and `count` says whether it was enough. By a file of the value table the values are the moves' own. Else
 /// it answers the number of a fault and writes nothing: the first of those of `dobutsu_probe` that holds, or 23 where memory
 /// runs out, of which it takes some thousand bytes and gives all back.
 #[unsafe(no_mangle)]
@@ -53,6 +56,9 @@ pub extern "C" fn dobutsu_moves(
     count: &mut u64,
 ) -> u32
     ensures moves { result ≡ 0 → (list : List Valued) × AreToldMoves file.now text.now list
+        × AreWritten list moves.old moves.new × (count.new ≡ length list) }
+    ensures right { (table : ClassTable) (setup : Setup) → IsFile file.now table → IsValueTable table.family table.values → IsTextOf text.now setup
+        → result ≡ 0 → (list : List Valued) × AreValuedMoves table.family.profile (HasValue table.family.profile) setup list
         × AreWritten list moves.old moves.new × (count.new ≡ length list) }
     ensures refused { result ≢ 0 → (result ≡ 23) ⊎ ((fault : AnyFault) × HasProbeFault file.now text.now fault × (result ≡ number_of fault)) }
     ensures fault { (fault : AnyFault) → HasProbeFault file.now text.now fault → result ≡ number_of fault }
@@ -135,8 +141,8 @@ fn value_to(file: &[u8], asked: &Asked, choice: Move) -> Value
     )
 }
 
-// Writes the first of the moves, as many as there are places.
-fn write_moves(places: &mut [DobutsuMove], list: &[ValuedMove])
+/// Writes the first of the moves, as many as there are places.
+pub(crate) fn write_moves(places: &mut [DobutsuMove], list: &[ValuedMove])
     ensures { AreWritten list.now places.old places.new }
 {
     let count = list.len().min(places.len());

@@ -11,3 +11,6 @@ pub(crate) const SET_TEXT: u32 = 25;
 
 /// E27: the number is that of no profile.
 pub(crate) const PROFILE_BYTE: u32 = 27;
+
+/// E29: the numbers are no index of the family, or too few.
+pub(crate) const INDEX: u32 = 29;

@@ -18,9 +18,9 @@ returns-in-Err-clause-refused c = λ some. elim (c.in-Err.ensures.fault (whole c
   | inr holds ↦ inr (c.in-Err.fault, holds, c.file_number.ensures.number)
 ]
 
-pub returns-in-Ok-check_alone-clause-right : goal.returns-in-Ok-check_alone-clause-right
-returns-in-Ok-check_alone-clause-right c = λ none.
-    (c.in-Ok.table, (c.in-Ok.ensures.read (whole c.args.file.now) (sym c.new.ensures)).1, c.in-Ok-check_alone.ensures.right)
+pub returns-in-Ok-check-clause-right : goal.returns-in-Ok-check-clause-right
+returns-in-Ok-check-clause-right c = λ none.
+    (c.in-Ok.table, (c.in-Ok.ensures.read (whole c.args.file.now) (sym c.new.ensures)).1, c.in-Ok-check.ensures.right)
 
 pub returns-in-Err-Inconsistent-clause-passed : goal.returns-in-Err-Inconsistent-clause-passed
 returns-in-Err-Inconsistent-clause-passed c = λ table is consistent.
@@ -33,5 +33,6 @@ pub returns-in-Err-Inconsistent-clause-broken : goal.returns-in-Err-Inconsistent
 returns-in-Err-Inconsistent-clause-broken c = λ broken. (
   c.in-Ok.table,
   (c.in-Ok.ensures.read (whole c.args.file.now) (sym c.new.ensures)).1,
+  c.in-Ok.ensures.table,
   subst (IsFaultOfCheck c.in-Ok.table) c.in-Err-Inconsistent.field-0-is c.in-Err-Inconsistent.ensures.fault,
 )

@@ -3,6 +3,7 @@ use Rattle.std.proofs.Common.{rules, ap, subst, ◌∙◌, List}
 use Rattle.dob_probe.specs.declared.choices.ValuedMove.{ValuedMove}
 use Rattle.dobutsu_c.specs.Faults.{number_of}
 use Rattle.dobutsu_c.specs.Moves.{AreWritten}
+use Rattle.dobutsu_c.proofs.ByFile.{moves_right}
 use Rattle.dobutsu_c.proofs.Exact.{no_fault, one_fault}
 use Rattle.dobutsu_c.proofs.moves.dobutsu_moves.Goals as goal
 
@@ -15,6 +16,16 @@ returns-in-Ok-valued_moves-clause-moves c = λ none.
     let asked = c.in-Ok.asked in (
       c.in-Ok-valued_moves.list.items,
       (asked.format, asked.family, asked.position.setup, c.in-Ok.ensures, c.in-Ok-valued_moves.ensures),
+      subst (λ (list : List ValuedMove). AreWritten list c.args.moves.now c.write_moves.new.places) c.deref.ensures.value c.write_moves.ensures,
+      search rules,
+    )
+
+pub returns-in-Ok-valued_moves-clause-right : goal.returns-in-Ok-valued_moves-clause-right
+returns-in-Ok-valued_moves-clause-right c = λ table setup is right named none.
+    let asked = c.in-Ok.asked in (
+      c.in-Ok-valued_moves.list.items,
+      moves_right c.args.file.now c.args.text.now table setup c.in-Ok-valued_moves.list.items is right named
+          (asked.format, asked.family, asked.position.setup, c.in-Ok.ensures, c.in-Ok-valued_moves.ensures),
       subst (λ (list : List ValuedMove). AreWritten list c.args.moves.now c.write_moves.new.places) c.deref.ensures.value c.write_moves.ensures,
       search rules,
     )

@@ -1,0 +1,23 @@
+-- The index leads to the position's class, which is one of the file's.
+use Rattle.std.proofs.Common.{sym, subst, arith}
+use Rattle.dob_rank.specs.Families.{IsInClass}
+use Rattle.dob_rank.proofs.FamilyNumbers.{class_number-below, IsInClass-class_number}
+use Rattle.dobutsu_c.proofs.by_index.value_by.Goals as goal
+
+pub returns-then-class-held : goal.returns-then-class-held
+returns-then-class-held c = (
+  c.held_value.ensures.entry,
+  λ is. (
+    c.class_by-class.result,
+    subst (IsInClass c.args.held.family c.args.position.now.setup) (sym (c.class_by-class.ensures is))
+        (IsInClass-class_number c.args.held.family c.args.position.now.setup c.requires.member),
+    c.held_value.ensures.read,
+  ),
+)
+
+pub returns-else-class-held : goal.returns-else-class-held
+returns-else-class-held c = λ is.
+    let number = c.class_by-class.ensures is in
+    let below = class_number-below c.args.held.family c.args.position.now.setup c.requires.member in
+    let classes = (c.requires.held.right is).0 in
+    omega (arith, number, below, classes, c.if-class-held.false)

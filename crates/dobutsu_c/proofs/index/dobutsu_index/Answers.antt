@@ -1,0 +1,24 @@
+-- One family has those numbers.
+use Rattle.std.proofs.Common.{refl, ap, subst, arith}
+use Rattle.dob_pieces.specs.declared.profile.Family.{Family}
+use Rattle.dob_index.specs.Layout.{words_of}
+use Rattle.dob_index.specs.Index.{IsIndex}
+use Rattle.dobutsu_c.proofs.Indexed.{one_family}
+use Rattle.dobutsu_c.proofs.index.dobutsu_index.Goals as goal
+
+pub returns-then-words-index_words-clause-written : goal.returns-then-words-index_words-clause-written
+returns-then-words-index_words-clause-written c = λ family is room.
+    let same = ap (λ (f : Family). words_of f.set) (one_family c.args.chicks c.args.elephants c.args.giraffes c.args.profile c.in-Ok.family family c.in-Ok.ensures.0 is) in
+    absurd (omega (arith, same, room, c.index_words.ensures.value, c.if-words-index_words.true))
+
+pub returns-clause-written : goal.returns-clause-written
+returns-clause-written c = λ family is room. (
+  refl,
+  subst (λ (f : Family). IsIndex f c.write_index.new.words)
+      (one_family c.args.chicks c.args.elephants c.args.giraffes c.args.profile c.in-Ok.family family c.in-Ok.ensures.0 is) c.write_index.ensures,
+)
+
+pub returns-clause-short : goal.returns-clause-short
+returns-clause-short c = λ family is short.
+    let same = ap (λ (f : Family). words_of f.set) (one_family c.args.chicks c.args.elephants c.args.giraffes c.args.profile c.in-Ok.family family c.in-Ok.ensures.0 is) in
+    absurd (omega (arith, same, short, c.index_words.ensures.value, c.if-words-index_words.false))

@@ -1,0 +1,46 @@
+-- By the right index what is told are the moves that were listed, or the one fault.
+use Rattle.std.proofs.Common.{rules, subst, ◌∙◌, List}
+use Rattle.dob_probe.specs.declared.choices.ValuedMove.{ValuedMove}
+use Rattle.dobutsu_c.specs.Moves.{AreWritten}
+use Rattle.dobutsu_c.proofs.Exact.{no_fault}
+use Rattle.dobutsu_c.proofs.Indexed.{asked_by, marked_by, one_fault_by}
+use Rattle.dobutsu_c.proofs.IndexedMoves.{told_of}
+use Rattle.dobutsu_c.proofs.moves_by.dobutsu_moves_by.Goals as goal
+
+pub returns-in-Err-clause-fault : goal.returns-in-Err-clause-fault
+returns-in-Err-clause-fault c = λ for fault holds.
+    c.number.ensures.number ∙ one_fault_by c.args.file.now c.args.text.now c.in-Err.fault fault (c.in-Err.ensures for) holds
+
+pub returns-in-Ok-Some-clause-moves : goal.returns-in-Ok-Some-clause-moves
+returns-in-Ok-Some-clause-moves c = λ for none.
+    let asked = c.in-Ok.asked in
+    let held = asked.held in (
+      c.in-Ok-Some.list.items,
+      (
+        held.format,
+        held.family,
+        asked.position.setup,
+        asked_by c.args.file.now c.args.text.now c.args.index.now held.format held.family held.classes asked.position.setup for c.in-Ok.ensures,
+        told_of c.in-Ok-Some.field-0 c.in-Ok-Some.list _ _ c.in-Ok-Some.field-0-is c.in-Ok-Some.ensures (for held.format held.family c.in-Ok.ensures.held.named),
+      ),
+      subst (λ (list : List ValuedMove). AreWritten list c.args.moves.now c.write_moves.new.places) c.deref.ensures.value c.write_moves.ensures,
+      search rules,
+    )
+
+pub returns-in-Ok-Some-clause-fault : goal.returns-in-Ok-Some-clause-fault
+returns-in-Ok-Some-clause-fault c = λ for fault holds.
+    let asked = c.in-Ok.asked in
+    absurd (no_fault c.args.file.now c.args.text.now asked.held.format asked.held.family asked.position.setup fault
+    (asked_by c.args.file.now c.args.text.now c.args.index.now asked.held.format asked.held.family asked.held.classes asked.position.setup for c.in-Ok.ensures) holds)
+
+pub returns-in-Ok-Some-clause-other : goal.returns-in-Ok-Some-clause-other
+returns-in-Ok-Some-clause-other c = λ format family names wrong none.
+    let asked = c.in-Ok.asked in
+    marked_by c.args.file.now c.args.text.now c.args.index.now asked.held.format format asked.held.family family asked.held.classes asked.position.setup
+    c.in-Ok.ensures names wrong
+
+pub returns-in-Err-valued_moves_by-clause-fault : goal.returns-in-Err-valued_moves_by-clause-fault
+returns-in-Err-valued_moves_by-clause-fault c = λ for fault holds.
+    let asked = c.in-Ok.asked in
+    absurd (no_fault c.args.file.now c.args.text.now asked.held.format asked.held.family asked.position.setup fault
+    (asked_by c.args.file.now c.args.text.now c.args.index.now asked.held.format asked.held.family asked.held.classes asked.position.setup for c.in-Ok.ensures) holds)

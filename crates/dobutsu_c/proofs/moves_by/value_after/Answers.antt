@@ -1,0 +1,47 @@
+-- The position that a move of an open position leads to is of the file's family.
+use Rattle.std.proofs.Common.{sym, subst, ◌∙◌}
+use Rattle.dob_moves.specs.declared.position_status.Status.TheVariants.{Open}
+use Rattle.dob_moves.proofs.ByProfile.{can_go, goes}
+use Rattle.dob_moves.proofs.Outcomes.{HasOutcome-is}
+use Rattle.dob_moves.proofs.ProfileMoves.{goes_there, status_there}
+use Rattle.dob_value.proofs.Successors.{moves_keep_the_family}
+use Rattle.dob_pieces.specs.declared.setup.Setup.{Setup}
+use Rattle.dob_moves.specs.Moves.{Goes}
+use Rattle.dob_index.specs.Index.{IsIndex}
+use Rattle.dob_value.specs.Follows.{IsEntry}
+use Rattle.dob_value.specs.declared.value.Value.{Value}
+use Rattle.dobutsu_c.specs.Probes.{IsGiven}
+use Rattle.dobutsu_c.proofs.IndexedMoves.{onward}
+use Rattle.dobutsu_c.proofs.moves_by.value_after.Goals as goal
+
+pub apply-after-requires-clause-open : goal.apply-after-requires-clause-open
+apply-after-requires-clause-open c =
+    let asked = c.args.asked.now in
+    status_there asked.held.family.profile asked.position.setup Open asked.position.legal c.requires.open
+
+pub apply-after-requires-clause-can_go : goal.apply-after-requires-clause-can_go
+apply-after-requires-clause-can_go c =
+    let asked = c.args.asked.now in
+    can_go asked.held.family.profile asked.position.setup c.args.choice c.requires.can_go
+
+pub value_by-requires-clause-member : goal.value_by-requires-clause-member
+value_by-requires-clause-member c =
+    let asked = c.args.asked.now in
+    moves_keep_the_family asked.held.family asked.position.setup c.args.choice c.apply-after.result.setup c.requires.member c.requires.open
+    (goes_there asked.held.family.profile asked.position.setup c.args.choice c.apply-after.result.setup c.requires.can_go c.apply-after.ensures)
+
+pub returns : goal.returns
+returns c =
+    let asked = c.args.asked.now in
+    let Given = IsGiven c.args.file.now asked.held.format asked.held.family in
+    onward c.value_by.result (IsIndex asked.held.family c.args.index.now → ⊥)
+    (λ (v : Value). IsEntry v × (IsIndex asked.held.family c.args.index.now → Given c.apply-after.result.setup v))
+    (λ (v : Value). IsEntry v × (IsIndex asked.held.family c.args.index.now → (q : Setup) → Goes asked.held.family.profile asked.position.setup c.args.choice q → Given q v))
+    (λ v is. (
+      is.0,
+      λ index q by.
+          let same = HasOutcome-is asked.position.setup c.args.choice c.apply-after.result.setup c.apply-after.ensures
+          ∙ sym (HasOutcome-is asked.position.setup c.args.choice q (goes asked.held.family.profile asked.position.setup c.args.choice q by)) in
+          subst (λ (s : Setup). Given s v) same (is.1 index),
+    ))
+    c.value_by.ensures

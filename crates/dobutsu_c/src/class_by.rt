@@ -1,0 +1,57 @@
+// The number of a position's class by the index of its family.
+ghost use Rattle.std.specs.Prelude.{◌≡◌, ◌≢◌};
+ghost use Rattle.dob_pieces.specs.declared.profile.Family.{Family as AnyFamily};
+ghost use Rattle.dob_pieces.specs.declared.setup.Setup.{Setup as AnySetup};
+ghost use Rattle.dob_rank.specs.Families.{IsPositionOf, IsInClass};
+ghost use Rattle.dob_index.specs.Index.{IsIndex, IsMarked};
+ghost use Rattle.dobutsu_c.specs.Counts.{IsFamily, count_fault};
+ghost use Rattle.dobutsu_c.specs.Probes.{IsTextOf};
+
+use crate::asked::is_of_set;
+use crate::counts::family_of;
+use crate::fault::Fault;
+use crate::numbers::INDEX;
+use dob_index::{class_by, is_index_of};
+use dob_pieces::Profile;
+use dob_text::read_position_bytes;
+
+/// The number of the class of the position whose text that is, in the family of so many pieces by the profile of that number, by the family's index as
+/// `dobutsu_index` wrote it. It answers 0 and writes the number, or the first fault that holds and writes nothing: 1 to 6 of the text; 25 and 27 of the
+/// family, as `dobutsu_count` does; 29 where the numbers aren't marked as an index of the family or are too few; 26 where the profile doesn't allow the
+/// position, 7 where it isn't of the set. By any other numbers it writes some number, and reads nothing outside of them. It takes no memory.
+#[unsafe(no_mangle)]
+pub extern "C" fn dobutsu_class_by(
+    chicks: u32,
+    elephants: u32,
+    giraffes: u32,
+    profile: u32,
+    index: &[u64],
+    text: &[u8],
+    class: &mut u64,
+) -> u32
+    ensures class { (family : AnyFamily) (setup : AnySetup) → IsFamily chicks elephants giraffes profile family → IsIndex family index.now
+        → IsTextOf text.now setup → IsPositionOf family setup → (result ≡ 0) × IsInClass family setup class.new }
+    ensures other { (family : AnyFamily) → IsFamily chicks elephants giraffes profile family → ¬ IsMarked family index.now → result ≢ 0 }
+    ensures family { count_fault chicks elephants giraffes profile ≢ 0 → result ≢ 0 }
+    ensures unchanged { result ≢ 0 → class.new ≡ class.old }
+{
+    let position = match read_position_bytes(Profile::A, text) {
+        Ok(position) => position,
+        Err(fault) => return Fault::Text(fault).number(),
+    };
+    let family = match family_of(chicks, elephants, giraffes, profile) {
+        Ok(family) => family,
+        Err(fault) => return fault,
+    };
+    if !is_index_of(family, index) {
+        return INDEX;
+    }
+    if !position.is_allowed(family.profile) {
+        return Fault::FarChick.number();
+    }
+    if !is_of_set(&position, family.set) {
+        return Fault::OtherSet.number();
+    }
+    *class = class_by(family, index, &position);
+    0
+}

@@ -1,0 +1,132 @@
+// The moves of a position with their values by the bytes of a database's file and the index of its family, best first.
+ghost use Rattle.std.specs.Prelude.{◌≡◌, ◌≢◌, ◌⊎◌, List, length, IfOk, MatchOption};
+ghost use Rattle.dob_pieces.specs.declared.profile.Family.{Family as AnyFamily};
+ghost use Rattle.dob_pieces.specs.declared.setup.Setup.{Setup};
+ghost use Rattle.dob_moves.specs.Moves.{Goes, CanGo};
+ghost use Rattle.dob_moves.specs.Statuses.{AreMoves, CanCatch, HasStatus};
+ghost use Rattle.dob_moves.specs.declared.position_status.Status.TheVariants.{Open};
+ghost use Rattle.dob_rank.specs.Families.{IsPositionOf};
+ghost use Rattle.dob_value.specs.Follows.{IsEntry};
+ghost use Rattle.dob_index.specs.Index.{IsIndex, IsMarked};
+ghost use Rattle.dob_dbfile.specs.declared.header.Format.{Format as AnyFormat};
+ghost use Rattle.dob_dbfile.specs.Faults.{NamesFamily};
+ghost use Rattle.dob_probe.specs.declared.choices.ValuedMove.{ValuedMove as Valued};
+ghost use Rattle.dob_probe.specs.Choices.{AreValuedMoves};
+ghost use Rattle.dobutsu_c.specs.declared.fault.Fault.{Fault as AnyFault};
+ghost use Rattle.dobutsu_c.specs.ByIndex.{IsIndexFor, IsHeldBy};
+ghost use Rattle.dobutsu_c.specs.Faults.{number_of};
+ghost use Rattle.dobutsu_c.specs.Moves.{AreToldMoves, AreWritten};
+ghost use Rattle.dobutsu_c.specs.Probes.{HasProbeFault, IsGiven};
+
+use crate::by_index::{AskedBy, ask_by, value_by};
+use crate::moves::{DobutsuMove, write_moves};
+use crate::numbers::{INDEX, MEMORY};
+use dob_moves::{Move, apply, first_catch, moves};
+use dob_pieces::Memory;
+use dob_probe::{ValuedMove, insert_by_value, value_seen};
+use dob_value::Value;
+use std::alloc::Global;
+
+/// What `dobutsu_moves` tells of the position, by the index of the file's family as `dobutsu_index` wrote it: the same moves with the same values, or the same
+/// fault. By any other numbers it answers 0 and writes the moves in the order of some values, or a fault and writes nothing: 29 as `dobutsu_probe_by` does, or
+/// 23 where memory runs out, of which it takes some thousand bytes and gives all back. Nothing is read outside of the numbers.
+#[unsafe(no_mangle)]
+pub extern "C" fn dobutsu_moves_by(
+    alloc: Global,
+    file: &[u8],
+    index: &[u64],
+    text: &[u8],
+    moves: &mut [DobutsuMove],
+    count: &mut u64,
+) -> u32
+    ensures moves { IsIndexFor file.now index.now → result ≡ 0 → (list : List Valued) × AreToldMoves file.now text.now list
+        × AreWritten list moves.old moves.new × (count.new ≡ length list) }
+    ensures refused { IsIndexFor file.now index.now → result ≢ 0
+        → (result ≡ 23) ⊎ ((fault : AnyFault) × HasProbeFault file.now text.now fault × (result ≡ number_of fault)) }
+    ensures fault { IsIndexFor file.now index.now → (fault : AnyFault) → HasProbeFault file.now text.now fault → result ≡ number_of fault }
+    ensures other { (format : AnyFormat) (family : AnyFamily) → NamesFamily format family file.now → ¬ IsMarked family index.now → result ≢ 0 }
+    ensures unchanged { result ≢ 0 → (moves.new ≡ moves.old) × (count.new ≡ count.old) }
+{
+    let asked = match ask_by(file, index, text) {
+        Ok(asked) => asked,
+        Err(fault) => return fault.number(),
+    };
+    match valued_moves_by(alloc, file, index, asked) {
+        Ok(Some(list)) => {
+            write_moves(moves, &list);
+            *count = list.len() as u64;
+            0
+        }
+        Ok(None) => INDEX,
+        Err(Memory) => MEMORY,
+    }
+}
+
+// The moves with their values; none where the index leads outside of the file.
+//
+// Error: `Memory`.
+fn valued_moves_by(
+    alloc: Global,
+    file: &[u8],
+    index: &[u64],
+    asked: AskedBy,
+) -> Result<Option<Vec<ValuedMove>>, Memory>
+    requires held { IsHeldBy file.now index.now asked.held.format asked.held.family asked.held.classes }
+    requires member { IsPositionOf asked.held.family asked.position.setup }
+    ensures { IfOk result (λ found. MatchOption found (¬ IsIndex asked.held.family index.now) (λ list. IsIndex asked.held.family index.now
+        → AreValuedMoves asked.held.family.profile (IsGiven file.now asked.held.format asked.held.family) asked.position.setup list.items)) }
+{
+    if let Some(choice) = first_catch(&asked.position) {
+        let mut list = Vec::new(alloc);
+        let value = Value::Win(1);
+        list.push(ValuedMove { choice, value })?;
+        return Ok(Some(list));
+    }
+    let choices = moves(alloc, asked.held.family.profile, &asked.position)?;
+    moves_in_order(alloc, file, index, asked, &choices)
+}
+
+// Those moves with their values, best first; none where the index leads outside of the file.
+//
+// Error: `Memory`.
+fn moves_in_order(
+    alloc: Global,
+    file: &[u8],
+    index: &[u64],
+    asked: AskedBy,
+    choices: &[Move],
+) -> Result<Option<Vec<ValuedMove>>, Memory>
+    requires held { IsHeldBy file.now index.now asked.held.format asked.held.family asked.held.classes }
+    requires member { IsPositionOf asked.held.family asked.position.setup }
+    requires choices { AreMoves asked.held.family.profile asked.position.setup choices.now }
+    requires free { ¬ CanCatch asked.position.setup }
+    ensures { IfOk result (λ found. MatchOption found (¬ IsIndex asked.held.family index.now) (λ list. IsIndex asked.held.family index.now
+        → AreValuedMoves asked.held.family.profile (IsGiven file.now asked.held.format asked.held.family) asked.position.setup list.items)) }
+{
+    let mut list = Vec::new(alloc);
+    for choice in choices {
+        let Some(value) = value_after(file, index, &asked, *choice) else {
+            return Ok(None);
+        };
+        let valued = ValuedMove {
+            choice: *choice,
+            value: value_seen(value),
+        };
+        insert_by_value(&mut list, valued)?;
+    }
+    Ok(Some(list))
+}
+
+// The value that the file gives the position to which the move leads; none where the index leads outside of the file.
+fn value_after(file: &[u8], index: &[u64], asked: &AskedBy, choice: Move) -> Option<Value>
+    requires held { IsHeldBy file.now index.now asked.now.held.format asked.now.held.family asked.now.held.classes }
+    requires member { IsPositionOf asked.now.held.family asked.now.position.setup }
+    requires open { HasStatus asked.now.held.family.profile asked.now.position.setup Open }
+    requires can_go { CanGo asked.now.held.family.profile asked.now.position.setup choice }
+    ensures { MatchOption result (¬ IsIndex asked.now.held.family index.now) (λ value. IsEntry value × (IsIndex asked.now.held.family index.now
+        → (q : Setup) → Goes asked.now.held.family.profile asked.now.position.setup choice q
+        → IsGiven file.now asked.now.held.format asked.now.held.family q value)) }
+{
+    let after = apply(&asked.position, choice);
+    value_by(file, index, asked.held, &after)
+}
