@@ -1,0 +1,10 @@
+-- What a move of an open position of the family leads to is of the family.
+use Rattle.dob_moves.proofs.ProfileMoves.{goes_there}
+use Rattle.dob_value.proofs.Successors.{moves_keep_the_family}
+use Rattle.dobutsu_web.proofs.steps.outcome_of.Goals as goal
+
+pub returns-clause-member : goal.returns-clause-member
+returns-clause-member c =
+    let asked = c.args.asked.now in
+    moves_keep_the_family asked.family asked.position.setup c.args.choice.now c.apply.result.setup c.requires.member c.requires.choice.0
+    (goes_there asked.family.profile asked.position.setup c.args.choice.now c.apply.result.setup c.requires.choice.1 c.apply.ensures)

@@ -1,0 +1,6 @@
+pub mod Asked
+pub mod Rows
+pub mod Values
+pub mod Steps
+pub mod Texts
+pub mod Headers

@@ -1,0 +1,87 @@
+-- Moves as other languages see them.
+use Rattle.std.specs.Prelude.{◌≡◌, ◌⊎◌, ℕ, List, Bool, true, false}
+use Rattle.dob_pieces.specs.declared.kind.Kind.{Kind}
+use Rattle.dob_pieces.specs.declared.kind.Kind.TheVariants.{Lion, Giraffe, Elephant, Chick, Hen}
+use Rattle.dob_pieces.specs.declared.kind.HandKind.{HandKind}
+use Rattle.dob_pieces.specs.declared.kind.HandKind.TheVariants as hand
+use Rattle.dob_pieces.specs.declared.profile.Family.{Family}
+use Rattle.dob_pieces.specs.declared.setup.Setup.{Setup}
+use Rattle.dob_moves.specs.declared.game_move.Move.{Move}
+use Rattle.dob_moves.specs.declared.game_move.Move.TheVariants.{Step, Put}
+use Rattle.dob_moves.specs.declared.position_status.Status.{Status}
+use Rattle.dob_moves.specs.declared.position_status.Status.TheVariants.{Caught, Tried, Stuck, Open}
+use Rattle.dob_pieces.specs.declared.profile.Profile.{Profile}
+use Rattle.dob_moves.specs.AtPlaces.{IsMoveAt, IsCatchAt}
+use Rattle.dob_moves.specs.Moves.{Goes}
+use Rattle.dob_rank.specs.Numbers.{block_of}
+use Rattle.dobutsu_web.specs.declared.steps.DobutsuStep.{DobutsuStep}
+use Rattle.dobutsu_web.specs.Asked.{IsAsked}
+use Rattle.dobutsu_web.specs.Rows.{IsClassBy}
+
+abbrev pub status_number : Status → ℕ
+status_number Open = 0
+status_number Caught = 1
+status_number Tried = 2
+status_number Stuck = 3
+
+abbrev pub kind_number : Kind → ℕ
+kind_number Chick = 0
+kind_number Elephant = 1
+kind_number Giraffe = 2
+kind_number Hen = 3
+kind_number Lion = 4
+
+abbrev pub hand_number : HandKind → ℕ
+hand_number hand.Chick = 0
+hand_number hand.Elephant = 1
+hand_number hand.Giraffe = 2
+
+abbrev pub flag : Bool → ℕ
+flag true = 1
+flag false = 0
+
+-- a move, and the block of what it leads to; a piece that is dropped comes from 12
+abbrev pub shown_step : Move → ℕ → DobutsuStep
+shown_step (Step kind from to catch grows) block =
+    record { block = block; kind = kind_number kind; from = from; to = to; catches = flag catch; grows = flag grows }
+shown_step (Put kind to) block = record { block = block; kind = hand_number kind; from = 12; to = to; catches = 0; grows = 0 }
+
+-- the move of an open position at that place, or the step there that catches the lion
+abbrev pub IsChoiceAt : Profile → Setup → ℕ → Move → Type 0
+IsChoiceAt profile p there move = IsMoveAt profile p there move ⊎ IsCatchAt p there move
+
+-- what the move of an open position at that place leads to
+abbrev pub IsOutcomeAt : Family → Setup → ℕ → Setup → Type 0
+IsOutcomeAt family p there outcome = (move : Move) × IsMoveAt family.profile p there move × Goes family.profile p move outcome
+
+-- a move of an open position with the block of what it leads to
+abbrev pub IsShownMove : Family → Setup → ℕ → DobutsuStep → Type 0
+IsShownMove family p there step = (move : Move) × (outcome : Setup) × IsMoveAt family.profile p there move × Goes family.profile p move outcome
+    × (step ≡ shown_step move (block_of family.set outcome))
+
+-- a step that catches the lion, which leads to no position
+abbrev pub IsShownCatch : Setup → ℕ → DobutsuStep → Type 0
+IsShownCatch p there step = (move : Move) × IsCatchAt p there move × (step ≡ shown_step move 0)
+
+abbrev pub IsShown : Family → Setup → ℕ → DobutsuStep → Type 0
+IsShown family p there step = IsShownMove family p there step ⊎ IsShownCatch p there step
+
+-- ---- of the position that is asked for
+
+abbrev pub IsToldStep : List ℕ → ℕ → ℕ → DobutsuStep → Type 0
+IsToldStep text number there step = (family : Family) × (setup : Setup) × IsAsked text number family setup × IsShown family setup there step
+
+-- no move, and no step that catches the lion, stands at that place
+abbrev pub HasNone : List ℕ → ℕ → ℕ → Type 0
+HasNone text number there =
+    (family : Family) × (setup : Setup) × IsAsked text number family setup × ((move : Move) → ¬ IsChoiceAt family.profile setup there move)
+
+-- no move stands at that place
+abbrev pub HasNoMove : List ℕ → ℕ → ℕ → Type 0
+HasNoMove text number there =
+    (family : Family) × (setup : Setup) × IsAsked text number family setup × ((move : Move) → ¬ IsMoveAt family.profile setup there move)
+
+-- the class of what the move at that place leads to, by numbers that ought to be the row of its block
+abbrev pub IsToldClassAfter : List ℕ → ℕ → ℕ → List ℕ → ℕ → Type 0
+IsToldClassAfter text number there row class = (family : Family) × (setup : Setup) × (outcome : Setup) × IsAsked text number family setup
+    × IsOutcomeAt family setup there outcome × IsClassBy family row outcome class

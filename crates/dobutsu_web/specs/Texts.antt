@@ -1,0 +1,32 @@
+-- Texts as other languages see them.
+use Rattle.std.specs.Prelude.{◌≡◌, ℕ, ◌≤◌, ◌==◌, List, not, take, length}
+use Rattle.dob_pieces.specs.declared.hand.Hand.{Hand}
+use Rattle.dob_pieces.specs.declared.profile.Family.{Family}
+use Rattle.dob_pieces.specs.declared.setup.Setup.{Setup}
+use Rattle.dob_moves.specs.declared.game_move.Move.{Move}
+use Rattle.dob_text.specs.MoveText.{move_text}
+use Rattle.dob_text.specs.PositionText.{text_of}
+use Rattle.dobutsu_web.specs.declared.texts.DobutsuText.{DobutsuText}
+use Rattle.dobutsu_web.specs.Asked.{IsAsked}
+use Rattle.dobutsu_web.specs.Steps.{IsChoiceAt, IsOutcomeAt}
+
+-- its first bytes are these
+pub record IsText (text : DobutsuText) (bytes : List ℕ) : Type 0 where
+  pub size : text.length ≡ length bytes
+  pub front : take (length bytes) text.bytes ≡ bytes
+
+-- at most two of each kind are in the hand
+pub record AreFew (hand : Hand) : Type 0 where
+  pub chicks : hand.chicks ≤ 2
+  pub elephants : hand.elephants ≤ 2
+  pub giraffes : hand.giraffes ≤ 2
+
+-- the text of the move, or of the step that catches the lion, at that place
+abbrev pub IsToldMoveText : List ℕ → ℕ → ℕ → ℕ → DobutsuText → Type 0
+IsToldMoveText text number there second written = (family : Family) × (setup : Setup) × (move : Move) × IsAsked text number family setup
+    × IsChoiceAt family.profile setup there move × IsText written (move_text move (not (second == 0)))
+
+-- the text of what the move at that place leads to
+abbrev pub IsToldOutcome : List ℕ → ℕ → ℕ → DobutsuText → Type 0
+IsToldOutcome text number there written = (family : Family) × (setup : Setup) × (outcome : Setup) × IsAsked text number family setup
+    × IsOutcomeAt family setup there outcome × IsText written (text_of outcome)

@@ -1,0 +1,49 @@
+// The status of a position, and how many moves it has.
+ghost use Rattle.std.specs.Prelude.{◌≡◌, ◌≢◌, length};
+ghost use Rattle.dob_pieces.specs.declared.profile.Family.{Family as AnyFamily};
+ghost use Rattle.dob_pieces.specs.declared.setup.Setup.{Setup as AnySetup};
+ghost use Rattle.dob_moves.specs.declared.position_status.Status.{Status as AnyStatus};
+ghost use Rattle.dob_moves.specs.MoveLists.{moves_of};
+ghost use Rattle.dob_moves.specs.Statuses.{HasStatus};
+ghost use Rattle.dobutsu_web.specs.Asked.{IsAsked, IsRefused};
+ghost use Rattle.dobutsu_web.specs.Steps.{status_number};
+
+use crate::asked::ask;
+use dob_moves::{Status, status_and_count};
+
+/// The status of the position, 0 where it is open, 1 where the enemy lion can be caught, 2 where it has tried, 3 where there is no move, and
+/// how many moves it has, 0 where it isn't open. It answers 0 and writes both, or a fault as `dobutsu_class` does.
+#[unsafe(no_mangle)]
+pub extern "C" fn dobutsu_status(
+    text: &[u8],
+    profile: u32,
+    status: &mut u32,
+    count: &mut u32,
+) -> u32
+    ensures told { result ≡ 0 → (family : AnyFamily) × (setup : AnySetup) × (of : AnyStatus) × IsAsked text.now profile family setup
+        × HasStatus family.profile setup of × (status.new ≡ status_number of) × (count.new ≡ length (moves_of family.profile setup)) }
+    ensures refused { result ≢ 0 → IsRefused text.now profile result }
+    ensures unchanged { result ≢ 0 → (status.new ≡ status.old) × (count.new ≡ count.old) }
+{
+    match ask(text, profile) {
+        Ok(asked) => {
+            let (found, number) = status_and_count(asked.family.profile, &asked.position);
+            *status = status_number(found);
+            *count = u32::from(number);
+            0
+        }
+        Err(refusal) => refusal.number(),
+    }
+}
+
+// The number of a status.
+fn status_number(status: Status) -> u32
+    ensures { result ≡ status_number status }
+{
+    match status {
+        Status::Open => 0,
+        Status::Caught => 1,
+        Status::Tried => 2,
+        Status::Stuck => 3,
+    }
+}

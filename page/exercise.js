@@ -1,0 +1,90 @@
+// Exercises of an open file: a position that one move alone wins soonest is drawn, and a move that is tried is judged by its value.
+const Exercise = (() => {
+  "use strict";
+  const Core = DobutsuCore;
+  const { text } = Texts;
+  const element = (id) => document.getElementById(id);
+
+  const known = new Map(); // the lengths of each file's exercises
+  let open = null; // { start, move, plies, isTried, isSolved, verdict } of the exercise on the board
+  let notice = null; // the name of a text where there is no exercise
+  let right = 0, asked = 0, turn = 0;
+
+  const table = () => Files.all()[element("exercise-file").selectedIndex] || Files.last();
+  const isAsked = () => !!open && !open.isSolved && Game.state.start === open.start && Game.state.cursor === 0 && !Setup.isOn();
+
+  function fill(select, names, values) {
+    const { value } = select;
+    select.replaceChildren(...names.map((name, i) => new Option(name, values[i])));
+    if (values.map(String).includes(value)) select.value = value;
+  }
+  // Offers the open files and the lengths of the chosen one.
+  async function offer() {
+    element("exercise-card").setAttribute("aria-busy", true);
+    const files = Files.all(), names = files.map((it) => it.name), select = element("exercise-file");
+    fill(select, names, files.map((it) => it.set + it.profile));
+    select.hidden = files.length < 2;
+    const chosen = table();
+    if (chosen && !known.has(chosen)) known.set(chosen, await Answers.lengths(chosen).catch(() => []));
+    const lengths = (chosen && known.get(chosen)) || [];
+    fill(element("exercise-length"), lengths.map((plies) => text("length", plies, View.options.inMoves)), lengths);
+    element("draw").disabled = !lengths.length;
+    element("exercise-choice").hidden = !lengths.length && files.length < 2;
+    element("exercise-card").setAttribute("aria-busy", false);
+  }
+  function chooseLast() {
+    element("exercise-file").selectedIndex = Files.all().length - 1;
+  }
+
+  // Draws one and gives its { position, profile } to be put on the board, or null.
+  async function drawOne() {
+    const mine = ++turn, from = table(), plies = +element("exercise-length").value;
+    notice = "drawing";
+    draw();
+    const found = await Answers.drawExercise(from, Game.engine(), plies, () => mine !== turn).catch(() => null);
+    if (mine !== turn) return null;
+    notice = found ? null : "noExercise";
+    open = found && { start: Core.writePosition(found.position), move: found.move, plies, isTried: false, isSolved: false, verdict: null };
+    if (!open) draw();
+    return open && { start: open.start, profile: from.profile };
+  }
+
+  // Judges a move of { move, text, value }: whether it is the one.
+  function judge({ move, text: words, value }) {
+    const isRight = move.letter === open.move.letter && move.from === open.move.from && move.to === open.move.to;
+    open.verdict = () => (isRight ? text("right", words) : text("wrong", words, Texts.value(value, View.options.inMoves)));
+    if (isRight && !open.isTried) right++;
+    count();
+    open.isSolved = isRight;
+    draw();
+    return isRight;
+  }
+  function answer() {
+    const words = Game.moveText(Core.readPosition(open.start), open.move, 0);
+    count();
+    Object.assign(open, { isSolved: true, verdict: () => text("answered", words) });
+    draw();
+  }
+  // Counts the exercise that is open, once: it was tried, answered, or its values were shown.
+  function count() {
+    if (open && !open.isTried) asked++;
+    if (open) open.isTried = true;
+  }
+
+  const task = () => text("task", text("sides")[0], text("length", open.plies, View.options.inMoves));
+  // What is said of the exercise that is asked: how the last move was judged, else the task.
+  const told = () => (open.verdict ? open.verdict() : task());
+
+  function draw() {
+    if (open && Game.state.start !== open.start && notice !== "drawing") open = null;
+    const isThere = !!open && notice !== "drawing";
+    element("task").textContent = isThere ? task() : notice ? text(notice) : Files.last() ? "" : text("needFile");
+    element("verdict").textContent = isThere && open.verdict ? open.verdict() : "";
+    element("verdict").className = isThere && open.isSolved ? "good" : "fault";
+    element("exercise-card").classList.toggle("asked", isThere);
+    element("answer").hidden = !isThere || open.isSolved;
+    element("score").textContent = asked ? text("score", right, asked) : "";
+  }
+
+  return { offer, chooseLast, drawOne, isAsked, judge, told, answer, count, draw };
+})();

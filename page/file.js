@@ -1,0 +1,68 @@
+// Database files: which are open, what is wrong with those that aren't, and records read by slices. A header is tested as `dobutsu look`
+// tests it, and the length too; the digest isn't read.
+const Files = (() => {
+  "use strict";
+  const Core = DobutsuCore;
+  const MOST_KEPT = 200000;
+
+  class Table {
+    constructor(file, header) {
+      const { set, profile, classes, first } = header;
+      Object.assign(this, { file, name: file.name, pieces: set, set: set.join(""), profile, count: classes, start: first, kept: new Map(), isBroken: false });
+    }
+    // So many bytes at a place of the file, or E15 where it has been cut since it was opened.
+    async bytes(at, length) {
+      const bytes = new Uint8Array(await this.file.slice(at, at + length).arrayBuffer());
+      if (bytes.length !== length) throw new Core.Fault("E15 Truncated");
+      return bytes;
+    }
+    // The two bytes of a class.
+    async record(number) {
+      let found = this.kept.get(number);
+      if (!found) {
+        found = await this.bytes(this.start + 2 * number, 2);
+        if (this.kept.size > MOST_KEPT) this.kept.clear();
+        this.kept.set(number, found);
+      }
+      return found;
+    }
+    // The records of so many classes from that one on, without keeping them.
+    async records(first, count) {
+      const bytes = await this.bytes(this.start + 2 * first, 2 * count);
+      return Uint16Array.from({ length: count }, (_, i) => bytes[2 * i] + 256 * bytes[2 * i + 1]);
+    }
+  }
+
+  const tables = new Map(); // the open ones, by set and profile
+  let refused = []; // { name, fault } of the files that were given last and aren't open
+
+  async function open(file, engine) {
+    const header = engine.readHeader(new Uint8Array(await file.slice(0, 21).arrayBuffer()), file.size);
+    if (header.classes !== Core.countClasses(header.profile, header.set)) throw new Core.Fault("E18 ClassCount");
+    const whole = header.first + 2 * header.classes + 32;
+    if (file.size < whole) throw new Core.Fault("E15 Truncated");
+    if (file.size > whole) throw new Core.Fault("E19 Trailing");
+    return new Table(file, header);
+  }
+
+  // Opens those files that are whole, a later one of the same set and rules in place of an earlier; gives the last that was opened.
+  async function openAll(files, engine) {
+    let last = null;
+    refused = [];
+    for (const file of files) {
+      try {
+        last = await open(file, engine);
+        tables.delete(last.set + last.profile);
+        tables.set(last.set + last.profile, last);
+      } catch (fault) {
+        refused.push({ name: file.name, fault });
+      }
+    }
+    return last;
+  }
+
+  const tableFor = (profile, position) => tables.get(Core.setOf(position).join("") + profile) || null;
+  const all = () => [...tables.values()];
+
+  return { openAll, tableFor, all, refused: () => refused, last: () => all().pop() || null };
+})();

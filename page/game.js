@@ -1,0 +1,65 @@
+// The game on the board: where it began, the moves that were played, and the address that says both. Sides are 0 for Forest, which plays
+// upwards, and 1 for Sky. Positions are seen from the side to move, as their texts are.
+const Game = (() => {
+  "use strict";
+  const Core = DobutsuCore;
+  const START = "gle/.c./.C./ELG - -";
+
+  // plies[i] is { move, text, position, side, isOver }: a move, and the position and the side to move after it. After a catch of the
+  // lion the position has one lion, and is only drawn.
+  const state = { profile: "A", side: 0, start: START, plies: [], cursor: 0 };
+  let engine = Core.engine;
+
+  const now = () => (state.cursor ? state.plies[state.cursor - 1] : { position: Core.readPosition(state.start), side: state.side, isOver: false });
+  const moves = () => (now().isOver ? { status: "over", moves: [] } : engine.moves(state.profile, now().position));
+  // The text of a move of a position in which that side moves.
+  const moveText = (position, move, side) => engine.moveText(state.profile, position, move, side === 1);
+  const textOf = (move) => moveText(now().position, move, now().side);
+
+  function load(text, side = 0) {
+    Core.readPosition(text);
+    Object.assign(state, { start: text, side, plies: [], cursor: 0 });
+  }
+  function play(move) {
+    const { position, side } = now(), isOver = moves().status === "caught";
+    const after = isOver ? Core.apply(position, move) : engine.apply(state.profile, position, move);
+    state.plies = [...state.plies.slice(0, state.cursor), { move, text: textOf(move), position: after, side: 1 - side, isOver }];
+    state.cursor++;
+  }
+  const goTo = (cursor) => { state.cursor = Math.max(0, Math.min(cursor, state.plies.length)); };
+
+  // A first position of a set: the starting layout without what the set lacks.
+  function startOf(pieces) {
+    const squares = [...Core.readPosition(START).squares];
+    pieces.forEach((number, kind) => {
+      const own = Core.KINDS[kind], other = own.toLowerCase();
+      if (number < 2) squares[squares.indexOf(other)] = ".";
+      if (number < 1) squares[squares.indexOf(own)] = ".";
+    });
+    return Core.writePosition({ squares: squares.join(""), mover: [0, 0, 0], enemy: [0, 0, 0] });
+  }
+
+  // ---- the address: `#TEXT` with `_` for spaces, then `:MOVE,MOVE`, and `~` in front of the text where Sky moves first
+
+  function address() {
+    const played = state.plies.slice(0, state.cursor).map((ply) => ply.text).join(",");
+    return `#${state.side ? "~" : ""}${state.start.replaceAll(" ", "_")}${played ? ":" + played : ""}`;
+  }
+  // Takes the game of an address, up to the first move that isn't one; says whether the address had any.
+  function readAddress(hash) {
+    const [, sky, text, played] = /^#(~?)([^:]*):?(.*)$/.exec(decodeURIComponent(hash)) || [];
+    if (!text) return false;
+    load(text.replaceAll("_", " "), sky ? 1 : 0);
+    for (const word of played ? played.split(",") : []) {
+      const move = moves().moves.find((it) => textOf(it) === word);
+      if (!move) break;
+      play(move);
+    }
+    return true;
+  }
+
+  return {
+    START, state, now, moves, moveText, textOf, load, play, goTo, startOf, address, readAddress,
+    engine: () => engine, useEngine: (it) => { engine = it; },
+  };
+})();

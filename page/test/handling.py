@@ -1,0 +1,271 @@
+"""Mouse, keys and fingers: moves, undo, the address, setting up a position, exercises, the line step by step, hidden values."""
+PLAIN = ".l./.../.C./.L. - -"
+HAND = "..l/.../..c/.L. C -"
+
+
+def square(name):
+    return f"[data-square='{'abc'.index(name[0]) + 3 * (int(name[1]) - 1)}']"
+
+
+def hand(letter):
+    return f"[data-hand='{letter}']"
+
+
+def tool(letter):
+    return f"[data-tool='{letter}']"
+
+
+def after(screen, moves):
+    return screen.js(f"location.hash.endsWith(':{moves}')")
+
+
+def mouse(checks, screen, program):
+    path = program.build("100", "A")
+    screen.give(path)
+    screen.enter(PLAIN)
+    screen.browser.click(square("b1"))
+    told = dict(it.split(" ", 1) for it in program.moves(path, PLAIN))
+    shown = screen.seen("tags")
+    number = lambda name: str("abc".index(name[0]) + 3 * (int(name[1]) - 1))
+    wanted = {number(text[4:]): value.replace("win", "W").replace("loss", "L") for text, value in told.items() if text[0] == "L"}
+    checks.expect("values on the squares that a chosen piece reaches", shown, wanted)
+    checks.expect("what is heard of such a square", screen.label(square("a2")), "a2 empty, can be reached, " + told["Lb1-a2"])
+    screen.browser.click(square("a2"))
+    screen.settle()
+    checks.expect("a move by two clicks", after(screen, "Lb1-a2"))
+    screen.browser.click(square("a2"))
+    checks.expect("a piece of the other side isn't chosen", screen.js("document.querySelectorAll('.square.chosen').length"), 0)
+    screen.drag(square("b4"), square("c4"))
+    checks.expect("a move by dragging", after(screen, "Lb1-a2,lb4-c4"))
+    screen.drag(square("a2"), square("a4"))
+    checks.expect("a step that is none isn't made", after(screen, "Lb1-a2,lb4-c4"))
+    checks.expect("the text behind two moves", screen.position(), "..l/.../LC./... - -")
+    where = screen.js("location.href")
+    screen.press("undo")
+    checks.expect("undo", [after(screen, "Lb1-a2"), screen.record()], [True, ["start", "Lb1-a2", "lb4-c4"]])
+    screen.press("redo")
+    checks.expect("redo", after(screen, "Lb1-a2,lb4-c4"))
+    screen.js("document.querySelector('#record .move').click()")
+    screen.settle()
+    checks.expect("a click on the start", screen.position(), PLAIN)
+    screen.open("#" + where.split("#")[1])
+    checks.expect("the address tells position and moves", [screen.position(), screen.record()], ["..l/.../LC./... - -", ["start", "Lb1-a2", "lb4-c4"]])
+    screen.give(path)
+    screen.enter(".../.l./.L./.C. - -")
+    screen.play("Lb2xb3")
+    checks.expect("a caught lion ends it", [screen.told(), screen.moves(), screen.position()], ["Forest caught the lion and has won.", [], ""])
+    screen.press("undo")
+    checks.expect("and is taken back", screen.value(), "win 1")
+    screen.enter(PLAIN)
+    screen.js("(() => { const button = document.querySelector('#moves button'); button.click(); button.click(); })()")
+    screen.settle()
+    checks.expect("a second click on a move of an earlier position does nothing", len(screen.record()), 2)
+    screen.enter("..l/.../L../... -")
+    checks.expect("a text that is none leaves the position", [screen.record()[0], "E1" in screen.text("text-fault")], ["start", True])
+
+
+def drops(checks, screen, program):
+    path = program.build("200", "A")
+    screen.give(path)
+    screen.enter(HAND)
+    checks.expect("what is heard of a hand", screen.label(hand("C")), "Forest has 1 chick in hand")
+    screen.browser.click(hand("C"))
+    screen.browser.click(square("b2"))
+    screen.settle()
+    checks.expect("a drop by two clicks", after(screen, "C*b2"))
+    screen.press("undo")
+    screen.drag(hand("C"), square("a3"))
+    checks.expect("a drop by dragging", after(screen, "C*a3"))
+    screen.press("undo")
+
+
+def keys(checks, screen, program):
+    screen.give(program.build("100", "A"))
+    screen.enter(PLAIN)
+    screen.focus(square("b1"))
+    screen.key("Enter", "ArrowUp", "ArrowLeft", "Enter")
+    checks.expect("a move by keys", after(screen, "Lb1-a2"))
+    screen.key("u")
+    checks.expect("u takes it back", screen.position(), PLAIN)
+    screen.key("r")
+    checks.expect("r makes it again", after(screen, "Lb1-a2"))
+    screen.key("f")
+    checks.expect("f turns the board", screen.js("document.querySelector('.square').dataset.square"), "2")
+    checks.expect("and the hands", screen.js("document.querySelector('.side').id"), "side-0")
+    screen.key("f", "h")
+    checks.expect("h hides the values", screen.value(), "")
+    screen.key("h")
+    checks.expect("and shows them", screen.value() != "")
+    screen.key("u", "n")
+    checks.expect("n plays the next move of the line", len(screen.record()), 2)
+    screen.js("document.getElementById('letters').click()")
+    screen.key("u")
+    checks.expect("letters can be switched off", len(screen.record()), 2)
+    screen.js("document.getElementById('letters').click()")
+    screen.focus(square("b1"))
+    screen.key("Enter", "Escape")
+    checks.expect("Escape lets go", screen.js("document.querySelectorAll('.square.chosen').length"), 0)
+
+
+def fingers(checks, screen, program):
+    screen.browser.size(360, 900, 2, True)
+    screen.open()
+    screen.give(program.build("100", "A"))
+    screen.enter(PLAIN)
+    screen.js("scrollTo(0, 0)")
+    screen.touch(square("b1"))
+    screen.touch(square("a2"))
+    checks.expect("a move by two taps", after(screen, "Lb1-a2"))
+    screen.touch(square("b4"), square("c4"))
+    checks.expect("a move by a finger's drag", after(screen, "Lb1-a2,lb4-c4"))
+    screen.browser.size(1180, 1000)
+    screen.open()
+
+
+def setting(checks, screen, program):
+    path = program.build("100", "A")
+    screen.give(path)
+    screen.press("start")
+    screen.press("edit")
+    screen.press("lions")
+    checks.expect("lions alone", screen.position(), ".l./.../.../.L. - -")
+    screen.drag(tool("C"), square("b2"))
+    checks.expect("a piece of the palette by dragging", screen.position(), PLAIN)
+    checks.expect("and its value", screen.value(), program.values(path, [PLAIN])[0])
+    screen.drag(square("b2"), square("c3"))
+    checks.expect("a piece of the board by dragging", screen.position(), ".l./..C/.../.L. - -")
+    screen.drag(square("c3"), hand("c"))
+    checks.expect("a piece into a hand", screen.position(), ".l./.../.../.L. - c")
+    screen.drag(hand("c"), square("a3"))
+    checks.expect("a piece out of a hand", screen.position(), ".l./c../.../.L. - -")
+    screen.drag(square("a3"), (screen.middle("#files")[0], 5))
+    checks.expect("a piece off the board", screen.position(), ".l./.../.../.L. - -")
+    screen.drag(square("b1"), square("b4"))
+    checks.expect("lions change places, which is no position", "E6" in screen.text("editor-fault"))
+    screen.drag(square("b4"), square("b1"))
+    screen.browser.click(tool("h"))
+    screen.browser.click(square("c2"))
+    screen.settle()
+    checks.expect("a chosen piece by a click", screen.position(), ".l./.../..h/.L. - -")
+    screen.browser.click(square("c2"))
+    screen.settle()
+    checks.expect("and taken away by another", screen.position(), ".l./.../.../.L. - -")
+    screen.focus(square("a2"))
+    screen.key("C")
+    checks.expect("a piece by its letter", screen.position(), ".l./.../C../.L. - -")
+    screen.key("Delete")
+    screen.focus(hand("C"))
+    screen.key("1")
+    checks.expect("a hand by a digit", screen.position(), ".l./.../.../.L. C -")
+    screen.press("move-1")
+    checks.expect("the other side to move", [screen.position(), screen.js("location.hash[1]")], [".l./.../.../.L. - c", "~"])
+    screen.key("0")
+    screen.focus(square("b1"))
+    screen.key("Delete")
+    checks.expect("a missing lion is told", "E4" in screen.text("editor-fault"))
+    checks.expect("and it can't be done", screen.js("document.getElementById('edit').disabled"))
+    screen.press("language")
+    checks.expect("in the other language too", screen.text("editor-fault"), screen.js("Texts.languages.ja.faults.E4") + "(E4)")
+    screen.press("language")
+    screen.key("L")
+    checks.expect("a lion that is back is no fault", screen.text("editor-fault"), "")
+    screen.choose("rules", "B")
+    screen.focus(square("a4"))
+    screen.key("C")
+    found = ["E26" in screen.text("editor-fault"), screen.value(), screen.told()]
+    checks.expect("a chick on its far row by rules B has no value", found, [True, "", "No position yet."])
+    screen.key("Delete")
+    screen.choose("rules", "A")
+    screen.press("edit")
+    checks.expect("done", [screen.js("document.getElementById('editor').hidden"), screen.position()], [True, ".l./.../.../.L. - -"])
+    screen.press("start")
+
+
+def no_values(screen):
+    """Whether no value is seen or heard anywhere but in what the reader asked for."""
+    return screen.value() == "" and not screen.seen("hasValues")
+
+
+def hidden(checks, screen, program):
+    screen.give(program.build("100", "A"))
+    screen.enter(PLAIN)
+    screen.press("hide")
+    screen.browser.click(square("b1"))
+    checks.expect("hidden values are nowhere", no_values(screen))
+    checks.expect("the moves are in move order then", [it for it in screen.moves()], ["Lb1-a1", "Lb1-c1", "Lb1-a2", "Lb1-c2", "Cb2-b3"])
+    screen.press("hide")
+    checks.expect("and shown again", not no_values(screen))
+
+
+def draw_one(screen):
+    screen.js("document.getElementById('draw').click()")
+    screen.settle("!/Drawing/.test(document.getElementById('task').textContent)")
+
+
+def exercises(checks, screen, program):
+    path = program.build("100", "A")
+    screen.give(path)
+    lengths = screen.js("[...document.getElementById('exercise-length').options].map(it => +it.value)")
+    counted = [int(line.split()[1]) for line in program.run("stats", "--db", path).split("\n") if line.startswith("win ") and len(line.split()) == 3]
+    checks.expect("the lengths that are offered", lengths, [plies for plies in counted if plies >= 3])
+    for plies in lengths[:4] + lengths[-1:]:
+        known = program.puzzles(path, plies)
+        screen.choose("exercise-length", str(plies))
+        for _ in range(3):
+            draw_one(screen)
+            if not known:
+                checks.expect(f"no exercise of {plies} plies is told", "was found" in screen.text("task"))
+                continue
+            position = screen.position()
+            checks.expect(f"the exercise {position} of {plies} plies is one", position in known)
+            checks.expect("its task", screen.text("task"), f"Forest is to move and wins in {plies} plies, by one move alone. Which?")
+            checks.expect("its values are hidden", [no_values(screen), screen.told()], [True, screen.text("task")])
+            right = known.get(position, "")
+            wrong = next((it for it in screen.moves() if it != right), None)
+            if wrong:
+                screen.play(wrong)
+                found = [screen.position(), screen.told().startswith(f"{wrong} isn't it ("), screen.told()]
+                checks.expect(f"{wrong} is refused", found, [position, True, screen.text("verdict")])
+            screen.play(right)
+            checks.expect(f"{right} is taken", [screen.record()[1:], screen.text("verdict"), screen.value() != ""], [[right], f"{right} is right.", True])
+    screen.choose("exercise-length", str(lengths[0]))
+    draw_one(screen)
+    screen.press("answer")
+    checks.expect("the answer is shown", screen.text("verdict"), f"The move is {program.puzzles(path, lengths[0])[screen.position()]}.")
+    screen.enter(PLAIN)
+    checks.expect("another position ends the exercise", screen.text("task"), "")
+    screen.open()
+    screen.js("Object.assign(Answers.limits, { small: 100, window: 200, sample: 200 })")  # so the file is a large one
+    screen.give(path)
+    for plies in lengths[:3]:
+        screen.choose("exercise-length", str(plies))
+        draw_one(screen)
+        checks.expect(f"an exercise of {plies} plies out of a window", screen.position() in program.puzzles(path, plies))
+    screen.open()
+
+
+def steps(checks, screen, program):
+    path = program.build("100", "A")
+    screen.give(path)
+    screen.enter(PLAIN)
+    line = program.line(path, PLAIN).split()
+    for number in range(len(line)):
+        screen.press("next")
+        checks.expect(f"{number + 1} plies of the line", screen.record()[1:], line[: number + 1])
+    checks.expect("no next move behind it", screen.js("document.getElementById('next').disabled"))
+    screen.enter("..l/.../L../... - -")
+    screen.give(program.build("000", "A"))
+    screen.press("play")
+    screen.settle("document.getElementById('play').textContent === 'Play out' && document.querySelectorAll('#record .move').length === 4")
+    checks.expect("a line that is played out", screen.record(), ["start", "La2-a3", "lc4-b4", "La3xb4"])
+    screen.enter("..l/.../L../... - -")
+    screen.js("document.querySelectorAll('#line .move')[1].click()")
+    screen.settle()
+    checks.expect("a line that is played up to a move", screen.record(), ["start", "La2-a3", "lc4-b4"])
+
+
+def topic(checks, screen, program):
+    screen.english()
+    for name, run in [("mouse", mouse), ("drops", drops), ("keys", keys), ("fingers", fingers), ("setting up", setting), ("hidden values", hidden),
+                      ("exercises", exercises), ("steps", steps)]:
+        checks.topic(f"handling, {name}", lambda: run(checks, screen, program))

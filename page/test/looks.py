@@ -1,0 +1,141 @@
+"""Both languages, widths, sizes, contrasts, what is heard, what is printed; and that nothing leaves the page."""
+import base64
+import json
+import re
+
+PLAIN = ".l./.../.C./.L. - -"
+WIDTHS = (320, 360, 480, 768, 1024, 1280, 1600)
+
+
+def languages(checks, screen, program):
+    screen.give(program.build("100", "A"))
+    screen.enter(PLAIN)
+    shapes = screen.seen("shapes")
+    checks.expect("both languages have the same texts", shapes[0], shapes[1])
+    for language, value, heading in [("en", "win 5", "Dobutsu shogi"), ("ja", "勝ち 5手", "どうぶつしょうぎ")]:
+        screen.language(language)
+        checks.expect(f"the value in {language}", screen.value(), value)
+        checks.expect(f"the heading in {language}", screen.js("document.querySelector('h1 span').textContent"), heading)
+        missing = screen.seen("missing")
+        checks.expect(f"texts that are missing in {language}", missing, [])
+        screen.choose("measure", "moves")
+        checks.expect(f"the value in moves in {language}", screen.value(), {"en": "wins in 3 moves", "ja": "3回で勝ち"}[language])
+        screen.choose("measure", "plies")
+    ours = screen.js("['Lion', 'Undo', 'Redo', 'Moves', 'Value', 'Forest', 'Sky', 'win ', 'plies'].filter(it => document.body.innerText.includes(it))")
+    checks.expect("English words left in Japanese", ours, [])
+    screen.open()
+    checks.expect("the language is kept", screen.js("document.documentElement.lang"), "ja")
+    screen.language("en")
+
+
+def widths(checks, screen, program):
+    screen.give(program.build("100", "A"))
+    screen.enter(PLAIN)
+    screen.press("edit")
+    screen.js("document.querySelectorAll('details').forEach(it => { it.open = true; })")
+    for language, measure in [("en", "plies"), ("en", "moves"), ("ja", "moves")]:
+        screen.language(language)
+        screen.choose("measure", measure)
+        for width in WIDTHS:
+            screen.browser.size(width, 900, 1, width < 500)
+            screen.settle()
+            checks.expect(f"nothing is wider than {width} pixels in {language}", screen.js("document.documentElement.scrollWidth"), width)
+            cut = screen.seen("cut")
+            checks.expect(f"texts that don't fit at {width} pixels in {language}", cut, [])
+            broken = screen.seen("onTwoLines")
+            checks.expect(f"values on two lines at {width} pixels in {language}", broken, [])
+            if width < 500:
+                checks.expect(f"what is too small for a finger at {width} pixels in {language}", screen.seen("tooSmall", 44, 36), [])
+            else:
+                checks.expect(f"what is too small for a pointer at {width} pixels in {language}", screen.seen("tooSmall", 24, 24), [])
+    screen.browser.size(1180, 1000)
+    screen.language("en")
+    screen.choose("measure", "plies")
+    screen.press("edit")
+
+
+def contrasts(checks, screen, program):
+    path = program.build("100", "A")
+    broken = program.folder / "broken.db"
+    broken.write_bytes(path.read_bytes()[:-1])
+    screen.give(path, broken)
+    for theme in ("light", "dark"):
+        while screen.js("document.documentElement.dataset.theme") != theme or screen.js("document.getElementById('theme').textContent") == "◐":
+            screen.press("theme")
+        checks.expect(f"marks that are too pale, {theme}", screen.seen("paleMarks"), [])
+        for text in (PLAIN, ".l./.../LC./... - -", "..l/.../L../... - C", "nothing"):
+            screen.enter(text)
+            screen.js("document.querySelector('#moves button') && document.querySelector('.square .piece').closest('.square').click()")
+            checks.expect(f"texts that are too pale, {theme}, {text}", screen.seen("tooPale"), [])
+        screen.press("edit")
+        checks.expect(f"texts that are too pale, {theme}, setting up", screen.seen("tooPale"), [])
+        screen.press("edit")
+    screen.press("theme")
+
+
+def heard(checks, screen, program):
+    screen.give(program.build("100", "A"))
+    screen.enter(PLAIN)
+    nodes = screen.browser.call("Accessibility.getFullAXTree")["nodes"]
+    told = [(n["role"]["value"], n.get("name", {}).get("value", "")) for n in nodes if not n.get("ignored") and "role" in n]
+    named = ("button", "textbox", "combobox", "checkbox", "group", "list")
+    checks.expect("controls without a name", [it for it in told if it[0] in named and not it[1] and it[0] != "list"], [])
+    names = [name for role, name in told if role == "button"]
+    for wanted in ("b1 Forest lion", "b2 Forest chick", "b4 Sky lion", "a1 empty", "Lb1-a2, lion b1 to a2, win 5", "Cb2-b3, chick b2 to b3, loss 6"):
+        checks.expect(f"{wanted!r} is heard", wanted in names)
+    checks.expect("the value is a status", [(n["role"]["value"]) for n in nodes if n.get("role", {}).get("value") == "status"] != [])
+    checks.expect("the value's text is in a live region", screen.js("document.getElementById('value').getAttribute('role')"), "status")
+    screen.play("Lb1-a2")
+    checks.expect("a move is told", screen.js("document.getElementById('live').textContent"), "Forest: Lb1-a2")
+    screen.language("ja")
+    checks.expect("a square in Japanese", screen.label("[data-square='3']"), "a2 もりのライオン")
+    screen.language("en")
+    labels = screen.seen("misnamed")
+    checks.expect("what is seen on a button is in its name", labels, [])
+
+
+def printed(checks, screen, program):
+    """A page of paper: the board with its position, and values only where they aren't hidden."""
+    screen.give(program.build("100", "A"))
+    screen.enter(PLAIN)
+    parts = ["table", "caption", "value-card", "moves-card", "line-card", "undo", "text-card", "help-card", "editor"]
+    for hide, wanted in [(False, ["table", "caption", "value-card", "moves-card", "line-card"]), (True, ["table", "caption"])]:
+        if hide:
+            screen.press("hide")
+        screen.browser.call("Emulation.setEmulatedMedia", media="print")
+        checks.expect(f"what is printed, values {'hidden' if hide else 'shown'}", screen.seen("visible", *parts), wanted)
+        checks.expect("the position's text is printed", screen.js("document.getElementById('caption').innerText"), f"Forest to move: {PLAIN}")
+        screen.browser.call("Emulation.setEmulatedMedia", media="")
+        paper = base64.b64decode(screen.browser.call("Page.printToPDF", paperWidth=8.27, paperHeight=11.69)["data"])
+        checks.expect("it is one page of paper", len(re.findall(rb"/Type\s*/Page\b", paper)), 1)
+    screen.press("hide")
+    screen.js("window.print = () => { window.wasPrinted = true; }")
+    screen.press("print")
+    checks.expect("the button prints", screen.js("window.wasPrinted"))
+
+
+# What a page might do to send something, and the rule of the policy that refuses it.
+ATTEMPTS = {
+    "a request": "connect-src", "a request to this machine": "connect-src", "a request of a file": "connect-src", "a beacon": "connect-src",
+    "a socket": "connect-src", "a picture": "img-src", "a script": "script-src-elem", "a frame": "frame-src", "a form": "form-action",
+}
+
+
+def private(checks, screen, program):
+    """By the browser's log of the whole run: nothing was asked for but the page itself, and nothing went wrong in it."""
+    events = screen.browser.events
+    asked = {it["params"]["request"]["url"].split("#")[0] for it in events if it["method"] == "Network.requestWillBeSent"}
+    checks.expect("what was asked for", {it for it in asked if not it.startswith(("data:", "blob:"))} - {screen.url, "about:blank"}, set())
+    wrong = [json.dumps(it)[:300] for it in events if it["method"] == "Runtime.exceptionThrown"]
+    checks.expect("exceptions", wrong, [])
+    said = [json.dumps(it["params"])[:300] for it in events if it["method"] in ("Runtime.consoleAPICalled", "Log.entryAdded")]
+    checks.expect("what the console says", said, [])
+    for what, rule in ATTEMPTS.items():
+        checks.expect(f"{what} is refused by the page's policy", screen.seen("refused", what), rule)
+
+
+def topic(checks, screen, program):
+    screen.english()
+    parts = [("languages", languages), ("widths", widths), ("contrasts", contrasts), ("what is heard", heard), ("paper", printed), ("privacy", private)]
+    for name, run in parts:
+        checks.topic(f"looks, {name}", lambda: run(checks, screen, program))

@@ -1,0 +1,117 @@
+"""The page as its reader sees it: positions entered, values, moves and lines read, clicks, drags, taps and keys."""
+import json
+import pathlib
+
+SEEN = (pathlib.Path(__file__).parent / "seen.js").read_text()
+SETTLED = "document.documentElement.dataset.busy === ''"
+
+
+class Screen:
+    def __init__(self, browser, page):
+        self.browser, self.url = browser, page.as_uri()
+        self.js = browser.js
+
+    def open(self, fragment=""):
+        self.browser.open(self.url + fragment)
+        self.js(SEEN)
+        self.settle()
+
+    def seen(self, name, *about):
+        """What a function of seen.js tells."""
+        return self.js(f"Seen.{name}({', '.join(map(json.dumps, about))})")
+
+    def settle(self, more="true"):
+        self.browser.wait(f"{SETTLED} && !!({more})")
+
+    def english(self):
+        self.language("en")
+
+    def language(self, name):
+        if self.js("document.documentElement.lang") != name:
+            self.press("language")
+
+    def press(self, button):
+        self.js(f"document.getElementById({json.dumps(button)}).click()")
+        self.settle()
+
+    def choose(self, select, value):
+        self.seen("choose", select, value)
+        self.settle()
+
+    def give(self, *files):
+        """Gives files, and waits until each of them is told as open or refused."""
+        self.js("document.getElementById('files').textContent = ''")
+        self.browser.give_files("#file", *files)
+        self.settle("document.querySelector('#files b') && document.querySelector('#exercise-card[aria-busy=false]')")
+
+    def enter(self, text):
+        self.seen("enter", text)
+        self.settle()
+
+    def text(self, name):
+        return self.js(f"document.getElementById({json.dumps(name)}).innerText.trim()")
+
+    def position(self):
+        return self.js("document.getElementById('text').value")
+
+    def value(self):
+        return self.js("document.querySelector('#value b').textContent")
+
+    def told(self):
+        return self.js("document.querySelector('#value span').textContent")
+
+    def moves(self):
+        return self.js("[...document.querySelectorAll('#moves button')].map(it => [...it.children].map(part => part.textContent).join(' '))")
+
+    def line(self):
+        return self.js("[...document.querySelectorAll('#line .move')].map(it => it.textContent).join(' ')")
+
+    def end(self):
+        return self.js("(document.querySelector('#line .end') || {textContent: ''}).textContent")
+
+    def record(self):
+        return self.js("[...document.querySelectorAll('#record .move')].map(it => it.textContent)")
+
+    def files(self):
+        return self.js("[...document.querySelectorAll('#files p')].map(it => [it.innerText.trim(), it.classList.contains('bad')])")
+
+    def label(self, selector):
+        return self.js(f"document.querySelector({json.dumps(selector)}).getAttribute('aria-label')")
+
+    def play(self, move):
+        """Plays the move of that text by its button in the list."""
+        self.js(f"[...document.querySelectorAll('#moves button')].find(it => it.firstChild.textContent === {json.dumps(move)}).click()")
+        self.settle()
+
+    def middle(self, selector):
+        return self.seen("middle", selector)
+
+    def drag(self, start, end):
+        """Drags with the mouse from the middle of an element to that of another one, or to a point."""
+        at, to = self.middle(start), end if isinstance(end, tuple) else self.middle(end)
+        mouse = lambda kind, x, y, held: self.browser.call("Input.dispatchMouseEvent", type=kind, x=x, y=y, button="left", buttons=held, clickCount=1)
+        mouse("mousePressed", *at, 1)
+        for part in (0.3, 0.7, 1):
+            mouse("mouseMoved", at[0] + part * (to[0] - at[0]), at[1] + part * (to[1] - at[1]), 1)
+        mouse("mouseReleased", *to, 0)
+        self.settle()
+
+    def touch(self, start, end=None):
+        """Taps an element, or drags from it to another one by a finger."""
+        at = self.middle(start)
+        finger = lambda kind, *points: self.browser.call("Input.dispatchTouchEvent", type=kind, touchPoints=[{"x": x, "y": y} for x, y in points])
+        finger("touchStart", at)
+        if end:
+            to = self.middle(end)
+            for part in (0.3, 0.7, 1):
+                finger("touchMove", (at[0] + part * (to[0] - at[0]), at[1] + part * (to[1] - at[1])))
+        finger("touchEnd")
+        self.settle()
+
+    def focus(self, selector):
+        self.js(f"document.querySelector({json.dumps(selector)}).focus()")
+
+    def key(self, *keys):
+        for key in keys:
+            self.browser.key(key)
+        self.settle()
