@@ -17,6 +17,9 @@ use std::alloc::{AllocError, Global};
 // Each share is that of the class's owner among so many.
 const OWNERS: usize = 3;
 
+// How many items the segments of the share's lists have: few, so that a list of a small set has many of them.
+const SEGMENT: u32 = 4;
+
 // A share numbers its settlements up to there.
 const MOST_SETTLED: u64 = 1 << 62;
 
@@ -43,7 +46,8 @@ pub(crate) fn about_cell(
 fn openings_of(alloc: Global, classes: &Classes, count: u64) -> Result<Segments<Opening>, Memory>
     requires { count ≤ classes_of classes.now.family }
 {
-    let mut openings = Segments::new(alloc, SegmentLength::longest());
+    let length = SegmentLength::of(SEGMENT).unwrap_or(SegmentLength::longest());
+    let mut openings = Segments::new(alloc, length);
     for class in 0..count {
         openings.push(opening_in(classes, class))?;
     }

@@ -107,8 +107,8 @@ fn tell_links<R: Print>(rt: &R, built: &Built) -> Result<()> {
     let mut batches: u64 = 0;
     let mut most: u64 = 0;
     for link in &built.links {
-        batches = batches.saturating_add(link.sent);
-        most = most.max(link.sent);
+        batches = batches.saturating_add(link.sent());
+        most = most.max(link.sent());
     }
     println!(rt; "sent {batches} batches, at most {most} over one link")?;
     Ok(())

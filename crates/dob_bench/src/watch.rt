@@ -60,6 +60,8 @@ impl<R: Clock> Gate for Watch<'_, R> {
     // It may answer both.
     ghost says = { λ _ _ _. Unit {0} };
 
+    ghost told = { λ _ _ _. Unit {0} };
+
     fn enter(&self, _node: usize) -> bool {
         let gone = self.gone();
         self.turns.fetch_add(1, Ordering::SeqCst);
@@ -69,6 +71,8 @@ impl<R: Clock> Gate for Watch<'_, R> {
         self.last.store(gone, Ordering::SeqCst);
         true
     }
+
+    fn worked(&self, _node: usize, _expanded: u64) {}
 }
 
 fn seconds_of(micros: u64) -> f64 {

@@ -1,4 +1,4 @@
-// What `probe --each` answers to the lines of standard input, by the file of lions alone, whose values were found apart from this program.
+// What `probe --each` and `look --each` answer to the lines of standard input, by the file of lions alone, whose values were found apart from this program.
 use crate::program::{Told, run_on};
 use crate::shelves::{put, removes};
 use crate::units::dbfile::files::first_file;
@@ -53,6 +53,8 @@ const ROWS: &[Row] = &[
 
 const WORDS: [&str; 4] = ["probe", "--db", FILE, "--each"];
 
+const LOOK: [&str; 4] = ["look", "--db", FILE, "--each"];
+
 // A shelf with that file.
 fn shelf(rt: &(impl Abort + AllocGlobal)) -> MemShelf {
     let mut shelf = MemShelf::new(rt.alloc());
@@ -65,19 +67,30 @@ fn told_of(
     rt: &(impl Abort + Threads + Wait + Sync + Console),
     alloc: Global,
     shelf: &mut MemShelf,
+    words: &[&str; 4],
     input: &[u8],
 ) -> Told {
     let mut bytes = Vec::new(alloc);
     assert!(rt; bytes.extend_from_slice(input).is_ok());
     shelf.set_input(bytes);
-    run_on(rt, alloc, shelf, &WORDS)
+    run_on(rt, alloc, shelf, words)
 }
 
 #[test]
 fn answers_to_lines(rt: HostRuntime) {
     let mut shelf = shelf(&rt);
     for (input, status, out) in ROWS {
-        let told = told_of(&rt, rt.alloc(), &mut shelf, input.as_bytes());
+        let told = told_of(&rt, rt.alloc(), &mut shelf, &WORDS, input.as_bytes());
+        assert!(rt; told.is(*status, out.as_bytes(), b""), "{input:?}");
+    }
+}
+
+// The same by each position's own record.
+#[test]
+fn answers_by_records(rt: HostRuntime) {
+    let mut shelf = shelf(&rt);
+    for (input, status, out) in ROWS {
+        let told = told_of(&rt, rt.alloc(), &mut shelf, &LOOK, input.as_bytes());
         assert!(rt; told.is(*status, out.as_bytes(), b""), "{input:?}");
     }
 }
@@ -86,7 +99,7 @@ fn answers_to_lines(rt: HostRuntime) {
 fn lines_that_are_no_text(rt: HostRuntime) {
     let mut shelf = shelf(&rt);
     let input = b"\xff\xfe\n..l/.../L../... - -\n\xe2\x82";
-    let told = told_of(&rt, rt.alloc(), &mut shelf, input);
+    let told = told_of(&rt, rt.alloc(), &mut shelf, &WORDS, input);
     assert!(rt; told.is(1, b"E1 Shape\nwin 3\nE1 Shape\n", b""));
 }
 
@@ -94,7 +107,7 @@ fn lines_that_are_no_text(rt: HostRuntime) {
 #[test]
 fn input_that_was_read(rt: HostRuntime) {
     let mut shelf = shelf(&rt);
-    let told = told_of(&rt, rt.alloc(), &mut shelf, b"..l/.../L../... - -");
+    let told = told_of(&rt, rt.alloc(), &mut shelf, &WORDS, b"..l/.../L../... - -");
     assert!(rt; told.is(0, b"win 3\n", b""));
     assert!(rt; run_on(&rt, rt.alloc(), &mut shelf, &WORDS).is(0, b"", b""));
 }
@@ -103,10 +116,22 @@ fn input_that_was_read(rt: HostRuntime) {
 #[test]
 fn lines_without_a_file(rt: HostRuntime) {
     let mut shelf = MemShelf::new(rt.alloc());
-    let told = told_of(&rt, rt.alloc(), &mut shelf, b"..l/.../L../... - -\n");
+    let told = told_of(
+        &rt,
+        rt.alloc(),
+        &mut shelf,
+        &WORDS,
+        b"..l/.../L../... - -\n",
+    );
     assert!(rt; told.is(3, b"", b"dobutsu: E24 Io\n"));
     assert!(rt; put(&mut shelf, FILE, b"DOBUTSU"));
-    let told = told_of(&rt, rt.alloc(), &mut shelf, b"..l/.../L../... - -\n");
+    let told = told_of(
+        &rt,
+        rt.alloc(),
+        &mut shelf,
+        &WORDS,
+        b"..l/.../L../... - -\n",
+    );
     assert!(rt; told.is(1, b"", b"dobutsu: E15 Truncated\n"));
 }
 

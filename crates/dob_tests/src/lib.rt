@@ -5,7 +5,11 @@
 #[cfg(test)]
 mod builds;
 #[cfg(test)]
+mod disk_order;
+#[cfg(test)]
 mod each;
+#[cfg(test)]
+mod long_lists;
 #[cfg(test)]
 mod moves;
 #[cfg(test)]

@@ -14,3 +14,17 @@ pub(crate) fn listed(rt: &impl Abort, alloc: Global, openings: &[Opening]) -> Se
     list.append(openings).expect(rt, "memory");
     list
 }
+
+/// Whether the lists have the same openings.
+pub(crate) fn are_same(scanned: &Segments<Opening>, listed: &Segments<Opening>) -> bool {
+    if scanned.len() != listed.len() {
+        return false;
+    }
+    for place in 0..scanned.len() {
+        let (one, other) = (scanned.get(place), listed.get(place));
+        if one.status != other.status || one.moves != other.moves {
+            return false;
+        }
+    }
+    true
+}

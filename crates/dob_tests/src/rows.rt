@@ -154,6 +154,18 @@ const FURTHER_ROWS: &[Row] = &[
     ),
     (&["stats", "--db", "lions.db"], 0, STATS_OF_000, ""),
     (
+        &["stats", "--csv", "--db", "lions.db"],
+        0,
+        "value,classes\ndraw,4\nloss 0,7\nwin 1,29\nloss 2,2\nwin 3,3\nloss 4,1\nwin 5,3\nloss 6,2\nwin 7,3\n",
+        "",
+    ),
+    (
+        &["best", "--db", "lions.db", WIN_3],
+        0,
+        "La2-a3 win 3\n",
+        "",
+    ),
+    (
         &["stats", "--db", "count.db"],
         1,
         "",

@@ -79,7 +79,7 @@ fn keeps_files<S: Shelf>(rt: &impl Abort, shelf: &mut S) {
 }
 
 // Neither a file that was removed is found, nor is one made where none can be.
-fn has_no_others<S: Shelf>(rt: &impl Abort, shelf: &mut S) {
+fn has_no_others<R: Abort + Files, I: Read>(rt: &R, shelf: &mut DiskShelf<'_, R, I>) {
     assert!(rt; shelf.find(NAME).err() == Some(ShelfFault::Failed));
     assert!(rt; shelf.make("no_such_folder/kept.db").err() == Some(ShelfFault::Failed));
     assert!(rt; shelf.make(".").err() == Some(ShelfFault::Failed));

@@ -182,8 +182,8 @@ fn what_waits_comes_back_in_order(rt: HostRuntime) -> Result<(), Fail> {
     leaves_three(&rt, &mut send, &mut take, &mut batches);
     let joined = rejoin(&rt, rt.alloc(), send, take);
     let joined = joined.ok().expect(&rt, "the inbox's end");
-    assert!(rt; (joined.sent, joined.received) == (4, 1));
-    let numbers = numbers_of(rt.alloc(), &joined.waiting)?;
+    assert!(rt; (joined.sent(), joined.received()) == (4, 1));
+    let numbers = numbers_of(rt.alloc(), joined.waiting())?;
     assert!(rt; numbers.as_slice() == [1, 2, 3].as_slice());
     Ok(())
 }
@@ -205,8 +205,8 @@ fn many_batches_between_two_threads(rt: HostRuntime) -> Result<(), Fail> {
         assert!(rt; in_order, "at {capacity}");
         let joined = rejoin(&rt, rt.alloc(), send, take);
         let joined = joined.ok().expect(&rt, "the inbox's end");
-        assert!(rt; (joined.sent, joined.received) == (10_000, 10_000));
-        assert!(rt; joined.waiting.is_empty());
+        assert!(rt; (joined.sent(), joined.received()) == (10_000, 10_000));
+        assert!(rt; joined.waiting().is_empty());
     }
     Ok(())
 }

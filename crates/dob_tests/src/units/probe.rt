@@ -3,8 +3,9 @@
 ghost use Rattle.std.specs.Prelude.{◌<◌};
 
 use crate::positions::position as position_of;
+use dob_check::{check, statistics};
 use dob_pieces::{Family, PieceSet, Position, Profile};
-use dob_probe::{Fault, check, line, probe, statistics, valued_moves};
+use dob_probe::{Fault, line, probe, valued_moves};
 use dob_rank::{size, unrank};
 use dob_text::write_move;
 use dob_value::{Table, Value, sweep_table, sweep_value};
@@ -101,7 +102,7 @@ const GROUPS: [(Value, u64, u64); 9] = [
 #[test]
 fn groups_of_lions_alone(rt: HostRuntime) -> Result<(), Fail> {
     let table = sweep_table(rt.alloc(), NO_PIECES)?;
-    let groups = statistics(rt.alloc(), &table)?;
+    let groups = statistics(&rt, rt.alloc(), &table)?;
     assert!(rt; groups.len() == 9);
     for (place, group) in groups.iter().enumerate() {
         let (value, classes, first) = *GROUPS.get(place).expect(&rt, "a group");

@@ -4,11 +4,12 @@ ghost use Rattle.dob_safra.specs.Laws.{IsSize};
 mod builds;
 mod turns;
 
+use crate::openings::are_same;
 use crate::sets::{classes_of, family_of};
 use dob_chan::Rejoined;
-use dob_node::{Cause, Opening, opening};
+use dob_node::{Cause, opening};
 use dob_pieces::Family;
-use dob_rank::{SegmentLength, Segments};
+use dob_rank::SegmentLength;
 use dob_run::{Built, Fault, Gate, Turned, Worker, run_turns, scan};
 use dob_value::{Table, Value};
 use std::alloc::Global;
@@ -65,10 +66,10 @@ fn is_done(built: &Built, n: usize) -> bool
         let link = &built.links[place];
         let posted = words[3 + place];
         let taken = words[3 + count + place];
-        if posted != link.sent || taken != link.sent || link.received != link.sent {
+        if posted != link.sent() || taken != link.sent() || link.received() != link.sent() {
             return false;
         }
-        if !link.waiting.is_empty() {
+        if !link.waiting().is_empty() {
             return false;
         }
     }
@@ -97,6 +98,8 @@ impl Gate for Meeting {
     // It may answer both.
     ghost says = { λ _ _ _. Unit {0} };
 
+    ghost told = { λ _ _ _. Unit {0} };
+
     fn enter(&self, node: usize) -> bool {
         let (mine, other) = if node == 0 {
             (&self.first, &self.second)
@@ -115,6 +118,8 @@ impl Gate for Meeting {
         }
         false
     }
+
+    fn worked(&self, _node: usize, _expanded: u64) {}
 }
 
 // Holds back node 1, and no other.
@@ -131,9 +136,13 @@ impl Gate for HoldsBackOne {
     // It may answer both.
     ghost says = { λ _ _ _. Unit {0} };
 
+    ghost told = { λ _ _ _. Unit {0} };
+
     fn enter(&self, node: usize) -> bool {
         node != 1
     }
+
+    fn worked(&self, _node: usize, _expanded: u64) {}
 }
 
 #[test]
@@ -143,20 +152,6 @@ fn many_threads_find_what_one_does(rt: HostRuntime) {
     let scanned = scan(&rt, rt.alloc(), &classes, length).expect(&rt, "openings");
     let listed = opening(rt.alloc(), &classes, length).expect(&rt, "openings");
     assert!(rt; scanned.len() == 1116 && are_same(&scanned, &listed));
-}
-
-// Whether the lists have the same openings.
-fn are_same(scanned: &Segments<Opening>, listed: &Segments<Opening>) -> bool {
-    if scanned.len() != listed.len() {
-        return false;
-    }
-    for place in 0..scanned.len() {
-        let (one, other) = (scanned.get(place), listed.get(place));
-        if one.status != other.status || one.moves != other.moves {
-            return false;
-        }
-    }
-    true
 }
 
 #[test]
@@ -176,7 +171,7 @@ fn a_node_that_is_held_back(rt: HostRuntime) {
 
 // Whether nothing went over the link.
 fn is_unused(link: &Rejoined) -> bool {
-    link.sent == 0 && link.received == 0 && link.waiting.is_empty()
+    link.sent() == 0 && link.received() == 0 && link.waiting().is_empty()
 }
 
 // Whether the worker's hands are empty.

@@ -194,3 +194,18 @@ fn worlds_of_lions_alone_make_the_table(rt: HostRuntime) -> Result<(), Fail> {
     }
     Ok(())
 }
+
+// A world that has done nothing shows the 33 of 54 classes that are settled before a move is made, and a draw for each other one.
+#[test]
+fn a_table_before_the_end(rt: HostRuntime) -> Result<(), Fail> {
+    let table = opened(&rt, rt.alloc(), 2).gather()?;
+    assert!(rt; table.class_count() == 54);
+    let mut settled = 0u64;
+    for class in 0..table.class_count() {
+        if table.value(class) != Value::Draw {
+            settled = settled.saturating_add(1);
+        }
+    }
+    assert!(rt; settled == 33);
+    Ok(())
+}

@@ -57,11 +57,11 @@ fn two_senders_share_an_inbox_for_two(rt: HostRuntime) -> Result<(), Fail> {
     let joined = rejoin_inbox(&rt, rt.alloc(), sends, take);
     let joined = joined.ok().expect(&rt, "the inbox's end");
     assert!(rt; joined.len() == 2);
-    assert!(rt; (joined[0].sent, joined[0].received) == (2, 1));
-    assert!(rt; (joined[1].sent, joined[1].received) == (1, 0));
-    let left = numbers_of(rt.alloc(), &joined[0].waiting)?;
+    assert!(rt; (joined[0].sent(), joined[0].received()) == (2, 1));
+    assert!(rt; (joined[1].sent(), joined[1].received()) == (1, 0));
+    let left = numbers_of(rt.alloc(), joined[0].waiting())?;
     assert!(rt; left.as_slice() == [1].as_slice());
-    let left = numbers_of(rt.alloc(), &joined[1].waiting)?;
+    let left = numbers_of(rt.alloc(), joined[1].waiting())?;
     assert!(rt; left.as_slice() == [0].as_slice());
     Ok(())
 }

@@ -1,5 +1,5 @@
-// Nodes whose lists have short segments: the same calls leave them the parts of nodes with long ones. `rt try --test --fail-alloc N --
-// segments_of_any_length` refuses the growth of that number; one of the openings or of a node's opening is then asked for again.
+// Nodes whose lists have short segments: the same calls leave them the parts of nodes with long ones. What a refused growth of such a list
+// leaves is a run of `tools/refuse-growths` over a question of `dob_answers`.
 ghost use Rattle.std.specs.Prelude.{◌≡◌, ◌<◌, None};
 ghost use Rattle.dob_node.specs.Nodes.{IsSound};
 ghost use Rattle.dob_node.specs.Openings.{AreOpenings};
@@ -73,4 +73,14 @@ fn segments_of_any_length(rt: HostRuntime) {
             "{items}"
         );
     }
+}
+
+// Room for as many items as a batch may have, and more, where memory is left.
+#[test]
+fn room_for_many_items(rt: HostRuntime) {
+    let classes = classes_of(&rt, rt.alloc(), "000");
+    let openings = openings_of(&rt, rt.alloc(), &classes, 1 << 20);
+    let mut node = open_node(&rt, rt.alloc(), &openings, classes.family, 0);
+    assert!(rt; node.reserve(4096).is_ok());
+    assert!(rt; node.reserve(100_000).is_ok());
 }

@@ -5,7 +5,7 @@ use dob_rank::{SegmentLength, Segments};
 use std::alloc::Global;
 use std::process::Abort;
 
-// Segments of so many items.
+// Segments of at most so many items.
 fn length_of(rt: &impl Abort, items: u32) -> SegmentLength {
     SegmentLength::of(items).expect(rt, "a length")
 }
@@ -104,9 +104,9 @@ fn lists_of_one_item(rt: HostRuntime) {
 fn lengths_of_segments(rt: HostRuntime) {
     assert!(rt; SegmentLength::of(0).is_none());
     assert!(rt; SegmentLength::of((1 << 20) + 1).is_none());
-    for items in [1, 7, 1 << 20] {
+    for (items, kept) in [(1, 1), (7, 4), (8, 8), (1 << 20, 1 << 20)] {
         let length = length_of(&rt, items);
-        assert!(rt; length.items() == items);
+        assert!(rt; length.items() == kept);
     }
     assert!(rt; SegmentLength::longest().items() == 1 << 20);
 }

@@ -1,13 +1,14 @@
-// Builds by threads: the same table by any number of nodes, and two nodes that must meet in each of their first turns.
+// Builds by threads: the same table by any number of nodes, what their gates are told, and two nodes that must meet in each of
+// their first turns.
 ghost use Rattle.std.specs.Prelude.{◌<◌};
 ghost use Rattle.dob_safra.specs.Laws.{IsSize};
 
 use super::{HELD, HoldsBackOne, Meeting, is_done, is_table_of_lions, lions};
-use dob_run::{Built, Free, run_nodes};
+use dob_run::{Built, Free, Gate, run_nodes};
 use std::alloc::Global;
 use std::process::Abort;
 use std::sync::Wait;
-use std::sync::atomic::Ordering;
+use std::sync::atomic::{AtomicU64, Ordering};
 use std::thread::Threads;
 
 // Builds lions alone by `n` nodes.
@@ -29,6 +30,46 @@ fn the_same_table_by_any_number_of_nodes(rt: HostRuntime) {
     builds(&rt, rt.alloc(), 16, 2);
 }
 
+// Adds up what it is told.
+#[derive(Drop)]
+struct Adding {
+    told: AtomicU64,
+}
+
+impl Gate for Adding {
+    // It may answer both.
+    ghost says = { λ _ _ _. Unit {0} };
+
+    ghost told = { λ _ _ _. Unit {0} };
+
+    fn enter(&self, _node: usize) -> bool {
+        true
+    }
+
+    fn worked(&self, _node: usize, expanded: u64) {
+        self.told.fetch_add(expanded, Ordering::SeqCst);
+    }
+}
+
+// Builds lions alone by `n` nodes: of the 54 classes all but the 4 draws are settled, and each settlement is expanded once.
+fn tells_each_settlement(rt: &(impl Threads + Wait + Abort + Sync), alloc: Global, n: usize)
+    requires { IsSize n }
+{
+    let gate = Adding {
+        told: AtomicU64::new(0),
+    };
+    let built = run_nodes(rt, alloc, lions(rt), n, 1, 1, &gate);
+    assert!(rt; built.is_ok());
+    assert!(rt; gate.told.load(Ordering::SeqCst) == 50, "by {n} nodes");
+}
+
+#[test]
+fn what_is_told_adds_up_to_the_settlements(rt: HostRuntime) {
+    tells_each_settlement(&rt, rt.alloc(), 1);
+    tells_each_settlement(&rt, rt.alloc(), 2);
+    tells_each_settlement(&rt, rt.alloc(), 16);
+}
+
 // Whether one of two nodes sent ten batches or more to the other, and neither moved more of them than it made turns.
 fn has_met(built: &Built, turns: [u64; 2], sender: usize, taker: usize) -> bool
     requires sender { sender < 2 }
@@ -39,7 +80,7 @@ fn has_met(built: &Built, turns: [u64; 2], sender: usize, taker: usize) -> bool
         return false;
     }
     let link = &built.links[place];
-    link.sent >= 10 && turns[sender] >= link.sent && turns[taker] >= link.received
+    link.sent() >= 10 && turns[sender] >= link.sent() && turns[taker] >= link.received()
 }
 
 #[test]

@@ -87,7 +87,7 @@ fn turn_to_the_end(
 
 // Whether each of two nodes has sent ten batches or more to the other.
 fn has_sent(built: &Built) -> bool {
-    built.links.len() == 4 && built.links[1].sent >= 10 && built.links[2].sent >= 10
+    built.links.len() == 4 && built.links[1].sent() >= 10 && built.links[2].sent() >= 10
 }
 
 #[test]
@@ -113,9 +113,13 @@ impl Gate for Counting {
     // It may answer both.
     ghost says = { λ _ _ _. Unit {0} };
 
+    ghost told = { λ _ _ _. Unit {0} };
+
     fn enter(&self, _node: usize) -> bool {
         self.asked.fetch_add(1, Ordering::SeqCst) < self.most
     }
+
+    fn worked(&self, _node: usize, _expanded: u64) {}
 }
 
 impl Counting {
@@ -166,12 +170,4 @@ fn sees_the_hold(
 fn held_after_three_turns(rt: HostRuntime) {
     let (classes, _board, mut first, mut second) = two_runners(&rt, rt.alloc());
     sees_the_hold(&rt, &mut first, &mut second, &classes, &Counting::new(3));
-}
-
-#[test]
-fn held_after_the_end(rt: HostRuntime) {
-    let (classes, _board, mut first, mut second) = two_runners(&rt, rt.alloc());
-    turn_to_the_end(&rt, &mut first, &mut second, &classes).expect(&rt, "an end");
-    let held = Err(Cause::Held);
-    answers(&rt, &mut second, &classes, &Counting::new(0), held);
 }
