@@ -1,0 +1,477 @@
+"""A reader of database files in plain Python: `python -m dobutsu.plain FILE POSITION..`, or a module.
+
+    from dobutsu import plain
+    db = plain.open_db("111.db")
+    db.value("..l/.../L../... C EG")   # "win 3", "loss 8" or "draw"
+    db.moves("..l/.../L../... C EG")   # [("La2-a3", "win 3"), ..], best first
+    db.stats()                          # how many classes have which value, and the longest ends
+
+Written from docs/FORMAT.md and docs/RULES.md alone, with the standard library alone. The file is mapped into memory and
+class numbers are computed, so that a value of a file of any set takes milliseconds. Files of both formats and both profiles
+are read. The digest is read through once when a file is opened; `open_db(path, check=False)` leaves it out. The program prints `win D`, `loss D` or `draw` for each
+position, or what is wrong with the file or a text on standard error, with status 1.
+"""
+import collections
+import functools
+import hashlib
+import itertools
+import math
+import mmap
+import sys
+
+PROFILES = "AB"
+KINDS = "CEG"  # chicks (hens counted with them), elephants, giraffes
+FORMS_OF = {"C": "CHch", "E": "Ee", "G": "Gg"}
+STEPS = {  # columns to the right and rows forward, of the mover
+    "L": [(-1, -1), (0, -1), (1, -1), (-1, 0), (1, 0), (-1, 1), (0, 1), (1, 1)],
+    "G": [(0, -1), (-1, 0), (1, 0), (0, 1)],
+    "E": [(-1, -1), (1, -1), (-1, 1), (1, 1)],
+    "C": [(0, 1)],
+    "H": [(0, -1), (-1, 0), (1, 0), (-1, 1), (0, 1), (1, 1)],
+}
+
+
+class Wrong(Exception):
+    """What is wrong with a file or a text."""
+
+
+# ---- positions: the twelve squares from a1 to c4, and the mover's and the enemy's hand as numbers of C, E and G
+
+
+def kind_of(letter):
+    return "C" if letter in "CHch" else letter.upper()
+
+
+def read_hand(word, letters):
+    numbers = tuple(word.count(letter) for letter in letters)
+    if word != "-" and word != "".join(letter * n for letter, n in zip(letters, numbers)):
+        raise Wrong("E3 Hand")
+    return numbers
+
+
+def read_position(text):
+    rows, hands = text[:15].split("/"), text[15:].split(" ")
+    is_shape = text.isascii() and [len(row) for row in rows] == [3] * 4 and " " not in text[:15]
+    if not is_shape or len(hands) != 3 or hands[0] or not all(hands[1:]):
+        raise Wrong("E1 Shape")
+    squares = "".join(reversed(rows))
+    if not all(letter in ".LGECHlgech" for letter in squares):
+        raise Wrong("E2 Letter")
+    position = squares, read_hand(hands[1], "CEG"), read_hand(hands[2], "ceg")
+    if squares.count("L") != 1 or squares.count("l") != 1:
+        raise Wrong("E4 Lions")
+    if max(set_of(position)) > 2:
+        raise Wrong("E5 Count")
+    if squares.index("L") >= 9:
+        raise Wrong("E6 FarLion")
+    return position
+
+
+def write_position(position):
+    squares, mover, enemy = position
+    rows = "/".join(squares[row : row + 3] for row in (9, 6, 3, 0))
+    hand = lambda numbers, letters: "".join(letter * n for letter, n in zip(letters, numbers)) or "-"
+    return f"{rows} {hand(mover, 'CEG')} {hand(enemy, 'ceg')}"
+
+
+def mirrored_square(square):
+    return square + 2 - 2 * (square % 3)
+
+
+def mirrored(position):
+    squares, mover, enemy = position
+    return "".join(squares[mirrored_square(s)] for s in range(12)), mover, enemy
+
+
+def turned(position):
+    squares, mover, enemy = position
+    return squares[::-1].swapcase(), enemy, mover
+
+
+def places(squares, kind):
+    return [s for s in range(12) if squares[s] not in ".Ll" and kind_of(squares[s]) == kind]
+
+
+def set_of(position):
+    squares, mover, enemy = position
+    return tuple(len(places(squares, kind)) + mover[i] + enemy[i] for i, kind in enumerate(KINDS))
+
+
+def may_stand(profile, letter, square):
+    """In profile B no chick stands on its own far row."""
+    return profile == "A" or not (letter == "C" and square >= 9 or letter == "c" and square < 3)
+
+
+# ---- moves: (letter, from-square or None, to-square), in move order
+
+
+def steps_from(squares, start):
+    letter = squares[start]
+    for column, row in STEPS[letter]:
+        if 0 <= start % 3 + column < 3 and 0 <= start // 3 + row < 4:
+            end = start + column + 3 * row
+            if not squares[end].isupper():
+                yield letter, start, end
+
+
+def all_moves(profile, position):
+    """The steps, those onto the enemy's lion too, and the drops."""
+    squares, mover, _enemy = position
+    steps = [move for s in range(12) if squares[s].isupper() for move in sorted(steps_from(squares, s))]
+    drops = [(KINDS[i], None, s) for i in range(3) if mover[i] for s in range(12)]
+    return steps, [move for move in drops if squares[move[2]] == "." and may_stand(profile, move[0], move[2])]
+
+
+def status_and_moves(profile, position):
+    """The status, and the moves: just the first catch at `caught`, none at `tried` and `stuck`."""
+    squares = position[0]
+    steps, drops = all_moves(profile, position)
+    catches = [move for move in steps if squares[move[2]] == "l"]
+    if catches:
+        return "caught", catches[:1]
+    if squares.index("l") < 3:
+        return "tried", []
+    return ("open", steps + drops) if steps or drops else ("stuck", [])
+
+
+def grows(move):
+    return move[0] == "C" and move[1] is not None and move[2] >= 9
+
+
+def apply(position, move):
+    """The position after the move of an open one, seen from the other side."""
+    squares, mover, enemy = list(position[0]), list(position[1]), position[2]
+    letter, start, end = move
+    if start is None:
+        mover[KINDS.index(letter)] -= 1
+    else:
+        if squares[end] != ".":
+            mover[KINDS.index(kind_of(squares[end]))] += 1
+        squares[start] = "."
+    squares[end] = "H" if grows(move) else letter
+    return turned(("".join(squares), tuple(mover), enemy))
+
+
+def square_name(square):
+    return "abc"[square % 3] + str(square // 3 + 1)
+
+
+def move_text(position, move):
+    letter, start, end = move
+    if start is None:
+        return f"{letter}*{square_name(end)}"
+    way = "-" if position[0][end] == "." else "x"
+    return letter + square_name(start) + way + square_name(end) + ("+" if grows(move) else "")
+
+
+# ---- class numbers
+#
+# The positions with the same numbers on the board, in the mover's hand and the same lions are a run. In a run a place is six
+# digits: which squares the chicks, the elephants and the giraffes have, and their forms. Where the lions aren't both on
+# column b they say which of two mirror images is earlier; else the first digit that differs from the image's does.
+
+
+@functools.cache
+def choices(squares, number):
+    """The ways to choose so many of the squares, in order, with the number of each."""
+    listed = list(itertools.combinations(squares, number))
+    return listed, {chosen: i for i, chosen in enumerate(listed)}
+
+
+@functools.cache
+def forms(profile, kind, squares):
+    """The forms that pieces of the kind may have on those squares, in order, with the number of each."""
+    letters = [[letter for letter in FORMS_OF[kind] if may_stand(profile, letter, square)] for square in squares]
+    listed = list(itertools.product(*letters))
+    return listed, {chosen: i for i, chosen in enumerate(listed)}
+
+
+class Run:
+    """The places of the runs with these numbers on the board and these lions."""
+
+    def __init__(self, profile, on, lions):
+        self.profile, self.on, self.lions = profile, on, lions
+        own, other = lions
+        image = mirrored_square(own), mirrored_square(other)
+        self.order = (lions > image) - (lions < image)  # -1: each is the earlier one, 1: the later one, 0: mixed
+        free = [10, 10 - on[0], 10 - on[0] - on[1]]
+        # how many ways there are from a digit on, but for what the chicks have
+        bases = [1, math.comb(free[1], on[1]), math.comb(free[2], on[2]), 1, 2 ** on[1], 2 ** on[2]]
+        self.others = [math.prod(bases[digit:]) for digit in range(7)]
+
+    def options(self, chosen, digit):
+        """What may be chosen next, with the number of each: squares, and then their forms."""
+        if digit < 3:
+            taken = set(self.lions).union(*chosen)
+            return choices(tuple(s for s in range(12) if s not in taken), self.on[digit])
+        return forms(self.profile, KINDS[digit - 3], chosen[digit - 3])
+
+    @functools.cached_property
+    def size(self):
+        """How many places there are."""
+        return sum(self.ways((squares,), 1) for squares in self.options((), 0)[0])
+
+    def ways(self, chosen, digit):
+        """How many ways there are to go on."""
+        if digit == 0:
+            return self.size
+        return self.others[digit] * (len(forms(self.profile, "C", chosen[0])[0]) if digit <= 3 else 1)
+
+    def image(self, chosen, digit, option):
+        """The number of the image's option, where the digits before are those of the image."""
+        numbers = self.options(chosen, digit)[1]
+        if digit < 3:
+            return numbers[tuple(sorted(mirrored_square(s) for s in option))]
+        seen = sorted((mirrored_square(s), form) for s, form in zip(chosen[digit - 3], option))
+        return numbers[tuple(form for _, form in seen)]
+
+    @functools.cache
+    def fixed(self, chosen, digit):
+        """How many ways to go on are their own images."""
+        if digit == 6:
+            return 1
+        listed = enumerate(self.options(chosen, digit)[0])
+        return sum(self.fixed(chosen + (option,), digit + 1) for i, option in listed if self.image(chosen, digit, option) == i)
+
+    def earlier(self, chosen, digit, number, option):
+        """How many ways to go on from the option of that number are no later than their images."""
+        image = self.image(chosen, digit, option)
+        chosen += (option,)
+        if image == number:
+            return (self.ways(chosen, digit + 1) + self.fixed(chosen, digit + 1)) // 2
+        return self.ways(chosen, digit + 1) if image > number else 0
+
+    @functools.cached_property
+    def count(self):
+        if self.order:
+            return self.size if self.order < 0 else 0
+        return (self.size + self.fixed((), 0)) // 2
+
+    def number(self, options, digit):
+        """How many places with the same options before a digit come before that one."""
+        total = 0
+        for at in range(digit, 6):
+            listed, numbers = self.options(options[:at], at)
+            total += sum(self.ways(options[:at] + (option,), at + 1) for option in listed[: numbers[options[at]]])
+        return total
+
+    def before(self, options, digit=0):
+        """How many representatives of the run with the same options before a digit come before that place."""
+        if self.order:
+            return self.number(options, 0) if self.order < 0 else 0
+        if digit == 6:
+            return 0
+        chosen = options[:digit]
+        listed, numbers = self.options(chosen, digit)
+        number, image = numbers[options[digit]], self.image(chosen, digit, options[digit])
+        total = sum(self.earlier(chosen, digit, i, option) for i, option in enumerate(listed[:number]))
+        if image == number:
+            return total + self.before(options, digit + 1)
+        return total + self.number(options, digit + 1) if image > number else total
+
+    def options_at(self, number):
+        """The place of the representative with so many before it in the run."""
+        chosen, is_mixed = (), not self.order
+        for digit in range(6):
+            for i, option in enumerate(self.options(chosen, digit)[0]):
+                some = self.earlier(chosen, digit, i, option) if is_mixed else self.ways(chosen + (option,), digit + 1)
+                if number < some:
+                    break
+                number -= some
+            is_mixed = is_mixed and self.image(chosen, digit, option) == i
+            chosen += (option,)
+        return chosen
+
+
+LIONS = [(own, other) for own in range(9) for other in range(12) if own != other]
+
+
+@functools.cache
+def run_of(profile, on, lions):
+    return Run(profile, on, lions)
+
+
+@functools.cache
+def in_hand(profile, on):
+    """How many representatives the runs of one hand have."""
+    return sum(run_of(profile, on, lions).count for lions in LIONS)
+
+
+def hands_of(pieces, on):
+    return list(itertools.product(*(range(n - m + 1) for n, m in zip(pieces, on))))
+
+
+def boards_of(pieces):
+    return list(itertools.product(*(range(n + 1) for n in pieces)))
+
+
+@functools.cache
+def class_count(profile, pieces):
+    return sum(len(hands_of(pieces, on)) * in_hand(profile, on) for on in boards_of(pieces))
+
+
+def place_of(profile, position):
+    """The run of a position and its place there, with the number of each option."""
+    squares = position[0]
+    on = tuple(tuple(places(squares, kind)) for kind in KINDS)
+    run = run_of(profile, tuple(map(len, on)), (squares.index("L"), squares.index("l")))
+    options = on + tuple(tuple(squares[s] for s in on[i]) for i in range(3))
+    return run, options, [run.options(options[:digit], digit)[1][options[digit]] for digit in range(6)]
+
+
+def class_number(profile, position):
+    """How many representatives stand before that of the position."""
+    pieces, mover = set_of(position), position[1]
+    run, options, digits = place_of(profile, position)
+    image_run, image_options, image_digits = place_of(profile, mirrored(position))
+    if (image_run.lions, image_digits) < (run.lions, digits):
+        run, options = image_run, image_options
+    total = sum(len(hands_of(pieces, on)) * in_hand(profile, on) for on in boards_of(pieces) if on < run.on)
+    total += hands_of(pieces, run.on).index(mover) * in_hand(profile, run.on)
+    total += sum(run_of(profile, run.on, lions).count for lions in LIONS if lions < run.lions)
+    return total + run.before(options)
+
+
+def position_at(profile, pieces, number):
+    """The representative of the class of that number."""
+    for on in boards_of(pieces):
+        hands = hands_of(pieces, on)
+        if number < len(hands) * in_hand(profile, on):
+            break
+        number -= len(hands) * in_hand(profile, on)
+    hand, number = divmod(number, in_hand(profile, on))
+    for lions in LIONS:
+        run = run_of(profile, on, lions)
+        if number < run.count:
+            break
+        number -= run.count
+    options = run.options_at(number)
+    squares = ["."] * 12
+    squares[lions[0]], squares[lions[1]] = "L", "l"
+    for i in range(3):
+        for square, letter in zip(options[i], options[3 + i]):
+            squares[square] = letter
+    mover = hands[hand]
+    return "".join(squares), mover, tuple(n - m - h for n, m, h in zip(pieces, on, mover))
+
+
+# ---- files
+
+
+def value_text(record):
+    if record == 0:
+        return "draw"
+    distance = record - 1
+    return ("win " if distance % 2 else "loss ") + str(distance)
+
+
+def after_move(record):
+    """The value of a move, as its side sees it, by the record of what it leads to."""
+    return value_text(record + 1) if record else "draw"
+
+
+def rank_of(value):
+    """Best first: wins by the least distance, draws, losses by the greatest."""
+    kind, _, distance = value.partition(" ")
+    return {"win": (0, int(distance or 0)), "draw": (1, 0), "loss": (2, -int(distance or 0))}[kind]
+
+
+class Db:
+    """A database file that is open."""
+
+    def __init__(self, data, check=True):
+        """The tests are made in the order of docs/FORMAT.md; the digest is left out unless it is to be checked."""
+        if len(data) < 20:
+            raise Wrong("E15 Truncated")
+        if data[:8] not in (b"DOBUTSU1", b"DOBUTSU2"):
+            raise Wrong("E16 Magic")
+        self.pieces = tuple(data[8:11])
+        if max(self.pieces) > 2 or data[11] != 2:
+            raise Wrong("E17 SetByte")
+        self.profile, self.start = "A", 20
+        if data[7:8] == b"2":
+            if len(data) < 21:
+                raise Wrong("E15 Truncated")
+            if data[12] > 1:
+                raise Wrong("E27 ProfileByte")
+            self.profile, self.start = PROFILES[data[12]], 21
+        self.count = int.from_bytes(data[self.start - 8 : self.start], "little")
+        if self.count != class_count(self.profile, self.pieces):
+            raise Wrong("E18 ClassCount")
+        end = self.start + 2 * self.count
+        if len(data) < end + 32:
+            raise Wrong("E15 Truncated")
+        if len(data) > end + 32:
+            raise Wrong("E19 Trailing")
+        if check:
+            digest = hashlib.sha256()
+            for start in range(0, end, 1 << 20):
+                digest.update(data[start : min(start + (1 << 20), end)])
+            if data[end:] != digest.digest():
+                raise Wrong("E20 Digest")
+        self.data = data
+
+    def record(self, position):
+        if not all(may_stand(self.profile, letter, square) for square, letter in enumerate(position[0])):
+            raise Wrong("E26 FarChick")
+        if set_of(position) != self.pieces:
+            raise Wrong("E7 OtherSet")
+        place = self.start + 2 * class_number(self.profile, position)
+        return int.from_bytes(self.data[place : place + 2], "little")
+
+    def value(self, text):
+        """The value of the position of that text: `win D`, `loss D` or `draw`."""
+        return value_text(self.record(read_position(text)))
+
+    def moves(self, text):
+        """Each move of the position with its value for the side that makes it, best first, equal ones in move order."""
+        position = read_position(text)
+        self.record(position)
+        status, moves = status_and_moves(self.profile, position)
+        if status == "caught":
+            return [(move_text(position, moves[0]), "win 1")]
+        valued = [(move_text(position, move), after_move(self.record(apply(position, move)))) for move in moves]
+        return sorted(valued, key=lambda pair: rank_of(pair[1]))
+
+    def stats(self):
+        """How many classes have which value, and the first class of the longest win and of the longest loss, as texts."""
+        counts, first = collections.Counter(), {}
+        for start in range(0, self.count, 1 << 16):
+            many = min(1 << 16, self.count - start)
+            place = self.start + 2 * start
+            records = memoryview(self.data[place : place + 2 * many]).cast("H")
+            for record, number in collections.Counter(records).items():
+                counts[record] += number
+                if record not in first:
+                    first[record] = start + records.tolist().index(record)
+        told = {"classes": self.count, "draw": counts[0], "win": {}, "loss": {}, "longest": {}}
+        for record in sorted(counts):
+            if record:
+                kind, distance = value_text(record).split(" ")
+                told[kind][int(distance)] = counts[record]
+                told["longest"][kind] = int(distance), write_position(position_at(self.profile, self.pieces, first[record]))
+        return told
+
+
+def open_db(path, check=True):
+    """The database file of that name, mapped into memory."""
+    with open(path, "rb") as file:
+        if file.seek(0, 2) == 0:
+            raise Wrong("E15 Truncated")
+        return Db(mmap.mmap(file.fileno(), 0, access=mmap.ACCESS_READ), check)
+
+
+def main():
+    if len(sys.argv) < 3:
+        sys.exit("usage: python -m dobutsu.plain FILE POSITION..")
+    try:
+        db = open_db(sys.argv[1])
+        for text in sys.argv[2:]:
+            print(db.value(text))
+    except Wrong as wrong:
+        print(wrong, file=sys.stderr)
+        sys.exit(1)
+
+
+if __name__ == "__main__":
+    main()
