@@ -1,0 +1,154 @@
+# Builds: their files by any number of nodes and by both rules, and what a build that fails or is killed leaves.
+# Takes minutes.
+
+# Builds: the files of testdata in the second format again, by any number of nodes and over what was there; and then they are asked. Other files stay.
+built="$work/built.db"
+other="$work/a b.db"
+of_lions=$'classes 54\nwin 38\nloss 12\ndraw 4'
+of_chick=$'classes 2124\nwin 1553\nloss 527\ndraw 44'
+expect 0 '~^classes 1116$' '' build --set=001 --nodes=16 --out="$other"
+expect 0 '~^classes 1116$' '' build --set 001 --nodes 1 --out "$built"
+for case in '100|1|one_chick_2' '000|2|lions_alone_2' '000|1|lions_alone_2' '100|2|one_chick_2' '000|3|lions_alone_2' \
+    '100|3|one_chick_2' '000|16|lions_alone_2' '000|+02|lions_alone_2'; do
+    IFS='|' read -r set nodes name <<<"$case"
+    if [ "$set" = 000 ]; then lines="$of_lions"; else lines="$of_chick"; fi
+    expect 0 "$lines" '' build --set "$set" --nodes "$nodes" --out "$built"
+    if cmp -s "$built" "testdata/$name.db"; then good=yes; else good=no; fi
+    note "the file of $set by $nodes nodes is testdata/$name.db" "$good"
+done
+expect 0 'consistent' '' check --db "$other"
+expect 0 "$of_lions" '' build --nodes=+016 --out "$other" --set 000
+expect 0 'consistent' '' check --db "$other"
+expect 0 'consistent' '' check --db "$built"
+expect 0 'win 3' '' probe --db "$built" "$position"
+expect 0 'La2-a3 lc4-b4 La3xb4' '' line --db "$built" "$position"
+# watched, a build says on standard error what memory it takes, and all else is the same; of a check of so few classes no line is due
+expect 0 "$of_lions" '~^some 1 MB of memory for 54 classes$' build --set 000 --progress --nodes 2 --out "$other"
+if cmp -s "$other" "$built"; then good=yes; else good=no; fi
+note "the file of a watched build" "$good"
+expect 0 '~^classes 765360$' '~^some 7 MB of memory for 765360 classes$' build --set 111 --nodes 2 --out "$other" --progress
+# by one node, whose list of counts has a second segment: 1.58 million moves
+expect 0 '~^classes 765360$' '' build --set 111 --nodes 1 --out "$work/alone.db"
+if cmp -s "$other" "$work/alone.db"; then good=yes; else good=no; fi
+note "the file of 111 by one node is that by two" "$good"
+rm -f "$work/alone.db"
+expect 0 'consistent' '' check --progress --db "$built"
+expect 1 '' 'dobutsu: E25 SetText' build --set 003 --nodes 2 --out "$other" --progress
+expect 3 '' 'dobutsu: E24 Io' check --progress --db "$work/none.db"
+# by rules B: of lions alone the files differ in byte 12 and the digest alone; with a chick fewer classes, and E26 before E7
+ruled="$work/ruled.db"
+expect 0 "$of_lions" '' build --set 000 --rules B --nodes 2 --out "$ruled"
+expect 0 'consistent' '' check --db "$ruled"
+if [ "$(cmp -l "$ruled" "$lions_2" | awk '$1 < 130 { print $1, $2, $3 }')" = '13 1 0' ] && [ "$(wc -c <"$ruled")" = 161 ]; then good=yes; else good=no; fi
+note "the files of lions alone by both rules differ in byte 12 and the digest alone" "$good"
+expect 1 '' 'dobutsu: E26 FarChick' probe --db "$ruled" "$far_chick"
+expect 1 '' 'dobutsu: E7 OtherSet' probe --db "$ruled" '..l/.../.../L.. C -'
+expect 0 '~^classes 1864$' '' build --set 100 --nodes 3 --out "$ruled" --rules=B
+expect 0 'consistent' '' check --db "$ruled"
+for words in probe line moves look 'show --db'; do
+    read -r -a given <<<"$words"
+    [ "${#given[@]}" = 2 ] || given+=(--db)
+    expect 1 '' 'dobutsu: E26 FarChick' "${given[@]}" "$ruled" "$far_chick"
+    expect 1 '' 'dobutsu: E26 FarChick' "${given[@]}" "$ruled" 'C.l/.../.../L.. C -'
+done
+expect 0 'classes 1864' '' migrate --db "$ruled" --out "$work/migrated.db"
+if cmp -s "$work/migrated.db" "$ruled"; then good=yes; else good=no; fi
+note "a file of rules B migrated is the same file" "$good"
+expect 1 '' 'dobutsu: E25 SetText' build --set 3 --nodes 0 --out "$work/refused.db"
+expect 1 '' 'dobutsu: E9 Nodes' build --set 222 --nodes 0 --out "$work/refused.db"
+expect 1 '' 'dobutsu: E9 Nodes' build --set 000 --nodes 0 --out "$work/refused.db"
+expect 1 '' 'dobutsu: E9 Nodes' build --set 000 --nodes 17 --out "$work/refused.db"
+expect 1 '' 'dobutsu: E9 Nodes' build --set 000 --nodes 18446744073709551615 --out "$work/refused.db"
+if [ -e "$work/refused.db" ]; then good=no; else good=yes; fi
+note "a refused build makes no file" "$good"
+expect 3 '' 'dobutsu: E24 Io' build --set 000 --nodes 2 --out "$work/none/built.db"
+expect 3 '' 'dobutsu: E24 Io' build --set 000 --nodes 2 --out "$work"
+if [ -c /dev/full ]; then expect 3 '' 'dobutsu: E24 Io' build --set 000 --nodes 2 --out /dev/full; fi
+
+# A file is as it was until the new one is whole: where a build is killed at some moment, where the disk takes no more, and
+# where a part of a killed build is left. Afterwards there is no part.
+cp testdata/lions_alone.db "$work/kept.db"
+printf 'left' >"$work/kept.db.part"
+expect 0 "$of_chick" '' build --set 100 --nodes 2 --out "$work/kept.db"
+if cmp -s "$work/kept.db" testdata/one_chick_2.db && [ ! -e "$work/kept.db.part" ]; then good=yes; else good=no; fi
+note "a build over a file, and over a part that was left" "$good"
+same=yes
+for moment in $(seq 20); do
+    cp testdata/lions_alone.db "$work/kept.db"
+    (timeout -s KILL "0.0$(printf '%02d' "$moment")" "$top/crates/dobutsu/out/dobutsu" build --set 100 --nodes 4 --out "$work/kept.db" \
+        || true) >"$work/out" 2>&1
+    cmp -s "$work/kept.db" testdata/lions_alone.db || cmp -s "$work/kept.db" testdata/one_chick_2.db || same=no
+done
+note "builds killed at 20 moments leave the file as it was, or whole" "$same"
+cp testdata/lions_alone.db "$work/kept.db"
+(ulimit -f 2; trap '' XFSZ; "$top/crates/dobutsu/out/dobutsu" build --set 100 --nodes 2 --out "$work/kept.db") >"$work/out" 2>"$work/err" && status=0 || status=$?
+if [ "$status" = 3 ] && [ "$(cat "$work/err")" = 'dobutsu: E24 Io' ] && cmp -s "$work/kept.db" testdata/lions_alone.db \
+    && [ ! -e "$work/kept.db.part" ]; then good=yes; else good=no; fi
+note "a build whose file may not grow leaves the one that was there, and no part" "$good"
+expect 0 '~^classes 54$' '' build --set 000 --nodes 2 --out /dev/null
+# a link stays, and what it leads to is written
+cp testdata/lions_alone.db "$work/behind.db"
+ln -s behind.db "$work/link.db"
+expect 0 "$of_chick" '' build --set 100 --nodes 2 --out "$work/link.db"
+if [ -L "$work/link.db" ] && cmp -s "$work/behind.db" testdata/one_chick_2.db && [ ! -e "$work/link.db.part" ]; then good=yes; else good=no; fi
+note "a build to a link's name writes what the link leads to" "$good"
+
+# Folders that take no file: where none can be made, on a file system of 1 MB that fills up, and on one that can only be read. The
+# file that was there stays, and no part is left. The two file systems need a room of their own, which not each system gives.
+if [ -d /proc ]; then expect 3 '' 'dobutsu: E24 Io' build --set 000 --nodes 2 --out /proc/built.db; fi
+mkdir "$work/small"
+no_room() {
+    local good=no
+    # shellcheck disable=SC2016
+    if unshare -rm bash -c '
+        mount -t tmpfs -o size=1m none "$1" && cp testdata/lions_alone.db "$1/kept.db" && mount -o "remount,size=1m,$3" "$1" || exit 1
+        "$2" build --set 111 --nodes 4 --out "$1/kept.db"
+        [ "$?" = 3 ] && cmp -s "$1/kept.db" testdata/lions_alone.db && [ "$(ls "$1")" = kept.db ]
+    ' bash "$work/small" "$top/crates/dobutsu/out/dobutsu" "$1" >"$work/out" 2>"$work/err" && [ ! -s "$work/out" ] \
+        && holds "$work/err" 'dobutsu: E24 Io'; then good=yes; fi
+    note "a build on a file system of 1 MB, mounted $1: $(head -c 80 "$work/err")" "$good"
+}
+if unshare -rm mount -t tmpfs -o size=1m none "$work/small" 2>/dev/null; then
+    no_room rw
+    no_room ro
+else
+    echo 'Not run: a build on a file system of 1 MB, since none can be mounted here (unshare, mount).'
+fi
+
+# Two builds to one name at once: the file is whole afterwards, there is no part, and whoever hasn't made it says so.
+same=yes
+for turn in $(seq 20); do
+    if [ $((turn % 2)) = 0 ]; then set=000; else set=100; fi
+    rm -f "$work/kept.db"
+    "$top/crates/dobutsu/out/dobutsu" build --set 100 --nodes 2 --out "$work/kept.db" >"$work/out" 2>"$work/err" &
+    first=$!
+    later=0
+    "$top/crates/dobutsu/out/dobutsu" build --set "$set" --nodes 2 --out "$work/kept.db" >"$work/later" 2>"$work/later_err" || later=$?
+    wait "$first" && first=0 || first=$?
+    case "$first$later" in
+        00) [ ! -s "$work/err" ] && [ ! -s "$work/later_err" ] ;;
+        03) [ ! -s "$work/err" ] && holds "$work/later_err" 'dobutsu: E24 Io' ;;
+        30) holds "$work/err" 'dobutsu: E24 Io' && [ ! -s "$work/later_err" ] ;;
+        *) false ;;
+    esac || same=no
+    cmp -s "$work/kept.db" testdata/one_chick_2.db || { [ "$set" = 000 ] && cmp -s "$work/kept.db" testdata/lions_alone_2.db; } || same=no
+    [ ! -e "$work/kept.db.part" ] || same=no
+done
+note "two builds to one name at once, 20 times" "$same"
+
+# Builds end, and give one file whatever the number of nodes; 200 of them in a row too.
+for set in 000 100 010 001 200; do
+    same=yes
+    for nodes in 1 2 3 4 16; do
+        timeout 100 "$program" build --set "$set" --nodes "$nodes" --out "$work/$set.$nodes.db" >"$work/out" 2>&1 || same=no
+        cmp -s "$work/$set.1.db" "$work/$set.$nodes.db" || same=no
+    done
+    note "one file of $set by 1, 2, 3, 4 and 16 nodes" "$same"
+    expect 0 'consistent' '' check --db "$work/$set.1.db"
+done
+same=yes
+for turn in $(seq 200); do
+    timeout 100 "$program" build --set 100 --nodes $((2 + turn % 15)) --out "$built" >"$work/out" 2>&1 || same=no
+    cmp -s "$built" testdata/one_chick_2.db || same=no
+done
+note "200 builds of 100 by 2 to 16 nodes end, with one file" "$same"

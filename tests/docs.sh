@@ -1,0 +1,24 @@
+# The pages: what they name is there, and what is made by a script is as it makes it.
+
+good=no
+if tools/check-pages >"$work/out"; then good=yes; fi
+note "tools/check-pages: $(head -1 "$work/out")" "$good"
+# The numbers of docs/CLASSES.md are those of the reader in Python.
+good=no
+if python3 - >"$work/out" 2>&1 <<'PYTHON'; then good=yes; fi
+import sys
+sys.path.insert(0, "tools")
+import read_db
+page = open("docs/CLASSES.md").read()
+chick, start = ".l./..c/.../.L. - -", "gle/.c./.C./ELG - -"
+for profile, text, number in ("A", chick, "770"), ("B", chick, "695"), ("A", start, "427,671,695"), ("B", start, "337,403,035"):
+    assert number in page, number
+    assert f"{read_db.class_number(profile, read_db.read_position(text)):,}" == number, (profile, text)
+PYTHON
+note "the class numbers of docs/CLASSES.md: $(tail -1 "$work/out")" "$good"
+good=no
+if tools/planted --check >"$work/out"; then good=yes; fi
+note "tools/planted --check: $(head -1 "$work/out")" "$good"
+good=no
+if tools/results-page --check 2>"$work/out"; then good=yes; fi
+note "tools/results-page --check: $(head -1 "$work/out")" "$good"

@@ -1,0 +1,249 @@
+# The subcommands that ask a file, draw, or write a file anew: what they print, and which files they leave.
+
+# Files: the one of lions alone (testdata, from outside values), files that aren't there, a folder, and files that are none.
+expect 0 'consistent' '' check --db "$lions"
+expect 0 'win 3' '' probe --db "$lions" "$position"
+expect 0 'loss 2' '' probe '.../.../..l/L.. - -' --db "$lions"
+expect 0 'draw' '' probe --db="$lions" '.l./.../.L./... - -'
+expect 0 'La2-a3 lc4-b4 La3xb4' '' line --db "$lions" "$position"
+expect 0 'La3-a4' '' line --db "$lions" '..l/L../.../... - -'
+expect 0 'end' '' line --db "$lions" '.../L../.../..l - -'
+expect 0 'La1-b1 lc2xb1' '' line --db "$lions" '.../.../..l/L.. - -'
+expect 0 'Lb1-b2 lb4-c4 Lb2-a3 lc4-b4 La3xb4' '' line --db "$lions" "$long"
+expect 0 'draw' '' line --db "$lions" '.l./.../.L./... - -'
+expect 0 'Lb2xb3' '' line --db "$lions" '.../.l./.L./... - -'
+# a move a line, with its number
+expect 0 '1. La2-a3
+2. lc4-b4
+3. La3xb4' '' line --db "$lions" --numbered "$position"
+expect 0 '1. La1-b1
+2. lc2xb1' '' line --numbered '.../.../..l/L.. - -' --db="$lions"
+expect 0 '1. La3-a4' '' line --db "$lions" '..l/L../.../... - -' --numbered
+expect 0 'end' '' line --db "$lions" --numbered '.../L../.../..l - -'
+expect 0 'draw' '' line --db "$lions" --numbered -- '.l./.../.L./... - -'
+# how many classes have which value, counted of testdata/lions_alone.txt by hand of each class, and the first of the longest
+expect 0 'classes 54
+win 38
+loss 12
+draw 4
+loss 0 7
+win 1 29
+loss 2 2
+win 3 3
+loss 4 1
+win 5 3
+loss 6 2
+win 7 3
+longest win 7 l../.../.../L.. - -
+longest loss 6 .../l../.../L.. - -' '' stats --db "$lions"
+expect 0 'value,classes
+draw,4
+loss 0,7
+win 1,29
+loss 2,2
+win 3,3
+loss 4,1
+win 5,3
+loss 6,2
+win 7,3' '' stats --csv --db "$lions"
+expect 3 '' 'dobutsu: E24 Io' stats --db "$work/none.db"
+expect 1 '' 'dobutsu: E15 Truncated' stats --db /dev/null
+# the moves with their values, best first
+expect 0 'La2-a3 win 3
+La2-b2 draw
+La2-a1 loss 8
+La2-b1 loss 6
+La2-b3 loss 2' '' moves --db "$lions" "$position"
+expect 0 'La1-b1 loss 2
+La1-a2 loss 2
+La1-b2 loss 2' '' moves '.../.../..l/L.. - -' --db "$lions"
+expect 0 'Lb2xb3 win 1' '' moves --db "$lions" '.../.l./.L./... - -'
+expect 0 'end' '' moves --db "$lions" '.../L../.../..l - -'
+expect 1 '' 'dobutsu: E7 OtherSet' moves --db "$lions" '..l/.../.../L.. C -'
+expect 1 '' 'dobutsu: E1 Shape' moves --db "$work/none.db" ''
+expect 3 '' 'dobutsu: E24 Io' moves --db "$work/none.db" "$position"
+# the first of them
+expect 0 'La2-a3 win 3' '' best --db "$lions" "$position"
+expect 0 'La1-b1 loss 2' '' best '.../.../..l/L.. - -' --db "$lions"
+expect 0 'Lb2xb3 win 1' '' best --db "$lions" '.../.l./.L./... - -'
+expect 0 'end' '' best --db "$lions" '.../L../.../..l - -'
+expect 1 '' 'dobutsu: E7 OtherSet' best --db "$lions" '..l/.../.../L.. C -'
+expect 1 '' 'dobutsu: E1 Shape' best --db "$work/none.db" ''
+expect 3 '' 'dobutsu: E24 Io' best --db "$work/none.db" "$position"
+# each line of standard input: positions, some of them refused, lines of other systems, and a last line without its end
+answers_of() {
+    local status=0 word="$1" wanted="$2" input="$3" out="$4" good=no
+    shift 4
+    printf "$input" | ./dobutsu "$word" --each "$@" >"$work/out" 2>"$work/err" || status=$?
+    if [ "$status" = "$wanted" ] && [ ! -s "$work/err" ] && printf "$out" | cmp -s - "$work/out"; then good=yes; fi
+    note "./dobutsu $word --each $(printf '%q ' "$@"): status $status, $(head -c 80 "$work/out" | tr '\n' ' ')" "$good"
+}
+answers() { answers_of probe "$@"; }
+answers 0 '' '' --db "$lions"
+answers 0 "$position"'\n.../.../..l/L.. - -\n.l./.../.L./... - -\n' 'win 3\nloss 2\ndraw\n' --db "$lions"
+answers 0 "$position"'\r\n.../.../..l/L.. - -\r\n.l./.../.L./... - -' 'win 3\nloss 2\ndraw\n' --db="$lions"
+answers 1 "$position"'\n..l/.../L../... - x\n\n\377\n..l/.../.../L.. C -\nL../.../.../..l - -\n.../.../..l/L.. - -\n' \
+    'win 3\nE3 Hand\nE1 Shape\nE1 Shape\nE7 OtherSet\nE6 FarLion\nloss 2\n' --db "$lions"
+expect 3 '' 'dobutsu: E24 Io' probe --each --db "$work/none.db"
+expect 1 '' 'dobutsu: E15 Truncated' probe --each --db /dev/null
+expect 3 '' 'dobutsu: E24 Io' probe --each --db "$lions" <"$work"
+# the same by each position's own record; of a file that is cut inside one, that line alone is refused
+answers_of look 1 "$position"'\n..l/.../L../... - x\n\n\377\n..l/.../.../L.. C -\nL../.../.../..l - -\n.../.../..l/L.. - -\n.l./.../.L./... - -' \
+    'win 3\nE3 Hand\nE1 Shape\nE1 Shape\nE7 OtherSet\nE6 FarLion\nloss 2\ndraw\n' --db "$lions"
+answers_of look 0 '' '' --db "$lions"
+head -c 77 "$lions" >"$work/cut.db"
+answers_of look 1 "$position"'\n.../.../..l/L.. - -\n' 'E15 Truncated\nloss 2\n' --db "$work/cut.db"
+expect 3 '' 'dobutsu: E24 Io' look --each --db "$work/none.db"
+expect 1 '' 'dobutsu: E15 Truncated' look --each --db /dev/null
+expect 3 '' 'dobutsu: E24 Io' look --each --db "$lions" <"$work"
+# positions that one move alone wins soonest; a length that no puzzle has is told before the file is looked for
+expect 0 '.../..l/L../... - -  La2-a3
+..l/.../L../... - -  La2-a3
+l../.../.L./... - -  Lb2-c3' '' puzzles --db "$lions" --plies 3 --count 5
+expect 0 '.l./.../.../L.. - -  La1-b2' '' puzzles --count 1 --db="$lions" --plies=5
+expect 0 'l../.../.../L.. - -  La1-a2
+..l/.../.../L.. - -  La1-a2' '' puzzles --db "$lions" --plies 7 --count 18446744073709551615
+expect 0 'none' '' puzzles --db "$lions" --plies 9 --count 5
+expect 0 'none' '' puzzles --db "$lions" --plies 3 --count 0
+expect 0 'none' '' puzzles --db "$lions" --plies 18446744073709551615 --count 1
+# behind the class of a number, its own left out; from a class that a seed makes on, here 28 of 54, and on round; and both
+expect 0 '25  .../..l/L../... - -  La2-a3
+28  ..l/.../L../... - -  La2-a3' '' puzzles --db "$lions" --plies 3 --count 2 --numbered
+expect 0 '34  l../.../.L./... - -  Lb2-c3' '' puzzles --db "$lions" --plies 3 --count 2 --numbered --from 28
+expect 0 'none' '' puzzles --db "$lions" --plies 3 --count 2 --from 34
+for class in 53 54 18446744073709551615; do
+    expect 0 'none' '' puzzles --db "$lions" --plies 3 --count 2 --from "$class"
+done
+expect 0 '28  ..l/.../L../... - -  La2-a3
+34  l../.../.L./... - -  Lb2-c3
+25  .../..l/L../... - -  La2-a3' '' puzzles --db "$lions" --plies 3 --count 5 --random 10 --numbered
+expect 0 '34  l../.../.L./... - -  Lb2-c3
+25  .../..l/L../... - -  La2-a3' '' puzzles --db "$lions" --plies 3 --count 5 --random 10 --from 28 --numbered
+expect 0 'none' '' puzzles --db "$lions" --plies 3 --count 5 --random 10 --from 27
+expect 0 '.l./.../.../.L. - -  Lb1-b2' '' puzzles --db "$lions" --plies 5 --count 1 --random 2
+expect 0 'none' '' puzzles --db "$lions" --plies 9 --count 1 --random 18446744073709551615
+for plies in 0 1 2 4 18446744073709551614; do
+    expect 2 '' 'dobutsu: --plies is an odd number of at least 3' puzzles --db "$work/none.db" --plies "$plies" --count 1
+done
+expect 3 '' 'dobutsu: E24 Io' puzzles --db "$work/none.db" --plies 3 --count 1
+expect 1 '' 'dobutsu: E15 Truncated' puzzles --db /dev/null --plies 3 --count 1
+# the board as it is drawn
+expect 0 'The other side: small letters, going down the board.
+In hand: nothing
+
+     a   b   c
+   +---+---+---+
+ 4 | g | l | e | 4
+   +---+---+---+
+ 3 |   | c |   | 3
+   +---+---+---+
+ 2 |   | C |   | 2
+   +---+---+---+
+ 1 | E | L | G | 1
+   +---+---+---+
+     a   b   c
+
+The side to move: capital letters, going up the board.
+In hand: nothing
+
+L lion, G giraffe, E elephant, C chick, H hen' '' show 'gle/.c./.C./ELG - -'
+expect 0 'The other side: small letters, going down the board.
+In hand: cg
+
+     a   b   c
+   +---+---+---+
+ 4 |   |   | l | 4
+   +---+---+---+
+ 3 | e |   |   | 3
+   +---+---+---+
+ 2 |   |   | H | 2
+   +---+---+---+
+ 1 | L |   |   | 1
+   +---+---+---+
+     a   b   c
+
+The side to move: capital letters, going up the board.
+In hand: EG
+
+L lion, G giraffe, E elephant, C chick, H hen' '' show '..l/e../..H/L.. EG cg'
+expect 1 '' 'dobutsu: E6 FarLion' show 'L../.../.../..l - -'
+# with its value and its line by a file, and as a picture
+shown='The other side: small letters, going down the board.
+In hand: nothing
+
+     a   b   c
+   +---+---+---+
+ 4 |   |   | l | 4
+   +---+---+---+
+ 3 |   |   |   | 3
+   +---+---+---+
+ 2 | L |   |   | 2
+   +---+---+---+
+ 1 |   |   |   | 1
+   +---+---+---+
+     a   b   c
+
+The side to move: capital letters, going up the board.
+In hand: nothing
+
+L lion, G giraffe, E elephant, C chick, H hen'
+played="$shown"'
+
+win 3
+1. La2-a3
+2. lc4-b4
+3. La3xb4'
+expect 0 "$shown" '' show "$position"
+expect 0 "$played" '' show --db "$lions" "$position"
+expect 0 "$shown" '' show "$position" --svg "$work/picture.svg"
+cp "$work/picture.svg" "$work/first.svg"
+printf 'left' >"$work/picture.svg"
+expect 0 "$played" '' show --svg="$work/picture.svg" --db="$lions" "$position"
+if cmp -s "$work/first.svg" "$work/picture.svg" && [ ! -e "$work/picture.svg.part" ] && head -1 "$work/picture.svg" | grep -q '^<svg ' &&
+    python3 -c 'import sys, xml.dom.minidom as dom; dom.parse(sys.argv[1])' "$work/picture.svg"; then good=yes; else good=no; fi
+note "the picture of a position is one SVG, whatever was there" "$good"
+expect 0 '~In hand: nothing' '' show --svg "$work/start.svg" 'gle/.c./.C./ELG - -'
+if cmp -s "$work/start.svg" docs/start.svg; then good=yes; else good=no; fi
+note "the picture of README is that of the starting position" "$good"
+expect 1 '' 'dobutsu: E7 OtherSet' show --db "$lions" --svg "$work/refused.svg" '..l/.../.../L.. C -'
+expect 3 '' 'dobutsu: E24 Io' show --db "$work/none.db" --svg "$work/refused.svg" "$position"
+expect 1 '' 'dobutsu: E1 Shape' show --svg "$work/refused.svg" ''
+if [ -e "$work/refused.svg" ]; then good=no; else good=yes; fi
+note "a position that isn't shown has no picture" "$good"
+expect 3 '' 'dobutsu: E24 Io' show --svg "$work/none/picture.svg" "$position"
+expect 0 'win 3' '' look --db "$lions" "$position"
+expect 0 'loss 2' '' look '.../.../..l/L.. - -' --db "$lions"
+expect 0 'draw' '' look --db="$lions" '.l./.../.L./... - -'
+expect 1 '' 'dobutsu: E7 OtherSet' look --db "$lions" '..l/.../.../L.. C -'
+expect 1 '' 'dobutsu: E7 OtherSet' probe --db "$lions" '..l/.../.../L.. C -'
+expect 1 '' 'dobutsu: E7 OtherSet' line --db "$lions" '..l/.../.../L.. C -'
+
+# The position is read before the file is looked for.
+expect 1 '' 'dobutsu: E1 Shape' probe --db "$work/none.db" ''
+expect 1 '' 'dobutsu: E1 Shape' line --db "$work/none.db" ''
+expect 1 '' 'dobutsu: E1 Shape' look --db "$work/none.db" ''
+expect 1 '' 'dobutsu: E6 FarLion' probe --db "$work/none.db" 'L../.../.../..l - -'
+expect 3 '' 'dobutsu: E24 Io' probe --db "$work/none.db" "$position"
+expect 3 '' 'dobutsu: E24 Io' line --db "$work/none.db" "$position"
+expect 3 '' 'dobutsu: E24 Io' look --db "$work/none.db" "$position"
+expect 3 '' 'dobutsu: E24 Io' look --db "$work" "$position"
+expect 3 '' 'dobutsu: E24 Io' check --db "$work/none.db"
+expect 3 '' 'dobutsu: E24 Io' check --db "$work"
+expect 1 '' 'dobutsu: E15 Truncated' check --db /dev/null
+
+# Files brought to the second format, from either, over what was there and over themselves; a damaged one leaves what was there.
+for name in lions_alone lions_alone_2 one_chick one_chick_2; do
+    case "$name" in lions*) classes=54 ;; *) classes=2124 ;; esac
+    expect 0 "classes $classes" '' migrate --db "testdata/$name.db" --out "$work/migrated.db"
+    if cmp -s "$work/migrated.db" "testdata/${name%_2}_2.db" && [ ! -e "$work/migrated.db.part" ]; then good=yes; else good=no; fi
+    note "testdata/$name.db migrated is testdata/${name%_2}_2.db" "$good"
+done
+cp "$lions" "$work/migrated.db"
+expect 0 'classes 54' '' migrate --db "$work/migrated.db" --out "$work/migrated.db"
+if cmp -s "$work/migrated.db" "$lions_2"; then good=yes; else good=no; fi
+note "a file migrated over itself" "$good"
+{ head -c 12 "$lions_2"; printf '\1'; tail -c +14 "$lions_2"; } >"$work/other_profile.db"
+expect 1 '' 'dobutsu: E20 Digest' migrate --db "$work/other_profile.db" --out "$work/migrated.db"
+expect 3 '' 'dobutsu: E24 Io' migrate --db "$work/none.db" --out "$work/migrated.db"
+if cmp -s "$work/migrated.db" "$lions_2" && [ ! -e "$work/migrated.db.part" ]; then good=yes; else good=no; fi
+note "a file that isn't migrated leaves the one that was there" "$good"

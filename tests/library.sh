@@ -1,0 +1,103 @@
+# The library for other programs, from the release: in C, in C++ and in Python.
+# Takes minutes.
+
+# Three programs in C over the archive, and one in Python over the shared object. `examples/probe.c`
+# tells what `probe` does of these positions and of those of testdata, in each profile, `examples/explore.py` what `moves` does too, and
+# `examples/hostile.c` reads nothing past the end of files and indexes that are cut or changed. The header is one of C++ too.
+make_release || note "the release of which the library is a part" no
+compile() { cc -std=c99 -D_POSIX_C_SOURCE=200809L -Wall -Wextra -Werror -pedantic "$@" -I"$release" "$release/libdobutsu.a" >"$work/out" 2>&1; }
+same=yes
+compile -O2 examples/probe.c -o "$work/probe_c" || same=no
+note "examples/probe.c is built over the library: $(head -1 "$work/out")" "$same"
+same=yes
+cc -O2 examples/probe.c -D_POSIX_C_SOURCE=200809L -I"$release" -L"$release" -ldobutsu -Wl,-rpath,"$release" -o "$work/probe_so" >"$work/out" 2>&1 || same=no
+[ "$(echo "$position" | "$work/probe_so" testdata/lions_alone.db)" = 'win 3' ] || same=no
+echo '#include "dobutsu.h"' | cc -x c++ -fsyntax-only -Wall -Wextra -Werror -I"$release" - >"$work/out" 2>&1 || same=no
+note "the shared object, and the header in C++: $(head -1 "$work/out")" "$same"
+same=yes
+compile -g -fsanitize=address examples/hostile.c -o "$work/hostile" || same=no
+for name in lions_alone one_chick lions_alone_2; do "$work/hostile" "testdata/$name.db" "$position" >"$work/out" 2>&1 || same=no; done
+note "examples/hostile.c over cut and changed files and indexes: $(tail -1 "$work/out")" "$same"
+
+# Whether the program and the example tell the same of each position of a file, values and faults.
+tell_alike() {
+    local file="$1" asked="$2" text
+    while IFS= read -r text; do
+        "$program" probe --db "$file" "$text" 2>&1 | sed 's/^dobutsu: \(E[0-9]*\) .*/\1/'
+    done <"$asked" >"$work/told"
+    [ -s "$asked" ] && "$work/probe_c" "$file" <"$asked" >"$work/told_c" 2>&1 && cmp -s "$work/told" "$work/told_c"
+}
+# Prints the positions of some 200 classes of a file, as they are spread over it.
+spread() {
+    python3 -c '
+import sys
+sys.path.insert(0, "tools")
+import read_db
+db = read_db.open_db(sys.argv[1])
+for number in range(0, db.count, max(1, db.count // 200)):
+    print(read_db.write_position(read_db.position_at(db.profile, db.pieces, number)))
+' "$1"
+}
+same=yes
+sed 's/ = .*//' testdata/one_chick.txt testdata/lions_alone.txt >"$work/texts"
+printf '%s\n' 'x' '' 'C.l/.../.../L.. - -' 'L../.../.../..l - -' '..l/.../L../... -' >>"$work/texts"
+for name in {A,B}_{000,100,010,001,200}; do
+    "$program" build --rules "${name%_*}" --set "${name#*_}" --nodes 3 --out "$work/$name.db" >"$work/out" 2>&1 || same=no
+    spread "$work/$name.db" >"$work/$name.asked" || same=no
+    tell_alike "$work/$name.db" "$work/$name.asked" || same=no
+    tell_alike "$work/$name.db" "$work/texts" || same=no
+done
+note "examples/probe.c tells what probe does, by files of five sets and both profiles" "$same"
+same=yes
+for name in A_000 A_100 A_200 B_100; do
+    mapfile -t texts <"$work/$name.asked"
+    for text in "${texts[@]}" 'x' '..l/.../.../L.. C -'; do
+        told="$("$program" probe --db "$work/$name.db" "$text" 2>&1 | sed 's/^dobutsu: \(E[0-9]*\) .*/\1/')"
+        printf '%s\n' "$told"
+        case "$told" in E*) continue ;; esac
+        "$program" moves --db "$work/$name.db" "$text" | sed '/^end$/d'
+    done >"$work/told"
+    python3 examples/explore.py "$release/libdobutsu.so" "$work/$name.db" "${texts[@]}" 'x' '..l/.../.../L.. C -' >"$work/told_c" 2>&1
+    cmp -s "$work/told" "$work/told_c" || same=no
+done
+note "examples/explore.py tells what probe and moves do" "$same"
+# The best move is the first that `moves` tells, and what follows is what `line` tells.
+same=yes
+compile -O2 examples/solve.c -o "$work/solve" || same=no
+for name in {A,B}_{100,111}; do
+    [ -s "$work/$name.db" ] || "$program" build --rules "${name%_*}" --set "${name#*_}" --nodes 3 --out "$work/$name.db" >"$work/out" 2>&1 || same=no
+    spread "$work/$name.db" >"$work/$name.asked" || same=no
+    while IFS= read -r text; do
+        line="$("$program" line --db "$work/$name.db" "$text")"
+        if [ "$line" = end ]; then
+            echo end
+        else
+            echo "$("$program" moves --db "$work/$name.db" "$text" | head -1): $line"
+        fi
+    done <"$work/$name.asked" >"$work/told"
+    "$work/solve" "$work/$name.db" <"$work/$name.asked" >"$work/told_c" 2>&1 || same=no
+    [ -s "$work/told" ] && cmp -s "$work/told" "$work/told_c" || same=no
+done
+note "examples/solve.c tells what moves and line do, by files of two sets and both profiles" "$same"
+# A file whose digest is right, and the value of whose class 1 isn't: the library tells the class that the program does.
+same=yes
+python3 - "$release/libdobutsu.so" testdata/lions_alone_2.db "$work/wrong.db" >"$work/told_c" 2>&1 <<'PYTHON' || same=no
+import ctypes
+import hashlib
+import sys
+file = bytearray(open(sys.argv[2], "rb").read())
+check = ctypes.CDLL(sys.argv[1]).dobutsu_check
+def told(file):
+    broken = ctypes.c_uint64(77)
+    fault = check((ctypes.c_char * len(file))(*file), ctypes.c_size_t(len(file)), ctypes.byref(broken))
+    return f"E{fault} Inconsistent class {broken.value}" if fault == 21 else f"{fault} {broken.value}"
+assert told(file) == "0 77", told(file)
+file[23:25] = b"\0\0" if file[23:25] != b"\0\0" else b"\2\0"
+assert told(file) == "20 77", told(file)
+file[-32:] = hashlib.sha256(file[:-32]).digest()
+open(sys.argv[3], "wb").write(file)
+print("dobutsu:", told(file))
+PYTHON
+"$program" check --db "$work/wrong.db" >"$work/told" 2>&1
+cmp -s "$work/told" "$work/told_c" || same=no
+note "dobutsu_check tells what check does of a wrong value: $(cat "$work/told_c")" "$same"

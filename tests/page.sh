@@ -1,0 +1,74 @@
+# The page: its values by both rules, its faults, mouse, keys and fingers, both languages, paper, and that nothing leaves it, in headless Chromium.
+# Takes minutes.
+
+# Counts tests that can't be run here, and says why.
+left_out=0
+leave_out() {
+    left_out=$((left_out + $1))
+    echo "page: $1 left out: $2"
+}
+
+# Chromium, where it is or can be installed.
+has_chromium() {
+    command -v chromium >/dev/null && return 0
+    [ "$(id -u)" = 0 ] && command -v apt-get >/dev/null || return 1
+    { apt-get install -y --no-install-recommends chromium || { apt-get update && apt-get install -y --no-install-recommends chromium; }; } >"$work/apt" 2>&1
+    command -v chromium >/dev/null
+}
+
+# Adds the counts of a test that prints `N passed, M failed` as its last line, and its failures.
+add_counts() {
+    local told counts
+    told="$("$@" 2>"$work/err")"
+    echo "$told" | grep '^FAILED' || true
+    read -r -a counts <<<"$(echo "$told" | tail -1)"
+    if [[ "${counts[1]-} ${counts[3]-}" = 'passed, failed' ]]; then
+        passed=$((passed + counts[0]))
+        failed=$((failed + counts[2]))
+    else
+        note "$*: it gave no counts, $(tail -1 "$work/err")" no
+    fi
+}
+
+# The page is one file, whatever is built before and wherever it lies.
+mkdir "$work/elsewhere"
+cp -r page "$work/elsewhere"
+same=yes
+python3 page/build.py - "$work/dobutsu.html" >"$work/out" 2>&1 || same=no
+python3 "$work/elsewhere/page/build.py" - "$work/again.html" >>"$work/out" 2>&1 || same=no
+cmp -s "$work/dobutsu.html" "$work/again.html" || same=no
+[ "$(wc -c <"$work/dobutsu.html")" -lt 200000 ] || same=no
+rm -rf "$work/elsewhere"
+note "page/build.py makes one file of less than 200 KB here and at another path: $(tail -1 "$work/out")" "$same"
+
+# The engine in plain JavaScript against tools/read_db.py, in Node where it is there.
+if command -v node >/dev/null; then
+    if node page/test/core.test.js 1500 >"$work/out" 2>&1; then good=yes; else good=no; fi
+    note "page/test/core.test.js: $(tail -1 "$work/out")" "$good"
+else
+    leave_out 1 'the engine in plain JavaScript against tools/read_db.py, since Node is not there'
+fi
+
+# The page with the proved engine, where `tools/page` makes its module, and with the plain one.
+if has_chromium; then
+    add_counts python3 page/test/page_test.py "$work/dobutsu.html" "$program"
+    add_counts python3 page/test/planted.py "$program"
+    if [ -x tools/page ]; then
+        if tools/page "$work/proved.html" >"$work/out" 2>&1; then good=yes; else good=no; fi
+        note "tools/page makes the page with the proved engine: $(tail -1 "$work/out")" "$good"
+        if grep -q '^window.DobutsuWasm = ' "$work/proved.html"; then
+            add_counts python3 page/test/page_test.py "$work/proved.html" "$program" told faults
+            if command -v node >/dev/null; then
+                if node page/test/told.test.js page/out/dobutsu_web.wasm "$program" 2000 >"$work/out" 2>&1; then good=yes; else good=no; fi
+                note "page/test/told.test.js: $(tail -1 "$work/out")" "$good"
+            else
+                leave_out 1 'the proved engine against the program on 2,000 positions of 111 by each of the rules, since Node is not there'
+            fi
+        else
+            leave_out 2 'the page with the proved engine, in a browser and against the program, since tools/page could not make its module here'
+        fi
+    fi
+else
+    leave_out 4 'the page in a browser, by either engine and with planted faults, and the proved engine against the program, since chromium is not there and can not be installed'
+fi
+if [ "$left_out" -gt 0 ]; then echo "page: $left_out of 6 tests left out"; fi

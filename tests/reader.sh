@@ -1,0 +1,83 @@
+# The reader in Python, written from docs/FORMAT.md alone, and the program: they say the same of thousands of positions.
+# Takes minutes.
+
+# By files of both formats, each position of lions alone, and 500 of one chick: `probe`, `look` and the reader that was written from docs/FORMAT.md alone give
+# the same value, and that of the row, where it has one (these values are from outside). The built program is run itself,
+# so that twice 599 runs don't look for newer sources.
+expect 0 'consistent' '' check --db "$chick"
+for name in lions_alone one_chick lions_alone_2 one_chick_2; do
+    mapfile -t rows <"testdata/${name%_2}.txt"
+    texts=("${rows[@]% = *}")
+    same=yes
+    for row in "${rows[@]}"; do
+        told="$("$program" probe --db "testdata/$name.db" "${row% = *}" 2>&1)"
+        printf '%s\n' "$told"
+        [ "$("$program" look --db "testdata/$name.db" "${row% = *}" 2>&1)" = "$told" ] || echo "$row" >>"$work/wrong"
+        case "$row" in *' = '*) [ "$told" = "${row#* = }" ] || echo "$row" >>"$work/wrong" ;; esac
+    done >"$work/probed"
+    [ ! -e "$work/wrong" ] || same=no
+    python3 tools/read_db.py "testdata/$name.db" "${texts[@]}" >"$work/read" 2>&1
+    cmp -s "$work/probed" "$work/read" || same=no
+    note "probe, look and tools/read_db.py on ${#rows[@]} positions of testdata/$name.db" "$same"
+    # and `--each` tells the same of all of them, of which some are refused or none
+    status=0
+    printf '%s\n' "${texts[@]}" | "$program" probe --db "testdata/$name.db" --each >"$work/each" 2>&1 || status=$?
+    if sed 's/^dobutsu: //' "$work/probed" | cmp -s - "$work/each" && [ "$status" = "$(grep -q '^E' "$work/each" && echo 1 || echo 0)" ]; then good=yes; else good=no; fi
+    note "probe --each on ${#rows[@]} positions of testdata/$name.db: status $status" "$good"
+done
+
+# The reader's module on 200 classes of each of five sets in both profiles, as they are spread over the file: `probe` and `moves` tell the same of each,
+# `stats` of all, and the best of a position's moves has the position's own value. So does `puzzles` of the first ten of some lengths.
+same=yes
+for ruled_set in {A,B}_{000,100,010,001,200}; do
+    set="${ruled_set#*_}"
+    "$program" build --set "$set" --rules "${ruled_set%_*}" --nodes 3 --out "$work/$set.db" >"$work/out" 2>&1 || same=no
+    python3 - "$top/tools" "$work/$set.db" "$work/counts" >"$work/asked" <<'PYTHON' || same=no
+import sys
+sys.path.insert(0, sys.argv[1])
+import read_db
+db = read_db.open_db(sys.argv[2])
+for number in range(0, db.count, max(1, db.count // 200)):
+    text = read_db.write_position(read_db.position_at(db.profile, db.pieces, number))
+    value, moves = db.value(text), db.moves(text)
+    assert read_db.class_number(db.profile, read_db.read_position(text)) == number
+    assert not moves or moves[0][1] == value
+    print(text, value, *map(" ".join, moves), sep=" = ")
+stats = db.stats()
+assert sum(stats["win"].values()) + sum(stats["loss"].values()) + stats["draw"] == db.count
+counts = [(distance, kind, number) for kind in ("win", "loss") for distance, number in stats[kind].items()]
+with open(sys.argv[3], "w") as lines:
+    print("classes", db.count, file=lines)
+    for kind in ("win", "loss"):
+        print(kind, sum(stats[kind].values()), file=lines)
+    print("draw", stats["draw"], file=lines)
+    for distance, kind, number in sorted(counts):
+        print(kind, distance, number, file=lines)
+    for kind in ("win", "loss"):
+        print("longest", kind, *stats["longest"][kind], file=lines)
+    for plies in (3, 5, 7):
+        puzzles, won = [], f"win {plies}"
+        for number in range(db.count):
+            text = read_db.write_position(read_db.position_at(db.profile, db.pieces, number))
+            best = [move for move, value in db.moves(text) if value == won] if db.value(text) == won else []
+            if len(best) == 1:
+                puzzles.append(text + "  " + best[0])
+            if len(puzzles) == 10:
+                break
+        print(*(puzzles or ["none"]), sep="\n", file=lines)
+PYTHON
+    "$program" stats --db "$work/$set.db" >"$work/out" 2>&1 || same=no
+    for plies in 3 5 7; do
+        "$program" puzzles --db "$work/$set.db" --plies "$plies" --count 10 >>"$work/out" 2>&1 || same=no
+    done
+    cmp -s "$work/counts" "$work/out" || same=no
+    while IFS= read -r row; do
+        text="${row%% = *}"
+        told="$("$program" probe --db "$work/$set.db" "$text")"
+        moved="$("$program" moves --db "$work/$set.db" "$text")"
+        [ "$moved" = end ] || told="$told"$'\n'"$moved"
+        [ "$text = ${told//$'\n'/ = }" = "$row" ] || same=no
+    done <"$work/asked"
+    [ -s "$work/asked" ] || same=no
+done
+note "probe, moves, stats, puzzles and the module of tools/read_db.py on 200 classes of each of five sets in both profiles" "$same"

@@ -1,0 +1,141 @@
+# Help, the manual page and completions, the version, and words that it does not know.
+
+# Help, each text whole, and the version.
+for words in '--help' '-h' 'help'; do helps dobutsu "$words"; done
+for form in value count build probe line check look show moves best stats puzzles migrate; do
+    helps "$form" "$form" --help
+    helps "$form" "$form" -h
+    helps "$form" help "$form"
+done
+helps value value - --help
+helps count count --set 100 -h
+helps count count --set=100 --help
+helps build build --nodes=2 -h
+expect 0 '~^Usage: dobutsu help' '' help help
+expect 0 'dobutsu 0.1.0' '' --version
+
+# Words that it doesn't know.
+expect 2 '' "$(cat testdata/texts/no_words.txt)"
+misused 'requires a subcommand'
+misused "'solve'" solve
+misused "'solve'" help solve
+misused "'--help'" help --help
+misused "'more'" help value more
+misused "'worth'" worth a
+misused "'--value'" --value
+misused "'--set'" --set 100
+misused "'value'" -- value a
+misused '<POSITION>' value
+misused "'b'" value a b
+misused "'more'" value "$position" more
+misused "'-x'" value -x
+misused "'--help'" value --help=x
+misused '--set <CEG>' count
+misused "'100'" count 100
+misused '--set <CEG>' count --set
+misused "'-1'" count --set -1
+misused '--set <CEG>' count --set --help
+misused '--set <CEG>' count --set --
+misused "'200'" count --set 100 200
+misused "'100'" count --set 100 100
+misused '--set <CEG>' count --set=100 --set=100
+misused '--set <CEG>' count --set 100 --set 100
+misused "'x'" count --set=100 -- x
+misused "'-s'" count -s 100
+misused "'--sets'" count --sets=100
+misused "'two'" build --nodes two
+misused "'-2'" build --nodes -2
+misused '--nodes <N>' build --nodes=
+misused '--nodes <N>' build --nodes=2 --nodes=2
+misused "'x'" build --nodes=x --help
+misused "'1.5'" build --set=000 --nodes 1.5 --help
+misused "'000'" build 000
+misused '--nodes <N>' build --set 000 --out x
+misused '--out <FILE>' build --set 000 --nodes 2
+misused "'x'" build --set 000 --nodes x --out "$work/none.db"
+misused "'18446744073709551616'" build --set 000 --nodes 18446744073709551616 --out "$work/none.db"
+misused '--db <FILE>' probe "$position"
+misused '<POSITION>' probe --db x
+misused "'--each'" probe --db x --each "$position"
+misused '--db <FILE>' probe --each
+misused "'x'" probe --db x --each=x
+misused '--each' probe --db x --each --each
+misused '<POSITION>' line --db x
+misused '<POSITION>' look --db x
+misused 'dobutsu look' look --db x --each "$position"
+misused '--db <FILE>' look --each
+misused '--db <FILE>' line --numbered "$position"
+misused '<POSITION>' line --numbered --db x
+misused "'x'" line --db x --numbered=x "$position"
+misused '--numbered' line --db x --numbered --numbered "$position"
+misused "'--svg'" line --db x --svg y "$position"
+misused '<POSITION>' show
+misused '<POSITION>' show --db x
+misused '--db <FILE>' show --db --svg x "$position"
+misused '--svg <OUT>' show --svg x --svg y "$position"
+misused "'--numbered'" show --numbered "$position"
+misused '--db <FILE>' stats
+misused "'a'" stats --db x a
+misused '--plies <D>' puzzles --db x --count 1
+misused '--count <N>' puzzles --db x --plies 3
+misused "'x'" puzzles --db x --plies x --count 1
+misused "'-1'" puzzles --db x --plies 3 --count -1
+misused "'a'" puzzles --db x --plies 3 --count 1 a
+misused "'x'" puzzles --db x --plies 3 --count 1 --from x
+misused "'18446744073709551616'" puzzles --db x --plies 3 --count 1 --random 18446744073709551616
+misused '<POSITION>' best --db x
+misused '--db <FILE>' best x
+misused '<POSITION>' moves --db x
+misused '--db <FILE>' moves "$position"
+misused '--db <FILE>' look "$position"
+misused '--db <FILE>' check
+misused "'a'" check a
+misused '--rules <PROFILE>' value --rules "$position" --rules A
+misused "'C'" value --rules C "$position"
+misused "'b'" count --set 100 --rules b
+misused '--rules <PROFILE>' build --set 000 --nodes 2 --out "$work/none.db" --rules=
+misused "'x'" build --set 000 --nodes 2 --out "$work/none.db" --progress=x
+misused '--progress' check --progress --db x --progress
+misused "'--progress'" probe --progress --db x "$position"
+misused "'--rules'" probe --db x --rules B "$position"
+misused '--out <OUT>' migrate --db x
+misused '--db <FILE>' migrate --out x
+misused "'a'" migrate --db x --out y a
+misused "'b'" check --db a b
+
+# Words that aren't UTF-8.
+expect 2 '' '~UTF-8' value $'\xff'
+expect 2 '' '~UTF-8' $'\xff'
+expect 2 '' '~UTF-8' value "$position" $'\xc3'
+
+# The manual page and the completions (tools/manual) name each subcommand and each option that the help does, and a shell that is here reads them.
+forms="$(sed -n '/^Commands:/,/^$/s/^  \([a-z]*\) .*/\1/p' testdata/texts/dobutsu.txt)"
+options_of() { sed -n '/^Options:/,/^$/s/^ *\(-h, \)\{0,1\}\(--[a-z]*\).*/\2/p' "testdata/texts/$1.txt" | sort; }
+good=no
+if tools/manual "$work" >"$work/out" 2>&1 && [ -n "$forms" ]; then good=yes; fi
+note "tools/manual: $(head -1 "$work/out")" "$good"
+# What bash completes behind the words.
+completes() {
+    bash -c '. "$1"; shift; COMP_WORDS=("$@"); COMP_CWORD=$(($# - 1)); _dobutsu; printf "%s\n" "${COMPREPLY[@]}"' bash "$work/completions/dobutsu.bash" "$@" | sort
+}
+same=yes
+[ "$(completes dobutsu '' | grep -v -e '^--')" = "$(echo "$forms" | sort)" ] || same=no
+[ "$(completes dobutsu value --rules '')" = $'A\nB' ] || same=no
+[ "$(completes dobutsu check --db testdata/lions_alone.d)" = testdata/lions_alone.db ] || same=no
+for form in $forms; do
+    [ "$form" != help ] || continue
+    sed -n "/^\\.SS $form\$/,/^\\.S[SH] /p" "$work/dobutsu.1" | grep -A1 '^\.TP' | grep -o -e '^\\fB\\-\\-[a-z]*' | sed 's/^.*-/--/' >"$work/in_page"
+    echo --help >>"$work/in_page"
+    [ "$(sort "$work/in_page")" = "$(options_of "$form")" ] || same=no
+    [ "$(completes dobutsu "$form" --)" = "$(options_of "$form")" ] || same=no
+    [ "$(grep -o -e "__fish_seen_subcommand_from $form' -l [a-z]*" "$work/completions/dobutsu.fish" | sed 's/.* -l /--/' | sort)" = "$(options_of "$form")" ] || same=no
+    [ "$(sed -n "/^ *$form) _arguments/,/;;/p" "$work/completions/_dobutsu" | grep -o -e "'--[a-z]*\[" | tr -d "'[" | sort)" = "$(options_of "$form")" ] || same=no
+done
+note "the manual page and the completions name what the help does" "$same"
+for tool in 'groff -man -Tutf8 -ww -z dobutsu.1' 'bash -n completions/dobutsu.bash' 'zsh -n completions/_dobutsu' 'fish -n completions/dobutsu.fish'; do
+    read -r -a given <<<"$tool"
+    command -v "${given[0]}" >/dev/null || { echo "Not run: $tool, since ${given[0]} isn't here."; continue; }
+    good=no
+    if (cd "$work" && "${given[@]}") >"$work/out" 2>&1 && [ ! -s "$work/out" ]; then good=yes; fi
+    note "$tool: $(head -1 "$work/out")" "$good"
+done
