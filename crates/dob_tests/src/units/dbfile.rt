@@ -1,4 +1,0 @@
-// What the contracts don't say: outside bytes, and each place where a device fails.
-mod devices;
-pub(crate) mod files;
-pub(crate) mod std_devices;

@@ -1,0 +1,338 @@
+// The calls by which a file comes onto a disk, and their order: what a power cut may leave depends on it, and no clause speaks of it. The
+// files are the system's, with a list of the calls that are made on them, of which one fails where that is asked for.
+use crate::dbfile::files::file;
+use crate::program::run_on;
+use crate::shelves::{has, put, removes};
+use dob_cli::DiskShelf;
+use std::alloc::{Allocator, Global};
+use std::cell::RefCell;
+use std::fs::{self, Metadata, OpenFile, OpenOptions};
+use std::io::{self, ErrorKind, Read, Seek, SeekFrom, Write};
+use std::process::Abort;
+use std::rt::Files;
+
+const NAME: &str = "ordered_by_a_test.db";
+
+const PART: &str = "ordered_by_a_test.db.part";
+
+const LINK: &str = "link_of_a_test.db";
+
+const TARGET: &str = "linked_by_a_test.db";
+
+const ASKED: &str = "asked_by_a_test.db";
+
+// What a file that is whole is kept by: the bytes are on the disk before the name is theirs, and the name before the shelf answers.
+const KEPT: &str = "look at name
+remove part
+open part
+write part
+flush part
+sync part
+ask part
+look at part
+rename part
+open folder
+sync folder
+";
+
+// Bytes that can't be put on the disk never get the name, nor do those whose name can't be changed: their part is taken away.
+const UNSYNCED: &str = "look at name
+remove part
+open part
+write part
+flush part
+sync part
+ask part
+look at part
+remove part
+";
+
+const UNNAMED: &str = "look at name
+remove part
+open part
+write part
+flush part
+sync part
+ask part
+look at part
+rename part
+ask part
+look at part
+remove part
+";
+
+// A folder that can't be put on the disk: the file has its name, and the shelf says that it failed.
+const UNLISTED: &str = "look at name
+remove part
+open part
+write part
+flush part
+sync part
+ask part
+look at part
+rename part
+open folder
+sync folder
+ask part
+look at part
+";
+
+// A link stays: the file that it leads to is written where it is, and put on the disk there.
+const LINKED: &str = "look at link
+open link
+write link
+flush link
+ask link
+sync link
+";
+
+/// The calls that were made, a line each. The one that reads so fails.
+#[derive(Drop)]
+struct Log {
+    calls: RefCell<String>,
+    failing: &'static str,
+}
+
+impl Log {
+    fn new(alloc: Global, failing: &'static str) -> Log {
+        Log {
+            calls: RefCell::new(String::new(alloc)),
+            failing,
+        }
+    }
+}
+
+impl Log {
+    // Notes the call, and fails where it is the one that does.
+    fn note(&self, call: &str, path: &'static str) -> io::Result<()> {
+        let Ok(mut calls) = self.calls.try_borrow_mut() else {
+            return Err(ErrorKind::Other.into());
+        };
+        let before = calls.len();
+        let _ = write!(calls, "{call} {path}\n");
+        if calls.get(before..) == Some(self.failing) {
+            Err(ErrorKind::Other.into())
+        } else {
+            Ok(())
+        }
+    }
+
+    // Whether these are the calls that were made, in their order.
+    fn says(&self, calls: &str) -> bool {
+        match self.calls.try_borrow() {
+            Ok(made) => made.as_str() == calls,
+            Err(_) => false,
+        }
+    }
+}
+
+// What the list says for a path.
+fn called(path: &str) -> &'static str {
+    match path {
+        NAME => "name",
+        PART => "part",
+        LINK => "link",
+        ASKED => "asked",
+        "." => "folder",
+        _ => "another",
+    }
+}
+
+/// The files of the system, with a list of the calls on them.
+#[derive(Drop)]
+struct Listed<'a, R> {
+    rt: &'a R,
+    log: &'a Log,
+}
+
+/// One of them, by its name in the list.
+#[derive(Drop)]
+struct ListedFile<'a, F> {
+    file: F,
+    path: &'static str,
+    log: &'a Log,
+}
+
+impl<'a, R: Files> Files for Listed<'a, R> {
+    type File = ListedFile<'a, R::File>;
+
+    type Dir = R::Dir;
+
+    fn open_file(&self, how: &OpenOptions, path: &str) -> io::Result<ListedFile<'a, R::File>> {
+        self.log.note("open", called(path))?;
+        let file = self.rt.open_file(how, path)?;
+        Ok(ListedFile {
+            file,
+            path: called(path),
+            log: self.log,
+        })
+    }
+
+    fn open_dir(&self, path: &str) -> io::Result<R::Dir> {
+        self.rt.open_dir(path)
+    }
+
+    fn metadata(&self, path: &str) -> io::Result<Metadata> {
+        self.log.note("look behind", called(path))?;
+        self.rt.metadata(path)
+    }
+
+    fn symlink_metadata(&self, path: &str) -> io::Result<Metadata> {
+        self.log.note("look at", called(path))?;
+        self.rt.symlink_metadata(path)
+    }
+
+    fn copy(&self, from: &str, to: &str) -> io::Result<u64> {
+        self.log.note("copy", called(from))?;
+        self.rt.copy(from, to)
+    }
+
+    fn rename(&self, from: &str, to: &str) -> io::Result<()> {
+        self.log.note("rename", called(from))?;
+        self.rt.rename(from, to)
+    }
+
+    fn remove_file(&self, path: &str) -> io::Result<()> {
+        self.log.note("remove", called(path))?;
+        self.rt.remove_file(path)
+    }
+
+    fn create_dir(&self, path: &str) -> io::Result<()> {
+        self.rt.create_dir(path)
+    }
+
+    fn remove_dir(&self, path: &str) -> io::Result<()> {
+        self.rt.remove_dir(path)
+    }
+
+    fn remove_dir_all<B: Allocator>(&self, alloc: B, path: &str) -> io::Result<()> {
+        self.rt.remove_dir_all(alloc, path)
+    }
+}
+
+impl<F: Read> Read for ListedFile<'_, F> {
+    fn read(&mut self, room: &mut [u8]) -> io::Result<usize> {
+        self.file.read(room)
+    }
+}
+
+impl<F: Write> Write for ListedFile<'_, F> {
+    fn write(&mut self, bytes: &[u8]) -> io::Result<usize> {
+        self.log.note("write", self.path)?;
+        self.file.write(bytes)
+    }
+
+    fn flush(&mut self) -> io::Result<()> {
+        self.log.note("flush", self.path)?;
+        self.file.flush()
+    }
+}
+
+impl<F: Seek> Seek for ListedFile<'_, F> {
+    fn seek(&mut self, to: SeekFrom) -> io::Result<u64> {
+        self.file.seek(to)
+    }
+}
+
+impl<F: OpenFile> OpenFile for ListedFile<'_, F> {
+    fn metadata(&self) -> io::Result<Metadata> {
+        self.log.note("ask", self.path)?;
+        self.file.metadata()
+    }
+
+    fn set_len(&self, size: u64) -> io::Result<()> {
+        self.file.set_len(size)
+    }
+
+    fn sync_all(&self) -> io::Result<()> {
+        self.log.note("sync", self.path)?;
+        self.file.sync_all()
+    }
+
+    fn sync_data(&self) -> io::Result<()> {
+        self.log.note("sync the bytes of", self.path)?;
+        self.file.sync_data()
+    }
+}
+
+// Puts the bytes under the name by calls of which that one fails; the calls that were made are these. Whether the shelf kept them.
+fn puts<R: Abort + Files + AllocGlobal>(
+    rt: &R,
+    name: &str,
+    bytes: &[u8],
+    failing: &'static str,
+    calls: &str,
+) -> bool {
+    let log = Log::new(rt.alloc(), failing);
+    let files = Listed { rt, log: &log };
+    let mut shelf = DiskShelf::new(&files, rt.alloc(), NOTHING);
+    let kept = put(&mut shelf, name, bytes);
+    assert!(rt; log.says(calls));
+    kept
+}
+
+/// A standard input of those bytes.
+#[derive(Drop)]
+struct Typed {
+    left: &'static [u8],
+}
+
+impl Read for Typed {
+    fn read(&mut self, room: &mut [u8]) -> io::Result<usize> {
+        let count = room.len().min(self.left.len());
+        room[..count].copy_from_slice(&self.left[..count]);
+        self.left = &self.left[count..];
+        Ok(count)
+    }
+}
+
+// Nothing is typed.
+const NOTHING: Typed = Typed { left: b"" };
+
+// Whether the file of that name has just these bytes, by the system's own files.
+fn stands<R: Files + AllocGlobal>(rt: &R, name: &str, bytes: &[u8]) -> bool {
+    has(&mut DiskShelf::new(rt, rt.alloc(), NOTHING), name, bytes)
+}
+
+// A build that is told as failed leaves the file that was there, and no part.
+fn leaves<R: Abort + Files + AllocGlobal>(rt: &R, failing: &'static str, calls: &str) {
+    assert!(rt; !puts(rt, NAME, b"new", failing, calls));
+    assert!(rt; stands(rt, NAME, b"kept") && fs::symlink_metadata(rt, PART).is_err());
+}
+
+#[test]
+fn bytes_before_the_name(rt: HostRuntime) {
+    assert!(rt; puts(&rt, NAME, b"kept", "", KEPT));
+    leaves(&rt, "sync part\n", UNSYNCED);
+    leaves(&rt, "rename part\n", UNNAMED);
+    assert!(rt; !puts(&rt, NAME, b"whole", "sync folder\n", UNLISTED));
+    assert!(rt; stands(&rt, NAME, b"whole"));
+    removes(&rt, NAME);
+}
+
+#[test]
+fn a_link_stays(rt: HostRuntime) {
+    let _ = fs::remove_file(&rt, LINK);
+    assert!(rt; std::os::unix::fs::symlink(&rt, TARGET, LINK).is_ok());
+    assert!(rt; puts(&rt, LINK, b"linked", "", LINKED));
+    let found = fs::symlink_metadata(&rt, LINK).expect(&rt, "a link");
+    assert!(rt; found.is_symlink() && stands(&rt, TARGET, b"linked"));
+    removes(&rt, LINK);
+    removes(&rt, TARGET);
+}
+
+#[test]
+fn one_reading_for_each_line(rt: HostRuntime) {
+    let mut shelf = DiskShelf::new(&rt, rt.alloc(), NOTHING);
+    assert!(rt; put(&mut shelf, ASKED, file(&rt).as_slice()));
+    let log = Log::new(rt.alloc(), "");
+    let files = Listed { rt: &rt, log: &log };
+    let typed = Typed {
+        left: b"..l/.../L../... - -\n.../.../..l/L.. - -\n",
+    };
+    let mut shelf = DiskShelf::new(&files, rt.alloc(), typed);
+    let words = ["probe", "--db", ASKED, "--each"];
+    let told = run_on(&rt, rt.alloc(), &mut shelf, &words);
+    assert!(rt; told.is(0, b"win 3\nloss 2\n", b"") && log.says("open asked\n"));
+    removes(&rt, ASKED);
+}

@@ -1,0 +1,181 @@
+// What `probe --each` and `look --each` answer to the lines of standard input, by the file of lions alone, whose values were found apart from this program.
+use crate::dbfile::files::first_file;
+use crate::dbfile::std_devices::Shaky;
+use crate::program::{Told, run_on};
+use crate::shelves::{put, removes};
+use dob_cli::{Console, DiskShelf, MemShelf, Shelf};
+use std::alloc::Global;
+use std::io::ErrorKind;
+use std::process::Abort;
+use std::rt::Files;
+use std::sync::Wait;
+use std::thread::Threads;
+
+const FILE: &str = "lions_asked_by_a_test.db";
+
+/// Standard input, with the exit status and the standard output that answer it.
+type Row = (&'static str, u8, &'static str);
+
+const ROWS: &[Row] = &[
+    ("", 0, ""),
+    ("..l/.../L../... - -\n", 0, "win 3\n"),
+    (
+        "..l/.../L../... - -\n.../.../..l/L.. - -\n.l./.../.L./... - -\n",
+        0,
+        "win 3\nloss 2\ndraw\n",
+    ),
+    // the last line without its end, and lines of other systems
+    (
+        "..l/.../L../... - -\r\n.../.../..l/L.. - -\r\n.l./.../.L./... - -",
+        0,
+        "win 3\nloss 2\ndraw\n",
+    ),
+    // lines that are refused, between others
+    (
+        "..l/.../L../... - -\n..l/.../L../... - x\n.../.../..l/L.. - -\n",
+        1,
+        "win 3\nE3 Hand\nloss 2\n",
+    ),
+    (
+        "..l\n..l/.../.../L.. C -\n.l./.../.L./... - -\nL../.../.../..l - -\n",
+        1,
+        "E1 Shape\nE7 OtherSet\ndraw\nE6 FarLion\n",
+    ),
+    // empty lines, and a carriage return before no line feed
+    (
+        "\n..l/.../L../... - -\n\n",
+        1,
+        "E1 Shape\nwin 3\nE1 Shape\n",
+    ),
+    ("..l/.../L../... - -\r", 1, "E3 Hand\n"),
+    ("\r\n", 1, "E1 Shape\n"),
+];
+
+const WORDS: [&str; 4] = ["probe", "--db", FILE, "--each"];
+
+const LOOK: [&str; 4] = ["look", "--db", FILE, "--each"];
+
+// A shelf with that file.
+fn shelf(rt: &(impl Abort + AllocGlobal)) -> MemShelf {
+    let mut shelf = MemShelf::new(rt.alloc());
+    assert!(rt; put(&mut shelf, FILE, &first_file(rt)));
+    shelf
+}
+
+// What the program answers to this input.
+fn told_of(
+    rt: &(impl Abort + Threads + Wait + Sync + Console),
+    alloc: Global,
+    shelf: &mut MemShelf,
+    words: &[&str; 4],
+    input: &[u8],
+) -> Told {
+    let mut bytes = Vec::new(alloc);
+    assert!(rt; bytes.extend_from_slice(input).is_ok());
+    shelf.set_input(bytes);
+    run_on(rt, alloc, shelf, words)
+}
+
+#[test]
+fn answers_to_lines(rt: HostRuntime) {
+    let mut shelf = shelf(&rt);
+    for (input, status, out) in ROWS {
+        let told = told_of(&rt, rt.alloc(), &mut shelf, &WORDS, input.as_bytes());
+        assert!(rt; told.is(*status, out.as_bytes(), b""), "{input:?}");
+    }
+}
+
+// The same by each position's own record.
+#[test]
+fn answers_by_records(rt: HostRuntime) {
+    let mut shelf = shelf(&rt);
+    for (input, status, out) in ROWS {
+        let told = told_of(&rt, rt.alloc(), &mut shelf, &LOOK, input.as_bytes());
+        assert!(rt; told.is(*status, out.as_bytes(), b""), "{input:?}");
+    }
+}
+
+#[test]
+fn lines_that_are_no_text(rt: HostRuntime) {
+    let mut shelf = shelf(&rt);
+    let input = b"\xff\xfe\n..l/.../L../... - -\n\xe2\x82";
+    let told = told_of(&rt, rt.alloc(), &mut shelf, &WORDS, input);
+    assert!(rt; told.is(1, b"E1 Shape\nwin 3\nE1 Shape\n", b""));
+}
+
+// The input is at its end after it was read.
+#[test]
+fn input_that_was_read(rt: HostRuntime) {
+    let mut shelf = shelf(&rt);
+    let told = told_of(&rt, rt.alloc(), &mut shelf, &WORDS, b"..l/.../L../... - -");
+    assert!(rt; told.is(0, b"win 3\n", b""));
+    assert!(rt; run_on(&rt, rt.alloc(), &mut shelf, &WORDS).is(0, b"", b""));
+}
+
+// A file that is none is told before any line.
+#[test]
+fn lines_without_a_file(rt: HostRuntime) {
+    let mut shelf = MemShelf::new(rt.alloc());
+    let told = told_of(
+        &rt,
+        rt.alloc(),
+        &mut shelf,
+        &WORDS,
+        b"..l/.../L../... - -\n",
+    );
+    assert!(rt; told.is(3, b"", b"dobutsu: E24 Io\n"));
+    assert!(rt; put(&mut shelf, FILE, b"DOBUTSU"));
+    let told = told_of(
+        &rt,
+        rt.alloc(),
+        &mut shelf,
+        &WORDS,
+        b"..l/.../L../... - -\n",
+    );
+    assert!(rt; told.is(1, b"", b"dobutsu: E15 Truncated\n"));
+}
+
+// One of a position and `--each` is asked for, and just one.
+#[test]
+fn words_that_are_unclear(rt: HostRuntime) {
+    let mut shelf = shelf(&rt);
+    let neither = ["probe", "--db", FILE];
+    let both = ["probe", "--each", "--db", FILE, "..l/.../L../... - -"];
+    let said = b"error: one of '<POSITION>' and '--each' has to be given, and just one
+
+Usage: dobutsu probe --db <FILE> <POSITION>
+       dobutsu probe --db <FILE> --each
+
+For more information, try '--help'.
+";
+    assert!(rt; run_on(&rt, rt.alloc(), &mut shelf, &neither).is(2, b"", said));
+    assert!(rt; run_on(&rt, rt.alloc(), &mut shelf, &both).is(2, b"", said));
+}
+
+// What the program answers by the file on a disk to an input that comes in pieces of seven bytes, and stops after so many.
+fn told_of_pieces<R: Abort + AllocGlobal + Files + Threads + Wait + Sync + Console>(
+    rt: &R,
+    input: &[u8],
+    count: usize,
+    error: Option<ErrorKind>,
+) -> Told {
+    let mut bytes = Vec::new(rt.alloc());
+    assert!(rt; bytes.extend_from_slice(input).is_ok());
+    let reader = Shaky::new(bytes, 7, count, error);
+    let mut shelf = DiskShelf::new(rt, rt.alloc(), reader);
+    assert!(rt; put(&mut shelf, FILE, &first_file(rt)));
+    let told = run_on(rt, rt.alloc(), &mut shelf, &WORDS);
+    removes(rt, FILE);
+    told
+}
+
+#[test]
+fn input_in_pieces(rt: HostRuntime) {
+    let input = b"..l/.../L../... - -\n.../.../..l/L.. - -\n";
+    let told = told_of_pieces(&rt, input, 100, None);
+    assert!(rt; told.is(0, b"win 3\nloss 2\n", b""));
+    let told = told_of_pieces(&rt, input, 20, None);
+    assert!(rt; told.is(0, b"win 3\n", b""));
+    let told = told_of_pieces(&rt, input, 20, Some(ErrorKind::Other));
+    assert!(rt; told.is(3, b"", b"dobutsu: E24 Io\n"));
+}

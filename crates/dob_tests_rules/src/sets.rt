@@ -1,0 +1,35 @@
+// Piece sets and families by their names, and their classes.
+ghost use Rattle.std.specs.Prelude.{◌≡◌};
+ghost use Rattle.dob_pieces.specs.declared.profile.Profile.TheVariants.{A};
+
+use dob_pieces::{Family, PieceSet, Profile};
+use dob_rank::Classes;
+use std::alloc::Global;
+use std::process::Abort;
+
+/// The set of that name.
+pub(crate) fn set_of(rt: &impl Abort, name: &str) -> PieceSet {
+    PieceSet::read(name).expect(rt, "a set")
+}
+
+/// The family of the set of that name in that profile.
+pub(crate) fn family(rt: &impl Abort, name: &str, profile: Profile) -> Family
+    ensures { result.profile ≡ profile }
+{
+    let set = set_of(rt, name);
+    Family { set, profile }
+}
+
+/// The family of the set of that name in profile A.
+pub(crate) fn family_of(rt: &impl Abort, name: &str) -> Family
+    ensures { result.profile ≡ A }
+{
+    family(rt, name, Profile::A)
+}
+
+/// The classes of the family of that name in profile A.
+pub(crate) fn classes_of(rt: &impl Abort, alloc: Global, name: &str) -> Classes
+    ensures { result.family.profile ≡ A }
+{
+    Classes::open(alloc, family_of(rt, name)).expect(rt, "classes")
+}
