@@ -1,5 +1,5 @@
 -- The crew is closed as one whose runners have stopped.
-use Rattle.std.proofs.Common.{◌≡◌, ◌≢◌, ◌∙◌, List, [], ◌∷◌, map, sym, subst}
+use Rattle.std.proofs.Common.{◌≡◌, ◌≢◌, ◌∙◌, List, [], ◌∷◌, map, rules, sym, subst}
 use Rattle.std.specs.List.{AllZip}
 use Rattle.dob_pieces.specs.declared.profile.Family.{Family}
 use Rattle.dob_board.specs.declared.board.Board.{Board}
@@ -30,11 +30,11 @@ module _ (family : Family) (board : Board) (one other first second : Runner) (op
       record { family_is = was.2.0.family ∙ new.family_is; size_is = was.2.0.size ∙ new.size_is; halted = was.2.1 })
 
 pub finish-requires-clause-crew : goal.finish-requires-clause-crew
-finish-requires-clause-crew g c = λ κs lives. let kept = c.requires in
+finish-requires-clause-crew g c = λ κs lives. let kept = c.requires.crew in
     still_crew c.args.classes.family c.args.board kept.0 kept.1 c.args.first c.args.second kept.2 kept.3 kept.4 c.in_ok-runners.runners.items c.in_ok-runners.ensures
 
 pub finish-requires-clause-stopped : goal.finish-requires-clause-stopped
-finish-requires-clause-stopped g c = λ κs lives. let kept = c.requires in (
+finish-requires-clause-stopped g c = λ κs lives. let kept = c.requires.crew in (
   1,
   have_stopped c.args.classes.family c.args.board kept.0 kept.1 c.args.first c.args.second kept.2 kept.3 kept.4 c.in_ok-runners.runners.items c.in_ok-runners.ensures
       (search rules) (search rules),

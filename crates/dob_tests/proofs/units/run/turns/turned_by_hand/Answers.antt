@@ -2,8 +2,8 @@
 use Rattle.dob_run.proofs.Keeping.{runner_trans}
 use Rattle.dob_tests.proofs.units.run.turns.turned_by_hand.Goals as goal
 
-pub close_both-requires : goal.close_both-requires
-close_both-requires g c = λ κs.
+pub close_both-requires-clause-crew : goal.close_both-requires-clause-crew
+close_both-requires-clause-crew g c = λ κs.
     let made = c.two_runners-classes in (
       made.result.2,
       made.result.3,
