@@ -3,7 +3,7 @@ use crate::timer::{Rounds, Timer};
 use crate::{measure, rules};
 use anyhow::Result;
 use dob_moves::{Status, plain as plain_rules};
-use dob_pieces::{Family, Memory, Position};
+use dob_pieces::{Family, Memory, Position, Profile};
 use dob_rank::Classes;
 use dob_unmove::plain as plain_back;
 use std::alloc::Global;
@@ -61,7 +61,7 @@ fn list_plain_edges<R: Print + Clock + AllocGlobal>(rt: &R, classes: &Classes) -
 fn plain_open_positions(positions: &[Position]) -> u64 {
     let mut found: u64 = 0;
     for position in positions {
-        if plain_rules::status(position) == Status::Open {
+        if plain_rules::status(Profile::A, position) == Status::Open {
             found = found.saturating_add(1);
         }
     }
@@ -72,7 +72,7 @@ fn plain_open_positions(positions: &[Position]) -> u64 {
 fn count_plain_moves(alloc: Global, positions: &[Position]) -> Result<u64, Memory> {
     let mut count: u64 = 0;
     for position in positions {
-        let listed = plain_rules::moves(alloc, position)?;
+        let listed = plain_rules::moves(alloc, Profile::A, position)?;
         count = count.saturating_add(listed.len() as u64);
     }
     Ok(count)

@@ -1,5 +1,5 @@
 -- The first fault among the verdicts of all classes, as a search over them finds it.
-use Rattle.std.proofs.Common.{◌≡◌, ℕ, zero, suc, ◌+◌, ◌≤◌, ◌<◌, inl, inr, refl, sym, subst, arith, List, [], ◌∷◌, length, Bool, true, false, Option, Some}
+use Rattle.std.proofs.Common.{◌≡◌, ℕ, zero, suc, ◌+◌, ◌≤◌, ◌<◌, inl, inr, sym, subst, arith, List, [], ◌∷◌, length, Bool, true, false, Option, Some}
 use Rattle.std.proofs.Common.{None, Ok, Err, IfOk, IfErr}
 use Rattle.std.specs.Prelude.{is_err, slice_get}
 use Rattle.std.specs.Option.{unwrap_or}
@@ -12,6 +12,16 @@ use Rattle.dob_probe.specs.Checks.{ClassFollows}
 use Rattle.dob_probe.specs.Faults.{IsVerdict, IsFaultOfCheck}
 use Rattle.dob_probe.proofs.Following.{consistent_of_all}
 use Rattle.dob_probe.proofs.Verdicts.{Verdict, IsFirstFault, fault_holds}
+
+-- what holds of each number for which there is something in a list
+pub each_has : {Y : Type 0} (P : ℕ → Type 0) (from count : ℕ) (ys : List Y) → AllZip (λ (k : ℕ) (y : Y). P k) (range_with_len from count) ys → (k : ℕ) →
+    from ≤ k → k < from + count → P k
+each_has P from zero ys are k low high = absurd (omega (arith, low, high))
+each_has P from (suc count) [] are k low high = absurd are
+each_has P from (suc count) (y ∷ ys) are k low high = elim (cases_lt from k) [
+  | inl later ↦ each_has P (from + 1) count ys are.1 k (omega (arith, later)) (omega (arith, high))
+  | inr upto ↦ let same : from ≡ k = omega (arith, low, upto) in subst P same are.0
+]
 
 module _ (table : ClassTable) where
   passed : (class : ℕ) (verdict : Verdict) → IsVerdict table class verdict → is_err verdict ≡ false → ClassFollows table class

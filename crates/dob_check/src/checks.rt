@@ -1,8 +1,8 @@
 // Whether a table is consistent, looked at by as many threads as there are processors.
-ghost use Rattle.std.specs.Prelude.{◌≡◌, ◌⊎◌, ◌<◌, ◌≤◌, ◌+◌, length, IfOk, IfErr, is_err};
+ghost use Rattle.std.specs.Prelude.{◌≡◌, ℕ, ◌⊎◌, ◌<◌, ◌≤◌, ◌+◌, length, IfOk, IfErr, is_err};
 ghost use Rattle.dob_value.specs.Follows.{IsConsistent, IsValueTable};
 ghost use Rattle.dob_probe.specs.Faults.{IsFaultOfCheck, IsVerdict};
-ghost use Rattle.dob_check.specs.Watching.{told_of};
+ghost use Rattle.dob_check.specs.Watching.{told_of, IsToldAt};
 
 use dob_moves::Move;
 use dob_probe::{Fault, check_class};
@@ -16,14 +16,22 @@ const EACH: u64 = 65_536;
 
 /// Is told how far a check is.
 pub trait Watch {
+    ghost use Rattle.std.specs.Prelude.{ℕ};
+
+    // By `told watch classes` it may have been told so.
+    ghost told: { Self → ℕ → Type 0 };
+
     /// Told that so many more classes were looked at, 65,536 at most. More may have been, and which they are is left open.
-    fn passed(&self, classes: u64);
+    fn passed(&self, classes: u64)
+        ensures { told self.now classes };
 }
 
 // Nobody is told.
 struct Unwatched;
 
 impl Watch for Unwatched {
+    ghost told = { λ _ _. Unit {0} };
+
     fn passed(&self, _classes: u64) {}
 }
 
@@ -55,6 +63,7 @@ pub fn check_watched<R: Threads + Sync, W: Watch + Sync>(
     ensures right { IfOk result (λ _. IsValueTable table.now.family table.now.values) }
     ensures fault { IfErr result (IsFaultOfCheck table.now) }
     ensures passed { IsConsistent table.now.family table.now.values → (result ≡ Ok tt) ⊎ (result ≡ Err Fault.Memory) }
+    ensures told { (class : ℕ) → class < length table.now.values → IsToldAt (W.told watch.now) (length table.now.values) class }
 {
     let first_fault = (0..table.classes().class_count())
         .into_par_iter()
@@ -62,7 +71,8 @@ pub fn check_watched<R: Threads + Sync, W: Watch + Sync>(
             || -> Vec<Move> { Vec::new(alloc) },
             |room: &mut Vec<Move>, class: u64| -> Result<(), Fault>
                 requires { class < length table.now.values }
-                ensures { IsVerdict table.entry.now class result }
+                ensures verdict { IsVerdict table.entry.now class result }
+                ensures told { IsToldAt (W.told watch.entry.now) (length table.entry.now.values) class }
             {
                 tell(watch, table.class_count(), class);
                 check_class(room, table, class)
@@ -80,6 +90,7 @@ pub fn check_watched<R: Threads + Sync, W: Watch + Sync>(
 // Tells the watch at the class, one of so many, where it is due.
 fn tell<W: Watch>(watch: &W, count: u64, class: u64)
     requires { class < count }
+    ensures { IsToldAt (W.told watch.now) count class }
 {
     let news = news_at(count, class);
     if news > 0 {

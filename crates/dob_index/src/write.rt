@@ -14,10 +14,11 @@ use dob_rank::{
     LIONS, MixedRun, RunKind, classes_in_run, count_blocks, count_runs, kind_of, run_size_in,
 };
 
-/// Writes the index of the family into the first of those numbers, as many as `index_words` says.
+/// Writes the index of the family into the first of those numbers, as many as `index_words` says. Those behind stay as they were.
 pub fn write_index(family: Family, words: &mut [u64])
     requires { words_of family.set ≤ length words.old }
-    ensures { IsIndex family words.new }
+    ensures index { IsIndex family words.new }
+    ensures others { (i : ℕ) → words_of family.set ≤ i → get_or words.new i 0 ≡ get_or words.old i 0 }
 {
     let blocks = count_blocks(family.set);
     let mut before = 0;

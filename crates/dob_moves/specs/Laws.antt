@@ -16,9 +16,9 @@ use Rattle.dob_moves.specs.Statuses.{HasStatus, AreMoves}
 use Rattle.dob_moves.specs.MoveLists.{moves_of}
 use Rattle.dob_moves.specs.Mirrors.{mirrored_move}
 
--- every outcome of a move of an open position is a position
+-- every outcome of a move of a position that is open by the rules of a profile is a position
 abbrev pub OutcomesAreLegal : Type 0
-OutcomesAreLegal = (p : Setup) (move : Move) (q : Setup) → IsLegal p → HasStatus A p Open → HasOutcome p move q → IsLegal q
+OutcomesAreLegal = (profile : Profile) (p : Setup) (move : Move) (q : Setup) → IsLegal p → HasStatus profile p Open → HasOutcome p move q → IsLegal q
 
 -- every outcome of a move by a profile's rules is allowed by it, where the position is
 abbrev pub OutcomesAreAllowed : Type 0
@@ -37,13 +37,13 @@ OutcomesKeepPieces = (p : Setup) (move : Move) (q : Setup) (kind : HandKind) →
 abbrev pub MovesHaveOneOutcome : Type 0
 MovesHaveOneOutcome = (p : Setup) (move : Move) (q r : Setup) → HasOutcome p move q → HasOutcome p move r → q ≡ r
 
--- the statuses exclude each other
+-- the statuses by the rules of a profile exclude each other
 abbrev pub StatusesExclude : Type 0
-StatusesExclude = (p : Setup) (s t : Status) → HasStatus A p s → HasStatus A p t → s ≡ t
+StatusesExclude = (profile : Profile) (p : Setup) (s t : Status) → HasStatus profile p s → HasStatus profile p t → s ≡ t
 
--- a position's mirror image has its status
+-- a position's mirror image has its status, by the rules of each profile
 abbrev pub StatusesMirror : Type 0
-StatusesMirror = (p : Setup) (s : Status) → IsLegal p → HasStatus A p s → HasStatus A (mirrored p) s
+StatusesMirror = (profile : Profile) (p : Setup) (s : Status) → IsLegal p → HasStatus profile p s → HasStatus profile (mirrored p) s
 
 -- the mirror image of a move leads to the mirror image of its outcome
 abbrev pub OutcomesMirror : Type 0
@@ -52,13 +52,13 @@ OutcomesMirror = (p : Setup) (move : Move) (q : Setup)
 
 -- of all steps from one square to another at most one can go
 abbrev pub StepsExclude : Type 0
-StepsExclude = (p : Setup) (kind other : Kind) (from to : ℕ) (catch catches grows grow : Bool)
-    → CanGo A p (Step kind from to catch grows) → CanGo A p (Step other from to catches grow)
+StepsExclude = (profile : Profile) (p : Setup) (kind other : Kind) (from to : ℕ) (catch catches grows grow : Bool)
+    → CanGo profile p (Step kind from to catch grows) → CanGo profile p (Step other from to catches grow)
     → (kind ≡ other) × (catch ≡ catches) × (grows ≡ grow)
 
 -- a step onto the enemy lion isn't a move
 abbrev pub LionsAreNotTaken : Type 0
-LionsAreNotTaken = (p : Setup) (move : Move) → CatchesLion p move → ¬ CanGo A p move
+LionsAreNotTaken = (profile : Profile) (p : Setup) (move : Move) → CatchesLion p move → ¬ CanGo profile p move
 
 -- the list that computes has just the moves
 abbrev pub ListsHaveMoves : Type 0

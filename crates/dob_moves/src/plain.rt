@@ -1,7 +1,7 @@
 // The plain program of the rules, square by square as the definitions go. It is for comparisons with the bodies that go by
 // masks, which a test and a measurement make; nothing else calls it.
 ghost use Rattle.std.specs.Prelude.{◌↔◌, ◌≡◌, ◌++◌, IfOk, OnOk, IsTrue, MatchOption, option_to_list};
-ghost use Rattle.dob_pieces.specs.declared.profile.Profile.TheVariants as Profile;
+ghost use Rattle.dob_pieces.specs.declared.profile.Profile.TheVariants.{A};
 ghost use Rattle.dob_pieces.specs.Setups.{at, piece_of};
 ghost use Rattle.dob_moves.specs.Statuses.{AreMoves, CanCatch, HasTried, HasStatus, IsFirstCatch};
 ghost use Rattle.dob_moves.specs.Walks.{steps_by, steps_from, all_steps, put_on, drops_of, all_drops};
@@ -11,7 +11,7 @@ use crate::first_moves::{Aim, first_step, own_kind, put_on, step_by};
 use crate::game_move::Move;
 use crate::position_status::Status;
 use crate::status_of::finds_move;
-use dob_pieces::{HandKind, Kind, Memory, Piece, Position, Setup, Side, Square};
+use dob_pieces::{HandKind, Kind, Memory, Piece, Position, Profile, Setup, Side, Square};
 use std::alloc::Global;
 
 /// The first step in the move order that catches the enemy lion, or `None` where no step does.
@@ -43,9 +43,18 @@ fn has_tried(position: &Position) -> bool
         || holds_enemy_lion(position, Square::new(2))
 }
 
-/// The status of the position: a catch is looked for first, then a try, then a move.
-pub fn status(position: &Position) -> Status
-    ensures { HasStatus Profile.A position.now.setup result }
+/// The status of the position by the rules of a profile, which asks for no other one than profile A: a catch is looked for first, then a
+/// try, then a move.
+pub fn status(profile: Profile, position: &Position) -> Status
+    ensures { HasStatus profile position.now.setup result }
+{
+    let _ = profile;
+    status_in_a(position)
+}
+
+/// The same by the rules of profile A.
+fn status_in_a(position: &Position) -> Status
+    ensures { HasStatus A position.now.setup result }
 {
     if first_catch(position).is_some() {
         Status::Caught
@@ -107,16 +116,35 @@ fn push_steps(moves: &mut Vec<Move>, setup: &Setup) -> Result<(), Memory>
     Ok(())
 }
 
+/// The drop of that kind on that square by the rules of the profile, if nothing stands there.
+fn put_by(profile: Profile, setup: &Setup, kind: HandKind, to: Square) -> Option<Move>
+    ensures { result ≡ put_on profile setup.now kind to }
+{
+    let piece = Piece {
+        side: Side::Mover,
+        kind: kind.on_board(),
+    };
+    if !profile.may_stand(to, Some(piece)) {
+        return None;
+    }
+    put_on(setup, kind, to)
+}
+
 /// Appends the drops of that kind.
 #[tactic(auto, using(crate::proofs::PlainLists::appends), unfolding(crate::specs::Walks::drops_of))]
-fn push_drops_of(moves: &mut Vec<Move>, setup: &Setup, kind: HandKind) -> Result<(), Memory>
-    ensures { OnOk result (moves.new.items ≡ moves.old.items ++ drops_of Profile.A setup.now kind) }
+fn push_drops_of(
+    profile: Profile,
+    moves: &mut Vec<Move>,
+    setup: &Setup,
+    kind: HandKind,
+) -> Result<(), Memory>
+    ensures { OnOk result (moves.new.items ≡ moves.old.items ++ drops_of profile setup.now kind) }
 {
     if setup.hands.mover.count(kind) == 0 {
         return Ok(());
     }
     for index in 0..Square::COUNT {
-        let put = put_on(setup, kind, Square::new(index));
+        let put = put_by(profile, setup, kind, Square::new(index));
         push_found(moves, put)?;
     }
     Ok(())
@@ -124,24 +152,24 @@ fn push_drops_of(moves: &mut Vec<Move>, setup: &Setup, kind: HandKind) -> Result
 
 /// Appends the drops.
 #[tactic(auto, using(crate::proofs::PlainLists::appends), unfolding(crate::specs::Walks::all_drops))]
-fn push_drops(moves: &mut Vec<Move>, setup: &Setup) -> Result<(), Memory>
-    ensures { OnOk result (moves.new.items ≡ moves.old.items ++ all_drops Profile.A setup.now) }
+fn push_drops(profile: Profile, moves: &mut Vec<Move>, setup: &Setup) -> Result<(), Memory>
+    ensures { OnOk result (moves.new.items ≡ moves.old.items ++ all_drops profile setup.now) }
 {
-    push_drops_of(moves, setup, HandKind::Chick)?;
-    push_drops_of(moves, setup, HandKind::Elephant)?;
-    push_drops_of(moves, setup, HandKind::Giraffe)
+    push_drops_of(profile, moves, setup, HandKind::Chick)?;
+    push_drops_of(profile, moves, setup, HandKind::Elephant)?;
+    push_drops_of(profile, moves, setup, HandKind::Giraffe)
 }
 
-/// The moves of an open position, each once, in the move order; no moves of any other position. Fails where memory
-/// runs out.
-pub fn moves(alloc: Global, position: &Position) -> Result<Vec<Move>, Memory>
-    ensures { IfOk result (λ v. AreMoves Profile.A position.now.setup v.items) }
+/// The moves of an open position by the rules of a profile, each once, in the move order; no moves of any other position. Fails
+/// where memory runs out.
+pub fn moves(alloc: Global, profile: Profile, position: &Position) -> Result<Vec<Move>, Memory>
+    ensures { IfOk result (λ v. AreMoves profile position.now.setup v.items) }
 {
     let mut moves = Vec::new(alloc);
-    match status(position) {
+    match status(profile, position) {
         Status::Open => {
             push_steps(&mut moves, &position.setup)?;
-            push_drops(&mut moves, &position.setup)?;
+            push_drops(profile, &mut moves, &position.setup)?;
             Ok(moves)
         }
         _ => Ok(moves),

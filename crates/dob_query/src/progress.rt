@@ -82,6 +82,8 @@ impl<'a, C: Console> Progress<'a, C> {
 }
 
 impl<C: Console> Watch for Progress<'_, C> {
+    ghost told = { λ _ _. Unit {0} };
+
     fn passed(&self, classes: u64) {
         self.add(classes);
     }

@@ -35,7 +35,7 @@ use Rattle.dob_run.specs.Links.{KeepsOutlet, KeepsInlet}
 use Rattle.dob_run.specs.LawfulRunners.{IsSpared}
 use Rattle.dob_run.specs.Endpoints.{KeepsEach, AreOut}
 use Rattle.dob_run.specs.Keeps.{KeepsEndpoint, HasSameLinks}
-use Rattle.dob_run.specs.Runners.{KeepsRunner, GoesOn, HasFailed, HasBroken, HasRefused, HasCutAll, IsReasonFor, IsReasoned, IsAsked, no_gate, StepsBy, Steps}
+use Rattle.dob_run.specs.Runners.{KeepsRunner, GoesOn, HasFailed, HasBroken, HasRefused, HasCutAll, IsReasonFor, IsReasoned, IsAsked, no_gate, StepsBy}
 use Rattle.dob_run.specs.Turns.{HasTurned, HasSameWork}
 use Rattle.dob_run.proofs.Counted.{there_set}
 
@@ -282,15 +282,15 @@ out_still old new nodes each out j after at =
 
 -- a failure that is handed on
 pub broken_on : {A : Type 0} (Did : Runner → Runner → A → Type 0) (a b c : Runner) (r : Result A Cause) (why : Cause) → IsErrAnd r (λ given. given ≡ why) →
-    KeepsRunner a b → HasBroken b c why → StepsBy Did a c r
-broken_on {A} Did a b c r why is kept broken =
+    KeepsRunner a b → MovesNothing a.endpoint.seat b.endpoint.seat → HasBroken b c why → StepsBy Did a c r
+broken_on {A} Did a b c r why is kept still broken =
     let given = err_from_is_err_and r is in
-    let now : HasBroken a c why = record { failed = failed_after a b c why kept broken.failed; reason = broken.reason } in
+    let now : HasBroken a c why = record {
+      failed = failed_after a b c why kept broken.failed;
+      still = still_trans a.endpoint.seat b.endpoint.seat c.endpoint.seat kept.endpoint.seat.node still broken.still;
+      reason = broken.reason;
+    } in
     subst (λ (s : Result A Cause). StepsBy Did a c s) (sym given.1) (subst (HasBroken a c) (sym given.2) now)
-
-pub carried_on : {A : Type 0} (a b c : Runner) (r : Result A Cause) (why : Cause) → IsErrAnd r (λ given. given ≡ why) → KeepsRunner a b → HasBroken b c why →
-    Steps a c r
-carried_on {A} a b c r why is kept broken = broken_on (λ (before after : Runner) (answer : A). GoesOn before after) a b c r why is kept broken
 
 -- and it isn't that a gate held the runner back
 pub unheld_on : {A L : Type 0} (r : Result A Cause) (why : Cause) → IsErrAnd r (λ given. given ≡ why) → why ≢ Held → r ≡ Err Held → L
@@ -303,6 +303,12 @@ pub turn_failed : (a b c : Runner) (r : Result Halt Cause) (why : Cause) → IsE
 turn_failed a b c r why is kept failed =
     let given = err_from_is_err_and r is in
     subst (λ s. MatchResult s (HasTurned a c) (HasFailed a c)) (sym given.1) (subst (HasFailed a c) (sym given.2) (failed_after a b c why kept failed))
+
+-- and no token was moved before it
+pub failed_still : {A : Type 0} (a b c : Runner) (r : Result A Cause) → KeepsRunner a b → MovesNothing a.endpoint.seat b.endpoint.seat →
+    MovesNothing b.endpoint.seat c.endpoint.seat → IfErr r (λ _. MovesNothing a.endpoint.seat c.endpoint.seat)
+failed_still a b c (Ok x) kept one two = tt
+failed_still a b c (Err why) kept one two = still_trans a.endpoint.seat b.endpoint.seat c.endpoint.seat kept.endpoint.seat.node one two
 
 -- a turn keeps the runner's place, whatever its answer
 pub turn_keeps : (a b : Runner) (r : Result Halt Cause) → MatchResult r (HasTurned a b) (HasFailed a b) → KeepsRunner a b

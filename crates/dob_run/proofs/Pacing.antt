@@ -1,7 +1,7 @@
 -- How many batches go over each link in so many turns.
 use Rattle.std.proofs.Common.{◌≡◌, ℕ, ◌+◌, ◌<◌, List, length, Bool, Some, None, Result, Ok, Err}
 use Rattle.std.proofs.Common.{sym, ap, ◌∙◌, subst, inl, inr, arith}
-use Rattle.std.specs.Prelude.{slice_get, OnOk, MatchResult}
+use Rattle.std.specs.Prelude.{slice_get, MatchResult}
 use Rattle.std.proofs.lemmas.Bool.{cases_eq}
 use Rattle.std.proofs.lemmas.Option.{same_Some, slice_get_within}
 use Rattle.dob_chan.specs.Ends.{taken_by}
@@ -60,9 +60,10 @@ pub works_go : (a b : Runner) (r : Result Bool Cause) → StepsBy Works a b r �
 works_go a b (Ok did) works = works.goes
 works_go a b (Err why) broken = broken.failed
 
-pub works_few : (a b : Runner) (r : Result Bool Cause) → StepsBy Works a b r → OnOk r (AddsFew 1 a.endpoint b.endpoint)
-works_few a b (Ok did) works = works.few
-works_few a b (Err why) broken = tt
+-- and so is a turn that may be held back
+pub turn_goes : (a b : Runner) (r : Result Bool Cause) → MatchResult r (Works a b) (HasFailed a b) → MatchResult r (λ _. GoesOn a b) (HasFailed a b)
+turn_goes a b (Ok did) works = works.goes
+turn_goes a b (Err why) failed = failed
 
 -- where no turn failed
 pub unfailed_few : (count : ℕ) (a b : Runner) (why : Cause) → b.failed ≡ Some why → b.failed ≡ None → AddsFew count a.endpoint b.endpoint

@@ -87,9 +87,10 @@ says_no Says node = Says node false
 abbrev pub IsAsked : {A : Type 0} → (ℕ → Bool → Type 0) → ℕ → Result A Cause → Type 0
 IsAsked {A} Says node result = (yes : Bool) × Says node yes × ((yes ≡ false) ↔ (result ≡ Err Held))
 
--- its node has failed for that cause, with a reason of its own
+-- its node has failed for that cause, with a reason of its own; and it didn't move the token or announce the end
 pub record HasBroken (old new : Runner) (why : Cause) : Type 0 where
   pub failed : HasFailed old new why
+  pub still : MovesNothing old.endpoint.seat new.endpoint.seat
   pub reason : IsReasonFor no_gate new why
 
 -- it was held back: its node, its links and its colour are as they were
@@ -101,10 +102,6 @@ pub record IsHeldBack (old new : Runner) : Type 0 where
 -- a step of a runner: it has done that and answers so, or its node has failed
 abbrev pub StepsBy : {A : Type 0} → (Runner → Runner → A → Type 0) → Runner → Runner → Result A Cause → Type 0
 StepsBy {A} Did old new result = MatchResult result (λ answer. Did old new answer) (λ why. HasBroken old new why)
-
--- or it has done something
-abbrev pub Steps : {A : Type 0} → Runner → Runner → Result A Cause → Type 0
-Steps {A} old new result = StepsBy (λ (before after : Runner) (answer : A). GoesOn before after) old new result
 
 -- The runner has nothing to expand, to apply or to send, and no batch in a hand.
 pub record IsAtRest (runner : Runner) : Type 0 where

@@ -1,6 +1,7 @@
 // A turn of a runner.
 ghost use Rattle.std.specs.Prelude.{◌≡◌, ◌≢◌, ◌↔◌, ◌<◌, ◌≤◌, ◌-◌, IsTrue, Err, None, IfErr, MatchResult, length, false};
 ghost use Rattle.dob_board.specs.declared.halt.Halt.TheVariants.{Running};
+ghost use Rattle.dob_board.specs.Seats.{MovesNothing};
 ghost use Rattle.dob_stops.specs.declared.cause.Cause.TheVariants.{Held};
 ghost use Rattle.dob_run.specs.Runners.{StepsBy, GoesRound, HasFailed, IsHeldBack, IsNew, IsAsked, IsReasonFor, says_no};
 ghost use Rattle.dob_run.specs.TurnRounds.{Works};
@@ -52,6 +53,7 @@ impl Runner {
     pub(crate) fn abandon(&mut self, why: Cause)
         requires { self.old.failed ≡ None }
         ensures failed { HasFailed self.old self.new why }
+        ensures still { MovesNothing self.old.endpoint.seat self.new.endpoint.seat }
         ensures same { IsHeldBack self.old self.new }
     {
         self.failed = Some(why);
@@ -61,9 +63,9 @@ impl Runner {
     /// One turn: a runner that the gate lets pass and whose run goes on does a turn's work for its node, of which the gate is told,
     /// and if there was none it looks for the token, or pauses. The answer is the halt that its seat knows.
     ///
-    /// Errors, after which the run has failed, if it hadn't ended or failed before: `Held` just where the gate says no, and then
-    /// the runner has done nothing: its node and what went over its links are as they were; else the cause of the node: an
-    /// item that can't be applied, too many batches, or lack of memory.
+    /// Errors, after which the run has failed, if it hadn't ended or failed before, and before which the runner moved no token: `Held`
+    /// just where the gate says no, and then the runner has done nothing: its node and what went over its links are as they were;
+    /// else the cause of the node: an item that can't be applied, too many batches, or lack of memory.
     pub fn turn<R: Wait, G: Gate>(
         &mut self,
         rt: &R,
@@ -76,6 +78,7 @@ impl Runner {
         ensures asked { IsAsked (G.says gate.now) self.old.endpoint.seat.node result }
         ensures reason { IfErr result (IsReasonFor (says_no (G.says gate.now)) self.new) }
         ensures held { result ≡ Err Held → IsHeldBack self.old self.new }
+        ensures still { IfErr result (λ _. MovesNothing self.old.endpoint.seat self.new.endpoint.seat) }
         ensures told { IsTold (G.told gate.now) self.old self.new }
     {
         if !gate.enter(self.endpoint.seat.node) {

@@ -1,8 +1,11 @@
 // Turns of a runner, one after another.
-ghost use Rattle.std.specs.Prelude.{◌≡◌, ◌≢◌, true, None, IfErr, OnOk, MatchResult};
+ghost use Rattle.std.specs.Prelude.{◌≡◌, ◌≢◌, true, Err, None, IfErr, MatchResult};
 ghost use Rattle.dob_board.specs.declared.halt.Halt.TheVariants.{Running};
-ghost use Rattle.dob_run.specs.Runners.{GoesOn, HasFailed, KeepsRunner, IsAsked, IsReasonFor, IsReasoned, says_no};
-ghost use Rattle.dob_run.specs.TurnRounds.{AddsFew};
+ghost use Rattle.dob_board.specs.Seats.{MovesNothing};
+ghost use Rattle.dob_stops.specs.declared.cause.Cause.TheVariants.{Held};
+ghost use Rattle.dob_run.specs.Runners.{HasFailed, KeepsRunner, IsHeldBack, IsAsked, IsReasonFor, IsReasoned, says_no};
+ghost use Rattle.dob_run.specs.TurnRounds.{AddsFew, Works};
+ghost use Rattle.dob_run.specs.Turns.{IsTold};
 
 use crate::gate::Gate;
 use crate::runner::Runner;
@@ -73,8 +76,8 @@ impl Runner {
         }
     }
 
-    // One turn, without the halt word and the token: a runner that the gate lets pass does a turn's work for its node.
-    // Whether there was any.
+    // One turn, without the halt word and the token: a runner that the gate lets pass does a turn's work for its node, of which the
+    // gate is told. Whether there was any.
     fn turn_alone<R: Wait, G: Gate>(
         &mut self,
         rt: &R,
@@ -83,10 +86,12 @@ impl Runner {
     ) -> Result<bool, Cause>
         requires unfailed { self.old.failed ≡ None }
         requires family { classes.now.family ≡ self.old.family }
-        ensures goes { MatchResult result (λ _. GoesOn self.old self.new) (HasFailed self.old self.new) }
-        ensures few { OnOk result (AddsFew 1 self.old.endpoint self.new.endpoint) }
+        ensures works { MatchResult result (Works self.old self.new) (HasFailed self.old self.new) }
         ensures asked { IsAsked (G.says gate.now) self.old.endpoint.seat.node result }
         ensures reason { IfErr result (IsReasonFor (says_no (G.says gate.now)) self.new) }
+        ensures held { result ≡ Err Held → IsHeldBack self.old self.new }
+        ensures still { IfErr result (λ _. MovesNothing self.old.endpoint.seat self.new.endpoint.seat) }
+        ensures told { IsTold (G.told gate.now) self.old self.new }
     {
         if !gate.enter(self.endpoint.seat.node) {
             self.abandon(Cause::Held);

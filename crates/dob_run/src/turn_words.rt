@@ -1,7 +1,7 @@
 // What a runner does with the words of the board besides its counts: the token and the halt.
 ghost use Rattle.std.specs.Prelude.{◌≡◌, ◌≢◌, ◌↔◌, ℕ, IsTrue, Some, None, true, false};
 ghost use Rattle.dob_board.specs.declared.halt.Halt.TheVariants.{Running, Ended};
-ghost use Rattle.dob_board.specs.Seats.{stand_of, MayEnd, KnewOwnFailure, ObservesHalt, TellsHalt, HasAnnounced};
+ghost use Rattle.dob_board.specs.Seats.{stand_of, MayEnd, KnewOwnFailure, ObservesHalt, TellsHalt, HasAnnounced, MovesNothing};
 ghost use Rattle.dob_run.specs.Endpoints.{AreOut};
 ghost use Rattle.dob_run.specs.Keeps.{HasSameLinks};
 ghost use Rattle.dob_run.specs.TurnToken.{HasLooked, HasPassed};
@@ -54,9 +54,10 @@ impl Endpoint {
         let _ = self.seat.announce();
     }
 
-    /// Says that the node failed the run. The halt that its seat finds isn't `Running`; it is the one that it knew, if it knew
-    /// one; and `Ended` only where the node is white.
+    /// Says that the node failed the run, and moves no token. The halt that its seat finds isn't `Running`; it is the one that it knew,
+    /// if it knew one; and `Ended` only where the node is white.
     pub(crate) fn fail(&mut self)
+        ensures still { MovesNothing self.old.seat self.new.seat }
         ensures links { HasSameLinks self.old self.new }
         ensures colour { self.new.seat.black ≡ self.old.seat.black }
         ensures stopped { self.new.seat.halt ≢ Running }

@@ -1,7 +1,12 @@
 -- What is asked of a file by an index of its family.
-use Rattle.std.specs.Prelude.{◌≡◌, ◌≢◌, ℕ, ◌+◌, ◌*◌, List, length}
+use Rattle.std.specs.Prelude.{◌≡◌, ◌≢◌, ◌⊎◌, ℕ, ◌+◌, ◌*◌, List, length}
 use Rattle.dob_pieces.specs.declared.profile.Family.{Family}
+use Rattle.dob_pieces.specs.declared.profile.Profile.TheVariants.{A}
 use Rattle.dob_pieces.specs.declared.setup.Setup.{Setup}
+use Rattle.dob_pieces.specs.Profiles.{IsAllowed}
+use Rattle.dob_text.specs.declared.fault.TextFault.{TextFault}
+use Rattle.dob_text.specs.Faults.{HasTextFault}
+use Rattle.dob_rank.specs.Order.{IsPositionOfSet}
 use Rattle.dob_rank.specs.Families.{IsPositionOf, classes_of}
 use Rattle.dob_index.specs.Index.{IsIndex, IsMarked}
 use Rattle.dob_dbfile.specs.declared.header.Format.{Format}
@@ -11,7 +16,8 @@ use Rattle.dob_dbfile.specs.Faults.{NamesFamily, HasReadFault, IsNoLonger, heade
 use Rattle.dobutsu_c.specs.declared.fault.Fault.TheVariants.{File}
 use Rattle.dobutsu_c.specs.declared.by_index.ByFault.{ByFault}
 use Rattle.dobutsu_c.specs.declared.by_index.ByFault.TheVariants.{Asked, Index}
-use Rattle.dobutsu_c.specs.Faults.{number_of}
+use Rattle.dobutsu_c.specs.Counts.{IsFamily, count_fault}
+use Rattle.dobutsu_c.specs.Faults.{number_of, text_number}
 use Rattle.dobutsu_c.specs.Probes.{IsTextOf, HasProbeFault}
 
 -- the numbers are the index of the family that the file names
@@ -44,3 +50,16 @@ number_by Index = 29
 abbrev pub IsFileFault : List ℕ → ByFault → Type 0
 IsFileFault file (Asked (File fault)) = HasReadFault (whole file) fault × (fault ≢ file_fault.Digest)
 IsFileFault file _ = ⊥
+
+-- Why the number of a position's class isn't told by an index, as a fault's number: the numbers aren't marked as an index of the family; or they are, and its
+-- profile doesn't allow the position; or it does, and the pieces aren't those of its set.
+abbrev pub IsUnfit : Family → List ℕ → Setup → ℕ → Type 0
+IsUnfit family index setup number = ((¬ IsMarked family index) × (number ≡ 29)) ⊎ (IsMarked family index
+    × (((¬ IsAllowed family.profile setup) × (number ≡ 26)) ⊎ (IsAllowed family.profile setup × (¬ IsPositionOfSet family.set setup) × (number ≡ 7))))
+
+-- the same of a text and of numbers that name a family: before that the text may be no position's, and then the numbers may name none
+abbrev pub IsClassFault : ℕ → ℕ → ℕ → ℕ → List ℕ → List ℕ → ℕ → Type 0
+IsClassFault chicks elephants giraffes profile index text number = ((fault : TextFault) × HasTextFault A text fault × (number ≡ text_number fault))
+    ⊎ ((setup : Setup) × IsTextOf text setup
+    × (((count_fault chicks elephants giraffes profile ≢ 0) × (number ≡ count_fault chicks elephants giraffes profile))
+    ⊎ ((family : Family) × IsFamily chicks elephants giraffes profile family × IsUnfit family index setup number)))

@@ -4,7 +4,8 @@ ghost use Rattle.dob_pieces.specs.declared.profile.Family.{Family as AnyFamily};
 ghost use Rattle.dob_pieces.specs.declared.setup.Setup.{Setup as AnySetup};
 ghost use Rattle.dob_rank.specs.Families.{IsPositionOf, IsInClass};
 ghost use Rattle.dob_index.specs.Index.{IsIndex, IsMarked};
-ghost use Rattle.dobutsu_c.specs.Counts.{IsFamily, count_fault};
+ghost use Rattle.dobutsu_c.specs.ByIndex.{IsClassFault};
+ghost use Rattle.dobutsu_c.specs.Counts.{IsFamily};
 ghost use Rattle.dobutsu_c.specs.Probes.{IsTextOf};
 
 use crate::asked::is_of_set;
@@ -31,8 +32,9 @@ pub extern "C" fn dobutsu_class_by(
 ) -> u32
     ensures class { (family : AnyFamily) (setup : AnySetup) → IsFamily chicks elephants giraffes profile family → IsIndex family index.now
         → IsTextOf text.now setup → IsPositionOf family setup → (result ≡ 0) × IsInClass family setup class.new }
-    ensures other { (family : AnyFamily) → IsFamily chicks elephants giraffes profile family → ¬ IsMarked family index.now → result ≢ 0 }
-    ensures family { count_fault chicks elephants giraffes profile ≢ 0 → result ≢ 0 }
+    ensures told { result ≡ 0 → (family : AnyFamily) × (setup : AnySetup) × IsFamily chicks elephants giraffes profile family × IsMarked family index.now
+        × IsTextOf text.now setup × IsPositionOf family setup }
+    ensures refused { result ≢ 0 → IsClassFault chicks elephants giraffes profile index.now text.now result }
     ensures unchanged { result ≢ 0 → class.new ≡ class.old }
 {
     let position = match read_position_bytes(Profile::A, text) {

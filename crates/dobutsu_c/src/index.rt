@@ -1,5 +1,5 @@
 // The index of a family in the caller's memory.
-ghost use Rattle.std.specs.Prelude.{◌≡◌, ◌≢◌, ◌≤◌, ◌<◌, ◌⊎◌, length};
+ghost use Rattle.std.specs.Prelude.{◌≡◌, ◌≢◌, ◌≤◌, ◌<◌, ◌⊎◌, ℕ, length, get_or};
 ghost use Rattle.dob_pieces.specs.declared.profile.Family.{Family as AnyFamily};
 ghost use Rattle.dob_index.specs.Layout.{words_of};
 ghost use Rattle.dob_index.specs.Index.{IsIndex};
@@ -26,8 +26,9 @@ pub extern "C" fn dobutsu_index_words(
     }
 }
 
-/// Writes the index of the family into the first of those numbers, as many as `dobutsu_index_words` says. It answers 0, or the number of a fault and writes
-/// nothing: those of `dobutsu_count`, and 29 where there are fewer. It takes no memory, and some hundredths of a second for two pieces of each kind.
+/// Writes the index of the family into the first of those numbers, as many as `dobutsu_index_words` says, and nothing behind them. It answers 0, or the number of
+/// a fault and writes nothing: those of `dobutsu_count`, and 29 where there are fewer. It takes no memory, and some hundredths of a second for two pieces of
+/// each kind.
 #[unsafe(no_mangle)]
 pub extern "C" fn dobutsu_index(
     chicks: u32,
@@ -38,6 +39,8 @@ pub extern "C" fn dobutsu_index(
 ) -> u32
     ensures written { (family : AnyFamily) → IsFamily chicks elephants giraffes profile family → words_of family.set ≤ length words.old
         → (result ≡ 0) × IsIndex family words.new }
+    ensures others { (family : AnyFamily) → IsFamily chicks elephants giraffes profile family → (i : ℕ) → words_of family.set ≤ i
+        → get_or words.new i 0 ≡ get_or words.old i 0 }
     ensures short { (family : AnyFamily) → IsFamily chicks elephants giraffes profile family → length words.old < words_of family.set → result ≡ 29 }
     ensures fault { count_fault chicks elephants giraffes profile ≢ 0 → result ≡ count_fault chicks elephants giraffes profile }
     ensures unchanged { result ≢ 0 → words.new ≡ words.old }

@@ -6,17 +6,19 @@ ghost use Rattle.dob_moves.specs.Moves.{Goes, CanGo};
 ghost use Rattle.dob_moves.specs.Statuses.{AreMoves, CanCatch, HasStatus};
 ghost use Rattle.dob_moves.specs.declared.position_status.Status.TheVariants.{Open};
 ghost use Rattle.dob_rank.specs.Families.{IsPositionOf};
-ghost use Rattle.dob_value.specs.Follows.{IsEntry};
+ghost use Rattle.dob_value.specs.Follows.{ClassTable, IsEntry, IsValueTable};
+ghost use Rattle.dob_value.specs.Values.{HasValue};
 ghost use Rattle.dob_index.specs.Index.{IsIndex, IsMarked};
 ghost use Rattle.dob_dbfile.specs.declared.header.Format.{Format as AnyFormat};
 ghost use Rattle.dob_dbfile.specs.Faults.{NamesFamily};
+ghost use Rattle.dob_dbfile.specs.Format.{IsFile};
 ghost use Rattle.dob_probe.specs.declared.choices.ValuedMove.{ValuedMove as Valued};
 ghost use Rattle.dob_probe.specs.Choices.{AreValuedMoves};
 ghost use Rattle.dobutsu_c.specs.declared.fault.Fault.{Fault as AnyFault};
 ghost use Rattle.dobutsu_c.specs.ByIndex.{IsIndexFor, IsHeldBy};
 ghost use Rattle.dobutsu_c.specs.Faults.{number_of};
 ghost use Rattle.dobutsu_c.specs.Moves.{AreToldMoves, AreWritten};
-ghost use Rattle.dobutsu_c.specs.Probes.{HasProbeFault, IsGiven};
+ghost use Rattle.dobutsu_c.specs.Probes.{HasProbeFault, IsGiven, IsTextOf};
 
 use crate::by_index::{AskedBy, ask_by, value_by};
 use crate::moves::{DobutsuMove, write_moves};
@@ -27,8 +29,8 @@ use dob_probe::{ValuedMove, insert_by_value, value_seen};
 use dob_value::Value;
 use std::alloc::Global;
 
-/// What `dobutsu_moves` tells of the position, by the index of the file's family as `dobutsu_index` wrote it: the same moves with the same values, or the same
-/// fault. By any other numbers it answers 0 and writes the moves in the order of some values, or a fault and writes nothing: 29 as `dobutsu_probe_by` does, or
+/// What `dobutsu_moves` tells of the position, by the index of the file's family as `dobutsu_index` wrote it: the same moves with the same values, by a file of
+/// the value table their own, or the same fault. By any other numbers it answers 0 and writes the moves in the order of some values, or a fault and writes nothing: 29 as `dobutsu_probe_by` does, or
 /// 23 where memory runs out, of which it takes some thousand bytes and gives all back. Nothing is read outside of the numbers.
 #[unsafe(no_mangle)]
 pub extern "C" fn dobutsu_moves_by(
@@ -40,6 +42,9 @@ pub extern "C" fn dobutsu_moves_by(
     count: &mut u64,
 ) -> u32
     ensures moves { IsIndexFor file.now index.now → result ≡ 0 → (list : List Valued) × AreToldMoves file.now text.now list
+        × AreWritten list moves.old moves.new × (count.new ≡ length list) }
+    ensures right { IsIndexFor file.now index.now → (table : ClassTable) (setup : Setup) → IsFile file.now table → IsValueTable table.family table.values
+        → IsTextOf text.now setup → result ≡ 0 → (list : List Valued) × AreValuedMoves table.family.profile (HasValue table.family.profile) setup list
         × AreWritten list moves.old moves.new × (count.new ≡ length list) }
     ensures refused { IsIndexFor file.now index.now → result ≢ 0
         → (result ≡ 23) ⊎ ((fault : AnyFault) × HasProbeFault file.now text.now fault × (result ≡ number_of fault)) }

@@ -41,12 +41,14 @@ fn has_made_up(rt: &impl Abort, table: &Table) {
 #[test]
 fn a_table_past_a_segment(rt: HostRuntime) {
     let next = Cell::new(0u64);
+    let asked = Cell::new(0u64);
     let table = Table::from_fn(
         rt.alloc(),
         Classes::open(rt.alloc(), family(&rt, "022", Profile::A)).expect(&rt, "classes"),
         |class: u64| -> Value
             ensures { IsEntry result }
         {
+            asked.set(asked.get().wrapping_add(1));
             if next.get() == class {
                 next.set(class.wrapping_add(1));
             }
@@ -54,7 +56,7 @@ fn a_table_past_a_segment(rt: HostRuntime) {
         },
     )
     .expect(&rt, "a table");
-    assert!(rt; next.get() == CLASSES);
+    assert!(rt; next.get() == CLASSES && asked.get() == CLASSES);
     has_made_up(&rt, &table);
     let mut sink = MemSink::new(rt.alloc());
     assert!(rt; write_table(rt.alloc(), &table, &mut sink) == Ok(()));

@@ -7,23 +7,40 @@ use dob_pieces::{Memory, Position, Profile};
 use std::alloc::Global;
 use std::process::Abort;
 
-// Both programs say the same of the position.
+// Both programs say the same of the position, by the rules of each profile.
 fn agree_on(rt: &impl Abort, alloc: Global, position: &Position) -> Result<(), Memory> {
-    assert!(rt; status(Profile::A, position) == plain::status(position));
     assert!(rt; first_catch(position) == plain::first_catch(position));
-    let expected = plain::moves(alloc, position)?;
-    let mut listed = moves(alloc, Profile::A, position)?;
-    has_moves(rt, position, &listed, &expected);
-    let found = moves_into(Profile::A, &mut listed, position)?;
-    assert!(rt; found == status(Profile::A, position));
-    has_moves(rt, position, &listed, &expected);
+    agree_by(rt, alloc, Profile::A, position)?;
+    agree_by(rt, alloc, Profile::B, position)
+}
+
+// They do by the rules of that one.
+fn agree_by(
+    rt: &impl Abort,
+    alloc: Global,
+    profile: Profile,
+    position: &Position,
+) -> Result<(), Memory> {
+    assert!(rt; status(profile, position) == plain::status(profile, position));
+    let expected = plain::moves(alloc, profile, position)?;
+    let mut listed = moves(alloc, profile, position)?;
+    has_moves(rt, profile, position, &listed, &expected);
+    let found = moves_into(profile, &mut listed, position)?;
+    assert!(rt; found == status(profile, position));
+    has_moves(rt, profile, position, &listed, &expected);
     Ok(())
 }
 
 // What was listed are the moves that were expected, and so many are counted.
-fn has_moves(rt: &impl Abort, position: &Position, listed: &[Move], expected: &[Move]) {
+fn has_moves(
+    rt: &impl Abort,
+    profile: Profile,
+    position: &Position,
+    listed: &[Move],
+    expected: &[Move],
+) {
     assert!(rt; listed == expected);
-    assert!(rt; usize::from(count_moves(Profile::A, position)) == expected.len());
+    assert!(rt; usize::from(count_moves(profile, position)) == expected.len());
 }
 
 // On each of the classes of the set of that name whose number the stride divides.

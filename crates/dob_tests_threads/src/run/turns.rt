@@ -2,18 +2,18 @@
 ghost use Rattle.std.specs.Prelude.{◌≡◌, IfOk, OnOk, None, ◌∷◌, []};
 ghost use Rattle.dob_run.specs.CrewRunners.{IsNewCrew};
 ghost use Rattle.dob_run.specs.Runners.{KeepsRunner};
+ghost use Rattle.dob_run.specs.declared.runner.Runner.{Runner as AnyRunner};
 
 use super::{is_done, is_table_of_lions, lions};
 use dob_board::{Board, Halt};
 use dob_node::Cause;
 use dob_pieces::Memory;
 use dob_rank::Classes;
-use dob_run::{Built, Free, Gate, Runner, crew, finish};
+use dob_run::{Built, Fault, Free, Gate, Runner, crew, finish};
 use std::alloc::Global;
 use std::process::Abort;
 use std::sync::Wait;
 use std::sync::atomic::{AtomicUsize, Ordering};
-use std::test::Fail;
 use std::thread::Threads;
 
 // The classes of lions alone, and a crew of two nodes that own them, with batches of one item and inboxes for one batch.
@@ -85,21 +85,36 @@ fn turn_to_the_end(
     Err(Cause::Held)
 }
 
+// Closes the crew of the two, which have stopped.
+fn close_both(
+    rt: &(impl Threads + Wait + Abort + Sync),
+    alloc: Global,
+    classes: Classes,
+    board: Board,
+    first: Runner,
+    second: Runner,
+) -> Result<Built, Fault>
+    requires crew { (one : AnyRunner) × (other : AnyRunner) × IsNewCrew classes.family 2 1 1 board (one ∷ other ∷ [])
+        × KeepsRunner one first × KeepsRunner other second }
+{
+    assert!(rt; first.stopped() && second.stopped());
+    let runners = both(alloc, first, second)?;
+    finish(rt, alloc, classes, board, runners)
+}
+
 // Whether each of two nodes has sent ten batches or more to the other.
 fn has_sent(built: &Built) -> bool {
     built.links.len() == 4 && built.links[1].sent() >= 10 && built.links[2].sent() >= 10
 }
 
 #[test]
-fn turned_by_hand(rt: HostRuntime) -> Result<(), Fail> {
+fn turned_by_hand(rt: HostRuntime) {
     let (classes, board, mut first, mut second) = two_runners(&rt, rt.alloc());
     turn_to_the_end(&rt, &mut first, &mut second, &classes).expect(&rt, "an end");
     let last = turn_once(&rt, &mut second, &classes, &Free).expect(&rt, "a turn");
-    assert!(rt; last == Halt::Ended && first.stopped() && second.stopped());
-    let runners = both(rt.alloc(), first, second)?;
-    let built = finish(&rt, rt.alloc(), classes, board, runners).expect(&rt, "a table");
+    assert!(rt; last == Halt::Ended);
+    let built = close_both(&rt, rt.alloc(), classes, board, first, second).expect(&rt, "a table");
     assert!(rt; is_done(&built, 2) && is_table_of_lions(&built.table) && has_sent(&built));
-    Ok(())
 }
 
 // Lets so many turns begin, and counts those that were asked for.
@@ -170,4 +185,16 @@ fn sees_the_hold(
 fn held_after_three_turns(rt: HostRuntime) {
     let (classes, _board, mut first, mut second) = two_runners(&rt, rt.alloc());
     sees_the_hold(&rt, &mut first, &mut second, &classes, &Counting::new(3));
+}
+
+// A runner that fails once the end is announced stops the build all the same: there is no table, and its cause is told.
+#[test]
+fn held_after_the_end(rt: HostRuntime) {
+    let (classes, board, mut first, mut second) = two_runners(&rt, rt.alloc());
+    turn_to_the_end(&rt, &mut first, &mut second, &classes).expect(&rt, "an end");
+    let held = turn_once(&rt, &mut second, &classes, &Counting::new(0));
+    assert!(rt; held == Err(Cause::Held));
+    let stopped = close_both(&rt, rt.alloc(), classes, board, first, second).err();
+    let (node, cause) = (1, Cause::Held);
+    assert!(rt; stopped == Some(Fault::Stopped { node, cause }));
 }

@@ -1,11 +1,12 @@
 -- The blocks before stay where one more is written, and all of them where the first three numbers are.
-use Rattle.std.proofs.Common.{◌≡◌, ◌≤◌, ◌<◌, ◌∙◌, ℕ, ap, subst, inl, inr, arith, slice_set}
+use Rattle.std.proofs.Common.{◌≡◌, ◌≤◌, ◌<◌, ◌∙◌, ℕ, refl, ap, subst, inl, inr, arith, slice_set}
 use Rattle.std.proofs.lemmas.Bool.{cases_lt}
 use Rattle.dob_rank.specs.Numbers.{product, block_bases}
+use Rattle.dob_rank.specs.Runs.{lion_pairs}
 use Rattle.dob_rank.proofs.FamilyBlocks.{no_classes_yet, classes_all}
 use Rattle.dob_index.specs.Layout.{row_at, entries_at, words_of}
 use Rattle.dob_index.specs.Index.{IsKeptBlock}
-use Rattle.dob_index.proofs.Places.{block_more, behind_rows, words_few}
+use Rattle.dob_index.proofs.Places.{block_more, run_within, behind_rows, words_few}
 use Rattle.dob_index.proofs.Kept.{block_stays, headed}
 use Rattle.dob_index.proofs.write.write_index.Goals as goal
 
@@ -15,6 +16,7 @@ loop-block-init c = record {
   before = no_classes_yet c.args.family;
   at = (let row = c.row_at-at.ensures ∙ ap row_at c.count_blocks-blocks.ensures in omega (arith, row));
   blocks_are = λ b low. absurd (omega (arith, low));
+  others = λ i behind. refl;
 }
 
 pub loop-block-preserved : goal.loop-block-preserved
@@ -28,6 +30,8 @@ loop-block-preserved c =
     let behind : row_at (product (block_bases set)) ≤ c.loop-block.at = omega (arith, rows, at) in
     let next = c.write_block-classes.ensures.first in
     let more = block_more set block in
+    let all = behind_rows set (product (block_bases set)) 0 in
+    let upto = run_within set block lion_pairs low (omega arith) in
     let further : c.loop-block.at ≤ c.write_block-classes.result.1 = omega (arith, at, next, more) in
     record {
       size = (let long = c.write_block-classes.ensures.size in omega (arith, long, size));
@@ -41,10 +45,21 @@ loop-block-preserved c =
         | inr ge ↦ subst (λ (n : ℕ). IsKeptBlock c.args.family n c.write_block-classes.result.1 c.write_block-classes.new.words)
             (let e : block ≡ b = omega (arith, ge, below) in e) c.write_block-classes.ensures.block
       ];
+      others = λ i after.
+          c.write_block-classes.ensures.others i (inr (omega (arith, all, low, after))) (inr (omega (arith, next, more, upto, after)))
+          ∙ c.loop-block.invariant.others i after;
     }
 
-pub returns : goal.returns
-returns c =
+pub returns-clause-others : goal.returns-clause-others
+returns-clause-others c =
+    let rows = behind_rows c.args.family.set (product (block_bases c.args.family.set)) 0 in
+    let size = c.loop-block.invariant.size in
+    λ i behind.
+    (headed c.loop-block.words c.mark_of.result c.loop-block.before c.loop-block.at (omega (arith, rows, size))).others i (omega (arith, rows, behind))
+    ∙ c.loop-block.invariant.others i behind
+
+pub returns-clause-index : goal.returns-clause-index
+returns-clause-index c =
     let family = c.args.family in
     let set = family.set in
     let words = c.loop-block.words in

@@ -1,5 +1,5 @@
--- The blocks so far are written.
-use Rattle.std.proofs.Common.{◌≡◌, ◌≤◌, ◌<◌, ℕ, length}
+-- The blocks so far are written, and what stands behind the index is as it was.
+use Rattle.std.proofs.Common.{◌≡◌, ◌≤◌, ◌<◌, ℕ, length, get_or}
 use Rattle.dob_rank.specs.Families.{is_marked}
 use Rattle.dob_rank.specs.Marks.{marks_below}
 use Rattle.dob_rank.specs.Numbers.{start_of}
@@ -13,4 +13,5 @@ invariant-loop-block l = record {
   before : l.before ≡ marks_below (is_marked l.fn.family) (start_of l.fn.family.set l.block);
   at : l.at ≡ entries_at l.fn.family.set l.block 0;
   blocks_are : (b : ℕ) → b < l.block → IsKeptBlock l.fn.family b l.at l.words;
+  others : (i : ℕ) → words_of l.fn.family.set ≤ i → get_or l.words i 0 ≡ get_or l.fn.words i 0;
 }

@@ -1,6 +1,6 @@
 -- The law, from the lemma on mirror images.
-use Rattle.dob_moves.proofs.Mirrors.{HasStatus-mirrored_in_A}
+use Rattle.dob_moves.proofs.ProfileMoves.{HasStatus-mirrored}
 use Rattle.dob_moves.proofs.laws.statuses_mirror.Goals as goal
 
 pub returns : goal.returns
-returns c = λ p status legal has. HasStatus-mirrored_in_A p status legal.squares has
+returns c = HasStatus-mirrored

@@ -1,5 +1,6 @@
--- The text is of one position, and one family has those numbers.
-use Rattle.std.proofs.Common.{refl, sym, subst}
+-- The text is of one position, and one family has those numbers; each refusal comes where its own test fails and those before it pass.
+use Rattle.std.proofs.Common.{◌≢◌, ℕ, refl, sym, subst, inl, inr, ◌∙◌}
+use Rattle.std.proofs.lemmas.Bool.{both_ways}
 use Rattle.dob_pieces.specs.declared.profile.Family.{Family}
 use Rattle.dob_pieces.specs.declared.setup.Setup.{Setup}
 use Rattle.dob_rank.specs.Families.{IsInClass, IsPositionOf}
@@ -20,3 +21,62 @@ returns-clause-class c = λ family setup is index named member.
       refl,
       subst (λ (f : Family). IsInClass f setup c.class_by.result) (sym same) (subst (λ (s : Setup). IsInClass found s c.class_by.result) (sym read) in_class),
     )
+
+pub returns-clause-told : goal.returns-clause-told
+returns-clause-told c = λ none. (
+  c.in-Ok-family_of.family,
+  c.in-Ok.position.setup,
+  c.in-Ok-family_of.ensures.0,
+  c.is_index_of.ensures.0 c.if-not-is_index_of.false,
+  (c.in-Ok.ensures.read.0, c.in-Ok.ensures.read.2),
+  record { of_set = c.is_of_set.ensures.0 c.if-not-is_of_set.false; allowed = c.is_allowed.ensures.0 c.if-not-is_allowed.false },
+)
+
+pub returns-in-Err-clause-refused : goal.returns-in-Err-clause-refused
+returns-in-Err-clause-refused c = λ _. inl (c.in-Err.fault, c.in-Err.ensures.read, c.number.ensures.number)
+
+pub returns-in-Err-family_of-clause-refused : goal.returns-in-Err-family_of-clause-refused
+returns-in-Err-family_of-clause-refused c = λ some. inr (
+  c.in-Ok.position.setup,
+  (c.in-Ok.ensures.read.0, c.in-Ok.ensures.read.2),
+  inl (subst (λ (n : ℕ). n ≢ 0) c.in-Err-family_of.ensures.0 some, c.in-Err-family_of.ensures.0),
+)
+
+pub returns-then-not-is_index_of-clause-refused : goal.returns-then-not-is_index_of-clause-refused
+returns-then-not-is_index_of-clause-refused c = λ _. inr (
+  c.in-Ok.position.setup,
+  (c.in-Ok.ensures.read.0, c.in-Ok.ensures.read.2),
+  inr (c.in-Ok-family_of.family, c.in-Ok-family_of.ensures.0, inl (λ marked. both_ways _ c.if-not-is_index_of.true (c.is_index_of.ensures.1 marked), refl)),
+)
+
+pub returns-then-not-is_allowed-clause-refused : goal.returns-then-not-is_allowed-clause-refused
+returns-then-not-is_allowed-clause-refused c = λ _. inr (
+  c.in-Ok.position.setup,
+  (c.in-Ok.ensures.read.0, c.in-Ok.ensures.read.2),
+  inr (
+    c.in-Ok-family_of.family,
+    c.in-Ok-family_of.ensures.0,
+    inr (
+      c.is_index_of.ensures.0 c.if-not-is_index_of.false,
+      inl (λ allowed. both_ways _ c.if-not-is_allowed.true (c.is_allowed.ensures.1 allowed), c.number-then-not-is_allowed.ensures.number),
+    ),
+  ),
+)
+
+pub returns-then-not-is_of_set-clause-refused : goal.returns-then-not-is_of_set-clause-refused
+returns-then-not-is_of_set-clause-refused c = λ _. inr (
+  c.in-Ok.position.setup,
+  (c.in-Ok.ensures.read.0, c.in-Ok.ensures.read.2),
+  inr (
+    c.in-Ok-family_of.family,
+    c.in-Ok-family_of.ensures.0,
+    inr (
+      c.is_index_of.ensures.0 c.if-not-is_index_of.false,
+      inr (
+        c.is_allowed.ensures.0 c.if-not-is_allowed.false,
+        λ of. both_ways _ c.if-not-is_of_set.true (c.is_of_set.ensures.1 of),
+        c.number-then-not-is_of_set.ensures.number,
+      ),
+    ),
+  ),
+)

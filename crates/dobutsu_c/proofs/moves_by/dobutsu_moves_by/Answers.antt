@@ -2,6 +2,7 @@
 use Rattle.std.proofs.Common.{rules, subst, ◌∙◌, List}
 use Rattle.dob_probe.specs.declared.choices.ValuedMove.{ValuedMove}
 use Rattle.dobutsu_c.specs.Moves.{AreWritten}
+use Rattle.dobutsu_c.proofs.ByFile.{moves_right}
 use Rattle.dobutsu_c.proofs.Exact.{no_fault}
 use Rattle.dobutsu_c.proofs.Indexed.{asked_by, marked_by, one_fault_by}
 use Rattle.dobutsu_c.proofs.IndexedMoves.{told_of}
@@ -17,6 +18,22 @@ returns-in-Ok-Some-clause-moves c = λ for none.
     let held = asked.held in (
       c.in-Ok-Some.list.items,
       (
+        held.format,
+        held.family,
+        asked.position.setup,
+        asked_by c.args.file.now c.args.text.now c.args.index.now held.format held.family held.classes asked.position.setup for c.in-Ok.ensures,
+        told_of c.in-Ok-Some.field-0 c.in-Ok-Some.list _ _ c.in-Ok-Some.field-0-is c.in-Ok-Some.ensures (for held.format held.family c.in-Ok.ensures.held.named),
+      ),
+      subst (λ (list : List ValuedMove). AreWritten list c.args.moves.now c.write_moves.new.places) c.deref.ensures.value c.write_moves.ensures,
+      search rules,
+    )
+
+pub returns-in-Ok-Some-clause-right : goal.returns-in-Ok-Some-clause-right
+returns-in-Ok-Some-clause-right c = λ for table setup is right named none.
+    let asked = c.in-Ok.asked in
+    let held = asked.held in (
+      c.in-Ok-Some.list.items,
+      moves_right c.args.file.now c.args.text.now table setup c.in-Ok-Some.list.items is right named (
         held.format,
         held.family,
         asked.position.setup,

@@ -8,7 +8,7 @@ use Rattle.dob_run.proofs.runner.Runner.apply_all.Goals as goal
 
 pub returns-in_err-apply_one : goal.returns-in_err-apply_one
 returns-in_err-apply_one c = broken_on AppliesAll c.args.self.now c.loop.self c.apply_one.new.self c.from_residual.result c.in_err-apply_one.field-0.0
-    c.from_residual.ensures.1 c.loop.invariant.0.keeps c.in_err-apply_one.ensures
+    c.from_residual.ensures.1 c.loop.invariant.0.keeps c.loop.invariant.0.still c.in_err-apply_one.ensures
 
 pub loop-preserved : goal.loop-preserved
 loop-preserved c =

@@ -46,6 +46,7 @@ returns-in-Err c = record {
     cause = refl;
     stopped = c.fail.ensures.stopped;
   };
+  still = c.fail.ensures.still;
   reason = own_reason _ c.in-Err.why (fault_still c.args.self.now.node c.apply_own.new.self c.in-Err.why c.in-Err.ensures.unchanged c.in-Err.ensures.stopped);
 }
 

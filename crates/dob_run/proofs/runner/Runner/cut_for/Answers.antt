@@ -45,6 +45,7 @@ returns-in-Err c = record {
     cause = refl;
     stopped = c.fail.ensures.stopped;
   };
+  still = c.fail.ensures.still;
   reason = cut_reason _ c.in-Err.why
       (λ counts. (let still = outbox_still c.args.self.now.node c.cut_for.new.self c.args.to c.in-Err.ensures.unchanged in
       let full = c.in-Err.ensures.counts.0 (ap (λ (w : Cause). err_of w) counts) in

@@ -1,5 +1,5 @@
 -- The settlements expanded so far and the next make one step, over classes of the same family, or a failed one.
-use Rattle.std.proofs.Common.{◌∙◌}
+use Rattle.std.proofs.Common.{refl, ◌∙◌}
 use Rattle.dob_run.specs.TurnRounds.{ExpandsSome}
 use Rattle.dob_run.proofs.Keeping.{runner_same, goes_trans, broken_on}
 use Rattle.dob_run.proofs.TurnParts.{more_expanded, some_expanded}
@@ -7,11 +7,11 @@ use Rattle.dob_run.proofs.runner.Runner.expand_all.Goals as goal
 
 pub returns-in_err-any : goal.returns-in_err-any
 returns-in_err-any c = broken_on ExpandsSome c.args.self.now c.args.self.now c.expand_one.new.self c.from_residual.result c.in_err-any.field-0.0
-    c.from_residual.ensures.1 (runner_same c.args.self.now) c.in_err-any.ensures
+    c.from_residual.ensures.1 (runner_same c.args.self.now) refl c.in_err-any.ensures
 
 pub returns-in_err-more : goal.returns-in_err-more
 returns-in_err-more c = broken_on ExpandsSome c.args.self.now c.loop.self c.expand_one-in-loop.new.self c.from_residual-in_err-more.result c.in_err-more.field-0.0
-    c.from_residual-in_err-more.ensures.1 c.loop.invariant.0.keeps c.in_err-more.ensures
+    c.from_residual-in_err-more.ensures.1 c.loop.invariant.0.keeps c.loop.invariant.0.still c.in_err-more.ensures
 
 pub returns-then-not-more : goal.returns-then-not-more
 returns-then-not-more c =

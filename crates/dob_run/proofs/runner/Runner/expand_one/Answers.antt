@@ -47,6 +47,7 @@ returns-in-Err c = record {
     cause = refl;
     stopped = c.fail.ensures.stopped;
   };
+  still = c.fail.ensures.still;
   reason = memory_reason no_gate _ c.in-Err.why c.in-Err.ensures.memory;
 }
 

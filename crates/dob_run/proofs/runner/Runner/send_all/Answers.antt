@@ -9,7 +9,7 @@ loop-to-init g c = none_sent c.args.small c.args.self.now c.requires
 
 pub returns-in_err-sent : goal.returns-in_err-sent
 returns-in_err-sent g c = broken_on (SendsAll c.args.small) c.args.self.now c.loop-to.self c.send_to.new.self c.from_residual.result c.in_err-sent.field-0.0
-    c.from_residual.ensures.1 c.loop-to.invariant.goes.keeps c.in_err-sent.ensures
+    c.from_residual.ensures.1 c.loop-to.invariant.goes.keeps c.loop-to.invariant.goes.still c.in_err-sent.ensures
 
 pub loop-to-preserved : goal.loop-to-preserved
 loop-to-preserved g c =

@@ -23,7 +23,7 @@ invariant_of-self g c =
 
 pub returns-in_err-fill_for : goal.returns-in_err-fill_for
 returns-in_err-fill_for g c = broken_on (SendsTo c.args.to c.args.small) c.args.self.now c.args.self.now c.fill_for.new.self c.from_residual.result c.in_err-fill_for.field-0.0
-    c.from_residual.ensures.1 (runner_same c.args.self.now) c.in_err-fill_for.ensures
+    c.from_residual.ensures.1 (runner_same c.args.self.now) refl c.in_err-fill_for.ensures
 
 pub returns-then-to-self : goal.returns-then-to-self
 returns-then-to-self g c = own_unsent c.args.small c.args.self.now c.args.to c.requires.unfailed c.if-to-self.true

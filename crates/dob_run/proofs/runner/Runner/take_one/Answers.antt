@@ -147,6 +147,8 @@ returns-in-Err-clause-step g c = record {
     cause = refl;
     stopped = c.fail.ensures.stopped;
   };
+  still = still_trans c.args.self.now.endpoint.seat c.receive.new.self.seat c.fail.new.self.seat (ap (λ (s : NodeSeat). s.node) c.receive.ensures.seat)
+      (still_same c.args.self.now.endpoint.seat c.receive.new.self.seat c.receive.ensures.seat) c.fail.ensures.still;
   reason = memory_reason no_gate _ c.in-Err.refused c.in-Err.ensures.memory;
 }
 
@@ -213,6 +215,11 @@ returns-clause-step g c =
         cause = refl;
         stopped = c.fail-in-Err-apply_batch.ensures.stopped;
       };
+      still = still_trans r.endpoint.seat c.accept.new.self.seat c.fail-in-Err-apply_batch.new.self.seat
+          (c.accept.ensures.same.node ∙ ap (λ (s : NodeSeat). s.node) c.receive.ensures.seat)
+          (still_trans r.endpoint.seat mid.seat c.accept.new.self.seat (ap (λ (s : NodeSeat). s.node) c.receive.ensures.seat)
+          (still_same r.endpoint.seat mid.seat c.receive.ensures.seat) c.accept.ensures.still)
+          c.fail-in-Err-apply_batch.ensures.still;
       reason = refused_reason _ c.in-Err-apply_batch.why (record {
         was = r;
         going = c.requires;

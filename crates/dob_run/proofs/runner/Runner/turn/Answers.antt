@@ -1,15 +1,19 @@
 -- A failure of the work is the turn's and is never `Held`; else the look, the work and the rest make one turn.
-use Rattle.std.proofs.Common.{◌≡◌, rules, refl, sym, ap, inl, ◌∙◌}
+use Rattle.std.proofs.Common.{◌≡◌, refl, sym, ap, inl, ◌∙◌}
 use Rattle.dob_node.specs.declared.node.Node.{Node}
 use Rattle.dob_run.proofs.TurnParts.{told_of}
 use Rattle.dob_board.specs.declared.halt.Halt.TheVariants.{Running}
 use Rattle.dob_run.specs.Runners.{GoesOn, GoesRound, says_no}
-use Rattle.dob_run.proofs.Keeping.{runner_trans, turn_failed, unheld_on, reason_on, reason_unheld}
+use Rattle.dob_run.proofs.Keeping.{runner_trans, turn_failed, failed_still, unheld_on, reason_on, reason_unheld}
 use Rattle.dob_run.proofs.runner.Runner.turn.Goals as goal
 
 pub returns-in_err-did-clause-turned : goal.returns-in_err-did-clause-turned
 returns-in_err-did-clause-turned g c = turn_failed c.args.self.now c.looks-halt.new.self c.work_and_tell.new.self c.from_residual.result c.in_err-did.field-0.0 c.from_residual.ensures.1
     c.looks-halt.ensures.goes.keeps c.in_err-did.ensures.works.failed
+
+pub returns-in_err-did-clause-still : goal.returns-in_err-did-clause-still
+returns-in_err-did-clause-still g c = failed_still c.args.self.now c.looks-halt.new.self c.work_and_tell.new.self c.from_residual.result
+    c.looks-halt.ensures.goes.keeps c.looks-halt.ensures.seen.still c.in_err-did.ensures.works.still
 
 pub returns-in_err-did-clause-held : goal.returns-in_err-did-clause-held
 returns-in_err-did-clause-held g c =

@@ -8,7 +8,7 @@ use Rattle.dob_run.proofs.runner.Runner.work.Goals as goal
 
 pub returns-in_err-took : goal.returns-in_err-took
 returns-in_err-took g c = broken_on Works c.args.self.now c.args.self.now c.take_one.new.self c.from_residual.result c.in_err-took.field-0.0 c.from_residual.ensures.1
-    (runner_same c.args.self.now) c.in_err-took.ensures.step
+    (runner_same c.args.self.now) refl c.in_err-took.ensures.step
 
 pub expand_all-requires-clause-family : goal.expand_all-requires-clause-family
 expand_all-requires-clause-family g c =
@@ -19,14 +19,14 @@ pub returns-in_err-expanded : goal.returns-in_err-expanded
 returns-in_err-expanded g c =
     let took : GoesOn c.args.self.now c.take_one.new.self = c.in_ok-took.ensures.step.goes in
     broken_on Works c.args.self.now c.take_one.new.self c.expand_all.new.self c.from_residual-in_err-expanded.result c.in_err-expanded.field-0.0
-    c.from_residual-in_err-expanded.ensures.1 took.keeps c.in_err-expanded.ensures
+    c.from_residual-in_err-expanded.ensures.1 took.keeps took.still c.in_err-expanded.ensures
 
 pub returns-in_err-applied : goal.returns-in_err-applied
 returns-in_err-applied g c =
     let expanded : GoesOn c.args.self.now c.expand_all.new.self =
     goes_trans c.args.self.now c.take_one.new.self c.expand_all.new.self c.in_ok-took.ensures.step.goes c.in_ok-expanded.ensures.goes in
     broken_on Works c.args.self.now c.expand_all.new.self c.apply_all.new.self c.from_residual-in_err-applied.result c.in_err-applied.field-0.0
-    c.from_residual-in_err-applied.ensures.1 expanded.keeps c.in_err-applied.ensures
+    c.from_residual-in_err-applied.ensures.1 expanded.keeps expanded.still c.in_err-applied.ensures
 
 pub returns-in_err-sent : goal.returns-in_err-sent
 returns-in_err-sent g c =
@@ -35,7 +35,7 @@ returns-in_err-sent g c =
     let applied : GoesOn c.args.self.now c.apply_all.new.self =
     goes_trans c.args.self.now c.expand_all.new.self c.apply_all.new.self expanded c.in_ok-applied.ensures.goes in
     broken_on Works c.args.self.now c.apply_all.new.self c.send_all.new.self c.from_residual-in_err-sent.result c.in_err-sent.field-0.0
-    c.from_residual-in_err-sent.ensures.1 applied.keeps c.in_err-sent.ensures
+    c.from_residual-in_err-sent.ensures.1 applied.keeps applied.still c.in_err-sent.ensures
 
 pub returns : goal.returns
 returns g c =
