@@ -1,5 +1,5 @@
 -- A node as it is opened.
-use Rattle.std.proofs.Common.{◌≡◌, ◌↔◌, ℕ, zero, suc, ◌+◌, ◌*◌, ◌/◌, ◌%◌, ◌^◌, ◌<◌, ◌≤◌, refl, sym, ◌∙◌, subst}
+use Rattle.std.proofs.Common.{◌≡◌, ◌↔◌, ℕ, zero, suc, ◌+◌, ◌*◌, ◌/◌, ◌%◌, ◌^◌, ◌<◌, ◌≤◌, refl, sym, ap, ◌∙◌, subst}
 use Rattle.std.proofs.Common.{arith, List, [], ◌++◌, length, get_or, Option, None, Some}
 use Rattle.std.specs.List.{All}
 use Rattle.std.proofs.lemmas.List.{length-append}
@@ -25,8 +25,8 @@ use Rattle.dob_share.specs.declared.share.Share.{Share}
 use Rattle.dob_share.specs.Owners.{class_of_place}
 use Rattle.dob_share.specs.Cells.{SameCell, fresh}
 use Rattle.dob_share.specs.Openings.{opening_of, moves_where, cell_moves, settles, settled_among}
-use Rattle.dob_share.specs.Shares.{places_of, IsOwn, cell_at}
-use Rattle.dob_node.specs.Stores.{HistoryView}
+use Rattle.dob_share.specs.Shares.{places_of, IsOwn, status_at, cell_at}
+use Rattle.dob_node.specs.Stores.{HistoryView, start_status}
 use Rattle.dob_node.specs.OpeningLists.{opening_value, opening_settlement, opening_settlements, status_in}
 use Rattle.dob_node.specs.Openings.{AreOpenings}
 use Rattle.dob_node.specs.TakenItems.{HasParities, AreKept}
@@ -89,6 +89,16 @@ places_are share openings n id who less owned place = (
   λ low. ((owned (place * n + id)).0 (place_own share n id place who.1 who.0 less low)).1,
   λ low. own_place share n id place who.1 less ((owned (place * n + id)).1 (mod-mul-add place n id less, low)),
 )
+
+-- what is listed of its classes are their statuses
+pub status_listed : (share : Share) (openings : List Opening) (n id : ℕ) → (share.id ≡ id) × (share.n ≡ n) → id < n →
+    ((class : ℕ) → IsOwn share class → status_at share class ≡ (opening_of openings class).status) →
+    (place : ℕ) → place < places_of share → start_status share.statuses place ≡ status_in openings (class_of_place n id place)
+unfolding status_at
+status_listed share openings n id who less statuses place low =
+    ap (λ (k : ℕ). start_status share.statuses k) (sym (div-mul-add place n id less))
+    ∙ subst (λ (m : ℕ). start_status share.statuses ((place * n + id) / m) ≡ (opening_of openings (place * n + id)).status) who.1
+    (statuses (place * n + id) (place_own share n id place who.1 who.0 less low))
 
 -- no family has more classes than a place of four bytes can tell apart
 pub few_listed : (family : Family) (openings : List Opening) → AreOpenings family openings → length openings ≤ 2 ^ 32

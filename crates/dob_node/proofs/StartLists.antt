@@ -1,10 +1,8 @@
 -- The settlements of the start: how many there are, where each stands, and that they are those of the opening.
 use Rattle.std.proofs.Common.{◌≡◌, ℕ, zero, suc, ◌+◌, ◌*◌, ◌<◌, ◌≤◌, inl, inr, refl, ap, ◌∙◌, subst, arith, add-one}
-use Rattle.std.proofs.Common.{◌/◌, ◌%◌, get_or, List, [], ◌∷◌, ◌++◌, length, Option, None, Some, slice_get}
-use Rattle.std.proofs.lemmas.List.{length-append, get_or_append_left}
-use Rattle.std.proofs.Math.Nat.{le-mul_of_pos_right}
-use Rattle.std.proofs.Math.Seq.{get_or-append_seam}
-use Rattle.std.proofs.lemmas.Bool.{cases_eq, cases_lt}
+use Rattle.std.proofs.Common.{List, [], ◌∷◌, ◌++◌, length, Option, None, Some, slice_get}
+use Rattle.std.proofs.lemmas.List.{length-append}
+use Rattle.std.proofs.lemmas.Bool.{cases_eq}
 use Rattle.dob_pieces.proofs.Elements.{middle, get_front}
 use Rattle.dob_moves.specs.declared.position_status.Status.{Status}
 use Rattle.dob_moves.specs.declared.position_status.Status.TheVariants.{Caught, Tried, Stuck, Open}
@@ -13,12 +11,15 @@ use Rattle.dob_value.specs.declared.value.Value.TheVariants.{Draw}
 use Rattle.dob_value.specs.Follows.{IsEntry}
 use Rattle.dob_share.specs.declared.news.Settlement.{Settlement}
 use Rattle.dob_share.specs.declared.opening.Opening.{Opening}
-use Rattle.dob_share.specs.Openings.{settles, settled_among}
+use Rattle.dob_share.specs.declared.share.Share.{Share}
+use Rattle.dob_share.specs.Openings.{opening_of, settles, settled_among}
 use Rattle.dob_share.specs.Owners.{class_of_place}
+use Rattle.dob_share.specs.Shares.{places_of, IsOwn, status_at}
+use Rattle.dob_share.specs.Statuses.{StatusesView}
 use Rattle.dob_node.specs.OpeningLists.{opening_value, opening_settlement, opening_settlements, status_in}
-use Rattle.dob_node.specs.Stores.{StartView, start_status, start_settlements, starts_of, starts_count, status_of_code, code_in, packed_status}
+use Rattle.dob_node.specs.Stores.{start_status, start_settlements, starts_of, starts_count}
 use Rattle.dob_node.proofs.Beginnings.{or_else, entry_opened}
-use Rattle.dob_node.proofs.Opens.{one_settles}
+use Rattle.dob_node.proofs.Opens.{one_settles, status_listed}
 
 -- ---- how many there are
 
@@ -62,7 +63,7 @@ start_length status n id (suc k) =
     let one : settles (status k) ≡ length more = one_settles (status k) (length before) (class_of_place n id k) in
     omega arith
 
-pub starts_length : (n id : ℕ) (starts : StartView) → length (starts_of n id starts) ≡ starts_count starts
+pub starts_length : (n id : ℕ) (starts : StatusesView) → length (starts_of n id starts) ≡ starts_count starts
 starts_length n id starts = start_length (start_status starts) n id starts.places
 
 -- ---- which they are
@@ -100,7 +101,7 @@ start_at status n id place (suc k) now low is = elim (cases_eq place k) [
 ]
 
 -- what is found of the class at a place is the settlement of that number, with others behind those of the start
-pub start_found : (n id number place : ℕ) (starts : StartView) (now : Value) (others : List Settlement) → place < starts.places →
+pub start_found : (n id number place : ℕ) (starts : StatusesView) (now : Value) (others : List Settlement) → place < starts.places →
     settled_among (start_status starts) place ≡ number → opening_value (start_status starts place) ≡ Some now →
     slice_get (starts_of n id starts ++ others) number ≡ Some (start_of n id number place now)
 start_found n id number place starts now others low count is =
@@ -111,55 +112,11 @@ start_found n id number place starts now others low count is =
 pub start_entry : (status : Status) (now : Value) → opening_value status ≡ Some now → IsEntry now
 start_entry status now is = subst (λ (o : Option Value). IsEntry (or_else o Draw)) is (entry_opened status)
 
--- what was listed of the owner's classes are their statuses at the opening
-pub starts_opened : (openings : List Opening) (n id places : ℕ) (starts : StartView) → starts.places ≡ places →
-    ((place : ℕ) → place < places → start_status starts place ≡ status_in openings (class_of_place n id place)) →
-    starts_of n id starts ≡ opening_settlements (status_in openings) n id places
-starts_opened openings n id places starts whole each =
-    ap (λ (m : ℕ). start_settlements (start_status starts) n id m) whole
-    ∙ starts_are (start_status starts) (status_in openings) n id places each
-
--- an owner among n has no more places than there are classes
-pub places_few : (places n id total : ℕ) → id < n → ((place : ℕ) → place < places → place * n + id < total) → places ≤ total
-places_few zero n id total some low = omega arith
-places_few (suc last) n id total some low =
-    let class : last * n + id < total = low last (omega arith) in
-    let most : last ≤ last * n = le-mul_of_pos_right last (omega arith) in
-    omega arith
-
--- ---- four statuses in a byte
-
-pub third_of : (a b c d : ℕ) → a < 4 → b < 4 → c < 4 → (a + 4 * b + 16 * c + 64 * d) / 16 % 4 ≡ c
-third_of a b c d first second third = omega arith
-
-pub fourth_of : (a b c d : ℕ) → a < 4 → b < 4 → c < 4 → d < 4 → (a + 4 * b + 16 * c + 64 * d) / 64 % 4 ≡ d
-fourth_of a b c d first second third fourth = omega arith
-
--- those of one byte more
-pub packed_more : (openings : List Opening) (n id places quarter byte : ℕ) (bytes : List ℕ) → length bytes ≡ quarter →
-    (quarter * 4 < places → status_of_code (byte % 4) ≡ status_in openings (class_of_place n id (quarter * 4))) →
-    (quarter * 4 + 1 < places → status_of_code (byte / 4 % 4) ≡ status_in openings (class_of_place n id (quarter * 4 + 1))) →
-    (quarter * 4 + 2 < places → status_of_code (byte / 16 % 4) ≡ status_in openings (class_of_place n id (quarter * 4 + 2))) →
-    (quarter * 4 + 3 < places → status_of_code (byte / 64 % 4) ≡ status_in openings (class_of_place n id (quarter * 4 + 3))) →
-    ((place : ℕ) → place < quarter * 4 → place < places → packed_status bytes place ≡ status_in openings (class_of_place n id place)) →
-    (place : ℕ) → place < (quarter + 1) * 4 → place < places → packed_status (bytes ++ byte ∷ []) place ≡ status_in openings (class_of_place n id place)
-packed_more openings n id places quarter byte bytes whole first second third fourth each place low below = elim (cases_lt place (quarter * 4)) [
-  | inl before ↦
-      ap (λ (b : ℕ). status_of_code (code_in b (place % 4))) (get_or_append_left bytes (byte ∷ []) 0 (place / 4) (omega arith))
-      ∙ each place before below
-  | inr behind ↦
-      let there : place / 4 ≡ length bytes = omega arith in
-      ap (λ (k : ℕ). status_of_code (code_in (get_or (bytes ++ byte ∷ []) k 0) (place % 4))) there
-      ∙ ap (λ (b : ℕ). status_of_code (code_in b (place % 4))) (get_or-append_seam bytes byte [] 0)
-      ∙ at behind (place % 4) refl
-]
-  where
-    at : quarter * 4 ≤ place → (k : ℕ) → place % 4 ≡ k → status_of_code (code_in byte k) ≡ status_in openings (class_of_place n id place)
-    at behind zero is = let same : quarter * 4 ≡ place = omega arith in
-        subst (λ (m : ℕ). status_of_code (byte % 4) ≡ status_in openings (class_of_place n id m)) same (first (omega arith))
-    at behind (suc zero) is = let same : quarter * 4 + 1 ≡ place = omega arith in
-        subst (λ (m : ℕ). status_of_code (byte / 4 % 4) ≡ status_in openings (class_of_place n id m)) same (second (omega arith))
-    at behind (suc (suc zero)) is = let same : quarter * 4 + 2 ≡ place = omega arith in
-        subst (λ (m : ℕ). status_of_code (byte / 16 % 4) ≡ status_in openings (class_of_place n id m)) same (third (omega arith))
-    at behind (suc (suc (suc more))) is = let same : quarter * 4 + 3 ≡ place = omega arith in
-        subst (λ (m : ℕ). status_of_code (byte / 64 % 4) ≡ status_in openings (class_of_place n id m)) same (fourth (omega arith))
+-- those of a share as it is opened are the settlements of the opening
+pub share_opened : (share : Share) (openings : List Opening) (n id : ℕ) → (share.id ≡ id) × (share.n ≡ n) → id < n →
+    ((class : ℕ) → IsOwn share class → status_at share class ≡ (opening_of openings class).status) →
+    starts_of n id share.statuses ≡ opening_settlements (status_in openings) n id (places_of share)
+unfolding places_of
+share_opened share openings n id who less statuses =
+    starts_are (start_status share.statuses) (status_in openings) n id share.statuses.places
+    (λ place low. status_listed share openings n id who less statuses place low)

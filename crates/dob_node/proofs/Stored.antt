@@ -4,11 +4,12 @@ use Rattle.std.proofs.Common.{List, [], ◌∷◌, ◌++◌, length, take, Some,
 use Rattle.std.proofs.lemmas.List.{length-append, append_assoc, get_or-append-add, length-take-le, get_or-take, take_more_set}
 use Rattle.std.proofs.lemmas.Option.{slice_get_within, slice_get-get_or, get_or_from_slice_get}
 use Rattle.dob_share.specs.declared.news.Settlement.{Settlement}
+use Rattle.dob_share.specs.Statuses.{StatusesView}
 use Rattle.dob_node.specs.declared.history.Stored.{Stored}
 use Rattle.dob_value.specs.declared.value.Value.{Value}
 use Rattle.dob_value.specs.Codes.{value_of_code}
 use Rattle.std.proofs.Math.Nat.{div-add-mod, mul_comm}
-use Rattle.dob_node.specs.Stores.{HistoryView, settlement_of, settlements_from, StartView, starts_count, starts_of, settlements_of}
+use Rattle.dob_node.specs.Stores.{HistoryView, settlement_of, settlements_from, starts_count, starts_of, settlements_of}
 use Rattle.dob_node.proofs.StartLists.{starts_length}
 
 pub length-settlements_from : (n id number : ℕ) (stored : List Stored) → length (settlements_from n id number stored) ≡ length stored
@@ -61,11 +62,11 @@ class_again class n id some own =
 
 -- ---- what is seen of a history
 
-abbrev pub seen : ℕ → ℕ → ℕ → StartView → List Stored → HistoryView
+abbrev pub seen : ℕ → ℕ → ℕ → StatusesView → List Stored → HistoryView
 seen n id room starts stored = record { id = id; n = n; settlements = settlements_of n id starts stored; room = room }
 
 -- as many as are settled at the start, and those stored
-pub seen_length : (n id room : ℕ) (starts : StartView) (stored : List Stored) (view : HistoryView) → seen n id room starts stored ≡ view →
+pub seen_length : (n id room : ℕ) (starts : StatusesView) (stored : List Stored) (view : HistoryView) → seen n id room starts stored ≡ view →
     starts_count starts + length stored ≡ length view.settlements
 seen_length n id room starts stored view is =
     let first : List Settlement = starts_of n id starts in
@@ -76,7 +77,7 @@ seen_length n id room starts stored view is =
     let all : length (first ++ behind) ≡ length view.settlements = ap (λ (v : HistoryView). length v.settlements) is in
     omega arith
 
-pub seen_at : (n id room k number : ℕ) (starts : StartView) (stored : List Stored) (view : HistoryView) (s : Stored) (given : Settlement) →
+pub seen_at : (n id room k number : ℕ) (starts : StatusesView) (stored : List Stored) (view : HistoryView) (s : Stored) (given : Settlement) →
     seen n id room starts stored ≡ view → number ≡ starts_count starts + k → slice_get stored k ≡ Some s →
     settlement_of n id number s ≡ given → slice_get view.settlements number ≡ Some given
 seen_at n id room k number starts stored view s given is number_is there same =
@@ -105,7 +106,7 @@ stored_again n id number given was now some own number_is is_was is_now =
 pub all_there : (count room : ℕ) (stored : List Stored) → count + room ≤ length stored → count ≤ length stored
 all_there count room stored all = omega arith
 
-pub count_is : (n id room count : ℕ) (starts : StartView) (stored : List Stored) (view : HistoryView) → count + room ≤ length stored →
+pub count_is : (n id room count : ℕ) (starts : StatusesView) (stored : List Stored) (view : HistoryView) → count + room ≤ length stored →
     seen n id room starts (take count stored) ≡ view → starts_count starts + count ≡ length view.settlements
 count_is n id room count starts stored view all is =
     ap (λ (m : ℕ). starts_count starts + m) (sym (length-take-le count stored (all_there count room stored all)))
@@ -132,12 +133,12 @@ stored_more n id first count stored s given low is =
     ∙ ap (λ t. settlements_from n id first (take count stored) ++ t ∷ []) is
 
 -- what is stored behind those counted is seen by nobody
-pub room_unseen : (n id room count : ℕ) (starts : StartView) (stored more : List Stored) (view : HistoryView) →
+pub room_unseen : (n id room count : ℕ) (starts : StatusesView) (stored more : List Stored) (view : HistoryView) →
     seen n id room starts (take count stored) ≡ view → take count more ≡ take count stored → seen n id room starts (take count more) ≡ view
 room_unseen n id room count starts stored more view is same = ap (λ list. seen n id room starts list) same ∙ is
 
 -- nor is it, where there is other room
-pub room_made : (n id room other count : ℕ) (starts : StartView) (stored more : List Stored) (view : HistoryView) →
+pub room_made : (n id room other count : ℕ) (starts : StatusesView) (stored more : List Stored) (view : HistoryView) →
     seen n id room starts (take count stored) ≡ view → take count more ≡ take count stored →
     seen n id other starts (take count more) ≡ record view { room = other }
 room_made n id room other count starts stored more view is same =
@@ -148,7 +149,7 @@ abbrev pub NextIs : ℕ → ℕ → List Stored → List Stored → Settlement �
 NextIs n count more new given = (owner first : ℕ) → given.class % n ≡ owner → given.number ≡ first + count →
     settlements_from n owner first (take (count + 1) new) ≡ settlements_from n owner first (take count more) ++ given ∷ []
 
-pub next_seen : (n id room left count : ℕ) (starts : StartView) (stored more new : List Stored) (view : HistoryView) (given : Settlement) →
+pub next_seen : (n id room left count : ℕ) (starts : StatusesView) (stored more new : List Stored) (view : HistoryView) (given : Settlement) →
     seen n id room starts (take count stored) ≡ view → take count more ≡ take count stored →
     given.class % n ≡ id → given.number ≡ starts_count starts + count → NextIs n count more new given →
     seen n id left starts (take (count + 1) new) ≡ record { id = view.id; n = view.n; settlements = view.settlements ++ given ∷ []; room = left }

@@ -1,12 +1,12 @@
 -- Settlements as a history keeps them: those of the start by the statuses of the owner's classes, the others with the class by its
 -- place among the owner's and the values as codes.
-use Rattle.std.specs.Prelude.{ℕ, zero, suc, ◌/◌, ◌%◌, List, [], ◌∷◌, ◌++◌, length, slice_index_or}
+use Rattle.std.specs.Prelude.{ℕ, zero, suc, List, [], ◌∷◌, ◌++◌, length}
 use Rattle.dob_moves.specs.declared.position_status.Status.{Status}
-use Rattle.dob_moves.specs.declared.position_status.Status.TheVariants.{Caught, Tried, Stuck, Open}
 use Rattle.dob_value.specs.Codes.{value_of_code}
 use Rattle.dob_share.specs.declared.news.Settlement.{Settlement}
 use Rattle.dob_share.specs.Openings.{settled_among}
 use Rattle.dob_share.specs.Owners.{class_of_place}
+use Rattle.dob_share.specs.Statuses.{StatusesView, status_in}
 use Rattle.dob_node.specs.OpeningLists.{opening_value, opening_settlement}
 use Rattle.dob_node.specs.declared.history.Stored.{Stored}
 
@@ -31,38 +31,9 @@ abbrev pub settlements_from : ℕ → ℕ → ℕ → List Stored → List Settl
 settlements_from n id number [] = []
 settlements_from n id number (stored ∷ rest) = settlement_of n id number stored ∷ settlements_from n id (suc number) rest
 
--- A status in two bits.
-abbrev pub start_code : Status → ℕ
-start_code Open = 0
-start_code Caught = 1
-start_code Tried = 2
-start_code Stuck = 3
-
-abbrev pub status_of_code : ℕ → Status
-status_of_code zero = Open
-status_of_code (suc zero) = Caught
-status_of_code (suc (suc zero)) = Tried
-status_of_code (suc (suc (suc _))) = Stuck
-
--- one of the four codes of a byte
-abbrev pub code_in : ℕ → ℕ → ℕ
-code_in byte zero = byte % 4
-code_in byte (suc zero) = byte / 4 % 4
-code_in byte (suc (suc zero)) = byte / 16 % 4
-code_in byte (suc (suc (suc _))) = byte / 64 % 4
-
--- the status at a place, where four stand in a byte
-abbrev pub packed_status : List ℕ → ℕ → Status
-packed_status bytes place = status_of_code (code_in (slice_index_or bytes (place / 4) 0) (place % 4))
-
--- The statuses at the start of one owner's classes: how many classes there are, and the bytes that say what each is.
-pub record StartView : Type 0 where
-  pub places : ℕ
-  pub bytes : List ℕ
-
--- the status of the class at a place
-abbrev pub start_status : StartView → ℕ → Status
-start_status starts place = packed_status starts.bytes place
+-- the status of the class at a place at the start
+abbrev pub start_status : StatusesView → ℕ → Status
+start_status starts place = status_in starts.words place
 
 -- the settlements of the start, in the order of the classes, of owner `id` among n, at that many first places, by their statuses
 abbrev pub start_settlements : (ℕ → Status) → ℕ → ℕ → ℕ → List Settlement
@@ -71,14 +42,14 @@ start_settlements status n id (suc places) = let before = start_settlements stat
     before ++ opening_settlement (length before) (class_of_place n id places) (opening_value (status places))
 
 -- those at all places
-abbrev pub starts_of : ℕ → ℕ → StartView → List Settlement
+abbrev pub starts_of : ℕ → ℕ → StatusesView → List Settlement
 starts_of n id starts = start_settlements (start_status starts) n id starts.places
 
 -- how many there are
-abbrev pub starts_count : StartView → ℕ
+abbrev pub starts_count : StatusesView → ℕ
 starts_count starts = settled_among (start_status starts) starts.places
 
 -- the settlements of the start, and behind them those stored
-abbrev pub settlements_of : ℕ → ℕ → StartView → List Stored → List Settlement
+abbrev pub settlements_of : ℕ → ℕ → StatusesView → List Stored → List Settlement
 settlements_of n id starts stored = let first = starts_of n id starts in
     first ++ settlements_from n id (length first) stored

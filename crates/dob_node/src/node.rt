@@ -7,7 +7,7 @@ ghost use Rattle.dob_share.specs.Owners.{owner_of};
 ghost use Rattle.dob_update.specs.Batches.{most_items};
 ghost use Rattle.dob_update.specs.Items.{items_of};
 ghost use Rattle.dob_stops.specs.declared.cause.Cause.TheVariants as cause;
-ghost use Rattle.dob_node.specs.OpeningLists.{opening_settlements, status_in};
+ghost use Rattle.dob_node.specs.Stores.{starts_of};
 ghost use Rattle.dob_node.specs.TakenItems.{HasEntries, StopsAt};
 
 use crate::history::History;
@@ -15,8 +15,8 @@ use crate::outboxes::{add_for_others, are_empty, cut_at, empty_outboxes};
 use crate::start_statuses::StartStatuses;
 use crate::taking::take_items;
 use dob_pieces::{Family, Memory};
-use dob_rank::{Classes, Segments};
-use dob_share::{Item, Opening, Settlement, Share, opening_at, owner};
+use dob_rank::{Classes, SegmentLength, Segments};
+use dob_share::{Item, Opening, Settlement, Share, owner};
 use dob_stops::Cause;
 use dob_unmove::back_into;
 use dob_update::{Batch, Outbox, item_for};
@@ -79,7 +79,7 @@ impl Node {
         ensures sound { IfOk result (λ node. IsSound node) }
     {
         let share = Share::open(alloc, openings, id, n)?;
-        let history = opening_history(alloc, openings, share.places(), id, n)?;
+        let history = opening_history(alloc, &share, id, n, openings.segment_length())?;
         let outboxes = empty_outboxes(alloc, family, n, id)?;
         Ok(Node {
             alloc,
@@ -463,20 +463,18 @@ fn push_own(
     }
 }
 
-// The history of owner `id`, one of `n`, when its node opens.
+// The history of owner `id`, one of `n`, when its node opens, by the statuses of its classes.
 fn opening_history(
     alloc: Global,
-    openings: &Segments<Opening>,
-    places: u64,
+    share: &Share,
     id: usize,
     n: usize,
+    segment_length: SegmentLength,
 ) -> Result<History, Memory>
     requires owner { id < n }
     requires owners { n ≤ 16 }
-    requires few { length openings.now ≤ 2 ^ 32 }
-    requires places { (place : ℕ) → place < places → place * n + id < length openings.now }
-    ensures { IfOk result (λ history. history ≡ record { id = id; n = n; settlements = opening_settlements (status_in openings.now) n id places; room = 0 }) }
+    ensures { IfOk result (λ history. history ≡ record { id = id; n = n; settlements = starts_of n id share.now.statuses; room = 0 }) }
 {
-    let starts = StartStatuses::open(alloc, openings, places, id, n)?;
-    Ok(History::new(alloc, id, n, starts, openings.segment_length()))
+    let starts = StartStatuses::new(share.statuses()?);
+    Ok(History::new(alloc, id, n, starts, segment_length))
 }

@@ -9,13 +9,12 @@ use Rattle.dob_share.specs.declared.fault.Fault.TheVariants.{TooDeep, Contradict
 use Rattle.dob_share.specs.declared.cells.Slot.{Slot}
 use Rattle.dob_share.specs.declared.share.Seen.{Seen}
 use Rattle.dob_share.specs.declared.share.Share.{Share}
-use Rattle.dob_share.specs.declared.statuses.Statuses.{Statuses}
 use Rattle.dob_share.specs.Values.{Better}
 use Rattle.dob_share.specs.Cells.{Cell, CellValue, SameCell, CanTake, changed, fresh}
 use Rattle.dob_share.specs.Slots.{start_at, cell_in, IsShortCell}
 use Rattle.dob_share.specs.Steps.{IsTooDeep}
 use Rattle.dob_share.specs.Shares.{places_of, IsOwn, IsOwnOpen, IsSeen, status_at, number_of, cell_where, cell_at, IsValue, HasValueNow, Fits, GoesTooDeep, SameClasses}
-use Rattle.dob_share.specs.Statuses.{open_at, opens_below, status_in}
+use Rattle.dob_share.specs.Statuses.{StatusesView, open_at, opens_below, status_in}
 use Rattle.dob_share.proofs.Applied.{CellValue-same, read, same_itself}
 use Rattle.dob_share.proofs.Words.{open_at_open, rank_less, rank_same}
 use Rattle.dob_share.proofs.Growing.{no_worse}
@@ -77,15 +76,15 @@ unfolding IsOwnOpen IsOwn status_at
 open_back old new id_same n_same same class own = (
   (
     ap (λ (k : ℕ). class % k) n_same ∙ own.0.0 ∙ sym id_same,
-    subst (λ (s : Statuses). class / new.n < s.places) (sym same) (subst (λ (k : ℕ). class / k < old.statuses.places) (sym n_same) own.0.1),
+    subst (λ (s : StatusesView). class / new.n < s.places) (sym same) (subst (λ (k : ℕ). class / k < old.statuses.places) (sym n_same) own.0.1),
   ),
-  ap (λ (k : ℕ). status_in new.statuses.words (class / k)) n_same ∙ ap (λ (s : Statuses). status_in s.words (class / old.n)) same ∙ own.1,
+  ap (λ (k : ℕ). status_in new.statuses.words (class / k)) n_same ∙ ap (λ (s : StatusesView). status_in s.words (class / old.n)) same ∙ own.1,
 )
 
 number_same : (old new : Share) → new.n ≡ old.n → new.statuses ≡ old.statuses → (class : ℕ) → number_of new class ≡ number_of old class
 unfolding number_of
 number_same old new n_same same class = ap (λ (k : ℕ). opens_below new.statuses.words (class / k)) n_same
-    ∙ ap (λ (s : Statuses). opens_below s.words (class / old.n)) same
+    ∙ ap (λ (s : StatusesView). opens_below s.words (class / old.n)) same
 
 pub seen_not : (share : Share) (class : ℕ) → (IsOwnOpen share class → ⊥) → IsSeen share class None
 unfolding IsSeen
@@ -190,12 +189,12 @@ module _ (old : Share) (item : Item) (place : ℕ) (open_here : IsOwnOpen old it
     classes_same = record {
       id = id_same;
       n = n_same;
-      places = ap (λ (s : Statuses). s.places) same;
+      places = ap (λ (s : StatusesView). s.places) same;
       owned = λ class own. (
         ap (λ (k : ℕ). class % k) n_same ∙ own.0 ∙ sym id_same,
-        subst (λ (s : Statuses). class / new.n < s.places) (sym same) (subst (λ (k : ℕ). class / k < old.statuses.places) (sym n_same) own.1),
+        subst (λ (s : StatusesView). class / new.n < s.places) (sym same) (subst (λ (k : ℕ). class / k < old.statuses.places) (sym n_same) own.1),
       );
-      statuses = λ class. ap (λ (k : ℕ). status_in new.statuses.words (class / k)) n_same ∙ ap (λ (s : Statuses). status_in s.words (class / old.n)) same;
+      statuses = λ class. ap (λ (k : ℕ). status_in new.statuses.words (class / k)) n_same ∙ ap (λ (s : StatusesView). status_in s.words (class / old.n)) same;
     }
 
     pub cell_changed : SameCell (cell_in new.slots new.pool place) (changed item.was item.now (cell_in old.slots old.pool place)) →
@@ -212,7 +211,7 @@ module _ (old : Share) (item : Item) (place : ℕ) (open_here : IsOwnOpen old it
     cell_then : (class : ℕ) → cell_at new class ≡ cell_where (open_at old.statuses.words (class / old.n)) (cell_in new.slots new.pool (number_of old class))
     cell_then class = cell_form new class
         ∙ ap (λ (k : ℕ). cell_where (open_at new.statuses.words (class / k)) (cell_in new.slots new.pool (number_of new class))) n_same
-        ∙ ap (λ (s : Statuses). cell_where (open_at s.words (class / old.n)) (cell_in new.slots new.pool (number_of new class))) same
+        ∙ ap (λ (s : StatusesView). cell_where (open_at s.words (class / old.n)) (cell_in new.slots new.pool (number_of new class))) same
         ∙ ap (λ (k : ℕ). cell_where (open_at old.statuses.words (class / old.n)) (cell_in new.slots new.pool k)) (number_same old new n_same same class)
 
     pub others_kept : ((other : ℕ) → (other ≡ place → ⊥) → SameCell (cell_in new.slots new.pool other) (cell_in old.slots old.pool other)) →

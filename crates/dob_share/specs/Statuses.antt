@@ -44,6 +44,11 @@ pub record IsStatusOf (word : StatusWord) (place : ℕ) (status : Status) : Type
   pub caught_is : bit word.caught place ≡ catches status
   pub tried_is : bit word.tried place ≡ tries status
 
+-- the statuses of one owner's classes: how many classes there are, and the words that say what each is
+pub record StatusesView : Type 0 where
+  pub places : ℕ
+  pub words : List StatusWord
+
 -- what is listed as the status of the class at a place of an owner's; stuck where the owner has none
 abbrev pub status_listed : List Opening → ℕ → ℕ → ℕ → ℕ → Status
 status_listed openings places n id place = cond (nat_lt place places) (opening_of openings (class_of_place n id place)).status Stuck

@@ -16,3 +16,4 @@ pub use news::{Item, Settlement};
 pub use opening::{Opening, opening_at};
 pub use owners::owner;
 pub use share::{Seen, Share};
+pub use statuses::Statuses;

@@ -103,7 +103,16 @@ impl Share {
     pub fn places(&self) -> u64
         ensures { result ≡ places_of self.now }
     {
-        self.statuses.places
+        self.statuses.places()
+    }
+
+    /// The statuses of its classes, which it goes on to hold too.
+    ///
+    /// Error: `Memory`.
+    pub fn statuses(&self) -> Result<Statuses, Memory>
+        ensures { IfOk result (λ statuses. statuses ≡ self.now.statuses) }
+    {
+        self.statuses.share()
     }
 
     /// How many settlements it has given: those of its opening, and one for each item that changed a value.
@@ -224,7 +233,7 @@ impl Share {
             return None;
         }
         let place = class / n;
-        if place >= self.statuses.places {
+        if place >= self.statuses.places() {
             return None;
         }
         match self.statuses.status(place) {

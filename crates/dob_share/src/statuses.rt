@@ -10,6 +10,8 @@ use dob_moves::Status;
 use dob_pieces::Memory;
 use dob_rank::Segments;
 use std::alloc::Global;
+use std::marker::Model;
+use std::sync::Arc;
 
 /// The bits of 64 classes by their statuses, all unset for a stuck one, and how many classes are open before them.
 #[derive(Clone, Copy)]
@@ -20,14 +22,23 @@ pub(crate) struct StatusWord {
     pub(crate) before: u32,
 }
 
-/// The statuses of the classes at `places` places.
+/// The statuses of the classes at `places` places. Those who hold them share the words.
 #[derive(Drop)]
-pub(crate) struct Statuses {
-    pub(crate) places: u64,
-    pub(crate) words: Segments<StatusWord>,
-    ghost within: { places < length words * 64 },
-    ghost few: { places < 2 ^ 32 },
-    ghost counted: { AreCounted words },
+pub struct Statuses {
+    places: u64,
+    words: Arc<Segments<StatusWord>>,
+}
+
+impl Model for Statuses {
+    ghost use Rattle.std.specs.Prelude.{◌<◌, ◌^◌, ◌*◌, length};
+    ghost use Rattle.std.specs.Arc.{arc_value};
+    ghost use Rattle.dob_share.specs.Statuses.{StatusesView, AreCounted};
+
+    ghost Value = { StatusesView };
+
+    ghost view = { λ s. record { places = s.places; words = arc_value s.words } };
+
+    ghost invariant = { λ s. (s.places < length (arc_value s.words) * 64) × (s.places < 2 ^ 32) × AreCounted (arc_value s.words) };
 }
 
 impl Statuses {
@@ -48,11 +59,33 @@ impl Statuses {
         ensures statuses { IfOk result (λ statuses. (place : ℕ) → place < places → IsStatusOf (word_of statuses.words place) (place % 64) (opening_of openings.now (class_of_place n id place)).status) }
     {
         let words = words_of(alloc, openings, places, id, n)?;
+        let words = Arc::new(alloc, words)?;
         Ok(Statuses { places, words })
     }
 
+    /// The same statuses, for one more who holds them.
+    ///
+    /// Error: `Memory`.
+    pub(crate) fn share(&self) -> Result<Statuses, Memory>
+        ensures { IfOk result (λ statuses. statuses ≡ self.now) }
+    {
+        let words = Arc::try_clone(&self.words)?;
+        Ok(Statuses {
+            places: self.places,
+            words,
+        })
+    }
+
+    /// How many classes there are.
+    pub fn places(&self) -> u64
+        ensures places { result ≡ self.now.places }
+        ensures few { result < 2 ^ 32 }
+    {
+        self.places
+    }
+
     /// The status of the class at a place.
-    pub(crate) fn status(&self, place: u64) -> Status
+    pub fn status(&self, place: u64) -> Status
         requires { place < self.now.places }
         ensures { result ≡ status_in self.now.words place }
     {

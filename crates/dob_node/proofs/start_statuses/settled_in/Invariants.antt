@@ -1,11 +1,11 @@
 -- Those at the places so far are counted.
 use Rattle.std.proofs.Common.{◌≡◌, ◌≤◌}
 use Rattle.dob_share.specs.Openings.{settled_among}
-use Rattle.dob_node.specs.Stores.{packed_status}
+use Rattle.dob_node.specs.Stores.{start_status}
 use Rattle.dob_node.proofs.start_statuses.settled_in.Given as goal
 
 abbrev pub invariant-loop-place : goal.invariant-loop-place
 invariant-loop-place l = record {
-  count : l.settled ≡ settled_among (packed_status l.bytes) l.place;
+  count : l.settled ≡ settled_among (start_status l.statuses) l.place;
   few : l.settled ≤ l.place;
 }

@@ -1,23 +1,15 @@
 -- What is opened is sound.
-use Rattle.std.proofs.Common.{◌≡◌, ◌<◌, ℕ, refl, ap, ◌∙◌, sym, subst, arith}
+use Rattle.std.proofs.Common.{◌≡◌, List, refl, ap, ◌∙◌, sym, subst, arith}
 use Rattle.std.specs.List.{All}
 use Rattle.std.proofs.lemmas.List.Elements.{All-nil}
+use Rattle.dob_share.specs.declared.news.Settlement.{Settlement}
 use Rattle.dob_update.specs.Batches.{OutboxView}
 use Rattle.dob_node.specs.Stores.{HistoryView}
-use Rattle.dob_node.specs.OpeningLists.{opening_settlements, status_in}
 use Rattle.dob_node.specs.TakenItems.{HasEntries}
 use Rattle.dob_node.proofs.Opens.{places_are, opened_cells, opened_kept, few_listed}
 use Rattle.dob_node.proofs.Sends.{addressed_empty}
+use Rattle.dob_node.proofs.StartLists.{share_opened}
 use Rattle.dob_node.proofs.node.Node.open.Goals as goal
-
-pub opening_history-requires-clause-few : goal.opening_history-requires-clause-few
-opening_history-requires-clause-few c = few_listed c.args.family c.args.openings.now c.requires.openings
-
-pub opening_history-requires-clause-places : goal.opening_history-requires-clause-places
-opening_history-requires-clause-places c = λ place low.
-    let out = c.in_ok-share.ensures in
-    (places_are c.in_ok-share.share c.args.openings.now c.args.n c.args.id out.who c.requires.owner out.owned place).0
-    (subst (λ (k : ℕ). place < k) c.places.ensures low)
 
 pub returns-clause-opened : goal.returns-clause-opened
 returns-clause-opened c =
@@ -25,7 +17,7 @@ returns-clause-opened c =
     record {
       of = (refl, refl, refl);
       history = ap (λ (v : HistoryView). v.settlements) c.in_ok-history.ensures
-          ∙ ap (λ k. opening_settlements (status_in c.args.openings.now) c.args.n c.args.id k) c.places.ensures;
+          ∙ share_opened c.in_ok-share.share c.args.openings.now c.args.n c.args.id out.who c.requires.owner out.statuses;
       places = places_are c.in_ok-share.share c.args.openings.now c.args.n c.args.id out.who c.requires.owner out.owned;
       statuses = out.statuses;
       cells = opened_cells c.args.family c.args.openings.now c.in_ok-share.share c.args.n c.args.id c.requires.openings out.owned out.cells;
@@ -41,8 +33,8 @@ returns-clause-sound c =
       kept = opened_kept c.args.family c.args.openings.now c.args.n c.args.id c.in_ok-share.share c.in_ok-history.history c.requires.openings c.requires.owner
           (few_listed c.args.family c.args.openings.now c.requires.openings) out.who out.owned
           (opened_cells c.args.family c.args.openings.now c.in_ok-share.share c.args.n c.args.id c.requires.openings out.owned out.cells) out.settled
-          (subst (λ (k : ℕ). c.in_ok-history.history ≡ record { id = c.args.id; n = c.args.n; settlements = opening_settlements (status_in c.args.openings.now) c.args.n c.args.id k; room = 0 })
-          c.places.ensures c.in_ok-history.ensures);
+          (subst (λ (xs : List Settlement). c.in_ok-history.history ≡ record { id = c.args.id; n = c.args.n; settlements = xs; room = 0 })
+          (share_opened c.in_ok-share.share c.args.openings.now c.args.n c.args.id out.who c.requires.owner out.statuses) c.in_ok-history.ensures);
       emitted = omega arith;
       entries = subst (λ xs. All HasEntries xs) (sym c.new.ensures.items) (All-nil HasEntries);
       receivers = c.in_ok-outboxes.ensures.whole;

@@ -1,8 +1,10 @@
 -- One class more is opened, with its slot and run where it is open; the share owns those listed, with their statuses and fresh cells.
-use Rattle.std.proofs.Common.{◌≡◌, ℕ, ◌+◌, ◌*◌, ◌<◌, ◌≤◌, ◌^◌, refl, sym, ap, subst, ◌∙◌, arith}
+use Rattle.std.proofs.Common.{◌≡◌, ℕ, List, ◌+◌, ◌*◌, ◌%◌, ◌<◌, ◌≤◌, ◌^◌, refl, sym, ap, subst, ◌∙◌, arith}
+use Rattle.std.specs.Arc.{arc_value}
+use Rattle.dob_share.specs.declared.statuses.StatusWord.{StatusWord}
 use Rattle.dob_share.specs.Owners.{class_of_place}
 use Rattle.dob_share.specs.Openings.{opening_of, settles, settled_among, AreOpened}
-use Rattle.dob_share.specs.Statuses.{opens_below}
+use Rattle.dob_share.specs.Statuses.{StatusesView, IsStatusOf, word_of, opens_below}
 use Rattle.dob_share.specs.Shares.{places_of}
 use Rattle.dob_share.proofs.Opened.{pooled_open, settles_most, settled_more}
 use Rattle.dob_share.proofs.OwnOpened.{AreSlotsBelow, places_few, slots_none, slots_more, owned_here, status_here, cell_here_fresh}
@@ -10,7 +12,7 @@ use Rattle.dob_share.proofs.share.Share.open.Goals as goal
 
 pub loop-place-init : goal.loop-place-init
 loop-place-init c = record {
-  slots = slots_none c.in_ok-statuses.statuses.words c.args.openings.now c.args.n c.args.id c.new-slots.result c.new-slots.ensures;
+  slots = slots_none (arc_value c.statuses.inside.words) c.args.openings.now c.args.n c.args.id c.new-slots.result c.new-slots.ensures;
   moves = omega arith;
   settled = refl;
   few = omega arith;
@@ -20,13 +22,17 @@ pub loop-place-preserved : goal.loop-place-preserved
 loop-place-preserved c =
     let l = c.loop-place in
     let out = c.in_ok-entries.ensures in
+    let words : List StatusWord = arc_value c.statuses.inside.words in
+    let same : words ≡ c.in_ok-statuses.statuses.words = ap (λ (v : StatusesView). v.words) c.statuses.view_is in
+    let status_is = subst (λ (ws : List StatusWord). IsStatusOf (word_of ws l.place) (l.place % 64) (opening_of c.args.openings.now (class_of_place c.args.n c.args.id l.place)).status)
+    (sym same) (c.in_ok-statuses.ensures.statuses l.place (omega arith)) in
     let opening_is : c.opening_at-opening.result ≡ opening_of c.args.openings.now (class_of_place c.args.n c.args.id l.place) = c.opening_at-opening.ensures in
     let more : c.settlements_of-settled.result ≡ settles (opening_of c.args.openings.now (class_of_place c.args.n c.args.id l.place)).status
     = c.settlements_of-settled.ensures ∙ ap (λ o. settles o.status) opening_is in
     record {
-      slots = subst (λ (k : ℕ). AreSlotsBelow c.in_ok-statuses.statuses.words c.args.openings.now c.args.n c.args.id (l.place + 1) c.push_slot.new.slots (l.moves + k)) (sym out.moves)
-          (slots_more c.in_ok-statuses.statuses.words c.args.openings.now c.args.n c.args.id l.place l.moves l.slots l.invariant.slots c.opening_at-opening.result
-          c.push_slot.new.slots opening_is (c.in_ok-statuses.ensures.statuses l.place (omega arith)) out.few out.slots);
+      slots = subst (λ (k : ℕ). AreSlotsBelow words c.args.openings.now c.args.n c.args.id (l.place + 1) c.push_slot.new.slots (l.moves + k)) (sym out.moves)
+          (slots_more words c.args.openings.now c.args.n c.args.id l.place l.moves l.slots l.invariant.slots c.opening_at-opening.result
+          c.push_slot.new.slots opening_is status_is out.few out.slots);
       moves = subst (λ (k : ℕ). l.moves + k < 2 ^ 33) (sym out.moves) out.small;
       settled = settled_more (λ place. (opening_of c.args.openings.now (class_of_place c.args.n c.args.id place)).status) l.place l.settled
           c.settlements_of-settled.result l.invariant.settled more;
@@ -41,10 +47,12 @@ open-requires-clause-few_places c = places_few c.len-count.result c.args.id c.ar
 pub invariant_of-result : goal.invariant_of-result
 invariant_of-result c =
     let statuses = c.in_ok-statuses.statuses in
+    let same : arc_value c.statuses.inside.words ≡ statuses.words = ap (λ (v : StatusesView). v.words) c.statuses.view_is in
     let end : c.loop-place.place ≡ c.places_among-places.result = omega arith in
     record {
       owners = (c.requires.owner, c.requires.owners);
-      opens = c.loop-place.invariant.slots.count ∙ ap (opens_below statuses.words) (end ∙ sym c.in_ok-statuses.ensures.places);
+      opens = c.loop-place.invariant.slots.count ∙ ap (λ (ws : List StatusWord). opens_below ws c.loop-place.place) same
+          ∙ ap (opens_below statuses.words) (end ∙ sym c.in_ok-statuses.ensures.places);
       pooled = pooled_open c.loop-place.slots c.in_ok-pool.pool
           (subst (λ xs. AreOpened c.loop-place.slots xs) (sym c.in_ok-pool.ensures) c.loop-place.invariant.slots.opened);
     }
@@ -71,7 +79,9 @@ returns-clause-cells c =
     (λ place low. c.in_ok-statuses.ensures.statuses place (subst (λ (k : ℕ). place < k) c.in_ok-statuses.ensures.places low))
     c.loop-place.moves c.in_ok-pool.ensures
     (subst (λ (k : ℕ). AreSlotsBelow c.in_ok-statuses.statuses.words c.args.openings.now c.args.n c.args.id k c.loop-place.slots c.loop-place.moves)
-    (end ∙ sym c.in_ok-statuses.ensures.places) c.loop-place.invariant.slots)
+    (end ∙ sym c.in_ok-statuses.ensures.places)
+    (subst (λ (ws : List StatusWord). AreSlotsBelow ws c.args.openings.now c.args.n c.args.id c.loop-place.place c.loop-place.slots c.loop-place.moves)
+    (ap (λ (v : StatusesView). v.words) c.statuses.view_is) c.loop-place.invariant.slots))
 
 pub returns-clause-settled : goal.returns-clause-settled
 unfolding places_of

@@ -1,5 +1,6 @@
 -- The open classes so far have slots, for a pool of as many free entries as they have moves; the settlements of the others are counted.
 use Rattle.std.proofs.Common.{◌≡◌, ◌≤◌, ◌<◌, ◌^◌}
+use Rattle.std.specs.Arc.{arc_value}
 use Rattle.dob_share.specs.Owners.{class_of_place}
 use Rattle.dob_share.specs.Openings.{opening_of, settled_among}
 use Rattle.dob_share.proofs.OwnOpened.{AreSlotsBelow}
@@ -7,7 +8,7 @@ use Rattle.dob_share.proofs.share.Share.open.Given as goal
 
 abbrev pub invariant-loop-place : goal.invariant-loop-place
 invariant-loop-place l = record {
-  slots : AreSlotsBelow l.statuses.words l.openings l.n l.id l.place l.slots l.moves;
+  slots : AreSlotsBelow (arc_value l.statuses-inside.words) l.openings l.n l.id l.place l.slots l.moves;
   moves : l.moves < 2 ^ 33;
   settled : l.settled ≡ settled_among (λ place. (opening_of l.openings (class_of_place l.n l.id place)).status) l.place;
   few : l.settled ≤ l.place;
