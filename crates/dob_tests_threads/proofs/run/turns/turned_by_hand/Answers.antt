@@ -1,7 +1,6 @@
 -- The two runners keep their places in their crew.
 use Rattle.dob_run.proofs.Keeping.{runner_trans}
 use Rattle.dob_tests_threads.proofs.run.turns.turned_by_hand.Goals as goal
-use Rattle.dob_tests_threads.proofs.run.turns.turned_by_hand.Goals.{In_ok-runners}
 
 pub close_both-requires-clause-crew : goal.close_both-requires-clause-crew
 close_both-requires-clause-crew g c = λ κs.
