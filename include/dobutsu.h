@@ -97,8 +97,8 @@ uint32_t dobutsu_count(uint32_t chicks, uint32_t elephants, uint32_t giraffes, u
    it has; 0 where there is no such family. For two pieces of each kind they are 2.2 million bytes. */
 uint64_t dobutsu_index_words(uint32_t chicks, uint32_t elephants, uint32_t giraffes, uint32_t profile);
 
-/* Writes the index of a family into the first of the numbers. Answers 0, or 25 or else 27 as dobutsu_count does, or 29 where there are fewer than
-   dobutsu_index_words says. It takes some hundredths of a second for two pieces of each kind. */
+/* Writes the index of a family into the first of the numbers, and nothing behind it. Answers 0, or 25 or else 27 as dobutsu_count does, or 29 where there are
+   fewer than dobutsu_index_words says. It takes some hundredths of a second for two pieces of each kind. */
 uint32_t dobutsu_index(uint32_t chicks, uint32_t elephants, uint32_t giraffes, uint32_t profile, uint64_t *words, size_t words_len);
 
 /* What dobutsu_probe and dobutsu_moves tell, by an index. With the index of the file's family as dobutsu_index wrote it the answers are just theirs, and right

@@ -1,5 +1,5 @@
 -- The text is of one position, and one family has those numbers; each refusal comes where its own test fails and those before it pass.
-use Rattle.std.proofs.Common.{◌≢◌, ℕ, refl, sym, subst, inl, inr, ◌∙◌}
+use Rattle.std.proofs.Common.{◌≢◌, ℕ, refl, sym, subst, inl, inr}
 use Rattle.std.proofs.lemmas.Bool.{both_ways}
 use Rattle.dob_pieces.specs.declared.profile.Family.{Family}
 use Rattle.dob_pieces.specs.declared.setup.Setup.{Setup}
