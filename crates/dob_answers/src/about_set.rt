@@ -2,7 +2,8 @@
 use crate::opened::Opened;
 use crate::question::{OfClasses, OfSet};
 use dob_pieces::{Family, Memory};
-use dob_rank::{Classes, size, unrank};
+use dob_classes::Classes;
+use dob_rank::{size, unrank};
 use dob_text::write_position;
 use dob_unmove::back;
 use dob_value::Fault;

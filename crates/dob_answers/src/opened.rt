@@ -3,7 +3,7 @@
 ghost use Rattle.std.specs.Prelude.{◌≡◌, IfOk, IsTrue};
 
 use dob_pieces::{Family, Memory, PieceSet, Profile};
-use dob_rank::Classes;
+use dob_classes::Classes;
 use dob_value::{Table, sweep_table};
 use std::alloc::Global;
 

@@ -4,7 +4,7 @@ use crate::{measure, rules};
 use anyhow::Result;
 use dob_moves::{Status, plain as plain_rules};
 use dob_pieces::{Family, Memory, Position, Profile};
-use dob_rank::Classes;
+use dob_classes::Classes;
 use dob_unmove::plain as plain_back;
 use std::alloc::Global;
 use std::rt::Clock;

@@ -4,7 +4,7 @@ use crate::timer::Rounds;
 use anyhow::Result;
 use dob_moves::{Status, count_moves, moves, moves_into, status};
 use dob_pieces::{Memory, Position, Profile};
-use dob_rank::Classes;
+use dob_classes::Classes;
 use std::alloc::Global;
 use std::rt::Clock;
 

@@ -14,7 +14,7 @@ use Rattle.dob_dbfile.specs.declared.header.Format.TheVariants.{First, Second}
 use Rattle.dob_dbfile.specs.Devices.{Stream}
 use Rattle.dob_dbfile.specs.Format.{title, set_bytes, profile_byte}
 use Rattle.dob_rank.specs.Families.{family_of}
-use Rattle.dob_rank.proofs.Sets.{same_numbers}
+use Rattle.dob_rank.proofs.Positions.Sets.{same_numbers}
 use Rattle.dob_dbfile.specs.Faults.{HasFront, HasTitle, NamesSet, HasHeader, SaysProfile, NamesFamily, CountsClasses}
 use Rattle.dob_dbfile.specs.Faults.{IsHeaderShort, IsWhole, IsNoLonger, Ends, HasDigest, PassesAll, HasReadFault}
 

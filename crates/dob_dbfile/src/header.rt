@@ -11,7 +11,7 @@ ghost use Rattle.dob_dbfile.specs.Faults.{SaysProfile, NamesSet, NamesFamily, Ha
 use crate::fault::Fault;
 use byteorder::{ByteOrder, LittleEndian};
 use dob_pieces::{Family, Memory, PieceSet, Profile};
-use dob_rank::count_classes;
+use dob_classes::count_classes;
 
 /// How many bytes are read before anything is tested: the whole header of the first format.
 pub(crate) const FRONT_LEN: usize = 20;

@@ -15,7 +15,7 @@ use crate::header::{FRONT_LEN, Format, family_counted, family_saying, front_name
 use crate::read::DIGEST_LEN;
 use crate::records::{RECORD_LEN, value_in};
 use dob_pieces::Family;
-use dob_rank::count_classes;
+use dob_classes::count_classes;
 use dob_value::Value;
 
 /// The format of a file and the family whose table it holds, by its header and by how many bytes there are. The digest isn't

@@ -11,7 +11,7 @@ use crate::front::read_header;
 use crate::header::{Format, HEADER_LEN};
 use crate::read::fill;
 use crate::records::{RECORD_LEN, value_in};
-use dob_rank::Classes;
+use dob_classes::Classes;
 use dob_value::Value;
 use std::alloc::Global;
 

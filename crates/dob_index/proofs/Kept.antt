@@ -9,9 +9,9 @@ use Rattle.dob_rank.specs.Numbers.{product, block_bases, start_of}
 use Rattle.dob_rank.specs.Runs.{runs_in, run_start, run_kind, lion_pairs}
 use Rattle.dob_rank.specs.declared.runs.RunKind.{RunKind}
 use Rattle.dob_rank.specs.declared.runs.RunKind.TheVariants.{Mixed}
-use Rattle.dob_rank.proofs.FamilyBlocks.{classes_few}
-use Rattle.dob_rank.proofs.RunSums.{runs_by_hand}
-use Rattle.dob_rank.proofs.ClassesBefore.{none_before, by_hands, one_block_more}
+use Rattle.dob_classes.proofs.Tables.FamilyBlocks.{classes_few}
+use Rattle.dob_rank.proofs.InRuns.RunSums.{runs_by_hand}
+use Rattle.dob_classes.proofs.Counting.ClassesBefore.{none_before, by_hands, one_block_more}
 use Rattle.dob_index.specs.Layout.{row_at, entries_in, entry_places, where_mixed, run_words}
 use Rattle.dob_index.specs.Index.{AreEntriesFrom, IsKeptRun, IsKeptBlock}
 

@@ -6,9 +6,9 @@ use Rattle.dob_rank.specs.Numbers.{product, sum_below, block_bases}
 use Rattle.dob_rank.specs.Runs.{run_kind, lion_pairs}
 use Rattle.dob_rank.specs.declared.runs.RunKind.{RunKind}
 use Rattle.dob_rank.specs.declared.runs.RunKind.TheVariants.{First, Later, Mixed}
-use Rattle.dob_rank.proofs.Sums.{sum_below-rises}
-use Rattle.dob_rank.proofs.Blocks.{sum_below_more, blocks_small}
-use Rattle.dob_rank.proofs.RunPlaces.{run_size-small}
+use Rattle.dob_lists.proofs.Sums.{sum_below-rises}
+use Rattle.dob_rank.proofs.Positions.Blocks.{sum_below_more, blocks_small}
+use Rattle.dob_rank.proofs.InRuns.RunPlaces.{run_size-small}
 use Rattle.dob_index.specs.Layout.{row_at, entries_in, where_mixed, run_words, entries_at, words_of}
 
 -- the entries of all runs of a block

@@ -6,12 +6,12 @@ use Rattle.dob_rank.specs.Families.{is_marked}
 use Rattle.dob_rank.specs.Marks.{marks_below}
 use Rattle.dob_rank.specs.Numbers.{product, block_bases, start_of}
 use Rattle.dob_rank.specs.Runs.{run_start, run_kind, lion_pairs}
-use Rattle.dob_rank.proofs.RunTables.{marks_small}
-use Rattle.dob_rank.proofs.ClassesBefore.{none_before, all_lions}
-use Rattle.dob_rank.proofs.RunSums.{lions_same}
-use Rattle.dob_rank.specs.declared.class_walks.MixedRun.{MixedRun}
-use Rattle.dob_rank.specs.declared.class_walks.Walk.{Walk}
-use Rattle.dob_rank.specs.Walks.{IsWalk, marks_before}
+use Rattle.dob_classes.proofs.Tables.RunTables.{marks_small}
+use Rattle.dob_classes.proofs.Counting.ClassesBefore.{none_before, all_lions}
+use Rattle.dob_rank.proofs.InRuns.RunSums.{lions_same}
+use Rattle.dob_classes.specs.declared.class_walks.MixedRun.{MixedRun}
+use Rattle.dob_classes.specs.declared.class_walks.Walk.{Walk}
+use Rattle.dob_classes.specs.Walks.{IsWalk, marks_before}
 use Rattle.dob_index.specs.Layout.{row_at, entry_places}
 use Rattle.dob_index.specs.Index.{IsIndex}
 use Rattle.dob_index.proofs.Walked.{walked}

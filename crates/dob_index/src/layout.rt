@@ -6,7 +6,7 @@ ghost use Rattle.dob_index.specs.Layout.{mark_of, row_at, entries_in, run_words,
 ghost use Rattle.dob_index.specs.Index.{IsMarked};
 
 use dob_pieces::{Family, PieceSet, Profile};
-use dob_rank::{LIONS, RunKind, count_blocks, kind_of, run_size_in};
+use dob_classes::{LIONS, RunKind, count_blocks, kind_of, run_size_in};
 
 /// How many places an entry stands for.
 pub(crate) const ENTRY_PLACES: u64 = 256;

@@ -8,8 +8,8 @@ use Rattle.dob_moves.specs.declared.position_status.Status.TheVariants.{Caught, 
 use Rattle.dob_moves.specs.Statuses.{HasStatus}
 use Rattle.dob_rank.specs.Families.{classes_of}
 use Rattle.dob_rank.specs.Families.{class_setup}
-use Rattle.dob_rank.proofs.Present.{HasClasses-classes_of}
-use Rattle.dob_rank.proofs.FamilyRepresentatives.{class_setup_only}
+use Rattle.dob_rank.proofs.OfFamilies.Present.{HasClasses-classes_of}
+use Rattle.dob_classes.proofs.OfFamilies.FamilyRepresentatives.{class_setup_only}
 use Rattle.dob_value.specs.declared.value.Value.{Value}
 use Rattle.dob_value.specs.declared.value.Value.TheVariants.{Draw}
 use Rattle.dob_value.specs.Follows.{IsEntry}

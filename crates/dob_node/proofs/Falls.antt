@@ -8,7 +8,7 @@ use Rattle.std.proofs.lemmas.List.FromFn.{length-range_with_len, get_or-range_wi
 use Rattle.std.proofs.lemmas.List.Elements.{All-contains, All-nil, All-cons, All-head, All-tail}
 use Rattle.std.proofs.lemmas.List.Kept.{AllPairs-cons}
 use Rattle.dob_pieces.proofs.Lists.{none_in_empty, cons_cases}
-use Rattle.dob_rank.proofs.Counted.{no_longer, pairs-head, pairs-tail}
+use Rattle.dob_classes.proofs.OfFamilies.Counted.{no_longer, pairs-head, pairs-tail}
 use Rattle.dob_value.specs.declared.value.Value.{Value}
 use Rattle.dob_value.specs.declared.value.Value.TheVariants.{Win, Loss, Draw}
 use Rattle.dob_value.specs.Bounds.{plies_of}

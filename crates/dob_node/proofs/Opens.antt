@@ -15,9 +15,9 @@ use Rattle.dob_moves.specs.MoveLists.{moves_of}
 use Rattle.dob_moves.specs.Statuses.{HasStatus}
 use Rattle.dob_moves.proofs.MoveCounts.{other_count}
 use Rattle.dob_rank.specs.Families.{classes_of, class_setup}
-use Rattle.dob_rank.proofs.FamilyRepresentatives.{class_setup_is}
-use Rattle.dob_rank.proofs.Present.{HasClasses-classes_of}
-use Rattle.dob_rank.proofs.ClassBounds.{classes_of-below}
+use Rattle.dob_classes.proofs.OfFamilies.FamilyRepresentatives.{class_setup_is}
+use Rattle.dob_rank.proofs.OfFamilies.Present.{HasClasses-classes_of}
+use Rattle.dob_rank.proofs.OfFamilies.ClassBounds.{classes_of-below}
 use Rattle.dob_value.specs.declared.value.Value.{Value}
 use Rattle.dob_share.specs.declared.news.Settlement.{Settlement}
 use Rattle.dob_share.specs.declared.opening.Opening.{Opening}

@@ -14,7 +14,7 @@ use Rattle.dob_moves.specs.Moves.{Goes}
 use Rattle.dob_moves.specs.Statuses.{HasStatus}
 use Rattle.dob_rank.specs.Families.{IsPositionOf, HasClasses}
 use Rattle.dob_rank.specs.Families.{classes_of}
-use Rattle.dob_rank.proofs.Present.{HasClasses-classes_of}
+use Rattle.dob_rank.proofs.OfFamilies.Present.{HasClasses-classes_of}
 use Rattle.dob_value.specs.declared.value.Value.{Value}
 use Rattle.dob_value.specs.declared.value.Value.TheVariants.{Win, Loss, Draw}
 use Rattle.dob_value.specs.Follows.{HasInTable, HasSuccessor, FollowsFromSuccessors, FollowsAt, IsConsistent}

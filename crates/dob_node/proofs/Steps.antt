@@ -10,8 +10,8 @@ use Rattle.dob_moves.specs.Statuses.{HasStatus}
 use Rattle.dob_rank.specs.Families.{RepresentsClass}
 use Rattle.dob_rank.specs.Families.{classes_of}
 use Rattle.dob_rank.specs.Families.{class_setup}
-use Rattle.dob_rank.proofs.Present.{HasClasses-classes_of}
-use Rattle.dob_rank.proofs.FamilyRepresentatives.{class_setup_is}
+use Rattle.dob_rank.proofs.OfFamilies.Present.{HasClasses-classes_of}
+use Rattle.dob_classes.proofs.OfFamilies.FamilyRepresentatives.{class_setup_is}
 use Rattle.dob_value.specs.declared.value.Value.{Value}
 use Rattle.dob_value.specs.Follows.{IsEntry}
 use Rattle.dob_unmove.specs.Edges.{predecessors}

@@ -23,10 +23,10 @@ use Rattle.dob_rank.specs.Families.{RepresentsClass}
 use Rattle.dob_rank.specs.Numbers.{sum_below}
 use Rattle.dob_rank.specs.Families.{classes_of, class_number}
 use Rattle.dob_rank.specs.Families.{class_setup}
-use Rattle.dob_rank.proofs.Sums.{sum_same}
-use Rattle.dob_rank.proofs.Present.{HasClasses-classes_of}
-use Rattle.dob_rank.proofs.FamilyNumbers.{class_number-below}
-use Rattle.dob_rank.proofs.FamilyRepresentatives.{class_setup_is}
+use Rattle.dob_lists.proofs.Sums.{sum_same}
+use Rattle.dob_rank.proofs.OfFamilies.Present.{HasClasses-classes_of}
+use Rattle.dob_classes.proofs.OfFamilies.FamilyNumbers.{class_number-below}
+use Rattle.dob_classes.proofs.OfFamilies.FamilyRepresentatives.{class_setup_is}
 use Rattle.dob_value.specs.declared.value.Value.{Value}
 use Rattle.dob_value.specs.declared.value.Value.TheVariants.{Loss, Draw}
 use Rattle.dob_value.specs.Entries.{is_draw}

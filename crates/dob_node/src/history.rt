@@ -12,7 +12,7 @@ ghost use Rattle.dob_node.specs.TakenItems.{HasEntries, AreKept, IsHistory, IsTa
 
 use crate::start_statuses::StartStatuses;
 use dob_pieces::Memory;
-use dob_rank::{SegmentLength, Segments};
+use dob_lists::{SegmentLength, Segments};
 use dob_share::{Item, Seen, Settlement, Share};
 use dob_stops::Cause;
 use dob_value::{Value, code_of_value, value_of_code};

@@ -1,13 +1,14 @@
 // What is known of each class before anything is settled: its status and its number of moves.
 ghost use Rattle.std.specs.Prelude.{◌<◌, IfOk};
-ghost use Rattle.dob_rank.specs.Bitboards.{AreBitboards};
+ghost use Rattle.dob_classes.specs.Bitboards.{AreBitboards};
 ghost use Rattle.dob_rank.specs.Families.{classes_of};
 ghost use Rattle.dob_rank.specs.Families.{class_setup};
 ghost use Rattle.dob_node.specs.Openings.{IsOpening, AreOpenings};
 
 use dob_moves::status_and_count_shown;
 use dob_pieces::{Memory, Profile, Side};
-use dob_rank::{Classes, SegmentLength, Segments, Shown};
+use dob_classes::{Classes, Shown};
+use dob_lists::{SegmentLength, Segments};
 use dob_share::Opening;
 use std::alloc::Global;
 

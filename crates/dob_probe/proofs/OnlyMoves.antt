@@ -10,7 +10,7 @@ use Rattle.dob_pieces.specs.declared.setup.Setup.{Setup}
 use Rattle.dob_moves.specs.declared.game_move.Move.{Move}
 use Rattle.dob_moves.specs.Moves.{place}
 use Rattle.dob_moves.specs.Statuses.{AreMoves}
-use Rattle.dob_rank.proofs.FamilyRepresentatives.{one_of_class}
+use Rattle.dob_classes.proofs.OfFamilies.FamilyRepresentatives.{one_of_class}
 use Rattle.dob_value.specs.declared.value.Value.{Value}
 use Rattle.dob_value.specs.declared.value.Value.TheVariants.{Win, Loss}
 use Rattle.dob_value.specs.declared.sweep.TheConstants.{MAX_DISTANCE}

@@ -10,7 +10,7 @@ use Rattle.dob_moves.specs.Moves.{Goes, place}
 use Rattle.dob_moves.specs.Statuses.{CanCatch, AreMoves, IsFirstCatch}
 use Rattle.dob_moves.proofs.ProfileMoves.{Goes-is}
 use Rattle.dob_rank.specs.Families.{IsPositionOf, IsInClass}
-use Rattle.dob_rank.proofs.FamilyRepresentatives.{one_class}
+use Rattle.dob_classes.proofs.OfFamilies.FamilyRepresentatives.{one_class}
 use Rattle.dob_value.specs.declared.value.Value.{Value}
 use Rattle.dob_value.specs.declared.value.Value.TheVariants.{Win, Loss, Draw}
 use Rattle.dob_value.specs.Follows.{ClassTable, IsEntry}

@@ -4,7 +4,8 @@ ghost use Rattle.dob_query.specs.Sizes.{AreCountLinesOf, HasCounts, IsCountFault
 
 use crate::fault::Fault;
 use dob_pieces::{Family, PieceSet, Profile};
-use dob_rank::{count_classes, size};
+use dob_classes::count_classes;
+use dob_rank::size;
 use std::alloc::{AllocError, Global};
 
 /// How many positions a family has, and how many classes.

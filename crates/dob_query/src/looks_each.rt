@@ -15,7 +15,7 @@ use crate::shelf::Shelf;
 use dob_dbfile::{Format, PlacedSource, read_classes, read_value};
 use dob_pieces::Profile;
 use dob_probe::check_member;
-use dob_rank::Classes;
+use dob_classes::Classes;
 use dob_text::read_position_bytes;
 use dob_value::Value;
 use std::alloc::Global;

@@ -126,3 +126,10 @@ place_in profile ob ds hands lions forms =
     let c = slice_index ds 5 in
     let chosen = hands * hand_size profile i + lions_before profile i lions + forms_before profile lions i c in
     (chosen * others_squares ob + (squares_by ob ds * choice_weight profile lions i c + forms)) * others_forms ob + others_by ob ds
+
+-- how many positions of a run of those lions stand before the one of those digits and of so many allowed forms of the chicks before
+unfoldable pub local_in : Profile → List ℕ → List ℕ → ℕ → ℕ → ℕ
+local_in profile ob ds lions forms =
+    let i = slice_index ob 0 in
+    let c = slice_index ds 5 in
+    (forms_before profile lions i c * others_squares ob + (squares_by ob ds * choice_weight profile lions i c + forms)) * others_forms ob + others_by ob ds

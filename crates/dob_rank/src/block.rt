@@ -1,23 +1,23 @@
 // The blocks of a piece set: the positions with the same numbers of chicks, elephants and giraffes on the board.
 // The blocks stand in the order of those numbers.
 ghost use Rattle.std.specs.Prelude.{◌≡◌, ◌<◌, ◌≤◌, ◌+◌, ◌*◌, ◌/◌, ◌^◌, slice_index};
-ghost use Rattle.dob_rank.specs.Numbers.{choose, product, HasDigits, number_of, digits_of, sum_below, bases_by, block_bases};
-ghost use Rattle.dob_rank.specs.Numbers.{block_size, size_of_set};
+ghost use Rattle.dob_rank.specs.Numbers.{choose, product, HasDigits, number_of, digits_of, sum_below, bases_by, block_bases, block_size, size_of_set};
 ghost use Rattle.dob_rank.specs.Runs.{runs_in, run_size, run_bases, square_bases, form_bases, local_bases, run_number, local_number, run_digits, AreFewOnBoard};
 
 use crate::runs::{ENEMY_SQUARES, FREE_SQUARES, LIONS, OWN_SQUARES, RunDigits, Spot};
 use crate::{radix, starts};
+use dob_lists::{join_by_power, split_by_power};
 use dob_pieces::{Hand, PieceSet};
 
 /// One number for each kind of piece: chicks (hens counted with them), elephants, giraffes.
-pub(crate) type EachKind = [u64; 3];
+pub type EachKind = [u64; 3];
 
 /// How many digits tell the place in a block: 0 to 2 are the numbers in hand, 3 to 7 the choices of squares of five
 /// layers, and 8 to 10 the forms of three kinds.
-pub(crate) const DIGITS: usize = 11;
+pub const DIGITS: usize = 11;
 
 /// The bases of the numbers on the board.
-pub(crate) fn block_bases_of(set: PieceSet) -> EachKind
+pub fn block_bases_of(set: PieceSet) -> EachKind
     ensures { result ≡ block_bases set }
 {
     [
@@ -28,7 +28,7 @@ pub(crate) fn block_bases_of(set: PieceSet) -> EachKind
 }
 
 /// How many blocks the set has.
-pub(crate) fn blocks(set: PieceSet) -> u64
+pub fn blocks(set: PieceSet) -> u64
     ensures value { result ≡ product (block_bases set) }
     ensures bound { result ≤ 27 }
 {
@@ -36,7 +36,7 @@ pub(crate) fn blocks(set: PieceSet) -> u64
 }
 
 /// The numbers on the board in the block of that number.
-pub(crate) fn numbers_in(set: PieceSet, block: u64) -> EachKind
+pub fn numbers_in(set: PieceSet, block: u64) -> EachKind
     requires { block < product (block_bases set) }
     ensures { result ≡ digits_of (block_bases set) block }
 {
@@ -69,7 +69,7 @@ pub(crate) fn bases_in(set: PieceSet, on_board: &EachKind) -> [u64; DIGITS]
 }
 
 /// In how many ways the squares of each kind are chosen, for those numbers on the board.
-pub(crate) fn choices_in(on_board: &EachKind) -> EachKind
+pub fn choices_in(on_board: &EachKind) -> EachKind
     requires { AreFewOnBoard on_board.now }
     ensures { result ≡ square_bases on_board.now }
 {
@@ -84,7 +84,7 @@ pub(crate) fn choices_in(on_board: &EachKind) -> EachKind
 }
 
 /// The bases of the places in a run of that block.
-pub(crate) fn local_bases_in(set: PieceSet, block: u64) -> [u64; 6]
+pub fn local_bases_in(set: PieceSet, block: u64) -> [u64; 6]
     requires { block < product (block_bases set) }
     ensures { result ≡ local_bases (digits_of (block_bases set) block) }
 {
@@ -123,7 +123,7 @@ pub(crate) fn digits_in(
 }
 
 /// The digits of a run of those numbers on the board.
-pub(crate) fn run_digits_in(set: PieceSet, on_board: &EachKind, run: u64) -> RunDigits
+pub fn run_digits_in(set: PieceSet, on_board: &EachKind, run: u64) -> RunDigits
     requires on_board { HasDigits (block_bases set) on_board.now }
     requires run { run < product (run_bases set on_board.now) }
     ensures { run_digits result ≡ digits_of (run_bases set on_board.now) run }
@@ -145,7 +145,7 @@ pub(crate) fn run_digits_in(set: PieceSet, on_board: &EachKind, run: u64) -> Run
 /// The digits of a spot in the block of those numbers on the board and choices of squares, by those of its run. Within its callers, so
 /// that digits that nobody reads are not found.
 #[inline(always)]
-pub(crate) fn digits_with(
+pub fn digits_with(
     set: PieceSet,
     on_board: &EachKind,
     choices: &EachKind,
@@ -159,7 +159,7 @@ pub(crate) fn digits_with(
     requires local { spot.local < product (local_bases on_board.now) }
     ensures { result ≡ digits_of (bases_by set on_board.now) (spot.run * product (local_bases on_board.now) + spot.local) }
 {
-    let (square, form) = radix::split_by_power(spot.local, form_bits(on_board));
+    let (square, form) = split_by_power(spot.local, form_bits(on_board));
     let squares = radix::three_digits(choices, square);
     let forms = form_digits(on_board, form);
     [
@@ -178,15 +178,15 @@ pub(crate) fn digits_with(
 }
 
 /// The number of the choice of all squares at a place of a run of those numbers on the board.
-pub(crate) fn squares_at(on_board: &EachKind, local: u64) -> u64
+pub fn squares_at(on_board: &EachKind, local: u64) -> u64
     requires { AreFewOnBoard on_board.now }
     ensures { result ≡ local / product (form_bases on_board.now) }
 {
-    radix::split_by_power(local, form_bits(on_board)).0
+    split_by_power(local, form_bits(on_board)).0
 }
 
 /// The spot that those digits write in the block of those numbers on the board.
-pub(crate) fn spot_from(set: PieceSet, on_board: &EachKind, digits: &[u64; DIGITS]) -> Spot
+pub fn spot_from(set: PieceSet, on_board: &EachKind, digits: &[u64; DIGITS]) -> Spot
     requires on_board { HasDigits (block_bases set) on_board.now }
     requires digits { HasDigits (bases_by set on_board.now) digits.now }
     ensures run { result.run ≡ run_number set on_board.now digits.now }
@@ -204,7 +204,7 @@ pub(crate) fn spot_from(set: PieceSet, on_board: &EachKind, digits: &[u64; DIGIT
     );
     let forms = form_number(on_board, &[digits[8], digits[9], digits[10]]);
     let run = hands * LIONS + lions;
-    let local = radix::join_by_power(squares, forms, form_bits(on_board));
+    let local = join_by_power(squares, forms, form_bits(on_board));
     Spot { run, local }
 }
 
@@ -267,8 +267,8 @@ fn form_digits(on_board: &EachKind, number: u64) -> EachKind
     requires number { number < product (form_bases on_board.now) }
     ensures { result ≡ digits_of (form_bases on_board.now) number }
 {
-    let (rest, giraffes) = radix::split_by_power(number, on_board[2]);
-    let (chicks, elephants) = radix::split_by_power(rest, on_board[1]);
+    let (rest, giraffes) = split_by_power(number, on_board[2]);
+    let (chicks, elephants) = split_by_power(rest, on_board[1]);
     [chicks, elephants, giraffes]
 }
 
@@ -279,8 +279,8 @@ fn form_number(on_board: &EachKind, forms: &EachKind) -> u64
     ensures value { result ≡ number_of (form_bases on_board.now) forms.now }
     ensures bound { result < 256 }
 {
-    let elephants = radix::join_by_power(forms[0], forms[1], on_board[1]);
-    radix::join_by_power(elephants, forms[2], on_board[2])
+    let elephants = join_by_power(forms[0], forms[1], on_board[1]);
+    join_by_power(elephants, forms[2], on_board[2])
 }
 
 /// In how many ways at most two squares are chosen from so many.
@@ -297,7 +297,7 @@ pub(crate) fn choose(squares: u64, pieces: u64) -> u64
 }
 
 /// The power of a small base, for an exponent of at most 2.
-pub(crate) fn power(base: u64, exponent: u64) -> u64
+pub fn power(base: u64, exponent: u64) -> u64
     requires small { base ≤ 4 }
     requires few { exponent ≤ 2 }
     ensures { result ≡ base ^ exponent }

@@ -1,13 +1,10 @@
-// Places of profile B: the position of a run before which the run has so many of its family, and how many it has up to a place. The choice of the
-// chicks' squares and the lions are found by a search over the sums that the tables hold, the chicks' forms among those that their squares let them
-// have.
+// Places of profile B: the position of a run before which the run has so many of its family. The choice of the chicks' squares and the lions are found by
+// a search over the sums that the tables hold, the chicks' forms among those that their squares let them have.
 ghost use Rattle.std.specs.Prelude.{◌≡◌, true, ◌<◌, ◌≤◌, ◌+◌, ◌*◌, ◌/◌, ◌%◌, ◌^◌, ℕ, slice_index};
 ghost use Rattle.dob_pieces.specs.declared.profile.Profile.TheVariants.{B};
-ghost use Rattle.dob_rank.specs.Numbers.{product, block_bases, order, choose, settle};
+ghost use Rattle.dob_rank.specs.Numbers.{order, choose, settle};
 ghost use Rattle.dob_rank.specs.Marks.{marks_below};
-ghost use Rattle.dob_rank.specs.Runs.{AreFewOnBoard, runs_in, run_size};
-ghost use Rattle.dob_rank.specs.Families.{family_of};
-ghost use Rattle.dob_rank.specs.FamilyRuns.{is_there};
+ghost use Rattle.dob_rank.specs.Runs.{AreFewOnBoard};
 ghost use Rattle.dob_rank.specs.Weights.{may_have, are_allowed, forms_stand, lions_in, forms_before, forms_in, lions_before, hand_size};
 ghost use Rattle.dob_rank.specs.Weights.{others_squares, others_forms};
 ghost use Rattle.dob_rank.specs.Places.{AreChickParts, IsPlaceFor};
@@ -18,10 +15,9 @@ use crate::layers::Layer;
 use crate::placing;
 use crate::ranks::weight_of;
 use crate::runs::{ENEMY_SQUARES, FREE_SQUARES, LIONS};
-use dob_pieces::PieceSet;
 
 /// The squares on which a choice puts at most two chicks where those lions stand, the lower first.
-fn chick_squares(chicks: u64, lions: u64, choice: u64) -> (u64, u64)
+pub fn chick_squares(chicks: u64, lions: u64, choice: u64) -> (u64, u64)
     requires chicks { chicks ≤ 2 }
     requires lions { lions < LIONS }
     requires choice { choice < choose FREE_SQUARES chicks }
@@ -49,7 +45,7 @@ fn may_have(square: u64, form: u64) -> bool
 }
 
 /// Whether at most two chicks or hens on those squares may have the forms of that number.
-fn may_have_forms(chicks: u64, squares: (u64, u64), forms: u64) -> bool
+pub fn may_have_forms(chicks: u64, squares: (u64, u64), forms: u64) -> bool
     requires chicks { chicks ≤ 2 }
     ensures { result ≡ forms_stand chicks squares.0 squares.1 forms }
 {
@@ -147,7 +143,7 @@ fn parts_at(chicks: u64, lions: u64, others: u64, number: u64) -> (u64, u64, u64
 
 /// The place in a run of those lions at which the position stands before which the run has so many of profile B.
 #[inline(never)]
-pub(crate) fn local_at(on_board: &EachKind, lions: u64, number: u64) -> u64
+pub fn local_at(on_board: &EachKind, lions: u64, number: u64) -> u64
     requires few { AreFewOnBoard on_board.now }
     requires lions { lions < LIONS }
     requires number { number < forms_in B (slice_index on_board.now 0) lions * (others_squares on_board.now * others_forms on_board.now) }
@@ -160,59 +156,4 @@ pub(crate) fn local_at(on_board: &EachKind, lions: u64, number: u64) -> u64
     let (choice, squares, chick_forms) = parts_at(chicks, lions, others, number / forms);
     let all_forms = block::power(4, chicks) * forms;
     (choice * others + squares) * all_forms + (chick_forms * forms + number % forms)
-}
-
-/// How many positions of profile B a run has at its places up to that one.
-pub(crate) fn count_upto(set: PieceSet, block: u64, run: u64, last: u64) -> u64
-    requires block { block < product (block_bases set) }
-    requires run { run < runs_in set block }
-    requires last { last < run_size set block }
-    ensures { result ≡ marks_below (is_there (family_of set B) block run) (last + 1) }
-{
-    let on_board = block::numbers_in(set, block);
-    let chicks = on_board[0];
-    let lions = run % LIONS;
-    let choices = block::choices_in(&on_board);
-    let others = choices[1] * choices[2];
-    let forms = block::power(2, on_board[1]) * block::power(2, on_board[2]);
-    let all_forms = block::power(4, chicks) * forms;
-    let choice = last / all_forms / others;
-    let squares = last / all_forms % others;
-    let before = before_choice(chicks, lions, choice) * others
-        + squares * weight_of(chicks, lions, choice);
-    let chosen = chick_squares(chicks, lions, choice);
-    before * forms + count_forms_upto(chicks, chosen, forms, last % all_forms)
-}
-
-/// How many of the forms of all pieces up to that one have forms that chicks on those squares may have, where the others have so many.
-fn count_forms_upto(chicks: u64, squares: (u64, u64), others: u64, last: u64) -> u64
-    requires chicks { chicks ≤ 2 }
-    requires others { 0 < others }
-    requires few { others ≤ 16 }
-    requires last { last < 256 }
-    ensures value { result ≡ marks_below (λ (n : ℕ). forms_stand chicks squares.0 squares.1 (n / others)) (last + 1) }
-    ensures bound { result ≤ 256 }
-{
-    let own = last / others;
-    let before = count_forms(chicks, squares, own) * others;
-    if may_have_forms(chicks, squares, own) {
-        before + last % others + 1
-    } else {
-        before
-    }
-}
-
-/// How many of the numbers below one are of forms that chicks on those squares may have.
-fn count_forms(chicks: u64, squares: (u64, u64), end: u64) -> u64
-    requires chicks { chicks ≤ 2 }
-    ensures value { result ≡ marks_below (forms_stand chicks squares.0 squares.1) end }
-    ensures bound { result ≤ end }
-{
-    let mut count = 0;
-    for forms in 0..end {
-        if may_have_forms(chicks, squares, forms) {
-            count += 1;
-        }
-    }
-    count
 }

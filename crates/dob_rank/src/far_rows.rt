@@ -1,6 +1,6 @@
 // Tables of profile B, in which a chick has one form less on its far row than on other squares, so that a choice of squares has as many forms as
 // its squares let it have: 9, 12 or 16 for two chicks. Sums over the choices before one would cost a rank most of its time.
-ghost use Rattle.std.specs.Prelude.{◌≡◌, ◌<◌, ◌≤◌, ◌*◌, ◌^◌};
+ghost use Rattle.std.specs.Prelude.{◌≡◌, ◌<◌, ◌≤◌};
 ghost use Rattle.dob_pieces.specs.declared.profile.Profile.TheVariants.{B};
 ghost use Rattle.dob_rank.specs.Numbers.{choose};
 ghost use Rattle.dob_rank.specs.Marks.{marks_below};
@@ -150,7 +150,7 @@ const FORMS_BELOW: [[u8; 5]; Square::COUNT] = [
 ];
 
 /// How many forms there are of the choices of so many chicks' squares before one, of those that the lions leave.
-pub(crate) fn before_choice(chicks: u64, lions: u64, choice: u64) -> u64
+pub fn before_choice(chicks: u64, lions: u64, choice: u64) -> u64
     requires chicks { chicks ≤ 2 }
     requires lions { lions < LIONS }
     requires choice { choice ≤ choose FREE_SQUARES chicks }

@@ -7,7 +7,7 @@ use crate::layers::Layer;
 use dob_pieces::{CellTable, Kind, Piece, Side, entry_of};
 
 /// How many forms a piece of that layer has.
-pub(crate) fn base_of(layer: Layer) -> u64
+pub fn base_of(layer: Layer) -> u64
     ensures value { result ≡ base_of (order layer) }
     ensures low { 0 < result }
     ensures high { result ≤ 4 }

@@ -2,7 +2,7 @@
 
 /// What stands on a square. Hens are counted with the chicks.
 #[derive(Clone, Copy)]
-pub(crate) enum Layer {
+pub enum Layer {
     OwnLion,
     EnemyLion,
     Chicks,

@@ -38,12 +38,12 @@ pub(crate) const ALL: u64 = (1 << PLANE) - 1;
 
 /// The squares of the board that each layer has.
 #[derive(Clone, Copy)]
-pub(crate) struct Masks {
-    pub(crate) own_lion: u64,
-    pub(crate) enemy_lion: u64,
-    pub(crate) chicks: u64,
-    pub(crate) elephants: u64,
-    pub(crate) giraffes: u64,
+pub struct Masks {
+    pub own_lion: u64,
+    pub enemy_lion: u64,
+    pub chicks: u64,
+    pub elephants: u64,
+    pub giraffes: u64,
 }
 
 /// The squares of each column: of the three bits of a row the lowest is that of column a.
@@ -55,7 +55,7 @@ const COLUMN_C: u64 = COLUMN_A << 2;
 
 impl Masks {
     /// Whether the lions' columns say that the mirror image is earlier: a hint, on which nothing rests but time.
-    pub(crate) fn stand_later(self) -> bool {
+    pub fn stand_later(self) -> bool {
         let aside = if self.own_lion & COLUMN_B == 0 {
             self.own_lion
         } else {
@@ -66,7 +66,7 @@ impl Masks {
 }
 
 /// The masks of a board.
-pub(crate) fn masks_of(board: &[Option<Piece>; Square::COUNT]) -> Masks
+pub fn masks_of(board: &[Option<Piece>; Square::COUNT]) -> Masks
     ensures own_lion { result.own_lion ≡ layer_mask (order Layer.OwnLion) (map layer board.now) }
     ensures enemy_lion { result.enemy_lion ≡ layer_mask (order Layer.EnemyLion) (map layer board.now) }
     ensures chicks { result.chicks ≡ layer_mask (order Layer.Chicks) (map layer board.now) }

@@ -1,16 +1,13 @@
 // Placing pieces: the squares that a choice takes of those that are left, and a board with a piece on each of them.
-ghost use Rattle.std.specs.Prelude.{◌≡◌, ◌<◌, ◌≤◌, ◌+◌, ◌^◌, IfOk, slice_index};
+ghost use Rattle.std.specs.Prelude.{◌≡◌, ◌<◌, ◌≤◌, ◌+◌, ◌^◌, slice_index};
 ghost use Rattle.dob_rank.specs.Numbers.{order, choose, board_of, numbers_by, layers_by};
-ghost use Rattle.dob_rank.specs.Placing.{past, lower_of, higher_of, first_place, second_place, put, AreChoices, AreSquareChoices, ArePlaces, AreAllPlaces};
-ghost use Rattle.dob_rank.specs.Runs.{AreFewOnBoard, square_bases};
+ghost use Rattle.dob_rank.specs.Placing.{past, lower_of, higher_of, first_place, second_place, put, AreChoices, AreSquareChoices, ArePlaces};
 
 use crate::block::{DIGITS, EachKind};
 use crate::forms::{base_of, cell_of};
 use crate::layers::Layer;
-use crate::radix;
 use crate::runs::FREE_SQUARES;
-use dob_pieces::{Memory, Piece, Square};
-use std::alloc::Global;
+use dob_pieces::{Piece, Square};
 
 /// The place of a piece that isn't there, beyond all squares.
 const NOWHERE: u64 = 12;
@@ -30,7 +27,7 @@ const SECOND_FROM_END: [u8; PAIRS] = [
 ];
 
 /// The number-th of the squares other than one that is taken.
-pub(crate) fn past(taken: u64, number: u64) -> u64
+pub fn past(taken: u64, number: u64) -> u64
     requires { number ≤ 2 ^ 32 }
     ensures value { result ≡ past taken number }
     ensures bound { result ≤ number + 1 }
@@ -39,7 +36,7 @@ pub(crate) fn past(taken: u64, number: u64) -> u64
 }
 
 /// Two places among the squares other than two that are taken, the lower of which is taken first.
-pub(crate) fn among(taken: (u64, u64), places: (u64, u64)) -> (u64, u64)
+pub fn among(taken: (u64, u64), places: (u64, u64)) -> (u64, u64)
     requires first { places.0 ≤ 2 ^ 30 }
     requires second { places.1 ≤ 2 ^ 30 }
     ensures first { result.0 ≡ past taken.1 (past taken.0 places.0) }
@@ -56,14 +53,14 @@ pub(crate) fn among(taken: (u64, u64), places: (u64, u64)) -> (u64, u64)
 /// The places of the pieces of each kind among the squares that the lions leave: of two the lower first, and beyond all places where
 /// there is no piece.
 #[derive(Clone, Copy, Debug)]
-pub(crate) struct Places {
-    pub(crate) chicks: (u8, u8),
-    pub(crate) elephants: (u8, u8),
-    pub(crate) giraffes: (u8, u8),
+pub struct Places {
+    pub chicks: (u8, u8),
+    pub elephants: (u8, u8),
+    pub giraffes: (u8, u8),
 }
 
 /// The places that those choices of squares take.
-pub(crate) fn places_by(on_board: &EachKind, choices: &EachKind) -> Places
+pub fn places_by(on_board: &EachKind, choices: &EachKind) -> Places
     requires { AreSquareChoices on_board.now choices.now }
     ensures { ArePlaces on_board.now (slice_index choices.now 0) (slice_index choices.now 1) (slice_index choices.now 2) result }
 {
@@ -81,26 +78,6 @@ pub(crate) fn places_by(on_board: &EachKind, choices: &EachKind) -> Places
     }
 }
 
-/// The places of each choice of the squares of all kinds, by its number.
-///
-/// Error: `Memory`.
-pub(crate) fn all_places(
-    alloc: Global,
-    on_board: &EachKind,
-    choices: &EachKind,
-) -> Result<Vec<Places>, Memory>
-    requires few { AreFewOnBoard on_board.now }
-    requires choices { choices.now ≡ square_bases on_board.now }
-    ensures { IfOk result (λ table. AreAllPlaces on_board.now table.items) }
-{
-    let mut table = Vec::new(alloc);
-    for number in 0..radix::product(choices) {
-        let places = places_by(on_board, &radix::three_digits(choices, number));
-        table.push(places)?;
-    }
-    Ok(table)
-}
-
 /// Two places as they are kept, and as numbers again.
 fn narrow(places: (u64, u64)) -> (u8, u8)
     requires first { places.0 ≤ 255 }
@@ -111,7 +88,7 @@ fn narrow(places: (u64, u64)) -> (u8, u8)
     (places.0 as u8, places.1 as u8)
 }
 
-pub(crate) fn wide(places: (u8, u8)) -> (u64, u64)
+pub fn wide(places: (u8, u8)) -> (u64, u64)
     ensures first { result.0 ≡ places.0 }
     ensures second { result.1 ≡ places.1 }
     ensures first_bound { result.0 ≤ 255 }

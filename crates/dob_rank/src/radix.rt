@@ -1,10 +1,10 @@
 // Numbers in mixed radix: a list of bases, and for each base a digit below it, the first of most weight.
-ghost use Rattle.std.specs.Prelude.{◌≡◌, ◌<◌, ◌≤◌, ◌+◌, ◌*◌, ◌^◌, ◌/◌, ◌%◌};
+ghost use Rattle.std.specs.Prelude.{◌≡◌, ◌<◌, ◌+◌, ◌*◌, ◌^◌, ◌/◌, ◌%◌};
 ghost use Rattle.std.specs.List.{All};
 ghost use Rattle.dob_rank.specs.Numbers.{product, number_of, digits_of, HasDigits};
 
 /// How many numbers the bases write: their product.
-pub(crate) fn product(bases: &[u64]) -> u64
+pub fn product(bases: &[u64]) -> u64
     requires positive { All (λ base. 0 < base) bases.now }
     requires fits { product bases.now < 2 ^ 64 }
     ensures { result ≡ product bases.now }
@@ -17,7 +17,7 @@ pub(crate) fn product(bases: &[u64]) -> u64
 }
 
 /// The number that three digits write.
-pub(crate) fn number_of(bases: &[u64; 3], digits: &[u64; 3]) -> u64
+pub fn number_of(bases: &[u64; 3], digits: &[u64; 3]) -> u64
     requires below { HasDigits bases.now digits.now }
     requires fits { product bases.now < 2 ^ 64 }
     ensures { result ≡ number_of bases.now digits.now }
@@ -27,32 +27,13 @@ pub(crate) fn number_of(bases: &[u64; 3], digits: &[u64; 3]) -> u64
 
 /// The three digits of a number. Within its callers, so that digits that nobody reads are not found.
 #[inline(always)]
-pub(crate) fn three_digits(bases: &[u64; 3], number: u64) -> [u64; 3]
+pub fn three_digits(bases: &[u64; 3], number: u64) -> [u64; 3]
     requires { number < product bases.now }
     ensures { result ≡ digits_of bases.now number }
 {
     let (rest, third) = split(number, bases[2]);
     let (first, second) = split(rest, bases[1]);
     [first, second, third]
-}
-
-/// The quotient and the remainder by a power of 2.
-pub(crate) fn split_by_power(number: u64, exponent: u64) -> (u64, u64)
-    requires { exponent ≤ 32 }
-    ensures quotient { result.0 ≡ number / 2 ^ exponent }
-    ensures rest { result.1 ≡ number % 2 ^ exponent }
-{
-    (number >> exponent, number & ((1 << exponent) - 1))
-}
-
-/// The number whose quotient and remainder by a power of 2 those are.
-pub(crate) fn join_by_power(quotient: u64, rest: u64, exponent: u64) -> u64
-    requires exponent { exponent ≤ 31 }
-    requires quotient { quotient < 2 ^ 31 }
-    requires rest { rest < 2 ^ 32 }
-    ensures { result ≡ quotient * 2 ^ exponent + rest }
-{
-    (quotient << exponent) + rest
 }
 
 /// The quotient and the remainder by a base. The bases of sets of up to three pieces are listed, so that there is no

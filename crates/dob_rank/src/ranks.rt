@@ -10,7 +10,7 @@ ghost use Rattle.dob_rank.specs.Families.{family_of, IsPositionOf, HasSize, HasR
 ghost use Rattle.dob_rank.specs.Marks.{marks_below};
 ghost use Rattle.dob_rank.specs.Masks.{layer_mask};
 ghost use Rattle.dob_rank.specs.Numbers.{product, block_bases, start_of, block_of, order, layer, count, choose, free_squares, on_board as on_board_of};
-ghost use Rattle.dob_rank.specs.Order.{IsPositionOfSet, RepresentativeOf};
+ghost use Rattle.dob_rank.specs.Order.{IsPositionOfSet};
 ghost use Rattle.dob_rank.specs.Places.{IsSpotFor};
 ghost use Rattle.dob_rank.specs.Runs.{AreFewOnBoard, lion_pairs, square_bases};
 ghost use Rattle.dob_rank.specs.Weights.{may_have, allowed_number, choice_weight, forms_before, lions_before, others_squares, others_forms};
@@ -65,20 +65,6 @@ pub fn unrank(family: Family, rank: u64) -> Position
     match family.profile {
         Profile::A => unrank_in_set(family.set, rank),
         Profile::B => far_unrank(family.set, rank),
-    }
-}
-
-/// The earlier of a position of the profile and its mirror image.
-pub fn representative(profile: Profile, position: &Position) -> Position
-    requires { IsAllowed profile position.now.setup }
-    ensures earlier { RepresentativeOf position.now.setup result.setup }
-    ensures allowed { IsAllowed profile result.setup }
-{
-    let image = position.mirrored();
-    if rank(profile, &image) < rank(profile, position) {
-        image
-    } else {
-        *position
     }
 }
 
@@ -192,7 +178,7 @@ fn place_by(on_board: &EachKind, digits: &[u64; DIGITS], run: u64, forms: u64) -
 }
 
 /// A product of numbers that are small enough, and a third.
-pub(crate) fn add_product(a: u64, b: u64, c: u64) -> u64
+pub fn add_product(a: u64, b: u64, c: u64) -> u64
     requires a { a ≤ 2 ^ 34 }
     requires b { b ≤ 2 ^ 11 }
     requires c { c ≤ 2 ^ 32 }
@@ -214,7 +200,7 @@ fn chosen_before(chicks: u64, hands: u64, lions: u64, choice: u64) -> u64
 }
 
 /// How many forms that choice has.
-pub(crate) fn weight_of(chicks: u64, lions: u64, choice: u64) -> u64
+pub fn weight_of(chicks: u64, lions: u64, choice: u64) -> u64
     requires chicks { chicks ≤ 2 }
     requires lions { lions < LIONS }
     requires choice { choice < choose FREE_SQUARES chicks }
@@ -225,7 +211,7 @@ pub(crate) fn weight_of(chicks: u64, lions: u64, choice: u64) -> u64
 }
 
 /// How many numbers of allowed forms of the chicks, at most two on those squares, stand before theirs.
-pub(crate) fn allowed_forms(board: &[Option<Piece>; Square::COUNT], mask: u64, pieces: u64) -> u64
+pub fn allowed_forms(board: &[Option<Piece>; Square::COUNT], mask: u64, pieces: u64) -> u64
     requires few { pieces ≤ 2 }
     requires mask { mask ≡ layer_mask (order Layer.Chicks) (map layer board.now) }
     requires pieces { pieces ≡ count (order Layer.Chicks) (map layer board.now) }

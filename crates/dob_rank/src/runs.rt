@@ -53,18 +53,8 @@ pub struct Spot {
 /// The digits that the positions of a run have in common: the mover's hand, the square of the mover's lion, and that of the
 /// enemy's by its number among those that the other one leaves.
 #[derive(Clone, Copy, Debug)]
-pub(crate) struct RunDigits {
-    pub(crate) hand: Hand,
-    pub(crate) own: u8,
-    pub(crate) enemy: u8,
-}
-
-/// A run of positions: the number of classes before it, the number of its table of stretches if its kind is mixed, and that kind and the
-/// run's digits, so that a look-up needs no division for them.
-#[derive(Clone, Copy, Debug)]
-pub(crate) struct Run {
-    pub(crate) before: u64,
-    pub(crate) table: usize,
-    pub(crate) kind: RunKind,
-    pub(crate) digits: RunDigits,
+pub struct RunDigits {
+    pub hand: Hand,
+    pub own: u8,
+    pub enemy: u8,
 }

@@ -3,27 +3,19 @@
 ghost use Rattle.std.specs.Prelude.{◌≡◌, ◌<◌, ◌≤◌, ◌+◌, ◌*◌, ◌^◌};
 ghost use Rattle.dob_pieces.specs.Setups.{total};
 ghost use Rattle.dob_pieces.specs.declared.setup.Setup.{Setup};
-ghost use Rattle.dob_rank.specs.Bitboards.{AreBitboards, IsShownOfSet};
-ghost use Rattle.dob_rank.specs.Views.{seen_by};
-ghost use Rattle.dob_rank.specs.Placing.{AreAllPlaces};
 ghost use Rattle.dob_rank.specs.BoardDigits.{ArePartsOf, AreNumbersOf};
 ghost use Rattle.dob_rank.specs.BoardMasks.{AreMasks};
 ghost use Rattle.dob_rank.specs.Order.{IsPositionOfSet};
 ghost use Rattle.dob_rank.specs.Numbers.{size_of_set, rank_of_set, product, number_of, block_bases, block_of};
-ghost use Rattle.dob_rank.specs.Numbers.{HasBlock, bases_by, on_board as on_board_of, digits as all_digits_of, setup_by, hands_by};
-ghost use Rattle.dob_rank.specs.Numbers.{HasDigits, digits_of};
-ghost use Rattle.dob_rank.specs.Runs.{runs_in, run_size, run_bases, square_bases, local_bases, run_of, local_of, run_digits};
+ghost use Rattle.dob_rank.specs.Numbers.{HasBlock, bases_by, on_board as on_board_of, digits as all_digits_of, setup_by, hands_by, HasDigits, digits_of};
+ghost use Rattle.dob_rank.specs.Runs.{runs_in, run_size, run_bases, square_bases, local_bases, run_of, local_of};
 
-use crate::bit_placing::bits_by;
-use crate::bitboards::Bitboards;
 use crate::block::{self, DIGITS, EachKind};
 use crate::layers::Layer;
 use crate::masks::{self, Masks};
-use crate::placing::{self, Places};
-use crate::runs::{RunDigits, Spot};
-use crate::shown::Shown;
-use crate::{radix, starts};
-use dob_pieces::{Hand, HandKind, Hands, PieceSet, Position, Setup, Side};
+use crate::runs::Spot;
+use crate::{placing, radix, starts};
+use dob_pieces::{Hand, HandKind, Hands, PieceSet, Position, Setup};
 
 /// How many positions the piece set has.
 pub(crate) fn size_of_set(set: PieceSet) -> u64
@@ -68,7 +60,7 @@ pub fn spot_of(set: PieceSet, position: &Position) -> (u64, Spot)
 }
 
 /// The same by the masks of the position.
-pub(crate) fn spot_by(set: PieceSet, position: &Position, masks: Masks) -> (u64, Spot)
+pub fn spot_by(set: PieceSet, position: &Position, masks: Masks) -> (u64, Spot)
     requires position { IsPositionOfSet set position.now.setup }
     requires masks { AreMasks position.now.setup.board masks }
     ensures block { result.0 ≡ block_of set position.now.setup }
@@ -90,26 +82,8 @@ fn spot_with(set: PieceSet, position: &Position, masks: Masks, on_board: &EachKi
     spot_from(set, on_board, &digits_of(position, masks, on_board))
 }
 
-/// The same by the sets of squares that show the position.
-pub(crate) fn spot_shown(set: PieceSet, bits: &Bitboards) -> (u64, Spot)
-    requires { (setup : Setup) × IsShownOfSet set setup bits.now }
-    ensures block { (setup : Setup) → IsShownOfSet set setup bits.now → result.0 ≡ block_of set setup }
-    ensures run { (setup : Setup) → IsShownOfSet set setup bits.now → result.1.run ≡ run_of set setup }
-    ensures local { (setup : Setup) → IsShownOfSet set setup bits.now → result.1.local ≡ local_of setup }
-{
-    let masks = bits.layers();
-    let on_board = numbers_in(masks);
-    let forms = [
-        bits.forms_of(masks.chicks, Layer::Chicks, on_board[0]),
-        bits.forms_of(masks.elephants, Layer::Elephants, on_board[1]),
-        bits.forms_of(masks.giraffes, Layer::Giraffes, on_board[2]),
-    ];
-    let digits = digits_from(bits.hands.mover, masks, &on_board, &forms);
-    spot_from(set, &on_board, &digits)
-}
-
 /// The same by the position's numbers on the board and its digits.
-fn spot_from(set: PieceSet, on_board: &EachKind, digits: &[u64; DIGITS]) -> (u64, Spot)
+pub fn spot_from(set: PieceSet, on_board: &EachKind, digits: &[u64; DIGITS]) -> (u64, Spot)
     requires { (setup : Setup) × AreNumbersOf set on_board.now digits.now setup }
     ensures block { (setup : Setup) → AreNumbersOf set on_board.now digits.now setup → result.0 ≡ block_of set setup }
     ensures run { (setup : Setup) → AreNumbersOf set on_board.now digits.now setup → result.1.run ≡ run_of set setup }
@@ -145,7 +119,7 @@ fn in_all(on_board: u64, mover: u8, enemy: u8) -> u8
 }
 
 /// The position of the set at that spot of the block of that number.
-pub(crate) fn position_at(set: PieceSet, block: u64, spot: Spot) -> Position
+pub fn position_at(set: PieceSet, block: u64, spot: Spot) -> Position
     requires block { block < product (block_bases set) }
     requires run { spot.run < runs_in set block }
     requires local { spot.local < run_size set block }
@@ -156,12 +130,7 @@ pub(crate) fn position_at(set: PieceSet, block: u64, spot: Spot) -> Position
 }
 
 /// The position of the set at that spot of the block of those numbers on the board and choices of squares.
-pub(crate) fn position_by(
-    set: PieceSet,
-    on_board: &EachKind,
-    choices: &EachKind,
-    spot: Spot,
-) -> Position
+pub fn position_by(set: PieceSet, on_board: &EachKind, choices: &EachKind, spot: Spot) -> Position
     requires on_board { HasDigits (block_bases set) on_board.now }
     requires choices { choices.now ≡ square_bases on_board.now }
     requires run { spot.run < product (run_bases set on_board.now) }
@@ -172,38 +141,8 @@ pub(crate) fn position_by(
     Position::new(setup_of(set, on_board, &digits))
 }
 
-/// The same with the sets of squares that the side sees of it, by the table of the block's places and the digits of the spot's run.
-#[inline(always)]
-pub(crate) fn shown_by(
-    set: PieceSet,
-    on_board: &EachKind,
-    choices: &EachKind,
-    places: &Vec<Places>,
-    run: RunDigits,
-    spot: Spot,
-    side: Side,
-) -> Shown
-    requires on_board { HasDigits (block_bases set) on_board.now }
-    requires choices { choices.now ≡ square_bases on_board.now }
-    requires places { AreAllPlaces on_board.now places.now.items }
-    requires digits { run_digits run ≡ digits_of (run_bases set on_board.now) spot.run }
-    requires run { spot.run < product (run_bases set on_board.now) }
-    requires local { spot.local < product (local_bases on_board.now) }
-    ensures position { HasBlock set (number_of (block_bases set) on_board.now)
-        (spot.run * product (local_bases on_board.now) + spot.local) result.position.setup }
-    ensures bits { AreBitboards (seen_by side result.position.setup) result.bits }
-{
-    let digits = block::digits_with(set, on_board, choices, run, spot);
-    let squares = block::squares_at(on_board, spot.local);
-    let hands = hands_of(set, on_board, &digits);
-    Shown {
-        position: Position::new(setup_of(set, on_board, &digits)),
-        bits: bits_by(side, on_board, &digits, &places[squares as usize], hands),
-    }
-}
-
 /// How many chicks, elephants and giraffes stand on the board.
-pub(crate) fn numbers_on_board(position: &Position, masks: Masks) -> EachKind
+pub fn numbers_on_board(position: &Position, masks: Masks) -> EachKind
     requires { AreMasks position.now.setup.board masks }
     ensures { result ≡ on_board_of position.now.setup }
 {
@@ -211,7 +150,7 @@ pub(crate) fn numbers_on_board(position: &Position, masks: Masks) -> EachKind
 }
 
 /// The same by the masks alone.
-fn numbers_in(masks: Masks) -> EachKind
+pub fn numbers_in(masks: Masks) -> EachKind
     ensures { (setup : Setup) → AreMasks setup.board masks → result ≡ on_board_of setup }
 {
     [
@@ -222,7 +161,7 @@ fn numbers_in(masks: Masks) -> EachKind
 }
 
 /// The digits of a position in its block.
-pub(crate) fn digits_of(position: &Position, masks: Masks, on_board: &EachKind) -> [u64; DIGITS]
+pub fn digits_of(position: &Position, masks: Masks, on_board: &EachKind) -> [u64; DIGITS]
     requires masks { AreMasks position.now.setup.board masks }
     requires on_board { on_board.now ≡ on_board_of position.now.setup }
     ensures { result ≡ all_digits_of position.now.setup }
@@ -239,7 +178,7 @@ pub(crate) fn digits_of(position: &Position, masks: Masks, on_board: &EachKind) 
 /// The digits of the position with that hand of the mover, those masks, and those numbers on the board and of its forms. Within
 /// its callers, since a call of its own hands over all of these, and eleven digits back, by memory.
 #[inline(always)]
-fn digits_from(hand: Hand, masks: Masks, on_board: &EachKind, forms: &EachKind) -> [u64; DIGITS]
+pub fn digits_from(hand: Hand, masks: Masks, on_board: &EachKind, forms: &EachKind) -> [u64; DIGITS]
     requires { (setup : Setup) × ArePartsOf hand masks on_board.now forms.now setup }
     ensures { (setup : Setup) → ArePartsOf hand masks on_board.now forms.now setup → result ≡ all_digits_of setup }
 {
@@ -264,7 +203,7 @@ fn digits_from(hand: Hand, masks: Masks, on_board: &EachKind, forms: &EachKind) 
 }
 
 /// The setup of those numbers on the board and those digits.
-fn setup_of(set: PieceSet, on_board: &EachKind, digits: &[u64; DIGITS]) -> Setup
+pub fn setup_of(set: PieceSet, on_board: &EachKind, digits: &[u64; DIGITS]) -> Setup
     requires on_board { HasDigits (block_bases set) on_board.now }
     requires digits { HasDigits (bases_by set on_board.now) digits.now }
     ensures { result ≡ setup_by set on_board.now digits.now }
@@ -276,7 +215,7 @@ fn setup_of(set: PieceSet, on_board: &EachKind, digits: &[u64; DIGITS]) -> Setup
 }
 
 /// The hands: the mover's has what the digits say, the enemy's all that is neither there nor on the board.
-fn hands_of(set: PieceSet, on_board: &EachKind, digits: &[u64; DIGITS]) -> Hands
+pub fn hands_of(set: PieceSet, on_board: &EachKind, digits: &[u64; DIGITS]) -> Hands
     requires on_board { HasDigits (block_bases set) on_board.now }
     requires digits { HasDigits (bases_by set on_board.now) digits.now }
     ensures { result ≡ hands_by set on_board.now digits.now }

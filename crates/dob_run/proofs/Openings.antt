@@ -14,8 +14,8 @@ use Rattle.dob_moves.proofs.MoveLists.{tried_at, not_tried_at, AreMoves-moves_of
 use Rattle.dob_moves.proofs.Verdicts.{catch_answer}
 use Rattle.dob_rank.specs.Families.{classes_of}
 use Rattle.dob_rank.specs.Families.{class_setup}
-use Rattle.dob_rank.proofs.Present.{HasClasses-classes_of}
-use Rattle.dob_rank.proofs.FamilyRepresentatives.{class_setup_is}
+use Rattle.dob_rank.proofs.OfFamilies.Present.{HasClasses-classes_of}
+use Rattle.dob_classes.proofs.OfFamilies.FamilyRepresentatives.{class_setup_is}
 use Rattle.dob_share.specs.declared.opening.Opening.{Opening}
 use Rattle.dob_node.specs.Openings.{IsOpening, AreOpeningsBelow, AreOpenings}
 use Rattle.dob_node.proofs.Starts.{openings_more}

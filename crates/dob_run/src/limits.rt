@@ -3,7 +3,7 @@ ghost use Rattle.std.specs.Prelude.{◌≡◌, IfSome, IfNone, IfOk, IfErr, OnOk
 ghost use Rattle.dob_run.specs.Faults.{AreWithin, HasSizeFault, HasCrewFault};
 
 use dob_pieces::Family;
-use dob_rank::Classes;
+use dob_classes::Classes;
 use dob_safra::is_size;
 use dob_stops::Fault;
 use dob_update::are_sizes;

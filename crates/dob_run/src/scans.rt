@@ -7,7 +7,8 @@ ghost use Rattle.dob_run.specs.Scans.{AreOpeningsFrom};
 
 use dob_node::{Opening, opening_in};
 use dob_pieces::Memory;
-use dob_rank::{Classes, SegmentLength, Segments};
+use dob_classes::Classes;
+use dob_lists::{SegmentLength, Segments};
 use rayon::prelude::*;
 use std::alloc::Global;
 use std::thread::Threads;

@@ -15,7 +15,7 @@ use crossbeam_utils::Backoff;
 use dob_board::Halt;
 use dob_node::{Cause, Node};
 use dob_pieces::Family;
-use dob_rank::Classes;
+use dob_classes::Classes;
 use std::sync::Wait;
 
 impl Runner {

@@ -10,7 +10,7 @@ ghost use Rattle.dob_run.specs.Turns.{IsTold};
 use crate::gate::Gate;
 use crate::runner::Runner;
 use dob_node::Cause;
-use dob_rank::Classes;
+use dob_classes::Classes;
 use std::sync::Wait;
 
 /// How long a runner makes turns: so many, without the halt word and the token, or until its seat has seen that the run ended

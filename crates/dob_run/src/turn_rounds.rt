@@ -5,7 +5,7 @@ ghost use Rattle.dob_run.specs.TurnRounds.{HoldsUp, IsHeldUp, ExpandsSome, Appli
 
 use crate::runner::Runner;
 use dob_node::Cause;
-use dob_rank::Classes;
+use dob_classes::Classes;
 use std::sync::Wait;
 
 impl Runner {

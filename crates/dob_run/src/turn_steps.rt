@@ -7,7 +7,7 @@ ghost use Rattle.dob_run.specs.TurnRounds.{TakesBatch, LeavesBatch, ExpandsOne, 
 use crate::hands::Outlet;
 use crate::runner::Runner;
 use dob_node::Cause;
-use dob_rank::Classes;
+use dob_classes::Classes;
 use std::sync::Wait;
 
 impl Runner {

@@ -5,7 +5,7 @@ ghost use Rattle.dob_value.specs.Distances.{greater_of};
 ghost use Rattle.dob_share.specs.Cells.{more_at, less_at, IsGreatestIn};
 ghost use Rattle.dob_share.specs.Pools.{vacant, wins_in, IsWithin, IsCountedAt, ChangesRun};
 
-use dob_rank::Segments;
+use dob_lists::Segments;
 
 /// A cell, less its counted wins. `start` is where its run in the pool begins. `win` is the distance of the win that the
 /// least known loss of the enemy gives, one more than that loss; 0 where no loss is known. `used` is how many entries of

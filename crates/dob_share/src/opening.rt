@@ -3,7 +3,7 @@ ghost use Rattle.std.specs.Prelude.{◌≡◌, ◌<◌, length};
 ghost use Rattle.dob_share.specs.Openings.{opening_of};
 
 use dob_moves::Status;
-use dob_rank::Segments;
+use dob_lists::Segments;
 
 /// A class's status and its number of moves.
 #[derive(Clone, Copy, Debug, PartialEq, Eq)]

@@ -17,7 +17,7 @@ use crate::statuses::Statuses;
 use crate::steps::{apply_at, value_in};
 use dob_moves::Status;
 use dob_pieces::Memory;
-use dob_rank::Segments;
+use dob_lists::Segments;
 use dob_value::Value;
 use std::alloc::Global;
 

@@ -8,7 +8,7 @@ ghost use Rattle.dob_share.specs.Statuses.{bit, bits_below, opens, catches, trie
 use crate::opening::{Opening, opening_at};
 use dob_moves::Status;
 use dob_pieces::Memory;
-use dob_rank::Segments;
+use dob_lists::Segments;
 use std::alloc::Global;
 use std::marker::Model;
 use std::sync::Arc;

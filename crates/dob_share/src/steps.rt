@@ -11,7 +11,7 @@ ghost use Rattle.dob_share.specs.Steps.{IsApplied};
 use crate::cells::{Slot, count_better, count_win, counted_place, greatest_win, later};
 use crate::fault::Fault;
 use crate::share::Seen;
-use dob_rank::Segments;
+use dob_lists::Segments;
 use dob_value::{MAX_DISTANCE, Value};
 
 /// The value of the cell.

@@ -1,7 +1,7 @@
 // Openings that a test makes up.
 ghost use Rattle.std.specs.Prelude.{◌≡◌};
 
-use dob_rank::{SegmentLength, Segments};
+use dob_lists::{SegmentLength, Segments};
 use dob_share::Opening;
 use std::alloc::Global;
 use std::process::Abort;

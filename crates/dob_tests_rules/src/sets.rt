@@ -3,7 +3,7 @@ ghost use Rattle.std.specs.Prelude.{◌≡◌};
 ghost use Rattle.dob_pieces.specs.declared.profile.Profile.TheVariants.{A};
 
 use dob_pieces::{Family, PieceSet, Profile};
-use dob_rank::Classes;
+use dob_classes::Classes;
 use std::alloc::Global;
 use std::process::Abort;
 

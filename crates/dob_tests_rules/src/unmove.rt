@@ -9,7 +9,7 @@ mod plain_walk;
 use crate::sets::classes_of;
 use dob_moves::{Move, apply, moves};
 use dob_pieces::{Hand, Hands, Kind, Memory, Piece, Position, Profile, Side, Square};
-use dob_rank::Classes;
+use dob_classes::Classes;
 use dob_unmove::{back, back_into};
 use std::alloc::Global;
 use std::process::Abort;

@@ -1,6 +1,6 @@
 // The classes of families of profile A, by the names of their sets.
 use dob_pieces::{Family, PieceSet, Profile};
-use dob_rank::Classes;
+use dob_classes::Classes;
 use std::alloc::Global;
 use std::process::Abort;
 

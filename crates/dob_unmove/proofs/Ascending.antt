@@ -7,7 +7,7 @@ use Rattle.std.proofs.lemmas.List.Elements.{All-nil, All-cons, All-head, All-tai
 use Rattle.std.proofs.lemmas.List.Sums.{sum_by-cons, sum_by-append}
 use Rattle.std.proofs.lemmas.List.Folds.{sum_by-replicate}
 use Rattle.dob_pieces.specs.Lists.{each_below}
-use Rattle.dob_rank.proofs.Counted.{pairs-head, pairs-tail}
+use Rattle.dob_classes.proofs.OfFamilies.Counted.{pairs-head, pairs-tail}
 use Rattle.dob_unmove.proofs.Counting.{pairs-append}
 
 -- how often the number stands in the list

@@ -10,12 +10,12 @@ use Rattle.dob_pieces.specs.declared.setup.Setup.{Setup}
 use Rattle.dob_pieces.specs.Setups.{Cell, at, piece_of, with_one_more}
 use Rattle.dob_pieces.specs.Pieces.{kind_on_board}
 use Rattle.dob_pieces.proofs.Boards.{within-from_piece}
-use Rattle.dob_rank.specs.declared.bitboards.Bitboards.{Bitboards}
-use Rattle.dob_rank.specs.Bitboards.{AreBitboards}
+use Rattle.dob_classes.specs.declared.bits.bitboards.Bitboards.{Bitboards}
+use Rattle.dob_classes.specs.Bitboards.{AreBitboards}
 use Rattle.dob_unmove.specs.declared.undo.Undo.TheVariants.{Unstep, Unput}
-use Rattle.dob_rank.specs.Changes.{IsWith}
+use Rattle.dob_classes.specs.Changes.{IsWith}
 use Rattle.dob_unmove.specs.Undoes.{CanUnstep, CanUndo, earlier, enemy_cell, without_caught}
-use Rattle.dob_rank.proofs.BitChanges.{with_cell, with_cells, with_one, with_hands}
+use Rattle.dob_classes.proofs.SquareSets.BitChanges.{with_cell, with_cells, with_one, with_hands}
 
 -- a square on which nothing stands isn't one with a piece
 apart : (s : Setup) (from to : ℕ) (kind : Kind) → at s from ≡ None → at s to ≡ Some (piece_of Mover kind) → from ≢ to

@@ -5,7 +5,7 @@ use Rattle.dob_pieces.specs.declared.profile.Family.{Family}
 use Rattle.dob_pieces.specs.declared.setup.Setup.{Setup}
 use Rattle.dob_rank.specs.Order.{IsFirstOfTwo}
 use Rattle.dob_rank.specs.Families.{IsPositionOf, HasClass, RepresentsClass}
-use Rattle.dob_rank.proofs.FamilyRepresentatives.{one_of_either, one_number, one_representative}
+use Rattle.dob_classes.proofs.OfFamilies.FamilyRepresentatives.{one_of_either, one_number, one_representative}
 use Rattle.dob_unmove.specs.Unmoves.{IsNumbering}
 
 pub IsNumbering-classes : (family : Family) → IsNumbering (RepresentsClass family)

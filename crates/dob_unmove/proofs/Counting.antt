@@ -12,7 +12,7 @@ use Rattle.dob_pieces.specs.declared.profile.Profile.TheVariants.{A}
 use Rattle.dob_pieces.specs.declared.setup.Setup.{Setup}
 use Rattle.dob_pieces.specs.Setups.{turned, mirrored}
 use Rattle.dob_pieces.proofs.Lists.{cons_cases}
-pub use Rattle.dob_rank.proofs.Counted.{pairs-head, pairs-tail}
+pub use Rattle.dob_classes.proofs.OfFamilies.Counted.{pairs-head, pairs-tail}
 use Rattle.dob_pieces.proofs.Boards.{length-turned, length-mirrored}
 use Rattle.dob_moves.specs.declared.game_move.Move.{Move}
 use Rattle.dob_moves.specs.declared.position_status.Status.TheVariants.{Open}

@@ -28,10 +28,10 @@ use Rattle.dob_rank.specs.Order.{IsEither}
 use Rattle.dob_rank.specs.Families.{IsPositionOf, RepresentsClass}
 use Rattle.dob_rank.specs.Families.{class_setup}
 use Rattle.dob_rank.specs.Families.{classes_of, class_number}
-use Rattle.dob_rank.proofs.Counted.{no_longer}
-use Rattle.dob_rank.proofs.Present.{HasClass-marked, HasClasses-classes_of}
-use Rattle.dob_rank.proofs.FamilyNumbers.{IsPositionOf-mirrored, class_number-below, class_number-representative, class_number-mirrored, class_once}
-use Rattle.dob_rank.proofs.FamilyRepresentatives.{class_setup_is, class_setup_only, one_number}
+use Rattle.dob_classes.proofs.OfFamilies.Counted.{no_longer}
+use Rattle.dob_rank.proofs.OfFamilies.Present.{HasClass-marked, HasClasses-classes_of}
+use Rattle.dob_classes.proofs.OfFamilies.FamilyNumbers.{IsPositionOf-mirrored, class_number-below, class_number-representative, class_number-mirrored, class_once}
+use Rattle.dob_classes.proofs.OfFamilies.FamilyRepresentatives.{class_setup_is, class_setup_only, one_number}
 use Rattle.dob_unmove.specs.Unmoves.{LeadsInto, HasEdges, CountEdges, ArePredecessors}
 use Rattle.dob_unmove.specs.Edges.{leads_into, edges, predecessors}
 use Rattle.dob_unmove.proofs.Classes.{IsNumbering-classes}

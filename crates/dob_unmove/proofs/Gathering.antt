@@ -8,7 +8,7 @@ use Rattle.dob_pieces.specs.declared.setup.Setup.{Setup}
 use Rattle.dob_pieces.specs.Setups.{IsLegal, turned, mirrored}
 use Rattle.dob_moves.specs.declared.position_status.Status.TheVariants.{Open}
 use Rattle.dob_moves.specs.Statuses.{HasStatus}
-use Rattle.dob_rank.specs.declared.classes.Classes.{Classes}
+use Rattle.dob_classes.specs.declared.classes.Classes.{Classes}
 use Rattle.dob_unmove.specs.Unmoves.{IsNumbering, HasEdges, CountEdges, ArePredecessors, IsOpenPosition}
 use Rattle.dob_unmove.specs.Gathers.{Finds, Adds, Gathers}
 use Rattle.dob_unmove.specs.declared.undo.Undo.{Undo}

@@ -18,7 +18,7 @@ use Rattle.dob_pieces.proofs.Boards.{all_below, all_below-at, within-from_piece,
 use Rattle.dob_pieces.proofs.Symmetries.{at-image}
 use Rattle.dob_rank.specs.Order.{squares_from, squares, forms, each_kind, key, Precedes, Before}
 use Rattle.dob_rank.specs.Families.{IsPositionOf, RepresentsClass}
-use Rattle.dob_rank.proofs.FamilyNumbers.{IsPositionOf-mirrored}
+use Rattle.dob_classes.proofs.OfFamilies.FamilyNumbers.{IsPositionOf-mirrored}
 use Rattle.dob_unmove.specs.Ways.{is_home}
 
 -- ---- the list of one square

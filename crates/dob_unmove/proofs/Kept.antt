@@ -13,10 +13,10 @@ use Rattle.dob_pieces.specs.Setups.{holds_lion, HasLions, HasFewPieces, HasLionO
 use Rattle.dob_pieces.proofs.Boards.{length-turned, HasFewPieces-turned, IsLegal-mirrored}
 use Rattle.dob_pieces.proofs.Symmetries.{turned-turned, turned-mirrored}
 use Rattle.dob_moves.proofs.Outcomes.{total-HasOutcome, lions-HasOutcome}
-use Rattle.dob_rank.specs.declared.bitboards.Bitboards.{Bitboards}
-use Rattle.dob_rank.specs.Bitboards.{AreBitboards, IsShown}
+use Rattle.dob_classes.specs.declared.bits.bitboards.Bitboards.{Bitboards}
+use Rattle.dob_classes.specs.Bitboards.{AreBitboards, IsShown}
 use Rattle.dob_rank.specs.Families.{IsPositionOf}
-use Rattle.dob_rank.proofs.FamilyNumbers.{IsPositionOf-mirrored}
+use Rattle.dob_classes.proofs.OfFamilies.FamilyNumbers.{IsPositionOf-mirrored}
 use Rattle.dob_unmove.specs.declared.undo.Undo.{Undo}
 use Rattle.dob_unmove.specs.declared.undo.Undo.TheVariants.{Unstep, Unput}
 use Rattle.dob_unmove.specs.Undoes.{choice, earlier, may_give_back, CanUndo}

@@ -5,7 +5,7 @@ use Rattle.dob_pieces.specs.declared.kind.Kind.TheVariants.{Lion, Giraffe, Eleph
 use Rattle.dob_pieces.specs.declared.kind.Side.TheVariants.{Mover}
 use Rattle.dob_pieces.specs.Masks.{is_piece}
 use Rattle.dob_pieces.specs.Setups.{Cell, piece_of}
-use Rattle.dob_rank.proofs.EachCell.{of_cell}
+use Rattle.dob_rank.proofs.Boards.EachCell.{of_cell}
 use Rattle.dob_unmove.specs.Walks.{stands}
 
 other : (cell that : Cell) → false ≡ true → cell ≡ that

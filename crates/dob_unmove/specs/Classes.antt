@@ -1,4 +1,4 @@
--- Turned setups, and the representatives of classes as dob_rank defines them.
+-- Turned setups, and the representatives of classes as dob_classes defines them.
 use Rattle.std.specs.Prelude.{◌≡◌}
 use Rattle.dob_pieces.specs.declared.setup.Setup.{Setup}
 use Rattle.dob_pieces.specs.Setups.{turned}

@@ -10,7 +10,7 @@ use Rattle.dob_pieces.specs.Setups.{Cell, at, piece_of}
 use Rattle.dob_pieces.specs.Masks.{IsMask, AreMasks, is_own, is_empty, is_piece}
 use Rattle.dob_unmove.specs.declared.attackers.Threat.{Threat}
 use Rattle.dob_unmove.specs.declared.ways.Ways.{Ways}
-use Rattle.dob_rank.specs.Bitboards.{AreBitboards}
+use Rattle.dob_classes.specs.Bitboards.{AreBitboards}
 use Rattle.dob_unmove.specs.Threats.{elsewhere, IsThreat}
 
 -- Where the mover's lion of a representative stands, by the square of the enemy's: off row 4, and on column a, or on b unless

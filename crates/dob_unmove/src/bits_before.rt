@@ -4,15 +4,15 @@ ghost use Rattle.std.specs.Prelude.{◌≡◌, ◌<◌, length, None, Some};
 ghost use Rattle.dob_pieces.specs.declared.kind.Side.TheVariants.{Mover, Enemy};
 ghost use Rattle.dob_pieces.specs.declared.setup.Setup.{Setup};
 ghost use Rattle.dob_pieces.specs.Setups.{at, held, piece_of, HasFewPieces};
-ghost use Rattle.dob_rank.specs.Bitboards.{AreBitboards};
+ghost use Rattle.dob_classes.specs.Bitboards.{AreBitboards};
 ghost use Rattle.dob_unmove.specs.declared.undo.Undo.{Undo};
-ghost use Rattle.dob_rank.specs.Changes.{IsWith};
+ghost use Rattle.dob_classes.specs.Changes.{IsWith};
 ghost use Rattle.dob_unmove.specs.Undoes.{CanUndo, earlier, enemy_cell};
 
 use crate::earlier::without_caught;
 use crate::undo::Undo;
 use dob_pieces::{HandKind, Hands, Kind, Square, without_square};
-use dob_rank::Bitboards;
+use dob_classes::Bitboards;
 
 /// What stood and lay where before the move, by the sets of what stands after it.
 pub(crate) fn bits_before(bits: Bitboards, undo: Undo) -> Bitboards

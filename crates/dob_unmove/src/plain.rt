@@ -18,7 +18,7 @@ use crate::earlier::{may_give_back, open_before};
 use crate::undo::Undo;
 use crate::walk::{Taker, take_all};
 use dob_pieces::{Memory, Position, Setup};
-use dob_rank::Classes;
+use dob_classes::Classes;
 
 // The classes found so far, and the threat to the enemy lion in the setup from which ways back are taken.
 #[derive(Drop)]

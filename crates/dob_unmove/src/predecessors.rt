@@ -6,7 +6,7 @@ ghost use Rattle.dob_pieces.specs.Pieces.{kind_on_board};
 ghost use Rattle.dob_pieces.specs.Setups.{at, piece_of, turned, mirrored, HasLionOffFarRow};
 ghost use Rattle.dob_pieces.specs.declared.kind.Kind.{Kind};
 ghost use Rattle.dob_pieces.specs.declared.kind.Side.TheVariants.{Mover};
-ghost use Rattle.dob_rank.specs.Bitboards.{AreBitboards, IsShown};
+ghost use Rattle.dob_classes.specs.Bitboards.{AreBitboards, IsShown};
 ghost use Rattle.dob_rank.specs.Families.{classes_of};
 ghost use Rattle.dob_unmove.specs.declared.undo.Undo.{Undo};
 ghost use Rattle.dob_unmove.specs.Undoes.{arrives_at as arrival, CanUndo, earlier};
@@ -27,7 +27,7 @@ use crate::ways::Ways;
 use dob_pieces::{
     HandKind, Kind, Memory, Position, Setup, Side, Square, lowest_square, without_square,
 };
-use dob_rank::{Bitboards, Classes, Shown};
+use dob_classes::{Bitboards, Classes, Shown};
 use std::alloc::Global;
 use std::snapshot::Snapshot;
 

@@ -4,7 +4,7 @@ ghost use Rattle.std.specs.Prelude.{◌≡◌, ℕ, Bool, not, IsTrue};
 ghost use Rattle.dob_pieces.specs.Masks.{IsMask};
 ghost use Rattle.dob_pieces.specs.Setups.{at, mirrored, IsLegal};
 ghost use Rattle.dob_pieces.specs.declared.setup.Setup.{Setup};
-ghost use Rattle.dob_rank.specs.Bitboards.{AreBitboards};
+ghost use Rattle.dob_classes.specs.Bitboards.{AreBitboards};
 ghost use Rattle.dob_unmove.specs.Classes.{IsTurned};
 ghost use Rattle.dob_unmove.specs.Threats.{elsewhere};
 ghost use Rattle.dob_unmove.specs.Ways.{is_home, comes_home, may_come, AreWays, IsOwnKind};
@@ -13,7 +13,7 @@ ghost use Rattle.dob_unmove.specs.Walks.{holds_caught};
 use crate::attackers::{Attackers, Threat};
 use crate::walk::holds_caught;
 use dob_pieces::{Kind, Masks, Setup, Square};
-use dob_rank::Bitboards;
+use dob_classes::Bitboards;
 use std::snapshot::Snapshot;
 
 /// All squares. Of the twelve bits of a mask the lowest three are row 1, and of the three of a row the lowest is column a.

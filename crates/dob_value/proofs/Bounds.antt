@@ -16,7 +16,7 @@ use Rattle.dob_rank.specs.Numbers.{rank_of_set}
 use Rattle.dob_rank.specs.Marks.{marks_below}
 use Rattle.dob_rank.specs.Families.{classes_of, is_marked}
 use Rattle.dob_rank.specs.Families.{class_setup}
-use Rattle.dob_rank.proofs.Present.{HasClass-marked, HasClasses-classes_of}
+use Rattle.dob_rank.proofs.OfFamilies.Present.{HasClass-marked, HasClasses-classes_of}
 use Rattle.dob_value.specs.declared.value.Value.{Value}
 use Rattle.dob_value.specs.declared.value.Value.TheVariants.{Win, Loss, Draw}
 use Rattle.dob_value.specs.Values.{Won, Lost, HasValue}

@@ -9,11 +9,11 @@ use Rattle.dob_rank.specs.Families.{IsPositionOf, HasClasses}
 use Rattle.dob_rank.specs.Numbers.{rank_of_set}
 use Rattle.dob_rank.specs.Marks.{marks_below}
 use Rattle.dob_rank.specs.Families.{is_marked}
-use Rattle.dob_rank.proofs.Present.{HasClass-marked}
-pub use Rattle.dob_rank.proofs.Counted.{no_longer, one_count}
-pub use Rattle.dob_rank.proofs.Representatives.{not_before_itself}
-pub use Rattle.dob_rank.proofs.FamilyRepresentatives.{class_within, one_of_class, has_representative}
-pub use Rattle.dob_rank.proofs.FamilyRepresentatives.{representative_is, same_representative, represents_itself, one_class}
+use Rattle.dob_rank.proofs.OfFamilies.Present.{HasClass-marked}
+pub use Rattle.dob_classes.proofs.OfFamilies.Counted.{no_longer, one_count}
+pub use Rattle.dob_rank.proofs.Marked.Representatives.{not_before_itself}
+pub use Rattle.dob_classes.proofs.OfFamilies.FamilyRepresentatives.{class_within, one_of_class, has_representative}
+pub use Rattle.dob_classes.proofs.OfFamilies.FamilyRepresentatives.{representative_is, same_representative, represents_itself, one_class}
 use Rattle.dob_value.specs.declared.value.Value.{Value}
 use Rattle.dob_value.specs.Depths.{SameOutlook}
 use Rattle.dob_value.specs.Follows.{HasInTable}

@@ -9,7 +9,7 @@ use Rattle.dob_moves.specs.declared.position_status.Status.{Status}
 use Rattle.dob_moves.specs.declared.position_status.Status.TheVariants.{Open}
 use Rattle.dob_rank.specs.Families.{IsPositionOf}
 use Rattle.dob_rank.specs.Families.{classes_of}
-use Rattle.dob_rank.proofs.Present.{HasClasses-classes_of}
+use Rattle.dob_rank.proofs.OfFamilies.Present.{HasClasses-classes_of}
 use Rattle.dob_value.specs.declared.sweep.TheConstants.{MAX_DISTANCE}
 use Rattle.dob_value.specs.ClassRows.{class_setup}
 use Rattle.dob_value.specs.Graphs.{IsNode, ClassStandsFor, run_at, AreNodes, SomeHasDistance}

@@ -10,10 +10,10 @@ use Rattle.dob_rank.specs.Order.{RepresentativeOf}
 use Rattle.dob_rank.specs.Families.{IsPositionOf, IsRepresentative, HasClass, HasClasses}
 use Rattle.dob_rank.specs.Families.{classes_of}
 use Rattle.dob_rank.specs.Families.{class_setup}
-use Rattle.dob_rank.proofs.Present.{HasClasses-classes_of}
-use Rattle.dob_rank.proofs.Counted.{one_count}
-pub use Rattle.dob_rank.proofs.Representatives.{IsPlaceOf, place_found}
-pub use Rattle.dob_rank.proofs.FamilyRepresentatives.{class_setup_is, class_setup_only}
+use Rattle.dob_rank.proofs.OfFamilies.Present.{HasClasses-classes_of}
+use Rattle.dob_classes.proofs.OfFamilies.Counted.{one_count}
+pub use Rattle.dob_rank.proofs.Marked.Representatives.{IsPlaceOf, place_found}
+pub use Rattle.dob_classes.proofs.OfFamilies.FamilyRepresentatives.{class_setup_is, class_setup_only}
 use Rattle.dob_value.specs.declared.value.Value.{Value}
 use Rattle.dob_value.specs.declared.value.Value.TheVariants.{Draw}
 use Rattle.dob_value.specs.Values.{HasValue}

@@ -1,3 +1,3 @@
--- The classes of a family in a row, as dob_rank defines them.
+-- The classes of a family in a row, as dob_classes defines them.
 pub use Rattle.dob_rank.specs.ClassRows.{marked_place}
 unfoldable pub use Rattle.dob_rank.specs.Families.{class_setup}

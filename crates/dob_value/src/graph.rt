@@ -10,7 +10,7 @@ ghost use Rattle.dob_value.specs.Graphs.{ClassStandsFor, IsNode, IsGraph, status
 
 use dob_moves::{Move, Status, apply, moves_into};
 use dob_pieces::{Family, Memory, Position};
-use dob_rank::Classes;
+use dob_classes::Classes;
 use std::alloc::Global;
 
 /// The statuses of the classes of a family, and the numbers of their successors in one list: those of a class stand from

@@ -14,7 +14,7 @@ use crate::sweep::{MAX_DISTANCE, sweep};
 use crate::table::Table;
 use crate::value::Value;
 use dob_pieces::{Family, Memory, Position, Profile};
-use dob_rank::Classes;
+use dob_classes::Classes;
 use std::alloc::Global;
 
 /// The values of all positions of the family, by sweeps over its classes.

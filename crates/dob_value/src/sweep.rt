@@ -17,7 +17,7 @@ use crate::fault::Fault;
 use crate::graph::{Graph, graph_of};
 use crate::value::Value;
 use dob_moves::Status;
-use dob_rank::Classes;
+use dob_classes::Classes;
 use std::alloc::{AllocError, Global};
 
 /// The greatest distance that an entry may have.

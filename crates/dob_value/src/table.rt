@@ -9,7 +9,8 @@ ghost use Rattle.dob_value.specs.Follows.{ClassTable, HasInTable, IsTable, IsEnt
 use crate::codes::{code_of_value, value_of_code};
 use crate::value::Value;
 use dob_pieces::{Family, Memory, Position};
-use dob_rank::{Classes, SegmentLength, Segments};
+use dob_classes::Classes;
+use dob_lists::{SegmentLength, Segments};
 use std::alloc::Global;
 use std::marker::Model;
 

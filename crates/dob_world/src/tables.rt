@@ -9,7 +9,7 @@ ghost use Rattle.dob_world.specs.Standing.{IsStanding};
 
 use crate::world::World;
 use dob_pieces::Memory;
-use dob_rank::Classes;
+use dob_classes::Classes;
 use dob_share::owner;
 use dob_value::{Table, Value};
 

@@ -3,8 +3,8 @@ use Rattle.std.proofs.Common.{◌≡◌, ◌∙◌, ◌<◌, ℕ, List, inl, inr
 use Rattle.dob_pieces.specs.declared.profile.Family.{Family}
 use Rattle.dob_pieces.specs.declared.setup.Setup.{Setup}
 use Rattle.dob_rank.specs.Families.{IsPositionOf, IsInClass, class_number, classes_of}
-use Rattle.dob_rank.proofs.FamilyNumbers.{class_number-below, IsInClass-class_number}
-use Rattle.dob_rank.proofs.FamilyRepresentatives.{one_class}
+use Rattle.dob_classes.proofs.OfFamilies.FamilyNumbers.{class_number-below, IsInClass-class_number}
+use Rattle.dob_classes.proofs.OfFamilies.FamilyRepresentatives.{one_class}
 use Rattle.dob_text.proofs.Whole.{same_spelled}
 use Rattle.dob_value.specs.declared.value.Value.{Value}
 use Rattle.dob_value.specs.Follows.{ClassTable, IsValueTable}

@@ -10,8 +10,8 @@ use Rattle.dob_text.proofs.Whole.{same_spelled}
 use Rattle.dob_pieces.specs.Profiles.{IsAllowed}
 use Rattle.dob_rank.specs.Families.{IsPositionOf, IsInClass, classes_of, class_number}
 use Rattle.dob_rank.specs.Order.{IsPositionOfSet}
-use Rattle.dob_rank.proofs.FamilyNumbers.{class_number-below, IsInClass-class_number}
-use Rattle.dob_rank.proofs.FamilyRepresentatives.{one_class}
+use Rattle.dob_classes.proofs.OfFamilies.FamilyNumbers.{class_number-below, IsInClass-class_number}
+use Rattle.dob_classes.proofs.OfFamilies.FamilyRepresentatives.{one_class}
 use Rattle.dob_value.specs.Follows.{ClassTable, IsValueTable}
 use Rattle.dob_value.specs.Values.{HasValue}
 use Rattle.dob_dbfile.specs.Format.{IsFile}

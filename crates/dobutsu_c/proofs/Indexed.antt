@@ -6,8 +6,8 @@ use Rattle.dob_pieces.specs.declared.profile.Profile.TheVariants.{A, B}
 use Rattle.dob_pieces.specs.declared.piece_set.PieceSet.{PieceSet}
 use Rattle.dob_pieces.specs.declared.setup.Setup.{Setup}
 use Rattle.dob_rank.specs.Families.{family_of, classes_of}
-use Rattle.dob_rank.proofs.ClassBounds.{classes_of-below}
-use Rattle.dob_rank.proofs.Sets.{same_numbers}
+use Rattle.dob_rank.proofs.OfFamilies.ClassBounds.{classes_of-below}
+use Rattle.dob_rank.proofs.Positions.Sets.{same_numbers}
 use Rattle.dob_index.specs.Index.{IsIndex, IsMarked}
 use Rattle.dob_dbfile.specs.declared.header.Format.{Format}
 use Rattle.dob_dbfile.specs.Devices.{whole}

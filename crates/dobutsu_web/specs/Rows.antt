@@ -2,7 +2,7 @@
 use Rattle.std.specs.Prelude.{ℕ, ◌≤◌, List}
 use Rattle.dob_pieces.specs.declared.profile.Family.{Family}
 use Rattle.dob_pieces.specs.declared.setup.Setup.{Setup}
-use Rattle.dob_rank.specs.BlockRows.{IsRow}
+use Rattle.dob_classes.specs.BlockRows.{IsRow}
 use Rattle.dob_rank.specs.Families.{IsInClass, classes_of}
 use Rattle.dob_rank.specs.Numbers.{block_of}
 use Rattle.dobutsu_web.specs.Asked.{IsAsked}

@@ -6,7 +6,7 @@ ghost use Rattle.dob_rank.specs.Families.{IsInClass};
 ghost use Rattle.dobutsu_web.specs.Asked.{IsAsked, IsRefused};
 
 use crate::asked::ask;
-use dob_rank::class_number;
+use dob_classes::class_number;
 
 /// The number of the class of the position of that text, among the classes of its pieces by the profile of that number, 0 for A
 /// and 1 for B. It answers 0 and writes it, or the number of a fault and writes nothing: 27 where there is no such profile, else 1 to

@@ -2,7 +2,7 @@
 ghost use Rattle.std.specs.Prelude.{◌≡◌, ◌≢◌, ◌<◌, MatchOption};
 ghost use Rattle.dob_pieces.specs.declared.profile.Family.{Family as AnyFamily};
 ghost use Rattle.dob_pieces.specs.declared.setup.Setup.{Setup as AnySetup};
-ghost use Rattle.dob_rank.specs.BlockRows.{IsRow};
+ghost use Rattle.dob_classes.specs.BlockRows.{IsRow};
 ghost use Rattle.dob_rank.specs.Families.{IsPositionOf};
 ghost use Rattle.dobutsu_web.specs.Asked.{IsAsked, IsRefused, IsBlockOf};
 ghost use Rattle.dobutsu_web.specs.Rows.{IsClassBy, IsRightRow, IsToldClass};
@@ -10,7 +10,7 @@ ghost use Rattle.dobutsu_web.specs.Rows.{IsClassBy, IsRightRow, IsToldClass};
 use crate::asked::ask;
 use crate::numbers::NO_ROW;
 use dob_pieces::{Family, Position};
-use dob_rank::{block_number, class_number_by_any, count_blocks, write_row};
+use dob_classes::{block_number, class_number_by_any, count_blocks, write_row};
 
 /// How many numbers a row has.
 const ROW_LEN: usize = 101;

@@ -15,7 +15,7 @@ use crate::numbers::{NO_MOVE, NO_ROW};
 use crate::rows::class_below;
 use dob_moves::{Move, apply, catch_at, move_at};
 use dob_pieces::{HandKind, Kind, Position, Square};
-use dob_rank::block_number;
+use dob_classes::block_number;
 
 /// A move: a step of a piece of that kind from one square to another, or where it comes from 12 a drop. Chick 0, elephant 1, giraffe 2, hen 3,
 /// lion 4, as the piece was before; square a1 is 0, b1 1, c1 2, a2 3 and so on to c4, 11. `catches` is 1 where a piece is caught and `grows` where

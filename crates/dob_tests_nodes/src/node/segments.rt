@@ -8,7 +8,8 @@ use super::{Log, run};
 use crate::sets::classes_of;
 use dob_node::{Node, Opening, Part, opening};
 use dob_pieces::Family;
-use dob_rank::{Classes, SegmentLength, Segments};
+use dob_classes::Classes;
+use dob_lists::{SegmentLength, Segments};
 use std::alloc::Global;
 use std::process::Abort;
 

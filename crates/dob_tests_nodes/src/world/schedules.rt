@@ -5,7 +5,7 @@ ghost use Rattle.dob_world.specs.Standing.{IsStanding, IsKept};
 use super::{finish, make, world_of};
 use crate::sets::{classes_of, family_of, is_same_table};
 use dob_pieces::{Family, Memory};
-use dob_rank::Classes;
+use dob_classes::Classes;
 use dob_share::{Item, Settlement, owner};
 use dob_unmove::back;
 use dob_value::{Table, Value, sweep_table};

@@ -6,7 +6,7 @@ ghost use Rattle.dob_value.specs.Follows.{IsEntry};
 use crate::sets::{are_one_table, family};
 use dob_dbfile::{MemSink, MemSource, read_table, write_table};
 use dob_pieces::Profile;
-use dob_rank::Classes;
+use dob_classes::Classes;
 use dob_value::{Table, Value};
 use std::cell::Cell;
 use std::process::Abort;

@@ -2,7 +2,7 @@
 use crate::positions::position;
 use crate::sets::set_of;
 use dob_pieces::{Family, Position, Profile};
-use dob_rank::{Classes, class_number, count_classes, representative};
+use dob_classes::{Classes, class_number, count_classes, representative};
 use std::alloc::Global;
 use std::process::Abort;
 

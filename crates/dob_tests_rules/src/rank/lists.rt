@@ -2,7 +2,7 @@
 // length has, of which what is said at 2^20 and past it rests on no clause where memory is refused.
 ghost use Rattle.std.specs.Prelude.{◌≡◌, ◌≤◌, length};
 
-use dob_rank::{SegmentLength, Segments};
+use dob_lists::{SegmentLength, Segments};
 use std::alloc::Global;
 use std::process::Abort;
 

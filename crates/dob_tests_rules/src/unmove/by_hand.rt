@@ -3,7 +3,7 @@ ghost use Rattle.dob_rank.specs.Families.{IsPositionOf};
 
 use crate::positions::position;
 use dob_pieces::{Family, Position, Profile};
-use dob_rank::Classes;
+use dob_classes::Classes;
 use dob_unmove::back;
 use std::alloc::Global;
 use std::process::Abort;

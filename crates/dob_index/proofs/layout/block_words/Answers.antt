@@ -1,7 +1,7 @@
 -- Each run adds its own entries.
 use Rattle.std.proofs.Common.{◌+◌, ◌∙◌, ap, arith}
 use Rattle.dob_rank.specs.Runs.{run_kind}
-use Rattle.dob_rank.proofs.Blocks.{sum_below_more}
+use Rattle.dob_rank.proofs.Positions.Blocks.{sum_below_more}
 use Rattle.dob_index.specs.Layout.{run_words, where_mixed}
 use Rattle.dob_index.proofs.Places.{block_few}
 use Rattle.dob_index.proofs.layout.block_words.Goals as goal

@@ -3,7 +3,7 @@ use Rattle.std.proofs.Common.{◌≡◌, ◌+◌, ◌/◌, ◌∙◌, ℕ, ap, a
 use Rattle.dob_rank.specs.Families.{is_marked}
 use Rattle.dob_rank.specs.Marks.{marks_below}
 use Rattle.dob_rank.specs.Runs.{run_start}
-use Rattle.dob_rank.proofs.WalkMarks.{walked_few}
+use Rattle.dob_classes.proofs.Counting.WalkMarks.{walked_few}
 use Rattle.dob_index.specs.Layout.{row_at}
 use Rattle.dob_index.proofs.Walked.{walked}
 use Rattle.dob_index.proofs.Read.{entry_read, first_small}

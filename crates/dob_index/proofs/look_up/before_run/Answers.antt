@@ -3,9 +3,9 @@ use Rattle.std.proofs.Common.{◌+◌, ◌/◌, ◌%◌, ◌∙◌, ℕ, refl, a
 use Rattle.dob_rank.specs.Families.{is_marked}
 use Rattle.dob_rank.specs.Marks.{marks_below}
 use Rattle.dob_rank.specs.Numbers.{start_of}
-use Rattle.dob_rank.proofs.Blocks.{blocks_small}
-use Rattle.dob_rank.proofs.RunPlaces.{runs_few}
-use Rattle.dob_rank.proofs.ClassesBefore.{by_hands}
+use Rattle.dob_rank.proofs.Positions.Blocks.{blocks_small}
+use Rattle.dob_rank.proofs.InRuns.RunPlaces.{runs_few}
+use Rattle.dob_classes.proofs.Counting.ClassesBefore.{by_hands}
 use Rattle.dob_index.proofs.Read.{row_read, row_small, hands_few}
 use Rattle.dob_index.proofs.look_up.before_run.Goals as goal
 

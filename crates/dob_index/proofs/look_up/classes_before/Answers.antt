@@ -3,9 +3,9 @@ use Rattle.std.proofs.Common.{◌≡◌, ◌+◌, ◌∙◌, ℕ, ap, arith, get
 use Rattle.dob_rank.specs.Families.{is_marked}
 use Rattle.dob_rank.specs.Marks.{marks_below}
 use Rattle.dob_rank.specs.Numbers.{start_of}
-use Rattle.dob_rank.proofs.Blocks.{blocks_small}
-use Rattle.dob_rank.proofs.FamilyBlocks.{classes_few}
-use Rattle.dob_rank.proofs.ClassesBefore.{IsAt, stands_at, are_before}
+use Rattle.dob_rank.proofs.Positions.Blocks.{blocks_small}
+use Rattle.dob_classes.proofs.Tables.FamilyBlocks.{classes_few}
+use Rattle.dob_classes.proofs.Counting.ClassesBefore.{IsAt, stands_at, are_before}
 use Rattle.dob_index.proofs.look_up.classes_before.Goals.{After-spot_of-block}
 use Rattle.dob_index.proofs.look_up.classes_before.Goals as goal
 

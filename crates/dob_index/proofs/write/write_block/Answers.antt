@@ -5,8 +5,8 @@ use Rattle.dob_rank.specs.Families.{is_marked}
 use Rattle.dob_rank.specs.Marks.{marks_below}
 use Rattle.dob_rank.specs.Numbers.{product, block_bases}
 use Rattle.dob_rank.specs.Runs.{run_size, run_start, run_kind}
-use Rattle.dob_rank.proofs.RunTables.{marks_small}
-use Rattle.dob_rank.proofs.ClassesBefore.{none_before, all_lions, one_run_more}
+use Rattle.dob_classes.proofs.Tables.RunTables.{marks_small}
+use Rattle.dob_classes.proofs.Counting.ClassesBefore.{none_before, all_lions, one_run_more}
 use Rattle.dob_index.specs.Layout.{row_at, where_mixed}
 use Rattle.dob_index.proofs.Places.{run_more, run_within, behind_rows, words_few}
 use Rattle.dob_index.proofs.Kept.{row_opened, one_run, runs_stay, all_runs, outside, below_later, from_earlier}

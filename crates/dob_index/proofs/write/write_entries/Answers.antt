@@ -2,13 +2,13 @@
 use Rattle.std.proofs.Common.{◌≡◌, ◌≤◌, ◌<◌, ◌+◌, ◌∙◌, ℕ, refl, sym, ap, arith, length}
 use Rattle.std.proofs.lemmas.List.{length-set}
 use Rattle.dob_rank.specs.Families.{is_marked}
-use Rattle.dob_rank.specs.FamilyRuns.{is_there}
+use Rattle.dob_classes.specs.FamilyRuns.{is_there}
 use Rattle.dob_rank.specs.Marks.{marks_below}
 use Rattle.dob_rank.specs.Runs.{run_start}
-use Rattle.dob_rank.specs.Walks.{marks_before}
-use Rattle.dob_rank.proofs.Words.{marks_below_none}
-use Rattle.dob_rank.specs.FamilyRuns.{local_marks_in}
-use Rattle.dob_rank.proofs.WalkMarks.{walked_few}
+use Rattle.dob_classes.specs.Walks.{marks_before}
+use Rattle.dob_rank.proofs.Marked.Words.{marks_below_none}
+use Rattle.dob_classes.specs.FamilyRuns.{local_marks_in}
+use Rattle.dob_classes.proofs.Counting.WalkMarks.{walked_few}
 use Rattle.dob_index.specs.Layout.{entries_in}
 use Rattle.dob_index.proofs.Walked.{walked}
 use Rattle.dob_index.proofs.Kept.{entry_written, others_stay}

@@ -3,7 +3,7 @@ use Rattle.std.proofs.Common.{◌≡◌, ◌≤◌, ◌<◌, ◌+◌, ◌*◌, �
 use Rattle.dob_rank.specs.Families.{is_marked}
 use Rattle.dob_rank.specs.Marks.{marks_below}
 use Rattle.dob_rank.specs.Runs.{run_start}
-use Rattle.dob_rank.specs.Walks.{IsWalk, marks_before}
+use Rattle.dob_classes.specs.Walks.{IsWalk, marks_before}
 use Rattle.dob_index.specs.Layout.{entries_in, entry_places}
 use Rattle.dob_index.proofs.write.write_entries.Given as goal
 

@@ -3,7 +3,7 @@ use Rattle.std.proofs.Common.{◌≡◌, ◌≤◌, ◌<◌, ◌∙◌, ℕ, ref
 use Rattle.std.proofs.lemmas.Bool.{cases_lt}
 use Rattle.dob_rank.specs.Numbers.{product, block_bases}
 use Rattle.dob_rank.specs.Runs.{lion_pairs}
-use Rattle.dob_rank.proofs.FamilyBlocks.{no_classes_yet, classes_all}
+use Rattle.dob_classes.proofs.Tables.FamilyBlocks.{no_classes_yet, classes_all}
 use Rattle.dob_index.specs.Layout.{row_at, entries_at, words_of}
 use Rattle.dob_index.specs.Index.{IsKeptBlock}
 use Rattle.dob_index.proofs.Places.{block_more, run_within, behind_rows, words_few}

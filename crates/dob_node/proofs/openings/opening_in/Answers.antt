@@ -1,8 +1,8 @@
 -- The position of a class is the one that stands for it.
 use Rattle.std.proofs.Common.{subst}
 use Rattle.dob_rank.specs.Families.{classes_of}
-use Rattle.dob_rank.proofs.Present.{HasClasses-classes_of}
-use Rattle.dob_rank.proofs.FamilyRepresentatives.{class_setup_only}
+use Rattle.dob_rank.proofs.OfFamilies.Present.{HasClasses-classes_of}
+use Rattle.dob_classes.proofs.OfFamilies.FamilyRepresentatives.{class_setup_only}
 use Rattle.dob_node.specs.Openings.{IsOpening}
 use Rattle.dob_node.proofs.openings.opening_in.Goals as goal
 

@@ -1,7 +1,7 @@
 -- The record is the one of the position's class in the family that the header names.
 use Rattle.std.proofs.Common.{arith, inr}
 use Rattle.std.proofs.lemmas.Result.{err_from_is_err_and}
-use Rattle.dob_rank.proofs.ClassBounds.{classes_of-below}
+use Rattle.dob_rank.proofs.OfFamilies.ClassBounds.{classes_of-below}
 use Rattle.dob_query.proofs.ByPlace.{front_holds, refusal_looks}
 use Rattle.dob_query.proofs.looks.look.Goals as goal
 

@@ -1,7 +1,7 @@
 -- The record is the one of the class of the line's position, in the family of the classes.
 use Rattle.std.proofs.Common.{arith}
 use Rattle.std.proofs.lemmas.Result.{err_from_is_err_and}
-use Rattle.dob_rank.proofs.ClassBounds.{classes_of-below}
+use Rattle.dob_rank.proofs.OfFamilies.ClassBounds.{classes_of-below}
 use Rattle.dob_query.specs.LooksEach.{IsClassOf}
 use Rattle.dob_query.proofs.looks_each.answer_at.Goals as goal
 

@@ -3,8 +3,8 @@ use Rattle.std.proofs.Common.{◌≡◌, ◌∙◌, ◌++◌, ◌<◌, ℕ, List
 use Rattle.dob_pieces.specs.declared.profile.Family.{Family}
 use Rattle.dob_pieces.specs.declared.setup.Setup.{Setup}
 use Rattle.dob_rank.specs.Families.{HasClass, IsRepresentative, class_setup, classes_of}
-use Rattle.dob_rank.proofs.FamilyRepresentatives.{class_setup_only}
-use Rattle.dob_rank.proofs.Present.{HasClasses-classes_of}
+use Rattle.dob_classes.proofs.OfFamilies.FamilyRepresentatives.{class_setup_only}
+use Rattle.dob_rank.proofs.OfFamilies.Present.{HasClasses-classes_of}
 use Rattle.dob_query.specs.Puzzles.{puzzle_text}
 use Rattle.dob_query.proofs.puzzles.push_puzzle.Goals as goal
 

@@ -1,6 +1,6 @@
 -- A block's size is the product of its bases, which fits a word.
 use Rattle.std.proofs.Common.{arith}
-use Rattle.dob_rank.proofs.Blocks.{AreBases, AreBases-by, HasDigits-numbers, size_of_bases}
+use Rattle.dob_rank.proofs.Positions.Blocks.{AreBases, AreBases-by, HasDigits-numbers, size_of_bases}
 use Rattle.dob_rank.proofs.block.block_size.Goals as goal
 
 pub product-requires-clause-positive : goal.product-requires-clause-positive

@@ -1,7 +1,7 @@
 -- The closed form of choices of one and of two.
 use Rattle.std.proofs.Common.{◌≡◌, ◌-◌}
 use Rattle.std.proofs.Common.{arith}
-use Rattle.dob_rank.proofs.Loops.{choose_at_one, choose_at_two}
+use Rattle.dob_rank.proofs.Positions.Loops.{choose_at_one, choose_at_two}
 use Rattle.dob_rank.proofs.block.choose.Goals as goal
 
 pub returns-in-1 : goal.returns-in-1

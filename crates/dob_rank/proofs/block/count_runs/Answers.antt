@@ -1,6 +1,6 @@
 -- The first five bases are those of the runs.
 use Rattle.std.proofs.Common.{◌≤◌, ℕ, sym, subst, ◌^◌}
-use Rattle.dob_rank.proofs.RunPlaces.{runs_found, runs_few}
+use Rattle.dob_rank.proofs.InRuns.RunPlaces.{runs_found, runs_few}
 use Rattle.dob_rank.proofs.block.count_runs.Goals as goal
 
 pub returns-clause-value : goal.returns-clause-value

@@ -2,8 +2,8 @@
 use Rattle.std.proofs.Common.{◌<◌, ℕ, sym, ap, ◌∙◌, subst, refl, arith}
 use Rattle.dob_rank.specs.Numbers.{product, digits_of}
 use Rattle.dob_rank.specs.Runs.{square_bases, form_bases}
-use Rattle.dob_rank.proofs.DigitParts.{parts_are, below_same, digits_same, quotient_is, rest_is, AreFewOnBoard-digits}
-use Rattle.dob_rank.proofs.KeptDigits.{digits_joined}
+use Rattle.dob_rank.proofs.InRuns.DigitParts.{parts_are, below_same, digits_same, quotient_is, rest_is, AreFewOnBoard-digits}
+use Rattle.dob_rank.proofs.InRuns.KeptDigits.{digits_joined}
 use Rattle.dob_rank.proofs.block.digits_with.Goals as goal
 
 pub form_bits-requires : goal.form_bits-requires

@@ -1,5 +1,5 @@
 -- Past the last block no rank is left.
-use Rattle.dob_rank.proofs.Blocks.{none_left}
+use Rattle.dob_rank.proofs.Positions.Blocks.{none_left}
 use Rattle.dob_rank.proofs.block.find_block.Goals as goal
 
 pub returns-clause-block : goal.returns-clause-block

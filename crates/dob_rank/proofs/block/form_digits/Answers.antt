@@ -1,5 +1,5 @@
 -- The bases of the forms are powers of 2.
-use Rattle.dob_rank.proofs.DigitParts.{form_digits_are}
+use Rattle.dob_rank.proofs.InRuns.DigitParts.{form_digits_are}
 use Rattle.dob_rank.proofs.block.form_digits.Goals as goal
 
 pub returns : goal.returns

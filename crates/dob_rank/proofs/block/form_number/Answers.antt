@@ -1,6 +1,6 @@
 -- Forms are digits in bases that are powers of 2.
 use Rattle.std.proofs.Common.{refl, ◌∙◌, arith}
-use Rattle.dob_rank.proofs.DigitParts.{forms_joined}
+use Rattle.dob_rank.proofs.InRuns.DigitParts.{forms_joined}
 use Rattle.dob_rank.proofs.block.form_number.Goals as goal
 
 pub join_by_power-elephants-requires : goal.join_by_power-elephants-requires

@@ -1,5 +1,5 @@
 -- The first power of a base is the base.
-use Rattle.dob_rank.proofs.Loops.{power_at_one}
+use Rattle.dob_rank.proofs.Positions.Loops.{power_at_one}
 use Rattle.dob_rank.proofs.block.power.Goals as goal
 
 pub returns-in-1 : goal.returns-in-1

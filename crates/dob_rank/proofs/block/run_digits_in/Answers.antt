@@ -1,7 +1,7 @@
 -- The hands' digits are small, and so are the lions'.
 use Rattle.std.proofs.Common.{arith}
-use Rattle.dob_rank.proofs.DigitParts.{bases_found}
-use Rattle.dob_rank.proofs.KeptDigits.{hands_below, run_parts}
+use Rattle.dob_rank.proofs.InRuns.DigitParts.{bases_found}
+use Rattle.dob_rank.proofs.InRuns.KeptDigits.{hands_below, run_parts}
 use Rattle.dob_rank.proofs.block.run_digits_in.Goals as goal
 
 pub three_digits-hands-requires : goal.three_digits-hands-requires

@@ -1,6 +1,6 @@
 -- The choices of squares and the forms are few.
 use Rattle.std.proofs.Common.{arith}
-use Rattle.dob_rank.proofs.DigitParts.{few_in_run}
+use Rattle.dob_rank.proofs.InRuns.DigitParts.{few_in_run}
 use Rattle.dob_rank.proofs.block.size_of_runs.Goals as goal
 
 pub overflow_mul-result : goal.overflow_mul-result

@@ -1,5 +1,5 @@
 -- A place is one of its run.
-use Rattle.dob_rank.proofs.DigitParts.{AreFewOnBoard-digits, split_place}
+use Rattle.dob_rank.proofs.InRuns.DigitParts.{AreFewOnBoard-digits, split_place}
 use Rattle.dob_rank.proofs.block.spot_at.Goals as goal
 
 pub size_of_runs-size-requires-clause-few : goal.size_of_runs-size-requires-clause-few

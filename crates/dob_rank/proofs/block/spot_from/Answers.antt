@@ -1,7 +1,7 @@
 -- The parts of a spot are the numbers of parts of its digits.
 use Rattle.std.proofs.Common.{[], ◌∷◌, get_or, ap, ◌∙◌, arith}
 use Rattle.dob_rank.specs.Numbers.{product}
-use Rattle.dob_rank.proofs.DigitParts.{AreFewOnBoard-digits, bases_found, spot_digits, digits_below, run_found, local_found}
+use Rattle.dob_rank.proofs.InRuns.DigitParts.{AreFewOnBoard-digits, bases_found, spot_digits, digits_below, run_found, local_found}
 use Rattle.dob_rank.proofs.block.spot_from.Goals as goal
 
 pub number_of-hands-requires-clause-below : goal.number_of-hands-requires-clause-below

@@ -1,6 +1,6 @@
 -- A shift divides by the number of forms.
 use Rattle.std.proofs.Common.{arith}
-use Rattle.dob_rank.proofs.DigitParts.{quotient_is}
+use Rattle.dob_rank.proofs.InRuns.DigitParts.{quotient_is}
 use Rattle.dob_rank.proofs.block.squares_at.Goals as goal
 
 pub split_by_power-requires : goal.split_by_power-requires

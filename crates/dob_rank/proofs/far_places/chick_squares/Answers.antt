@@ -2,7 +2,7 @@
 use Rattle.std.proofs.Common.{ℕ, ◌/◌, ◌%◌, ap, ◌∙◌}
 use Rattle.dob_rank.specs.Numbers.{enemy_squares}
 use Rattle.dob_rank.specs.Placing.{past}
-use Rattle.dob_rank.proofs.FormSquares.{chick_squares_are}
+use Rattle.dob_rank.proofs.ProfileB.FormSquares.{chick_squares_are}
 use Rattle.dob_rank.proofs.far_places.chick_squares.Goals as goal
 
 pub returns : goal.returns

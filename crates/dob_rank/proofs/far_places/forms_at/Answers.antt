@@ -1,8 +1,8 @@
 -- One more number is of forms that the chicks may have, or none.
 use Rattle.std.proofs.Common.{sym, ◌∙◌, arith}
 use Rattle.dob_rank.specs.Weights.{forms_stand}
-use Rattle.dob_rank.proofs.Words.{marks_below_none}
-use Rattle.dob_rank.proofs.FarSpots.{one_counted, none_counted}
+use Rattle.dob_rank.proofs.Marked.Words.{marks_below_none}
+use Rattle.dob_rank.proofs.ProfileB.FarSpots.{one_counted, none_counted}
 use Rattle.dob_rank.proofs.far_places.forms_at.Goals as goal
 use Rattle.dob_rank.proofs.far_places.forms_at.Goals.{then-may_have_forms+else-before-number, else-may_have_forms}
 

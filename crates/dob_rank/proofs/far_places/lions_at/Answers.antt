@@ -2,7 +2,7 @@
 use Rattle.std.proofs.Common.{◌<◌, subst, arith}
 use Rattle.dob_pieces.specs.declared.profile.Profile.TheVariants.{B}
 use Rattle.dob_rank.specs.Weights.{lions_before}
-use Rattle.dob_rank.proofs.FarSpots.{hand_size_is, next_above}
+use Rattle.dob_rank.proofs.ProfileB.FarSpots.{hand_size_is, next_above}
 use Rattle.dob_rank.proofs.far_places.lions_at.Goals as goal
 
 pub loop-high-init : goal.loop-high-init

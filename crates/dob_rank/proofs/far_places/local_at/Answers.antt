@@ -2,9 +2,9 @@
 use Rattle.std.proofs.Common.{◌*◌, ◌<◌, ◌≤◌, [], slice_index, refl, sym, subst, arith}
 use Rattle.dob_pieces.specs.declared.profile.Profile.TheVariants.{B}
 use Rattle.dob_rank.specs.Weights.{others_squares, others_forms, forms_in}
-use Rattle.dob_rank.proofs.FamilyRuns.{others_forms-some}
-use Rattle.dob_rank.proofs.PlaceParts.{others_squares_are, others_forms_are}
-use Rattle.dob_rank.proofs.FarSpots.{small_parts, forms_out_of, place_found, in_all_forms, in_square, in_place}
+use Rattle.dob_rank.proofs.OfFamilies.FamilyRuns.{others_forms-some}
+use Rattle.dob_rank.proofs.ProfileB.PlaceParts.{others_squares_are, others_forms_are}
+use Rattle.dob_rank.proofs.ProfileB.FarSpots.{small_parts, forms_out_of, place_found, in_all_forms, in_square, in_place}
 use Rattle.dob_rank.proofs.far_places.local_at.Goals as goal
 
 pub overflow_mul-others : goal.overflow_mul-others

@@ -1,7 +1,7 @@
 -- What is left of the choice found is less than its weight for each of the others' squares.
 use Rattle.std.proofs.lemmas.Nat.{div_below, mod_below}
-use Rattle.dob_rank.proofs.MixedRadix.{factor_positive}
-use Rattle.dob_rank.proofs.FarSpots.{choice_found, weight_some, form_in_weight, parts_are}
+use Rattle.dob_rank.proofs.Arithmetic.MixedRadix.{factor_positive}
+use Rattle.dob_rank.proofs.ProfileB.FarSpots.{choice_found, weight_some, form_in_weight, parts_are}
 use Rattle.dob_rank.proofs.far_places.parts_at.Goals as goal
 
 pub nonzero_div-number : goal.nonzero_div-number

@@ -1,7 +1,7 @@
 -- The entry is the sum, computed for each shape and each choice.
 use Rattle.std.proofs.Common.{◌∙◌, arith}
-use Rattle.dob_rank.proofs.FarTables.{before_choice, shape_few}
-use Rattle.dob_rank.proofs.Blocks.{choose_ten}
+use Rattle.dob_rank.proofs.ProfileB.FarTables.{before_choice, shape_few}
+use Rattle.dob_rank.proofs.Positions.Blocks.{choose_ten}
 use Rattle.dob_rank.proofs.far_rows.before_choice.Goals as goal
 
 pub returns-clause-value : goal.returns-clause-value

@@ -1,6 +1,6 @@
 -- The entry is the sum, computed for each two lions.
 use Rattle.std.proofs.Common.{◌∙◌, arith}
-use Rattle.dob_rank.proofs.FarTables.{before_lions}
+use Rattle.dob_rank.proofs.ProfileB.FarTables.{before_lions}
 use Rattle.dob_rank.proofs.far_rows.before_lions.Goals as goal
 
 pub returns-clause-value : goal.returns-clause-value

@@ -1,6 +1,6 @@
 -- The entry is the count, computed for each square and each form.
 use Rattle.std.proofs.Common.{◌∙◌, arith}
-use Rattle.dob_rank.proofs.FarTables.{forms_below}
+use Rattle.dob_rank.proofs.ProfileB.FarTables.{forms_below}
 use Rattle.dob_rank.proofs.far_rows.forms_below.Goals as goal
 
 pub returns-clause-value : goal.returns-clause-value

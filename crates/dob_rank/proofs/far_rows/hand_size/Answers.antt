@@ -1,6 +1,6 @@
 -- The last entry of the row of starts.
 use Rattle.std.proofs.Common.{◌∙◌, arith}
-use Rattle.dob_rank.proofs.FarTables.{hand_size_is}
+use Rattle.dob_rank.proofs.ProfileB.FarTables.{hand_size_is}
 use Rattle.dob_rank.proofs.far_rows.hand_size.Goals as goal
 
 pub returns-clause-value : goal.returns-clause-value

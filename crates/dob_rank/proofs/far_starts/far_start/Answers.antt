@@ -1,5 +1,5 @@
 -- The table's entry is the sum, computed for each set and each block.
-use Rattle.dob_rank.proofs.FarStarts.{far_start}
+use Rattle.dob_rank.proofs.ProfileB.FarStarts.{far_start}
 use Rattle.dob_rank.proofs.far_starts.far_start.Goals as goal
 
 pub returns-clause-value : goal.returns-clause-value

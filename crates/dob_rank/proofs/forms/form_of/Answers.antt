@@ -3,7 +3,7 @@ use Rattle.std.proofs.Common.{◌≡◌, ◌≤◌, ℕ, refl, subst, sym, ◌�
 use Rattle.dob_pieces.specs.Masks.{entry_of}
 use Rattle.dob_rank.specs.declared.forms.TheConstants.{FORMS}
 use Rattle.dob_rank.specs.Order.{form}
-use Rattle.dob_rank.proofs.EachCell.{of_cell}
+use Rattle.dob_rank.proofs.Boards.EachCell.{of_cell}
 use Rattle.dob_rank.proofs.forms.form_of.Goals as goal
 
 pub returns-clause-value : goal.returns-clause-value

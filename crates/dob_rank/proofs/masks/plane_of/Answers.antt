@@ -4,7 +4,7 @@ use Rattle.dob_pieces.specs.Masks.{entry_of}
 use Rattle.dob_rank.specs.declared.masks.TheConstants.{PLANES, GIRAFFES_PLANE}
 use Rattle.dob_rank.specs.Numbers.{layer}
 use Rattle.dob_rank.specs.Masks.{plane}
-use Rattle.dob_rank.proofs.EachCell.{of_cell}
+use Rattle.dob_rank.proofs.Boards.EachCell.{of_cell}
 use Rattle.dob_rank.proofs.masks.plane_of.Goals as goal
 
 pub returns-clause-value : goal.returns-clause-value

@@ -4,9 +4,8 @@ use Rattle.dob_pieces.specs.Setups.{Cell}
 use Rattle.dob_rank.specs.Numbers.{numbers_by, cell_of, free_squares, order}
 use Rattle.dob_rank.specs.Placing.{past}
 use Rattle.dob_rank.specs.declared.layers.Layer.TheVariants.{OwnLion, Chicks, Elephants, Giraffes}
-use Rattle.dob_rank.proofs.Placed.{after_lions, after_chicks, after_elephants, with_lions, with_chicks, with_elephants, lions_by, chicks_by}
-use Rattle.dob_rank.proofs.Placed.{elephants_by, lions_stand, chicks_stand, elephants_stand, whole_board, first_below, second_below}
-use Rattle.dob_rank.proofs.Placed.{put-same}
+use Rattle.dob_rank.proofs.Boards.Placed.{after_lions, after_chicks, after_elephants, with_lions, with_chicks, with_elephants, lions_by, chicks_by}
+use Rattle.dob_rank.proofs.Boards.Placed.{elephants_by, lions_stand, chicks_stand, elephants_stand, whole_board, first_below, second_below, put-same}
 use Rattle.dob_rank.proofs.placing.board_by.Goals as goal
 
 pub places_by-places-requires : goal.places_by-places-requires

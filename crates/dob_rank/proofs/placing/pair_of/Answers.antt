@@ -1,6 +1,6 @@
 -- What the tables say of a choice.
 use Rattle.std.proofs.Common.{◌≡◌, ◌∙◌, ap, ℕ, ◌-◌, arith}
-use Rattle.dob_rank.proofs.Pairs.{pair_is, few_pairs, first_at, second_at}
+use Rattle.dob_rank.proofs.Boards.Pairs.{pair_is, few_pairs, first_at, second_at}
 use Rattle.dob_rank.proofs.placing.pair_of.Goals as goal
 
 pub overflow_sub-from_end : goal.overflow_sub-from_end

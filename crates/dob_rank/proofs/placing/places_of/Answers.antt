@@ -1,5 +1,5 @@
 -- One of at most ten squares is below 12.
-use Rattle.dob_rank.proofs.Pairs.{few_ones}
+use Rattle.dob_rank.proofs.Boards.Pairs.{few_ones}
 use Rattle.dob_rank.proofs.placing.places_of.Goals as goal
 
 pub returns-in-1-clause-first_bound : goal.returns-in-1-clause-first_bound

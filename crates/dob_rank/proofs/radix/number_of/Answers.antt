@@ -1,6 +1,6 @@
 -- Three digits below their bases write a number below the product, and nothing on the way is larger.
 use Rattle.std.proofs.Common.{arith}
-use Rattle.dob_rank.proofs.MixedRadix.{number_by_three}
+use Rattle.dob_rank.proofs.Arithmetic.MixedRadix.{number_by_three}
 use Rattle.dob_rank.proofs.radix.number_of.Goals as goal
 
 pub overflow_mul-result : goal.overflow_mul-result

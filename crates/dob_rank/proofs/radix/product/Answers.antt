@@ -1,7 +1,7 @@
 -- No product of fewer bases is greater, so that nothing overflows.
 use Rattle.std.proofs.Common.{◌^◌}
 use Rattle.std.proofs.Common.{arith}
-use Rattle.dob_rank.proofs.Loops.{product_fits}
+use Rattle.dob_rank.proofs.Positions.Loops.{product_fits}
 use Rattle.dob_rank.proofs.radix.product.Goals as goal
 
 pub overflow_mul-weight : goal.overflow_mul-weight

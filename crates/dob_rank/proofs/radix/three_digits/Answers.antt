@@ -1,6 +1,6 @@
 -- A number below a product has no base 0.
 use Rattle.std.proofs.Common.{ℕ, ◌/◌, ◌%◌, [], ◌∷◌, get_or, ap, ◌∙◌}
-use Rattle.dob_rank.proofs.MixedRadix.{three}
+use Rattle.dob_rank.proofs.Arithmetic.MixedRadix.{three}
 use Rattle.dob_rank.proofs.radix.three_digits.Goals as goal
 
 pub split-rest-requires : goal.split-rest-requires

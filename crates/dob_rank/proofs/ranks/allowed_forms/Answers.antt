@@ -5,8 +5,8 @@ use Rattle.dob_rank.specs.declared.layers.Layer.TheVariants.{Chicks}
 use Rattle.dob_rank.specs.Marks.{marks_below}
 use Rattle.dob_rank.specs.Numbers.{order}
 use Rattle.dob_rank.specs.Weights.{may_have}
-use Rattle.dob_rank.proofs.Planes.{first_on_board, second_on_board, lowest}
-use Rattle.dob_rank.proofs.FormPlaces.{no_number, one_found, two_found}
+use Rattle.dob_rank.proofs.Boards.Planes.{first_on_board, second_on_board, lowest}
+use Rattle.dob_rank.proofs.ProfileB.FormPlaces.{no_number, one_found, two_found}
 use Rattle.dob_rank.proofs.ranks.allowed_forms.Goals as goal
 
 pub returns-then-pieces-eq0-clause-value : goal.returns-then-pieces-eq0-clause-value

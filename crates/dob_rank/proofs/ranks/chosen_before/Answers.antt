@@ -1,6 +1,6 @@
 -- The sums of three tables.
 use Rattle.std.proofs.Common.{arith}
-use Rattle.dob_rank.proofs.PlaceParts.{product_few, sum_of_three}
+use Rattle.dob_rank.proofs.ProfileB.PlaceParts.{product_few, sum_of_three}
 use Rattle.dob_rank.proofs.ranks.chosen_before.Goals as goal
 
 pub overflow_mul-result : goal.overflow_mul-result

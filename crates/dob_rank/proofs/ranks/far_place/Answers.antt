@@ -1,8 +1,8 @@
 -- The digits are below their bases, and the place that they write is the position's.
 use Rattle.std.proofs.Common.{refl}
-use Rattle.dob_rank.proofs.Found.{HasDigits-board, HasDigits-place, run_is_of}
-use Rattle.dob_rank.proofs.DigitParts.{AreFewOnBoard-digits}
-use Rattle.dob_rank.proofs.FarPlaces.{far_parts, far_place_is, chicks_on_board}
+use Rattle.dob_rank.proofs.Positions.Found.{HasDigits-board, HasDigits-place, run_is_of}
+use Rattle.dob_rank.proofs.InRuns.DigitParts.{AreFewOnBoard-digits}
+use Rattle.dob_rank.proofs.ProfileB.FarPlaces.{far_parts, far_place_is, chicks_on_board}
 use Rattle.dob_rank.proofs.ranks.far_place.Goals as goal
 
 pub spot_from-run-requires-clause-on_board : goal.spot_from-run-requires-clause-on_board

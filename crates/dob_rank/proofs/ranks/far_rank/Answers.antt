@@ -3,9 +3,9 @@ use Rattle.std.proofs.Common.{refl, ap, ◌∙◌, arith}
 use Rattle.dob_pieces.specs.declared.profile.Profile.TheVariants.{B}
 use Rattle.dob_rank.specs.Numbers.{block_bases}
 use Rattle.dob_rank.specs.Families.{family_of, rank_of}
-use Rattle.dob_rank.proofs.Found.{HasDigits-board, HasDigits-same, block_found, block_upto}
-use Rattle.dob_rank.proofs.Sets.{IsPositionOfSet-totals, set_of_position}
-use Rattle.dob_rank.proofs.FarPlaces.{far_rank_is, far_rank_small}
+use Rattle.dob_rank.proofs.Positions.Found.{HasDigits-board, HasDigits-same, block_found, block_upto}
+use Rattle.dob_rank.proofs.Positions.Sets.{IsPositionOfSet-totals, set_of_position}
+use Rattle.dob_rank.proofs.ProfileB.FarPlaces.{far_rank_is, far_rank_small}
 use Rattle.dob_rank.proofs.ranks.far_rank.Goals as goal
 
 pub number_of-block-requires-clause-below : goal.number_of-block-requires-clause-below

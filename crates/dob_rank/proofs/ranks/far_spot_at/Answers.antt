@@ -3,10 +3,10 @@ use Rattle.std.proofs.Common.{◌*◌, ◌<◌, [], slice_index, sym, refl, subs
 use Rattle.std.proofs.lemmas.Nat.{mod_below}
 use Rattle.dob_pieces.specs.declared.profile.Profile.TheVariants.{B}
 use Rattle.dob_rank.specs.Weights.{forms_in}
-use Rattle.dob_rank.proofs.FarTables.{hand_size-some}
-use Rattle.dob_rank.proofs.FamilyRuns.{others_forms-some}
-use Rattle.dob_rank.proofs.PlaceParts.{others_squares_are, others_forms_are}
-use Rattle.dob_rank.proofs.FarUnranks.{product_is, product_some, product_small, squares_some, before_run, spot_for, below_same, below_product}
+use Rattle.dob_rank.proofs.ProfileB.FarTables.{hand_size-some}
+use Rattle.dob_rank.proofs.OfFamilies.FamilyRuns.{others_forms-some}
+use Rattle.dob_rank.proofs.ProfileB.PlaceParts.{others_squares_are, others_forms_are}
+use Rattle.dob_rank.proofs.ProfileB.FarUnranks.{product_is, product_some, product_small, squares_some, before_run, spot_for, below_same, below_product}
 use Rattle.dob_rank.proofs.ranks.far_spot_at.Goals as goal
 
 pub overflow_mul-squares : goal.overflow_mul-squares

@@ -2,8 +2,8 @@
 use Rattle.std.proofs.Common.{sym, arith}
 use Rattle.dob_pieces.specs.declared.profile.Profile.TheVariants.{B}
 use Rattle.dob_rank.specs.Families.{family_of, is_present}
-use Rattle.dob_rank.proofs.Words.{marks_below_none}
-use Rattle.dob_rank.proofs.FarUnranks.{none_beyond}
+use Rattle.dob_rank.proofs.Marked.Words.{marks_below_none}
+use Rattle.dob_rank.proofs.ProfileB.FarUnranks.{none_beyond}
 use Rattle.dob_rank.proofs.ranks.find_far_block.Goals as goal
 
 pub loop-block-init : goal.loop-block-init

@@ -1,7 +1,7 @@
 -- The parts are found one by one, and each of them is small.
 use Rattle.std.proofs.Common.{◌≤◌, ◌/◌, ◌%◌, ◌∙◌, arith}
 use Rattle.dob_rank.specs.Runs.{lion_pairs}
-use Rattle.dob_rank.proofs.PlaceParts.{others_squares_are, others_forms_are, few_squares, product_within, place_found}
+use Rattle.dob_rank.proofs.ProfileB.PlaceParts.{others_squares_are, others_forms_are, few_squares, product_within, place_found}
 use Rattle.dob_rank.proofs.ranks.place_by.Goals as goal
 
 pub overflow_mul-squares : goal.overflow_mul-squares

@@ -1,8 +1,8 @@
 -- In profile A each position of the set is one of the family, and in profile B the positions before the end of the last block are all.
 use Rattle.std.proofs.Common.{ℕ, ◌<◌, ◌^◌, sym, ◌∙◌, subst}
-use Rattle.dob_rank.proofs.ClassBounds.{size_of-below}
+use Rattle.dob_rank.proofs.OfFamilies.ClassBounds.{size_of-below}
 use Rattle.dob_rank.specs.Families.{HasSize}
-use Rattle.dob_rank.proofs.Present.{HasSize-size_of, size_of-whole, size_of-end}
+use Rattle.dob_rank.proofs.OfFamilies.Present.{HasSize-size_of, size_of-whole, size_of-end}
 use Rattle.dob_rank.proofs.ranks.size.Goals as goal
 
 pub returns-in-A-clause-count : goal.returns-in-A-clause-count

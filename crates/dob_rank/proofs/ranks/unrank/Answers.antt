@@ -1,6 +1,6 @@
 -- In profile A a position of the set is one of the family, and its rank is that in the set.
-use Rattle.dob_rank.proofs.FarUnranks.{ranked_in_A, below_in_A, ranked_in_B, below_in_B}
-use Rattle.dob_rank.proofs.FamilyOrder.{only_ranked}
+use Rattle.dob_rank.proofs.ProfileB.FarUnranks.{ranked_in_A, below_in_A, ranked_in_B, below_in_B}
+use Rattle.dob_rank.proofs.OfFamilies.FamilyOrder.{only_ranked}
 use Rattle.dob_rank.proofs.ranks.unrank.Goals as goal
 
 pub unrank_in_set-requires : goal.unrank_in_set-requires

@@ -2,8 +2,8 @@
 use Rattle.std.proofs.Common.{◌∙◌, arith}
 use Rattle.dob_pieces.specs.declared.profile.Profile.TheVariants.{B}
 use Rattle.dob_rank.specs.Weights.{choice_weight, forms_before}
-use Rattle.dob_rank.proofs.Blocks.{sum_below_more, choose_ten}
-use Rattle.dob_rank.proofs.PlaceParts.{one_step, not_less}
+use Rattle.dob_rank.proofs.Positions.Blocks.{sum_below_more, choose_ten}
+use Rattle.dob_rank.proofs.ProfileB.PlaceParts.{one_step, not_less}
 use Rattle.dob_rank.proofs.ranks.weight_of.Goals as goal
 
 pub overflow_add-choice : goal.overflow_add-choice

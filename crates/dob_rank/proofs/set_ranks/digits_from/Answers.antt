@@ -3,7 +3,7 @@ use Rattle.std.proofs.Common.{◌≡◌, ℕ, List, [], ◌∷◌, map, slice_in
 use Rattle.dob_pieces.specs.declared.hand.Hand.{Hand}
 use Rattle.dob_rank.specs.Numbers.{layer, order}
 use Rattle.dob_rank.specs.declared.layers.Layer.TheVariants.{OwnLion, EnemyLion, Chicks, Elephants, Giraffes}
-use Rattle.dob_rank.proofs.BoardMasks.{left_are, numbers_are}
+use Rattle.dob_rank.proofs.Boards.BoardMasks.{left_are, numbers_are}
 use Rattle.dob_rank.proofs.set_ranks.digits_from.Goals as goal
 
 pub overflow_sub-after_own_lion : goal.overflow_sub-after_own_lion

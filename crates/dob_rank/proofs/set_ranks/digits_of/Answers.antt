@@ -1,6 +1,6 @@
 -- The digits of its parts.
 use Rattle.std.proofs.Common.{refl}
-use Rattle.dob_rank.proofs.BoardMasks.{numbers_are, three}
+use Rattle.dob_rank.proofs.Boards.BoardMasks.{numbers_are, three}
 use Rattle.dob_rank.proofs.set_ranks.digits_of.Goals as goal
 
 pub forms_of-requires-clause-few : goal.forms_of-requires-clause-few

@@ -1,7 +1,7 @@
 -- The totals of the pieces are the set's numbers.
 use Rattle.std.proofs.Common.{◌∙◌}
 use Rattle.dob_pieces.specs.declared.kind.HandKind.TheVariants as hand
-use Rattle.dob_rank.proofs.BoardMasks.{numbers_are, small_total}
+use Rattle.dob_rank.proofs.Boards.BoardMasks.{numbers_are, small_total}
 use Rattle.dob_rank.proofs.set_ranks.piece_set_of.Goals as goal
 
 pub in_all-requires : goal.in_all-requires

@@ -1,5 +1,5 @@
 -- The digits of a spot make the position that stands there.
-use Rattle.dob_rank.proofs.Found.{HasDigits-spot, made_by, made_same}
+use Rattle.dob_rank.proofs.Positions.Found.{HasDigits-spot, made_by, made_same}
 use Rattle.dob_rank.proofs.set_ranks.position_by.Goals as goal
 
 pub setup_of-requires-clause-digits : goal.setup_of-requires-clause-digits

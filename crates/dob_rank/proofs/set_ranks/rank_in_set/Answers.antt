@@ -1,8 +1,8 @@
 -- A rank is the start of the position's block and its place there, and the same under each set of the position.
 use Rattle.std.proofs.Common.{◌∙◌, arith}
-use Rattle.dob_rank.proofs.DigitParts.{AreFewOnBoard-digits}
-use Rattle.dob_rank.proofs.Sets.{IsPositionOfSet-totals, rank_of_set-sets}
-use Rattle.dob_rank.proofs.Found.{HasDigits-board, block_upto, spot_small, place_is_of, ranked, rank_small}
+use Rattle.dob_rank.proofs.InRuns.DigitParts.{AreFewOnBoard-digits}
+use Rattle.dob_rank.proofs.Positions.Sets.{IsPositionOfSet-totals, rank_of_set-sets}
+use Rattle.dob_rank.proofs.Positions.Found.{HasDigits-board, block_upto, spot_small, place_is_of, ranked, rank_small}
 use Rattle.dob_rank.proofs.set_ranks.rank_in_set.Goals as goal
 
 pub spot_with-block-requires-clause-position : goal.spot_with-block-requires-clause-position

@@ -1,5 +1,5 @@
 -- Digits below their bases are choices of squares.
-use Rattle.dob_rank.proofs.Blocks.{AreChoices-digits}
+use Rattle.dob_rank.proofs.Positions.Blocks.{AreChoices-digits}
 use Rattle.dob_rank.proofs.set_ranks.setup_of.Goals as goal
 
 pub board_by-requires : goal.board_by-requires

@@ -1,10 +1,10 @@
 -- The position at the place of the rank has that rank.
 use Rattle.std.proofs.Common.{◌∙◌}
 use Rattle.dob_rank.specs.Numbers.{HasBlock}
-use Rattle.dob_rank.proofs.Blocks.{HasDigits-numbers}
-use Rattle.dob_rank.proofs.DigitParts.{AreFewOnBoard-digits}
-use Rattle.dob_rank.proofs.Found.{place_in, made_at_place}
-use Rattle.dob_rank.proofs.Numbering.{rank_of_set-block}
+use Rattle.dob_rank.proofs.Positions.Blocks.{HasDigits-numbers}
+use Rattle.dob_rank.proofs.InRuns.DigitParts.{AreFewOnBoard-digits}
+use Rattle.dob_rank.proofs.Positions.Found.{place_in, made_at_place}
+use Rattle.dob_rank.proofs.Positions.Numbering.{rank_of_set-block}
 use Rattle.dob_rank.proofs.set_ranks.unrank_in_set.Goals as goal
 
 pub choices_in-choices-requires : goal.choices_in-choices-requires

@@ -1,7 +1,7 @@
 -- The table's entry is the sum, computed for each set and each block.
 use Rattle.std.proofs.Common.{ℕ, ◌<◌, ◌^◌, subst, sym}
-use Rattle.dob_rank.proofs.BlockStarts.{start_is, start_few}
-use Rattle.dob_rank.proofs.Blocks.{blocks_small}
+use Rattle.dob_rank.proofs.Positions.BlockStarts.{start_is, start_few}
+use Rattle.dob_rank.proofs.Positions.Blocks.{blocks_small}
 use Rattle.dob_rank.proofs.starts.block_start.Goals as goal
 
 pub returns-clause-value : goal.returns-clause-value

@@ -2,7 +2,7 @@
 use Rattle.std.proofs.Common.{◌<◌, sym, subst}
 use Rattle.dob_pieces.specs.declared.hand.Hands.{Hands}
 use Rattle.dob_pieces.specs.Setups.{held}
-use Rattle.dob_rank.specs.Bitboards.{AreBitboards}
+use Rattle.dob_classes.specs.Bitboards.{AreBitboards}
 use Rattle.dob_unmove.specs.declared.undo.Undo.{Undo}
 use Rattle.dob_unmove.specs.Undoes.{CanUndo, earlier}
 use Rattle.dob_unmove.proofs.Hands.{few_held}

@@ -1,9 +1,9 @@
 -- by whether there is one
 use Rattle.std.proofs.Common.{Option, subst, rules}
 use Rattle.dob_pieces.specs.declared.kind.Kind.{Kind}
-use Rattle.dob_rank.specs.Changes.{IsWith}
+use Rattle.dob_classes.specs.Changes.{IsWith}
 use Rattle.dob_unmove.specs.Undoes.{enemy_cell}
-use Rattle.dob_rank.proofs.BitChanges.{nothing_added}
+use Rattle.dob_classes.proofs.SquareSets.BitChanges.{nothing_added}
 use Rattle.dob_unmove.proofs.bits_before.with_caught.Goals as goal
 
 pub returns-in-None : goal.returns-in-None

@@ -2,8 +2,8 @@
 use Rattle.std.proofs.Common.{subst, rules}
 use Rattle.dob_pieces.specs.declared.kind.Kind.{Kind}
 use Rattle.dob_pieces.specs.declared.kind.Side.TheVariants.{Enemy}
-use Rattle.dob_rank.specs.Bitboards.{AreBitboards}
-use Rattle.dob_rank.proofs.BitChanges.{piece_added, with_piece}
+use Rattle.dob_classes.specs.Bitboards.{AreBitboards}
+use Rattle.dob_classes.proofs.SquareSets.BitChanges.{piece_added, with_piece}
 use Rattle.dob_unmove.proofs.bits_before.with_enemy.Goals as goal
 
 pub returns-in-Lion : goal.returns-in-Lion

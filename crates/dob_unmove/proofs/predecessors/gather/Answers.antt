@@ -1,7 +1,7 @@
 -- The walks over the position and over its mirror image count the edges.
 use Rattle.std.proofs.Common.{true≢false, sym, ap, ◌∙◌, subst}
 use Rattle.dob_pieces.specs.declared.setup.Setup.{Setup}
-use Rattle.dob_rank.specs.Bitboards.{AreBitboards}
+use Rattle.dob_classes.specs.Bitboards.{AreBitboards}
 use Rattle.dob_pieces.specs.Setups.{mirrored}
 use Rattle.dob_unmove.specs.Classes.{RepresentsClass}
 use Rattle.dob_unmove.specs.Ways.{AreWays}

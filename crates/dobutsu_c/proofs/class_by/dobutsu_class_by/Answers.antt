@@ -5,7 +5,7 @@ use Rattle.dob_pieces.specs.declared.profile.Family.{Family}
 use Rattle.dob_pieces.specs.declared.setup.Setup.{Setup}
 use Rattle.dob_rank.specs.Families.{IsInClass, IsPositionOf}
 use Rattle.dob_index.specs.Index.{IsIndex}
-use Rattle.dob_rank.proofs.FamilyNumbers.{IsInClass-class_number}
+use Rattle.dob_classes.proofs.OfFamilies.FamilyNumbers.{IsInClass-class_number}
 use Rattle.dob_text.proofs.Whole.{same_spelled}
 use Rattle.dobutsu_c.proofs.Indexed.{one_family}
 use Rattle.dobutsu_c.proofs.class_by.dobutsu_class_by.Goals as goal

@@ -2,7 +2,7 @@
 use Rattle.std.proofs.Common.{◌≡◌, length, subst}
 use Rattle.dob_rank.specs.Families.{IsRepresentative}
 use Rattle.dob_rank.specs.Families.{classes_of}
-use Rattle.dob_rank.proofs.Present.{HasClasses-classes_of}
+use Rattle.dob_rank.proofs.OfFamilies.Present.{HasClasses-classes_of}
 use Rattle.dob_value.specs.Codes.{values_of_codes}
 use Rattle.dob_value.specs.Follows.{ClassTable}
 use Rattle.dob_value.proofs.ClassNumbers.{one_count}

@@ -4,7 +4,7 @@ use Rattle.std.proofs.lemmas.List.Elements.{All-push}
 use Rattle.std.specs.List.{All}
 use Rattle.dob_rank.specs.Families.{HasClasses}
 use Rattle.dob_rank.specs.Families.{classes_of}
-use Rattle.dob_rank.proofs.Present.{HasClasses-classes_of}
+use Rattle.dob_rank.proofs.OfFamilies.Present.{HasClasses-classes_of}
 use Rattle.dob_value.proofs.Parity.{entries_of_codes}
 use Rattle.dob_value.proofs.Listed.{given_more}
 use Rattle.dob_value.proofs.table.Table.from_fn.Goals as goal

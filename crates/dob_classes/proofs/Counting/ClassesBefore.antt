@@ -1,0 +1,210 @@
+-- How many classes of a family stand before a run of a block and before a place of a run, as sums over the runs of one hand.
+use Rattle.std.proofs.Common.{◌≡◌, ℕ, ◌+◌, ◌*◌, ◌/◌, ◌%◌, ◌^◌, ◌<◌, ◌≤◌, min, Bool, refl, sym, ap, ◌∙◌, inl, inr, arith}
+use Rattle.std.proofs.lemmas.Bool.{cases_lt}
+use Rattle.std.proofs.lemmas.Nat.{mod-mul-add}
+use Rattle.std.proofs.Math.Nat.{min-eq_left, min-eq_right, min-le_left, min-le_right}
+use Rattle.dob_pieces.specs.declared.profile.Family.{Family}
+use Rattle.dob_pieces.specs.declared.setup.Setup.{Setup}
+use Rattle.dob_rank.specs.declared.runs.RunKind.TheVariants.{First, Later}
+use Rattle.dob_rank.specs.Numbers.{product, sum_below, block_bases, block_size, start_of, block_of, rank_of_set}
+use Rattle.dob_rank.specs.Marks.{marks_below}
+use Rattle.dob_rank.specs.Order.{RepresentativeOf}
+use Rattle.dob_rank.specs.Families.{IsPositionOf, is_marked, class_number}
+use Rattle.dob_rank.specs.Runs.{runs_in, run_size, run_start, run_kind, run_of, local_of, lion_pairs, IsInRun}
+use Rattle.dob_classes.specs.FamilyRuns.{is_there, local_marks_in}
+use Rattle.dob_classes.specs.Stretches.{local_marks}
+use Rattle.dob_lists.proofs.Sums.{sum_same, sum_blocks, sum_alike}
+use Rattle.dob_rank.proofs.Arithmetic.MixedRadix.{digit_below}
+use Rattle.dob_rank.proofs.Positions.Blocks.{sum_below_more}
+use Rattle.dob_rank.proofs.InRuns.RunPlaces.{spot_there}
+use Rattle.dob_rank.proofs.InRuns.RunMarks.{run_start_first, run_start_next, run_start_end}
+use Rattle.dob_rank.proofs.InRuns.RunSums.{lions_there}
+use Rattle.dob_classes.proofs.MarksOfRuns.FamilyMarks.{IsStretchIn, stretch_in, first_marks, later_marks, classes_before_place}
+use Rattle.dob_rank.proofs.Marked.Words.{marks_below-upto}
+use Rattle.dob_classes.proofs.Tables.RunTables.{marks_small}
+use Rattle.dob_classes.proofs.Counting.FamilySums.{run_marks, marks_of_lions, marks_of_runs}
+use Rattle.dob_classes.proofs.OfFamilies.FamilyNumbers.{earlier_in}
+use Rattle.dob_classes.proofs.OfFamilies.FamilyRepresentatives.{same_representative}
+
+-- ---- a position's place
+
+-- at that place of a run stands the position
+pub record IsAt (family : Family) (s : Setup) (block run local : ℕ) : Type 0 where
+  pub in_run : IsInRun family.set block run local
+  pub rank_is : run_start family.set block run + local ≡ rank_of_set family.set s
+
+pub stands_at : (family : Family) (s : Setup) (block run local : ℕ) → IsPositionOf family s → block ≡ block_of family.set s → run ≡ run_of family.set s
+    → local ≡ local_of s → IsAt family s block run local
+stands_at family s block run local p block_is run_is local_is =
+    let spot = spot_there family.set s family.set block run local p.of_set refl block_is run_is local_is in
+    record { in_run = spot.there; rank_is = spot.rank_is }
+
+-- the classes before the position's representative are before its class
+pub class_of_earlier : (family : Family) (s representative : Setup) → IsPositionOf family s → RepresentativeOf s representative
+    → marks_below (is_marked family) (rank_of_set family.set representative) ≡ class_number family s
+class_of_earlier family s representative p represents =
+    let e = earlier_in family s p in
+    ap (λ (t : Setup). marks_below (is_marked family) (rank_of_set family.set t)) (same_representative family s representative e.0 p represents e.1.stands)
+    ∙ sym e.1.number_is
+
+-- ---- the runs before one
+
+-- all pairs of lions have a run of the first hand
+pub all_lions : (family : Family) (block : ℕ) → block < product (block_bases family.set) → lion_pairs ≤ runs_in family.set block
+all_lions family block within = (let last = lions_there family.set block 98 within (omega arith) in omega (arith, last))
+
+pub none_before : (family : Family) (block : ℕ)
+    → marks_below (is_marked family) (start_of family.set block) + 0 ≡ marks_below (is_marked family) (run_start family.set block 0)
+none_before family block =
+    let first = ap (marks_below (is_marked family)) (run_start_first family.set block) in
+    omega (arith, first)
+
+-- one run more
+pub one_run_more : (family : Family) (block run size count marks : ℕ) → size ≡ run_size family.set block
+    → marks_below (is_marked family) (start_of family.set block) + count ≡ marks_below (is_marked family) (run_start family.set block run)
+    → marks_below (is_marked family) (run_start family.set block run) + marks ≡ marks_below (is_marked family) (run_start family.set block run + size)
+    → marks_below (is_marked family) (start_of family.set block) + (count + marks) ≡ marks_below (is_marked family) (run_start family.set block (run + 1))
+one_run_more family block run size count marks size_is counted more =
+    let end : marks_below (is_marked family) (run_start family.set block run + size) ≡ marks_below (is_marked family) (run_start family.set block (run + 1))
+    = ap (λ n. marks_below (is_marked family) (run_start family.set block run + n)) size_is ∙ ap (marks_below (is_marked family)) (sym (run_start_next family.set block run)) in
+    omega (arith, counted, more, end)
+
+-- each hand before has as many as the first, and the run's own hand those of the lions before
+pub record AreByHands (family : Family) (block run hands whole part : ℕ) : Type 0 where
+  pub sum_is : marks_below (is_marked family) (start_of family.set block) + (hands * whole + part) ≡ marks_below (is_marked family) (run_start family.set block run)
+  pub few : hands * whole + part ≤ 2 ^ 42
+
+pub by_hands : (family : Family) (block run hands lions whole part : ℕ) → block < product (block_bases family.set) → run ≤ runs_in family.set block
+    → hands ≡ run / lion_pairs → lions ≡ run % lion_pairs
+    → marks_below (is_marked family) (start_of family.set block) + whole ≡ marks_below (is_marked family) (run_start family.set block lion_pairs)
+    → marks_below (is_marked family) (start_of family.set block) + part ≡ marks_below (is_marked family) (run_start family.set block lions)
+    → AreByHands family block run hands whole part
+by_hands family block run hands lions whole part within upto hands_are lions_are whole_is part_is = record {
+  sum_is = sum;
+  few = (let small = marks_small family block run within upto in omega (arith, sum, small));
+}
+  where
+    run_is : run ≡ hands * lion_pairs + lions
+    run_is = omega (arith, hands_are, lions_are)
+
+    each : (k : ℕ) → k < run → run_marks family block (k % lion_pairs) ≡ run_marks family block k
+    each k low = marks_of_lions family block k within (omega (arith, low, upto))
+
+    whole_sum : whole ≡ sum_below (run_marks family block) lion_pairs
+    whole_sum = (let runs = marks_of_runs family block lion_pairs within (all_lions family block within) in omega (arith, whole_is, runs))
+
+    part_sum : part ≡ sum_below (run_marks family block) lions
+    part_sum = (let runs = marks_of_runs family block lions within (omega (arith, upto, run_is)) in omega (arith, part_is, runs))
+
+    of_hands : sum_below (λ q. sum_below (λ r. run_marks family block (q * lion_pairs + r)) lion_pairs) hands
+        ≡ hands * sum_below (run_marks family block) lion_pairs
+    of_hands =
+        sum_same (λ q. sum_below (λ r. run_marks family block (q * lion_pairs + r)) lion_pairs) (λ q. sum_below (run_marks family block) lion_pairs) hands
+        (λ q earlier. sum_same (λ r. run_marks family block (q * lion_pairs + r)) (run_marks family block) lion_pairs
+        (λ r low. sym (each (q * lion_pairs + r) (let below = digit_below q hands lion_pairs r earlier low in omega (arith, below, run_is)))
+        ∙ ap (run_marks family block) (mod-mul-add q lion_pairs r low)))
+        ∙ sum_alike (sum_below (run_marks family block) lion_pairs) hands
+
+    of_lions : sum_below (λ r. run_marks family block (hands * lion_pairs + r)) lions ≡ sum_below (run_marks family block) lions
+    of_lions =
+        sum_same (λ r. run_marks family block (hands * lion_pairs + r)) (run_marks family block) lions
+        (λ r low. sym (each (hands * lion_pairs + r) (omega (arith, low, run_is)))
+        ∙ ap (run_marks family block) (mod-mul-add hands lion_pairs r (omega (arith, low, lions_are))))
+
+    split : sum_below (run_marks family block) run
+        ≡ sum_below (λ q. sum_below (λ r. run_marks family block (q * lion_pairs + r)) lion_pairs) hands
+        + sum_below (λ r. run_marks family block (hands * lion_pairs + r)) lions
+    split = ap (sum_below (run_marks family block)) run_is ∙ sum_blocks (run_marks family block) lion_pairs hands lions
+
+    parts : hands * whole + part ≡ sum_below (run_marks family block) run
+    parts =
+        ap (λ n. hands * n + part) whole_sum ∙ ap (λ n. hands * sum_below (run_marks family block) lion_pairs + n) part_sum
+        ∙ ap (λ n. n + sum_below (run_marks family block) lions) (sym of_hands)
+        ∙ ap (λ n. sum_below (λ q. sum_below (λ r. run_marks family block (q * lion_pairs + r)) lion_pairs) hands + n) (sym of_lions)
+        ∙ sym split
+
+    sum : marks_below (is_marked family) (start_of family.set block) + (hands * whole + part) ≡ marks_below (is_marked family) (run_start family.set block run)
+    sum = ap (λ n. marks_below (is_marked family) (start_of family.set block) + n) parts ∙ marks_of_runs family block run within upto
+
+-- all runs of a block
+pub one_block_more : (family : Family) (block runs count marks : ℕ) → runs ≡ runs_in family.set block
+    → count ≡ marks_below (is_marked family) (start_of family.set block)
+    → marks_below (is_marked family) (start_of family.set block) + marks ≡ marks_below (is_marked family) (run_start family.set block runs)
+    → count + marks ≡ marks_below (is_marked family) (start_of family.set (block + 1))
+one_block_more family block runs count marks runs_are counted more =
+    ap (λ n. n + marks) counted ∙ more ∙ ap (λ n. marks_below (is_marked family) (run_start family.set block n)) runs_are
+    ∙ ap (marks_below (is_marked family)) (run_start_end family.set block)
+    ∙ ap (marks_below (is_marked family)) (sym (sum_below_more (block_size family.set) block))
+
+-- ---- the places before one
+
+-- the representatives among the run's positions before a place
+pub in_run_before : (family : Family) (block run place marks : ℕ) → block < product (block_bases family.set) → run < runs_in family.set block
+    → place ≤ run_size family.set block → marks ≡ marks_below (local_marks_in family block run) (marks_below (is_there family block run) place)
+    → marks_below (is_marked family) (run_start family.set block run) + marks ≡ marks_below (is_marked family) (run_start family.set block run + place)
+in_run_before family block run place marks within below upto is =
+    ap (λ n. marks_below (is_marked family) (run_start family.set block run) + n) is ∙ sym (classes_before_place family block run place within below upto)
+
+-- where the lions tell it
+pub first_before : (family : Family) (block run place : ℕ) → block < product (block_bases family.set) → run < runs_in family.set block
+    → place ≤ run_size family.set block → run_kind (run % lion_pairs) ≡ First
+    → marks_below (is_there family block run) place ≡ marks_below (local_marks_in family block run) (marks_below (is_there family block run) place)
+first_before family block run place within below upto kind =
+    sym (first_marks family block run (marks_below (is_there family block run) place) within below
+    (marks_below-upto (is_there family block run) place (run_size family.set block) upto) kind)
+
+pub later_before : (family : Family) (block run place : ℕ) → block < product (block_bases family.set) → run < runs_in family.set block
+    → place ≤ run_size family.set block → run_kind (run % lion_pairs) ≡ Later
+    → 0 ≡ marks_below (local_marks_in family block run) (marks_below (is_there family block run) place)
+later_before family block run place within below upto kind =
+    sym (later_marks family block run (marks_below (is_there family block run) place) within below
+    (marks_below-upto (is_there family block run) place (run_size family.set block) upto) kind)
+
+-- the positions that a stretch adds, where it ends at a place at the latest
+pub record IsAdded (family : Family) (block run from place upto start next : ℕ) (on : Bool) : Type 0 where
+  pub some : from < upto
+  pub within : upto ≤ place
+  pub stretch : IsStretchIn family block run start next on
+
+pub added : (family : Family) (block run from end place upto start next : ℕ) (on : Bool) → block < product (block_bases family.set) → run < runs_in family.set block
+    → place ≤ run_size family.set block → from < place → from < end → upto ≡ min end place
+    → start ≡ marks_below (is_there family block run) from → next ≡ marks_below (is_there family block run) upto
+    → ((k : ℕ) → from ≤ k → k < end → local_marks family.set block run k ≡ on) → IsAdded family block run from place upto start next on
+added family block run from end place upto start next on within below whole low some is start_is next_is same = record {
+  some = some_more;
+  within = at_most;
+  stretch = stretch_in family block run from upto start next on within below (omega (arith, at_most, whole)) start_is next_is some_more
+      (λ k a b. same k a (omega (arith, b, no_further)));
+}
+  where
+    at_most : upto ≤ place
+    at_most = (let le = min-le_right end place in omega (arith, is, le))
+
+    no_further : upto ≤ end
+    no_further = (let le = min-le_left end place in omega (arith, is, le))
+
+    some_more : from < upto
+    some_more = elim (cases_lt end place) [
+      | inl lt ↦ (let same : min end place ≡ end = min-eq_left (let le : end ≤ place = omega arith in le) in omega (arith, is, same, some))
+      | inr ge ↦ (let same : min end place ≡ place = min-eq_right ge in omega (arith, is, same, low))
+    ]
+
+-- ---- a position's block, run and place
+
+pub record AreBefore (family : Family) (s : Setup) (blocks runs places : ℕ) : Type 0 where
+  pub sum_is : blocks + runs + places ≡ marks_below (is_marked family) (rank_of_set family.set s)
+  pub few : blocks + runs + places ≤ 2 ^ 42
+
+pub are_before : (family : Family) (s : Setup) (block run local blocks runs places : ℕ) → IsAt family s block run local
+    → blocks ≡ marks_below (is_marked family) (start_of family.set block)
+    → marks_below (is_marked family) (start_of family.set block) + runs ≡ marks_below (is_marked family) (run_start family.set block run)
+    → marks_below (is_marked family) (run_start family.set block run) + places ≡ marks_below (is_marked family) (run_start family.set block run + local)
+    → AreBefore family s blocks runs places
+are_before family s block run local blocks runs places at blocks_are runs_are places_are =
+    let sum : blocks + runs + places ≡ marks_below (is_marked family) (run_start family.set block run + local) = omega (arith, blocks_are, runs_are, places_are) in
+    let next = run_start_next family.set block run in
+    let low = at.in_run.local_below in
+    let run_low = at.in_run.run_below in
+    let marks = marks_below-upto (is_marked family) (run_start family.set block run + local) (run_start family.set block (run + 1)) (omega (arith, next, low)) in
+    let small = marks_small family block (run + 1) at.in_run.block_below (omega (arith, run_low)) in
+    record { sum_is = sum ∙ ap (marks_below (is_marked family)) at.rank_is; few = omega (arith, sum, marks, small) }

@@ -1,0 +1,73 @@
+-- The classes of a block of a family as a sum over the runs of one hand.
+use Rattle.std.proofs.Common.{◌≡◌, ℕ, zero, suc, ◌+◌, ◌%◌, ◌<◌, ◌≤◌, refl, sym, ap, ◌∙◌, arith}
+use Rattle.dob_pieces.specs.declared.profile.Family.{Family}
+use Rattle.dob_rank.specs.declared.runs.RunKind.{RunKind}
+use Rattle.dob_rank.specs.declared.runs.RunKind.TheVariants.{First, Later, Mixed}
+use Rattle.dob_rank.specs.Numbers.{product, sum_below, block_bases, start_of}
+use Rattle.dob_rank.specs.Marks.{marks_below}
+use Rattle.dob_rank.specs.Families.{is_marked}
+use Rattle.dob_rank.specs.Runs.{runs_in, run_size, run_start, run_kind, lion_pairs}
+use Rattle.dob_classes.specs.FamilyRuns.{is_there, run_size_in, local_marks_in}
+use Rattle.dob_rank.proofs.InRuns.RunMarks.{run_start_first, lions_run, marks_agree}
+use Rattle.dob_classes.proofs.MarksOfRuns.FamilyMarks.{first_marks, later_marks, classes_before_next, there_by_lions, alike_by_lions}
+use Rattle.dob_classes.proofs.Tables.RunTables.{same_upto}
+
+-- how many classes a run has
+abbrev pub run_marks : Family → ℕ → ℕ → ℕ
+run_marks family block run = marks_below (local_marks_in family block run) (run_size_in family block run)
+
+-- each position of a run whose lions say first is a representative
+pub first_run : (family : Family) (block run : ℕ) → block < product (block_bases family.set) → run < runs_in family.set block
+    → run_kind (run % lion_pairs) ≡ First → run_size_in family block run ≡ run_marks family block run
+first_run family block run within below kind =
+    sym (first_marks family block run (run_size_in family block run) within below (same_upto (run_size_in family block run)) kind)
+
+pub later_run : (family : Family) (block run : ℕ) → block < product (block_bases family.set) → run < runs_in family.set block
+    → run_kind (run % lion_pairs) ≡ Later → 0 ≡ run_marks family block run
+later_run family block run within below kind =
+    sym (later_marks family block run (run_size_in family block run) within below (same_upto (run_size_in family block run)) kind)
+
+-- its lions alone say how many
+lower_run : (run runs : ℕ) → run < runs → run % lion_pairs < runs
+lower_run run runs below = (let less : run % lion_pairs ≤ run = omega arith in omega (arith, less, below))
+
+size_by_lions : (family : Family) (block run : ℕ) → block < product (block_bases family.set) → run < runs_in family.set block
+    → run_size_in family block (run % lion_pairs) ≡ run_size_in family block run
+size_by_lions family block run within below =
+    marks_agree (is_there family block (run % lion_pairs)) (is_there family block run) (run_size family.set block)
+    (λ k low. there_by_lions family block (run % lion_pairs) run k
+    (record { block_below = within; run_below = lower_run run (runs_in family.set block) below; local_below = low })
+    (record { block_below = within; run_below = below; local_below = low }) (lions_run run))
+
+pub marks_of_lions : (family : Family) (block run : ℕ) → block < product (block_bases family.set) → run < runs_in family.set block
+    → run_marks family block (run % lion_pairs) ≡ run_marks family block run
+marks_of_lions family block run within below = by_kind (run_kind (run % lion_pairs)) refl
+  where
+    lower : run % lion_pairs < runs_in family.set block
+    lower = lower_run run (runs_in family.set block) below
+
+    by_kind : (kind : RunKind) → run_kind (run % lion_pairs) ≡ kind → run_marks family block (run % lion_pairs) ≡ run_marks family block run
+    by_kind First is =
+        sym (first_run family block (run % lion_pairs) within lower (ap run_kind (lions_run run) ∙ is))
+        ∙ size_by_lions family block run within below ∙ first_run family block run within below is
+    by_kind Later is =
+        sym (later_run family block (run % lion_pairs) within lower (ap run_kind (lions_run run) ∙ is)) ∙ later_run family block run within below is
+    by_kind Mixed is =
+        let alike = alike_by_lions family block run within below is in
+        ap (marks_below (local_marks_in family block (run % lion_pairs))) alike.size_is
+        ∙ alike.before_is (run_size_in family block run) (same_upto (run_size_in family block run))
+
+-- ---- sums
+
+pub marks_of_runs : (family : Family) (block run : ℕ) → block < product (block_bases family.set) → run ≤ runs_in family.set block
+    → marks_below (is_marked family) (start_of family.set block) + sum_below (run_marks family block) run
+    ≡ marks_below (is_marked family) (run_start family.set block run)
+marks_of_runs family block zero within upto =
+    let none = ap (marks_below (is_marked family)) (run_start_first family.set block) in
+    omega (arith, none)
+marks_of_runs family block (suc run) within upto =
+    let rest = marks_of_runs family block run within (omega (arith, upto)) in
+    let next = classes_before_next family block run within (omega (arith, upto)) in
+    let same : marks_below (is_marked family) (run_start family.set block (run + 1)) ≡ marks_below (is_marked family) (run_start family.set block (suc run)) =
+    ap (λ n. marks_below (is_marked family) (run_start family.set block n)) (let e : run + 1 ≡ suc run = omega arith in e) in
+    omega (arith, rest, next, same)

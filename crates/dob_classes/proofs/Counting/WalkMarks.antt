@@ -1,0 +1,28 @@
+-- What a step of a walk passes, and that a walk counts few.
+use Rattle.std.proofs.Common.{◌≡◌, ℕ, ◌≤◌, ◌<◌, ◌^◌, min, Bool, arith}
+use Rattle.dob_classes.specs.declared.class_walks.MixedRun.{MixedRun}
+use Rattle.dob_classes.specs.declared.class_walks.Walk.{Walk}
+use Rattle.dob_classes.specs.FamilyRuns.{is_there, local_marks_in}
+use Rattle.dob_rank.specs.Marks.{marks_below}
+use Rattle.dob_rank.specs.Runs.{run_size}
+use Rattle.dob_classes.specs.Stretches.{local_marks}
+use Rattle.dob_classes.specs.Walks.{IsWalk, marks_before}
+use Rattle.dob_rank.proofs.Marked.Words.{marks_below-le}
+use Rattle.dob_rank.proofs.InRuns.RunPlaces.{run_size-small}
+use Rattle.dob_classes.proofs.Counting.ClassesBefore.{IsAdded, added}
+
+pub passed : (run : MixedRun) (walk : Walk) (place end upto next : ℕ) (on : Bool) → IsWalk run walk → walk.place < place
+    → place ≤ run_size run.family.set run.block → walk.place < end → upto ≡ min end place → next ≡ marks_below (is_there run.family run.block run.run) upto
+    → ((k : ℕ) → walk.place ≤ k → k < end → local_marks run.family.set run.block run.run k ≡ on)
+    → IsAdded run.family run.block run.run walk.place place upto walk.number next on
+passed run walk place end upto next on is low within some upto_is next_is same =
+    added run.family run.block run.run walk.place end place upto walk.number next on run.within run.there within low some upto_is is.number_is next_is same
+
+pub walked_few : (run : MixedRun) (walk : Walk) → IsWalk run walk → marks_before run walk.number ≤ 2 ^ 36
+walked_few run walk is =
+    let marks = marks_below-le (local_marks_in run.family run.block run.run) walk.number in
+    let number = is.number_is in
+    let there = marks_below-le (is_there run.family run.block run.run) walk.place in
+    let upto = is.upto in
+    let small = run_size-small run.family.set run.block run.within in
+    omega (arith, marks, number, there, upto, small)

@@ -1,0 +1,6 @@
+-- The lemmas, in the order in which they are read, a folder for each topic.
+pub mod SquareSets  -- positions as sets of squares
+pub mod OfFamilies  -- the classes of a family and their representatives
+pub mod MarksOfRuns  -- the marks of the runs of a block
+pub mod Counting  -- classes before blocks, runs and places
+pub mod Tables  -- the tables that the classes of a block keep

@@ -1,0 +1,197 @@
+-- Each position of a family has one representative and one class number, and numbers stand in the order of the representatives: as those of a set
+-- (proofs/Representatives).
+use Rattle.std.proofs.Common.{◌≡◌, ℕ, ◌<◌, ◌≤◌, ◌↔◌, inl, inr, refl, sym, ap, ◌∙◌, subst, arith}
+use Rattle.std.proofs.lemmas.Bool.{cases_lt, cases_order}
+use Rattle.dob_pieces.specs.declared.profile.Family.{Family}
+use Rattle.dob_pieces.specs.declared.piece_set.PieceSet.{PieceSet}
+use Rattle.dob_pieces.specs.declared.profile.Profile.{Profile}
+use Rattle.dob_pieces.specs.declared.setup.Setup.{Setup}
+use Rattle.dob_pieces.specs.Profiles.{IsAllowed}
+use Rattle.dob_pieces.specs.Setups.{IsLegal, mirrored}
+use Rattle.dob_pieces.proofs.Symmetries.{mirrored-mirrored}
+use Rattle.dob_rank.proofs.OfFamilies.FamilyOrder.{rank_of-rises}
+use Rattle.dob_rank.proofs.Positions.Found.{IsPositionOfSet-mirrored}
+use Rattle.dob_rank.proofs.Positions.Sets.{set_of, IsPositionOfSet-set_of}
+use Rattle.dob_rank.specs.Order.{IsPositionOfSet, Before, IsEither, RepresentativeOf}
+use Rattle.dob_rank.specs.Numbers.{size_of_set, rank_of_set, nth}
+use Rattle.dob_rank.specs.Marks.{marks_below}
+use Rattle.dob_rank.specs.ClassRows.{marked_place}
+use Rattle.dob_rank.specs.Families.{IsPositionOf, IsRepresentative, HasRank, HasClasses, HasClass, IsInClass, RepresentsClass}
+use Rattle.dob_rank.specs.Families.{family_of, is_present, is_marked, rank_of, classes_of, class_setup}
+use Rattle.dob_rank.proofs.Positions.Numbering.{rank_of_set-rises, rank_of_set-same, Before-from_rank}
+use Rattle.dob_classes.proofs.OfFamilies.Counted.{fewer, one_count}
+use Rattle.dob_rank.proofs.Marked.Marks.{numbering}
+use Rattle.dob_rank.proofs.Marked.Representatives.{not_before_itself, has_representative_of_set, one_of_either_of_set, same_representative_of_set, IsPlaceOf, place_found}
+use Rattle.dob_rank.proofs.OfFamilies.Present.{present, HasRank-rank_of, HasClasses-classes_of, HasClass-marked, represents}
+use Rattle.dob_classes.proofs.OfFamilies.ClassNumbers.{marks_below-rises}
+use Rattle.dob_rank.proofs.Marked.Words.{marks_below-upto}
+use Rattle.dob_classes.proofs.OfFamilies.FamilyNumbers.{IsPositionOf-mirrored}
+
+-- ---- a position and its mirror image
+
+pub has_representative : (family : Family) (p : Setup) → IsPositionOf family p → (representative : Setup) × RepresentativeOf p representative
+has_representative family p is = has_representative_of_set family.set p is.of_set
+
+-- which is a representative of the family
+pub representative_is : (family : Family) (p representative : Setup) → IsPositionOf family p → RepresentativeOf p representative
+    → IsRepresentative family representative
+representative_is family p representative is represents = elim represents.0 [
+  | inl same ↦ (subst (IsPositionOf family) (sym same) is, represents.1)
+  | inr image ↦ (subst (IsPositionOf family) (sym image) (IsPositionOf-mirrored family p is), represents.1)
+]
+
+-- a representative that is one of another and its mirror image is that other
+pub one_of_either : (family : Family) (p q : Setup) → IsRepresentative family p → IsRepresentative family q → IsEither p q → q ≡ p
+one_of_either family p q is_p is_q either = one_of_either_of_set family.set p q (is_p.0.of_set, is_p.1) (is_q.0.of_set, is_q.1) either
+
+-- a position of a family has one representative
+pub same_representative : (family : Family) (p a b : Setup) → IsPositionOf family p → RepresentativeOf p a → RepresentativeOf p b → a ≡ b
+same_representative family p a b is at_a at_b = same_representative_of_set family.set p a b is.of_set at_a at_b
+
+-- a representative is its own
+pub represents_itself : (family : Family) (p : Setup) → IsRepresentative family p → RepresentativeOf p p
+represents_itself family p is = (inl refl, is.1)
+
+-- ---- class numbers
+
+-- a representative's class number is below the number of classes
+pub class_within : (family : Family) (representative : Setup) (class classes : ℕ) → IsRepresentative family representative
+    → HasClass family representative class → HasClasses family classes → class < classes
+class_within family representative class classes is number all =
+    fewer (λ (q : Setup). IsRepresentative family q × Before q representative) (IsRepresentative family) class classes representative number all
+    (λ q earlier. earlier.0) is (λ earlier. not_before_itself representative earlier.1)
+
+-- later representatives have greater class numbers
+class_rises : (family : Family) (p q : Setup) (m n : ℕ) → IsRepresentative family p → IsRepresentative family q → HasClass family p m
+    → HasClass family q n → rank_of_set family.set p < rank_of_set family.set q → m < n
+class_rises family p q m n is_p is_q at_p at_q below =
+    fewer (λ (s : Setup). IsRepresentative family s × Before s p) (λ (s : Setup). IsRepresentative family s × Before s q) m n p at_p at_q
+    (λ s earlier.
+    let rises = rank_of_set-rises family.set s p earlier.0.0.of_set is_p.0.of_set earlier.1 in
+    (earlier.0, Before-from_rank family.set s q earlier.0.0.of_set is_q.0.of_set (omega arith)))
+    (is_p, Before-from_rank family.set p q is_p.0.of_set is_q.0.of_set below) (λ earlier. not_before_itself p earlier.1)
+
+-- representatives with the same class number are the same
+pub one_of_class : (family : Family) (p q : Setup) (class : ℕ) → IsRepresentative family p → IsRepresentative family q
+    → HasClass family p class → HasClass family q class → p ≡ q
+one_of_class family p q class is_p is_q at_p at_q = elim (cases_order (rank_of_set family.set p) (rank_of_set family.set q)) [
+  | inl same ↦ rank_of_set-same family.set p q is_p.0.of_set is_q.0.of_set same
+  | inr order ↦ elim order [
+    | inl before ↦
+        let rises = class_rises family p q class class is_p is_q at_p at_q before in
+        absurd (omega arith)
+    | inr after ↦
+        let rises = class_rises family q p class class is_q is_p at_q at_p after in
+        absurd (omega arith)
+  ]
+]
+
+-- the same representatives have the same class number
+pub one_number : (family : Family) (p q : Setup) (a b : ℕ) → HasClass family p a → HasClass family q b → q ≡ p → a ≡ b
+one_number family p q a b at_p at_q same =
+    one_count (λ s. IsRepresentative family s × Before s p) a b at_p (subst (λ s. HasClass family s b) same at_q)
+
+-- ---- laws
+
+-- a position has one class number
+pub one_class : (family : Family) (p : Setup) (a b : ℕ) → IsInClass family p a → IsInClass family p b → a ≡ b
+one_class family p a b at_a at_b =
+    one_number family at_a.representative at_b.representative a b at_a.before at_b.before
+    (same_representative family p at_b.representative at_a.representative at_a.position at_b.stands at_a.stands)
+
+pub one_representative : (family : Family) (p q : Setup) (class : ℕ) → RepresentsClass family p class → RepresentsClass family q class → p ≡ q
+one_representative family p q class at_p at_q = one_of_class family p q class at_p.0 at_q.0 at_p.1 at_q.1
+
+pub ranks_keep_order : (family : Family) (p q : Setup) (a b : ℕ) → IsPositionOf family p → IsPositionOf family q
+    → HasRank family p a → HasRank family q b → (Before p q ↔ (a < b))
+unfolding rank_of
+ranks_keep_order family p q a b is_p is_q at_p at_q =
+    let same_p : a ≡ rank_of family p = one_count (λ s. IsPositionOf family s × Before s p) a (rank_of family p) at_p (HasRank-rank_of family p is_p) in
+    let same_q : b ≡ rank_of family q = one_count (λ s. IsPositionOf family s × Before s q) b (rank_of family q) at_q (HasRank-rank_of family q is_q) in (
+      λ before. (let rises = marks_below-rises (is_present family) (rank_of_set family.set p) (rank_of_set family.set q) (present family p is_p)
+          (rank_of_set-rises family.set p q is_p.of_set is_q.of_set before) in omega (arith, same_p, same_q, rises)),
+      λ below. elim (cases_lt (rank_of_set family.set p) (rank_of_set family.set q)) [
+        | inl earlier ↦ Before-from_rank family.set p q is_p.of_set is_q.of_set earlier
+        | inr upto ↦ absurd (let less = marks_below-upto (is_present family) (rank_of_set family.set q) (rank_of_set family.set p) upto in
+            omega (arith, same_p, same_q, below, less))
+      ],
+    )
+
+pub classes_keep_order : (family : Family) (p q : Setup) (a b : ℕ) → RepresentsClass family p a → RepresentsClass family q b → (Before p q ↔ (a < b))
+classes_keep_order family p q a b at_p at_q = (
+  λ before. class_rises family p q a b at_p.0 at_q.0 at_p.1 at_q.1 (rank_of_set-rises family.set p q at_p.0.0.of_set at_q.0.0.of_set before),
+  λ below. elim (cases_order (rank_of_set family.set p) (rank_of_set family.set q)) [
+    | inl same ↦
+        let one : a ≡ b = one_number family p q a b at_p.1 at_q.1 (rank_of_set-same family.set q p at_q.0.0.of_set at_p.0.0.of_set (sym same)) in
+        absurd (omega arith)
+    | inr order ↦ elim order [
+      | inl earlier ↦ Before-from_rank family.set p q at_p.0.0.of_set at_q.0.0.of_set earlier
+      | inr later ↦
+          let rises = class_rises family q p b a at_q.0 at_p.0 at_q.1 at_p.1 later in
+          absurd (omega arith)
+    ]
+  ],
+)
+
+-- ---- the row of classes
+
+-- the representative of each class number
+pub class_setup_is : (family : Family) (class classes : ℕ) → HasClasses family classes → class < classes
+    → RepresentsClass family (class_setup family class) class
+unfolding class_setup classes_of
+class_setup_is family class classes all below =
+    let count : classes ≡ marks_below (is_marked family) (size_of_set family.set) =
+    one_count (IsRepresentative family) classes (marks_below (is_marked family) (size_of_set family.set)) all (HasClasses-classes_of family) in
+    let rank = marked_place (is_marked family) class (size_of_set family.set) in
+    let found : IsPlaceOf (is_marked family) class (size_of_set family.set) rank =
+    place_found (is_marked family) class (size_of_set family.set) (subst (λ n. class < n) count below) in
+    let is = (numbering family.set).sound rank found.below in
+    let back : rank_of_set family.set (nth family.set rank) ≡ rank = (numbering family.set).forth rank found.below in
+    let represents_it = represents family (nth family.set rank) is (ap (is_marked family) back ∙ found.marked) in (
+      represents_it,
+      subst (HasClass family (nth family.set rank)) (ap (marks_below (is_marked family)) back ∙ found.before)
+          (HasClass-marked family (nth family.set rank) represents_it.0),
+    )
+
+-- and no other
+pub class_setup_only : (family : Family) (representative : Setup) (class classes : ℕ) → HasClasses family classes → class < classes
+    → IsRepresentative family representative → HasClass family representative class → representative ≡ class_setup family class
+class_setup_only family representative class classes all below is number =
+    let there = class_setup_is family class classes all below in
+    one_of_class family representative (class_setup family class) class is there.0 number there.1
+
+-- ---- the earlier of a position and its mirror image, by their ranks
+
+-- a rank in the profile's family of each set of the position
+abbrev pub RankOf : Profile → Setup → ℕ → Type 0
+RankOf profile s n = (set : PieceSet) → IsPositionOfSet set s → n ≡ rank_of (family_of set profile) s
+
+not_before : (family : Family) (p q : Setup) (m n : ℕ) → IsPositionOf family p → IsPositionOf family q → m ≡ rank_of family p → n ≡ rank_of family q → n ≤ m
+    → Before p q → ⊥
+not_before family p q m n hp hq rp rq le before = let up = rank_of-rises family p q hp hq before in omega (arith, rp, rq, up, le)
+
+-- the image has the lower rank
+pub image_first : (profile : Profile) (s t : Setup) (legal : IsLegal s) (m n : ℕ) → t ≡ mirrored s → IsAllowed profile s → IsAllowed profile t
+    → RankOf profile t m → RankOf profile s n → m < n → RepresentativeOf s t
+image_first profile s t legal m n e allowed image rt rs lt =
+    let ps : IsPositionOfSet (set_of s legal) s = IsPositionOfSet-set_of s legal in
+    let pt : IsPositionOfSet (set_of s legal) t = subst (IsPositionOfSet (set_of s legal)) (sym e) (IsPositionOfSet-mirrored (set_of s legal) s ps) in
+    let back : mirrored t ≡ s = ap mirrored e ∙ mirrored-mirrored s legal.squares in
+    let le : m ≤ n = omega (arith, lt) in (
+      inr e,
+      λ (b : Before (mirrored t) t).
+          not_before (family_of (set_of s legal) profile) s t n m (record { of_set = ps; allowed = allowed }) (record { of_set = pt; allowed = image }) (rs (set_of s legal) ps)
+          (rt (set_of s legal) pt) le (subst (λ (x : Setup). Before x t) back b),
+    )
+
+-- or else the position is the earlier one
+pub itself_first : (profile : Profile) (s t : Setup) (legal : IsLegal s) (m n : ℕ) → t ≡ mirrored s → IsAllowed profile s → IsAllowed profile t
+    → RankOf profile t m → RankOf profile s n → n ≤ m → RepresentativeOf s s
+itself_first profile s t legal m n e allowed image rt rs le =
+    let ps : IsPositionOfSet (set_of s legal) s = IsPositionOfSet-set_of s legal in
+    let pt : IsPositionOfSet (set_of s legal) t = subst (IsPositionOfSet (set_of s legal)) (sym e) (IsPositionOfSet-mirrored (set_of s legal) s ps) in (
+      inl refl,
+      λ (b : Before (mirrored s) s).
+          not_before (family_of (set_of s legal) profile) t s m n (record { of_set = pt; allowed = image }) (record { of_set = ps; allowed = allowed }) (rt (set_of s legal) pt)
+          (rs (set_of s legal) ps) le (subst (λ (x : Setup). Before x s) (sym e) b),
+    )

@@ -1,0 +1,7 @@
+-- Positions as sets of squares.
+pub mod BitPlanes  -- sets of squares in one pass over a board
+pub mod BitSquares  -- layers and forms by sets of squares
+pub mod BitChanges  -- sets of squares when one square changes
+pub mod BitPlaced  -- sets of squares with a piece more, seen from either side
+pub mod BitMasks  -- the masks of a setup by its sets of squares
+pub mod BitNumbers  -- the digits of a position that sets of squares show

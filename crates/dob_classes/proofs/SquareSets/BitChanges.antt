@@ -1,0 +1,262 @@
+-- Sets of squares when one square of the setup changes.
+use Rattle.std.proofs.Common.{◌≡◌, ℕ, ◌*◌, ◌%◌, ◌^◌, ◌<◌, ◌≤◌, Bool, true, false, bit_and, bit_or, w16, length, set}
+use Rattle.std.proofs.Common.{None, Some, refl, sym, ap, ◌∙◌, subst, inl, inr, arith}
+use Rattle.std.specs.Int.{bit_at, bit_not}
+use Rattle.std.proofs.lemmas.Bool.{cases_eq}
+use Rattle.std.proofs.lemmas.List.{get_or-set_same, get_or-set_other}
+use Rattle.std.proofs.lemmas.Nat.{and_le_l, or_lt}
+use Rattle.std.proofs.lemmas.Nat.Bits.{bit_at_set_same, bit_at_set_other, bit_at_clear_same, bit_at_clear_other}
+use Rattle.std.proofs.Math.Pow.{pow_mono}
+use Rattle.dob_pieces.specs.declared.hand.Hands.{Hands}
+use Rattle.dob_pieces.specs.declared.kind.Kind.{Kind}
+use Rattle.dob_pieces.specs.declared.kind.Kind.TheVariants.{Lion, Giraffe, Elephant, Chick, Hen}
+use Rattle.dob_pieces.specs.declared.kind.Side.{Side}
+use Rattle.dob_pieces.specs.declared.kind.Side.TheVariants.{Mover, Enemy}
+use Rattle.dob_pieces.specs.declared.setup.Setup.{Setup}
+use Rattle.dob_pieces.specs.Masks.{AreSquares}
+use Rattle.dob_pieces.specs.Setups.{Cell, at, piece_of}
+use Rattle.dob_pieces.proofs.MaskBits.{bit_if, IsMask-same}
+use Rattle.dob_classes.specs.declared.bits.bitboards.Bitboards.{Bitboards}
+use Rattle.dob_classes.specs.Bitboards.{is_own_lion, is_enemy_lion, is_chick, is_elephant, is_giraffe, is_hen, is_enemy, AreBitboards}
+use Rattle.dob_classes.specs.Changes.{IsWith}
+
+-- ---- one set
+
+-- the bit of a square
+abbrev pub bit : ℕ → ℕ
+bit square = 1 * 2 ^ square % 2 ^ 16
+
+bit-small : (square : ℕ) → square < 12 → bit square < 2 ^ 12
+bit-small square lt =
+    let le : square ≤ 11 = omega (arith, lt) in
+    let low : 2 ^ square ≤ 2 ^ 11 = pow_mono le in
+    omega (arith, low)
+
+module _ (before after : Setup) (square : ℕ) (cell : Cell) (lt : square < 12) (w : IsWith before after square cell) (test : Cell → Bool) (mask : ℕ)
+    (are : AreSquares before test mask) where
+  -- what the test says of the new cell it said of the old one
+  pub kept : test cell ≡ test (at before square) → AreSquares after test mask
+  kept same = IsMask-same (λ s. test (at before s)) (λ s. test (at after s)) mask
+      (λ s below. elim (cases_eq s square) [
+        | inl e ↦ subst (λ (n : ℕ). test (at before n) ≡ test (at after n)) (sym e) (sym same ∙ ap test (sym w.here))
+        | inr apart ↦ ap test (sym (w.there s below apart))
+      ]) are
+
+  -- the new cell passes the test
+  pub added : test cell ≡ true → AreSquares after test (bit_or mask (bit square))
+  added passes = record {
+    within = or_lt 12 mask (bit square) are.within (bit-small square lt);
+    bits = λ s below. elim (cases_eq s square) [
+      | inl e ↦ subst (λ (n : ℕ). bit_at (bit_or mask (bit square)) n ≡ bit_if (test (at after n))) (sym e)
+          (bit_at_set_same w16 mask square (omega (arith, lt)) ∙ sym (ap bit_if (ap test w.here ∙ passes)))
+      | inr apart ↦ bit_at_set_other w16 mask square (omega (arith, lt)) s apart ∙ are.bits s below
+          ∙ ap (λ (c : Cell). bit_if (test c)) (sym (w.there s below apart))
+    ];
+  }
+
+  -- it doesn't
+  pub gone : test cell ≡ false → AreSquares after test (bit_and mask (bit_not w16 (bit square)))
+  gone fails = record {
+    within = let le = and_le_l mask (bit_not w16 (bit square)) in let low = are.within in omega (arith, le, low);
+    bits = λ s below. elim (cases_eq s square) [
+      | inl e ↦ subst (λ (n : ℕ). bit_at (bit_and mask (bit_not w16 (bit square))) n ≡ bit_if (test (at after n))) (sym e)
+          (bit_at_clear_same w16 mask square (omega (arith, lt)) ∙ sym (ap bit_if (ap test w.here ∙ fails)))
+      | inr apart ↦ bit_at_clear_other w16 mask square (omega (arith, lt)) s (omega (arith, below)) apart ∙ are.bits s below
+          ∙ ap (λ (c : Cell). bit_if (test c)) (sym (w.there s below apart))
+    ];
+  }
+
+-- ---- all sets
+
+-- the sets with that piece on an empty square
+abbrev pub with_piece : Side → Kind → ℕ → Bitboards → Bitboards
+with_piece Mover Lion k b = record b { own_lion = bit_or b.own_lion (bit k) }
+with_piece Mover Giraffe k b = record b { giraffes = bit_or b.giraffes (bit k) }
+with_piece Mover Elephant k b = record b { elephants = bit_or b.elephants (bit k) }
+with_piece Mover Chick k b = record b { chicks = bit_or b.chicks (bit k) }
+with_piece Mover Hen k b = record b { chicks = bit_or b.chicks (bit k); hens = bit_or b.hens (bit k) }
+with_piece Enemy Lion k b = record b { enemy_lion = bit_or b.enemy_lion (bit k) }
+with_piece Enemy Giraffe k b = record b { giraffes = bit_or b.giraffes (bit k); enemies = bit_or b.enemies (bit k) }
+with_piece Enemy Elephant k b = record b { elephants = bit_or b.elephants (bit k); enemies = bit_or b.enemies (bit k) }
+with_piece Enemy Chick k b = record b { chicks = bit_or b.chicks (bit k); enemies = bit_or b.enemies (bit k) }
+with_piece Enemy Hen k b = record b { chicks = bit_or b.chicks (bit k); hens = bit_or b.hens (bit k); enemies = bit_or b.enemies (bit k) }
+
+module _ (before after : Setup) (square : ℕ) (lt : square < 12) (b : Bitboards) (are : AreBitboards before b) where
+  pub without_piece : IsWith before after square None → (new : Bitboards)
+      → new.own_lion ≡ bit_and b.own_lion (bit_not w16 (bit square))
+      → new.enemy_lion ≡ bit_and b.enemy_lion (bit_not w16 (bit square))
+      → new.chicks ≡ bit_and b.chicks (bit_not w16 (bit square))
+      → new.elephants ≡ bit_and b.elephants (bit_not w16 (bit square))
+      → new.giraffes ≡ bit_and b.giraffes (bit_not w16 (bit square))
+      → new.hens ≡ bit_and b.hens (bit_not w16 (bit square))
+      → new.enemies ≡ bit_and b.enemies (bit_not w16 (bit square))
+      → new.hands ≡ b.hands → AreBitboards after new
+  without_piece w new a i c d e f g h = record {
+    own_lion_is = subst (AreSquares after is_own_lion) (sym a) (gone before after square None lt w is_own_lion b.own_lion are.own_lion_is refl);
+    enemy_lion_is = subst (AreSquares after is_enemy_lion) (sym i) (gone before after square None lt w is_enemy_lion b.enemy_lion are.enemy_lion_is refl);
+    chicks_are = subst (AreSquares after is_chick) (sym c) (gone before after square None lt w is_chick b.chicks are.chicks_are refl);
+    elephants_are = subst (AreSquares after is_elephant) (sym d) (gone before after square None lt w is_elephant b.elephants are.elephants_are refl);
+    giraffes_are = subst (AreSquares after is_giraffe) (sym e) (gone before after square None lt w is_giraffe b.giraffes are.giraffes_are refl);
+    hens_are = subst (AreSquares after is_hen) (sym f) (gone before after square None lt w is_hen b.hens are.hens_are refl);
+    enemies_are = subst (AreSquares after is_enemy) (sym g) (gone before after square None lt w is_enemy b.enemies are.enemies_are refl);
+    hands_are = h ∙ are.hands_are ∙ sym w.hands_stay;
+  }
+
+  module _ (empty : at before square ≡ None) where
+    stays : (cell : Cell) (test : Cell → Bool) (mask : ℕ) → IsWith before after square cell → AreSquares before test mask → test cell ≡ test None
+        → AreSquares after test mask
+    stays cell test mask w is same = kept before after square cell lt w test mask is (same ∙ ap test (sym empty))
+
+    grows : (cell : Cell) (test : Cell → Bool) (mask : ℕ) → IsWith before after square cell → AreSquares before test mask → test cell ≡ true
+        → AreSquares after test (bit_or mask (bit square))
+    grows cell test mask w is passes = added before after square cell lt w test mask is passes
+
+    pub piece_added : (side : Side) (kind : Kind) → IsWith before after square (Some (piece_of side kind)) → AreBitboards after (with_piece side kind square b)
+    piece_added Mover Lion w = record {
+      own_lion_is = grows _ is_own_lion b.own_lion w are.own_lion_is refl;
+      enemy_lion_is = stays _ is_enemy_lion b.enemy_lion w are.enemy_lion_is refl;
+      chicks_are = stays _ is_chick b.chicks w are.chicks_are refl;
+      elephants_are = stays _ is_elephant b.elephants w are.elephants_are refl;
+      giraffes_are = stays _ is_giraffe b.giraffes w are.giraffes_are refl;
+      hens_are = stays _ is_hen b.hens w are.hens_are refl;
+      enemies_are = stays _ is_enemy b.enemies w are.enemies_are refl;
+      hands_are = are.hands_are ∙ sym w.hands_stay;
+    }
+    piece_added Mover Giraffe w = record {
+      own_lion_is = stays _ is_own_lion b.own_lion w are.own_lion_is refl;
+      enemy_lion_is = stays _ is_enemy_lion b.enemy_lion w are.enemy_lion_is refl;
+      chicks_are = stays _ is_chick b.chicks w are.chicks_are refl;
+      elephants_are = stays _ is_elephant b.elephants w are.elephants_are refl;
+      giraffes_are = grows _ is_giraffe b.giraffes w are.giraffes_are refl;
+      hens_are = stays _ is_hen b.hens w are.hens_are refl;
+      enemies_are = stays _ is_enemy b.enemies w are.enemies_are refl;
+      hands_are = are.hands_are ∙ sym w.hands_stay;
+    }
+    piece_added Mover Elephant w = record {
+      own_lion_is = stays _ is_own_lion b.own_lion w are.own_lion_is refl;
+      enemy_lion_is = stays _ is_enemy_lion b.enemy_lion w are.enemy_lion_is refl;
+      chicks_are = stays _ is_chick b.chicks w are.chicks_are refl;
+      elephants_are = grows _ is_elephant b.elephants w are.elephants_are refl;
+      giraffes_are = stays _ is_giraffe b.giraffes w are.giraffes_are refl;
+      hens_are = stays _ is_hen b.hens w are.hens_are refl;
+      enemies_are = stays _ is_enemy b.enemies w are.enemies_are refl;
+      hands_are = are.hands_are ∙ sym w.hands_stay;
+    }
+    piece_added Mover Chick w = record {
+      own_lion_is = stays _ is_own_lion b.own_lion w are.own_lion_is refl;
+      enemy_lion_is = stays _ is_enemy_lion b.enemy_lion w are.enemy_lion_is refl;
+      chicks_are = grows _ is_chick b.chicks w are.chicks_are refl;
+      elephants_are = stays _ is_elephant b.elephants w are.elephants_are refl;
+      giraffes_are = stays _ is_giraffe b.giraffes w are.giraffes_are refl;
+      hens_are = stays _ is_hen b.hens w are.hens_are refl;
+      enemies_are = stays _ is_enemy b.enemies w are.enemies_are refl;
+      hands_are = are.hands_are ∙ sym w.hands_stay;
+    }
+    piece_added Mover Hen w = record {
+      own_lion_is = stays _ is_own_lion b.own_lion w are.own_lion_is refl;
+      enemy_lion_is = stays _ is_enemy_lion b.enemy_lion w are.enemy_lion_is refl;
+      chicks_are = grows _ is_chick b.chicks w are.chicks_are refl;
+      elephants_are = stays _ is_elephant b.elephants w are.elephants_are refl;
+      giraffes_are = stays _ is_giraffe b.giraffes w are.giraffes_are refl;
+      hens_are = grows _ is_hen b.hens w are.hens_are refl;
+      enemies_are = stays _ is_enemy b.enemies w are.enemies_are refl;
+      hands_are = are.hands_are ∙ sym w.hands_stay;
+    }
+    piece_added Enemy Lion w = record {
+      own_lion_is = stays _ is_own_lion b.own_lion w are.own_lion_is refl;
+      enemy_lion_is = grows _ is_enemy_lion b.enemy_lion w are.enemy_lion_is refl;
+      chicks_are = stays _ is_chick b.chicks w are.chicks_are refl;
+      elephants_are = stays _ is_elephant b.elephants w are.elephants_are refl;
+      giraffes_are = stays _ is_giraffe b.giraffes w are.giraffes_are refl;
+      hens_are = stays _ is_hen b.hens w are.hens_are refl;
+      enemies_are = stays _ is_enemy b.enemies w are.enemies_are refl;
+      hands_are = are.hands_are ∙ sym w.hands_stay;
+    }
+    piece_added Enemy Giraffe w = record {
+      own_lion_is = stays _ is_own_lion b.own_lion w are.own_lion_is refl;
+      enemy_lion_is = stays _ is_enemy_lion b.enemy_lion w are.enemy_lion_is refl;
+      chicks_are = stays _ is_chick b.chicks w are.chicks_are refl;
+      elephants_are = stays _ is_elephant b.elephants w are.elephants_are refl;
+      giraffes_are = grows _ is_giraffe b.giraffes w are.giraffes_are refl;
+      hens_are = stays _ is_hen b.hens w are.hens_are refl;
+      enemies_are = grows _ is_enemy b.enemies w are.enemies_are refl;
+      hands_are = are.hands_are ∙ sym w.hands_stay;
+    }
+    piece_added Enemy Elephant w = record {
+      own_lion_is = stays _ is_own_lion b.own_lion w are.own_lion_is refl;
+      enemy_lion_is = stays _ is_enemy_lion b.enemy_lion w are.enemy_lion_is refl;
+      chicks_are = stays _ is_chick b.chicks w are.chicks_are refl;
+      elephants_are = grows _ is_elephant b.elephants w are.elephants_are refl;
+      giraffes_are = stays _ is_giraffe b.giraffes w are.giraffes_are refl;
+      hens_are = stays _ is_hen b.hens w are.hens_are refl;
+      enemies_are = grows _ is_enemy b.enemies w are.enemies_are refl;
+      hands_are = are.hands_are ∙ sym w.hands_stay;
+    }
+    piece_added Enemy Chick w = record {
+      own_lion_is = stays _ is_own_lion b.own_lion w are.own_lion_is refl;
+      enemy_lion_is = stays _ is_enemy_lion b.enemy_lion w are.enemy_lion_is refl;
+      chicks_are = grows _ is_chick b.chicks w are.chicks_are refl;
+      elephants_are = stays _ is_elephant b.elephants w are.elephants_are refl;
+      giraffes_are = stays _ is_giraffe b.giraffes w are.giraffes_are refl;
+      hens_are = stays _ is_hen b.hens w are.hens_are refl;
+      enemies_are = grows _ is_enemy b.enemies w are.enemies_are refl;
+      hands_are = are.hands_are ∙ sym w.hands_stay;
+    }
+    piece_added Enemy Hen w = record {
+      own_lion_is = stays _ is_own_lion b.own_lion w are.own_lion_is refl;
+      enemy_lion_is = stays _ is_enemy_lion b.enemy_lion w are.enemy_lion_is refl;
+      chicks_are = grows _ is_chick b.chicks w are.chicks_are refl;
+      elephants_are = stays _ is_elephant b.elephants w are.elephants_are refl;
+      giraffes_are = stays _ is_giraffe b.giraffes w are.giraffes_are refl;
+      hens_are = grows _ is_hen b.hens w are.hens_are refl;
+      enemies_are = grows _ is_enemy b.enemies w are.enemies_are refl;
+      hands_are = are.hands_are ∙ sym w.hands_stay;
+    }
+
+    -- nothing comes on the empty square
+    pub nothing_added : IsWith before after square None → AreBitboards after b
+    nothing_added w = record {
+      own_lion_is = stays None is_own_lion b.own_lion w are.own_lion_is refl;
+      enemy_lion_is = stays None is_enemy_lion b.enemy_lion w are.enemy_lion_is refl;
+      chicks_are = stays None is_chick b.chicks w are.chicks_are refl;
+      elephants_are = stays None is_elephant b.elephants w are.elephants_are refl;
+      giraffes_are = stays None is_giraffe b.giraffes w are.giraffes_are refl;
+      hens_are = stays None is_hen b.hens w are.hens_are refl;
+      enemies_are = stays None is_enemy b.enemies w are.enemies_are refl;
+      hands_are = are.hands_are ∙ sym w.hands_stay;
+    }
+
+-- ---- a setup with one square changed
+
+abbrev pub with_cell : Setup → ℕ → Cell → Setup
+with_cell s square cell = record s { board = set s.board square cell }
+
+-- a square is changed once more
+pub with_cells : (s : Setup) (square : ℕ) (first second : Cell) → length s.board ≡ 12 → square < 12
+    → IsWith (with_cell s square first) (with_cell s square second) square second
+with_cells s square first second twelve lt = record {
+  here = get_or-set_same s.board square second None (omega (arith, twelve, lt));
+  there = λ k below apart. get_or-set_other s.board square k second None apart ∙ sym (get_or-set_other s.board square k first None apart);
+  hands_stay = refl;
+}
+
+pub with_one : (s : Setup) (square : ℕ) (cell : Cell) → length s.board ≡ 12 → square < 12 → IsWith s (with_cell s square cell) square cell
+with_one s square cell twelve lt = record {
+  here = get_or-set_same s.board square cell None (omega (arith, twelve, lt));
+  there = λ k below apart. get_or-set_other s.board square k cell None apart;
+  hands_stay = refl;
+}
+
+-- other hands
+pub with_hands : (s : Setup) (b : Bitboards) (hands found : Hands) → found ≡ hands → AreBitboards s b
+    → AreBitboards (record s { hands = hands }) (record b { hands = found })
+with_hands s b hands found e are = record {
+  own_lion_is = are.own_lion_is;
+  enemy_lion_is = are.enemy_lion_is;
+  chicks_are = are.chicks_are;
+  elephants_are = are.elephants_are;
+  giraffes_are = are.giraffes_are;
+  hens_are = are.hens_are;
+  enemies_are = are.enemies_are;
+  hands_are = e;
+}

@@ -1,0 +1,89 @@
+-- The numbers and digits of a position that sets of squares show.
+use Rattle.std.proofs.Common.{◌≡◌, ℕ, List, [], ◌∷◌, length, slice_index, ap, sym}
+use Rattle.dob_pieces.specs.declared.hand.Hands.{Hands}
+use Rattle.dob_pieces.specs.declared.piece_set.PieceSet.{PieceSet}
+use Rattle.dob_pieces.specs.declared.setup.Setup.{Setup}
+use Rattle.dob_classes.specs.declared.bits.bitboards.Bitboards.{Bitboards}
+use Rattle.dob_rank.specs.declared.layers.Layer.TheVariants.{Chicks, Elephants, Giraffes}
+use Rattle.dob_rank.specs.declared.masks.Masks.{Masks}
+use Rattle.dob_classes.specs.Bitboards.{IsShownOfSet, AreBitboards, HasOfLayer}
+use Rattle.dob_rank.specs.BoardDigits.{ArePartsOf, AreNumbersOf}
+use Rattle.dob_rank.specs.BoardMasks.{AreMasks}
+use Rattle.dob_rank.specs.Numbers.{order, forms_number, on_board, digits}
+use Rattle.dob_rank.proofs.Boards.BoardMasks.{numbers_are, AreNumbers, three}
+
+-- a position that is shown, by the masks and the numbers found
+pub record AreFound (set : PieceSet) (bits : Bitboards) (masks : Masks) (numbers : List ℕ) (setup : Setup) : Type 0 where
+  pub shown : IsShownOfSet set setup bits
+  pub masks_are : AreMasks setup.board masks
+  pub numbers_are : numbers ≡ on_board setup
+  pub counted : AreNumbers setup numbers
+
+pub are_found : (set : PieceSet) (bits : Bitboards) (masks : Masks) (numbers : List ℕ) (setup : Setup) → IsShownOfSet set setup bits
+    → ((s : Setup) → AreBitboards s bits → length s.board ≡ 12 → AreMasks s.board masks)
+    → ((s : Setup) → AreMasks s.board masks → numbers ≡ on_board s) → AreFound set bits masks numbers setup
+are_found set bits masks numbers setup shown layers counts =
+    let are = layers setup shown.squares shown.position.legal.squares in
+    record {
+      shown = shown;
+      masks_are = are;
+      numbers_are = counts setup are;
+      counted = numbers_are setup numbers shown.position.legal (counts setup are);
+    }
+
+module _ (set : PieceSet) (bits : Bitboards) (masks : Masks) (numbers : List ℕ) (setup : Setup) (found : AreFound set bits masks numbers setup) where
+  pub chicks_found : HasOfLayer Chicks masks.chicks (slice_index numbers 0) setup bits
+  chicks_found = record {
+    long = found.shown.position.legal.squares;
+    squares = found.shown.squares;
+    mask_is = found.masks_are.chicks;
+    pieces_are = sym found.counted.chicks_are;
+  }
+
+  pub elephants_found : HasOfLayer Elephants masks.elephants (slice_index numbers 1) setup bits
+  elephants_found = record {
+    long = found.shown.position.legal.squares;
+    squares = found.shown.squares;
+    mask_is = found.masks_are.elephants;
+    pieces_are = sym found.counted.elephants_are;
+  }
+
+  pub giraffes_found : HasOfLayer Giraffes masks.giraffes (slice_index numbers 2) setup bits
+  giraffes_found = record {
+    long = found.shown.position.legal.squares;
+    squares = found.shown.squares;
+    mask_is = found.masks_are.giraffes;
+    pieces_are = sym found.counted.giraffes_are;
+  }
+
+  pub parts_found : (first second third : ℕ) → first ≡ forms_number (order Chicks) setup.board → second ≡ forms_number (order Elephants) setup.board
+      → third ≡ forms_number (order Giraffes) setup.board → ArePartsOf bits.hands.mover masks numbers (first ∷ second ∷ third ∷ []) setup
+  parts_found first second third f s t = record {
+    legal = found.shown.position.legal;
+    hand_is = ap (λ (h : Hands). h.mover) found.shown.squares.hands_are;
+    masks_are = found.masks_are;
+    numbers_are = found.numbers_are;
+    forms_are = three first second third _ _ _ f s t;
+  }
+
+  pub numbers_found : (all : List ℕ) → all ≡ digits setup → AreNumbersOf set numbers all setup
+  numbers_found all e = record { position = found.shown.position; numbers_are = found.numbers_are; digits_are = e }
+
+-- by what the code's calls say
+module _ (set : PieceSet) (bits : Bitboards) (masks : Masks) (numbers : List ℕ)
+    (layers : (s : Setup) → AreBitboards s bits → length s.board ≡ 12 → AreMasks s.board masks)
+    (counts : (s : Setup) → AreMasks s.board masks → numbers ≡ on_board s) (first second third : ℕ)
+    (chicks : (s : Setup) → HasOfLayer Chicks masks.chicks (slice_index numbers 0) s bits → first ≡ forms_number (order Chicks) s.board)
+    (elephants : (s : Setup) → HasOfLayer Elephants masks.elephants (slice_index numbers 1) s bits → second ≡ forms_number (order Elephants) s.board)
+    (giraffes : (s : Setup) → HasOfLayer Giraffes masks.giraffes (slice_index numbers 2) s bits → third ≡ forms_number (order Giraffes) s.board) where
+  pub parts_shown : (setup : Setup) → IsShownOfSet set setup bits → ArePartsOf bits.hands.mover masks numbers (first ∷ second ∷ third ∷ []) setup
+  parts_shown setup shown =
+      let found = are_found set bits masks numbers setup shown layers counts in
+      parts_found set bits masks numbers setup found first second third (chicks setup (chicks_found set bits masks numbers setup found))
+      (elephants setup (elephants_found set bits masks numbers setup found)) (giraffes setup (giraffes_found set bits masks numbers setup found))
+
+  pub numbers_shown : (all : List ℕ)
+      → ((s : Setup) → ArePartsOf bits.hands.mover masks numbers (first ∷ second ∷ third ∷ []) s → all ≡ digits s)
+      → (setup : Setup) → IsShownOfSet set setup bits → AreNumbersOf set numbers all setup
+  numbers_shown all told setup shown =
+      numbers_found set bits masks numbers setup (are_found set bits masks numbers setup shown layers counts) all (told setup (parts_shown setup shown))

@@ -1,0 +1,117 @@
+-- Sets of squares of a setup: its layers as masks, and the form of a piece by the sets that have its square.
+use Rattle.std.proofs.Common.{◌≡◌, ℕ, zero, suc, ◌+◌, ◌-◌, ◌*◌, ◌/◌, ◌^◌, ◌<◌, ◌==◌, bit_and}
+use Rattle.std.proofs.Common.{List, [], ◌∷◌, length, map, slice_index_or, get_or, None, refl, sym, ap, ◌∙◌, subst, inl, inr, arith}
+use Rattle.std.specs.Int.{bit_at}
+use Rattle.std.proofs.lemmas.Bool.{cases_eq, eq-eqb, ne_eqb}
+use Rattle.std.proofs.lemmas.Nat.Bits.{bit_at-suc}
+use Rattle.dob_pieces.specs.declared.setup.Setup.{Setup}
+use Rattle.dob_pieces.specs.Masks.{AreSquares}
+use Rattle.dob_pieces.specs.Setups.{Cell, at}
+use Rattle.dob_pieces.proofs.MaskBits.{bit_if}
+use Rattle.dob_classes.specs.declared.bits.bitboards.Bitboards.{Bitboards}
+use Rattle.dob_rank.specs.declared.layers.Layer.{Layer}
+use Rattle.dob_rank.specs.declared.layers.Layer.TheVariants.{OwnLion, EnemyLion, Chicks, Elephants, Giraffes, Empty}
+use Rattle.dob_classes.specs.Bitboards.{is_of, is_hen, is_enemy, AreBitboards}
+use Rattle.dob_rank.specs.Masks.{layer_mask}
+use Rattle.dob_rank.specs.Numbers.{order, layer, count}
+use Rattle.dob_rank.specs.Order.{form}
+use Rattle.dob_rank.proofs.Boards.Choices.{count_same, count_other}
+use Rattle.dob_rank.proofs.Boards.EachCell.{of_cell}
+use Rattle.dob_rank.proofs.Boards.Planes.{first_square, second_square, lowest, first_found, second_found}
+
+-- the lowest bit of a number, and the others
+halves : (n : ℕ) → n ≡ bit_at n 0 + 2 * (n / 2)
+halves n = omega arith
+
+-- a number whose bits are those of a layer's cells is the layer's mask
+bits_mask : (t m : ℕ) (cells : List Cell) → m < 2 ^ length cells
+    → ((k : ℕ) → k < length cells → bit_at m k ≡ bit_if (layer (slice_index_or cells k None) == t)) → m ≡ layer_mask t (map layer cells)
+bits_mask t m [] lt bits = omega (arith, lt)
+bits_mask t m (cell ∷ cells) lt bits =
+    let two : 2 ^ suc (length cells) ≡ 2 * 2 ^ length cells = omega arith in
+    let rest = bits_mask t (m / 2) cells (omega (arith, lt, two))
+    (λ k below. sym (bit_at-suc m k) ∙ bits (suc k) (omega (arith, below))) in
+    halves m ∙ ap (λ (n : ℕ). n + 2 * (m / 2)) (bits zero (omega arith)) ∙ ap (λ (n : ℕ). bit_if (layer cell == t) + 2 * n) rest
+
+pub layer_of_squares : (of_layer : Layer) (setup : Setup) (mask : ℕ) → length setup.board ≡ 12 → AreSquares setup (is_of of_layer) mask
+    → mask ≡ layer_mask (order of_layer) (map layer setup.board)
+layer_of_squares of_layer setup mask twelve are =
+    bits_mask (order of_layer) mask setup.board (rw twelve are.within) (λ k lt. are.bits k (rw twelve at lt))
+
+-- ---- the cells on the first and the second square of a layer are of it
+
+first_layer : (t : ℕ) (cells : List Cell) → 0 < count t (map layer cells) → layer (get_or cells (first_square t (map layer cells)) None) ≡ t
+first_layer t [] h = absurd (omega arith)
+first_layer t (cell ∷ cells) h = elim (cases_eq (layer cell) t) [
+  | inl e ↦ ap (λ (k : ℕ). layer (get_or (cell ∷ cells) k None)) (first_at e) ∙ e
+  | inr n ↦ ap (λ (k : ℕ). layer (get_or (cell ∷ cells) k None)) (first_after n)
+      ∙ first_layer t cells (subst (λ (x : ℕ). 0 < x) (count_other t (layer cell) (map layer cells) n) h)
+]
+  where
+    first_at : layer cell ≡ t → first_square t (layer cell ∷ map layer cells) ≡ 0
+    first_at e = rw (eq-eqb (layer cell) t e) refl
+
+    first_after : (layer cell ≡ t → ⊥) → first_square t (layer cell ∷ map layer cells) ≡ suc (first_square t (map layer cells))
+    first_after n = rw (ne_eqb (layer cell) t n) refl
+
+second_layer : (t : ℕ) (cells : List Cell) → count t (map layer cells) ≡ 2 → layer (get_or cells (second_square t (map layer cells)) None) ≡ t
+second_layer t [] h = absurd (omega arith)
+second_layer t (cell ∷ cells) h = elim (cases_eq (layer cell) t) [
+  | inl e ↦ (let more : suc (count t (map layer cells)) ≡ 2 = sym (ap (λ (x : ℕ). count t (x ∷ map layer cells)) e ∙ count_same t (map layer cells)) ∙ h in
+      ap (λ (k : ℕ). layer (get_or (cell ∷ cells) k None)) (second_at e) ∙ first_layer t cells (omega (arith, more)))
+  | inr n ↦ ap (λ (k : ℕ). layer (get_or (cell ∷ cells) k None)) (second_after n)
+      ∙ second_layer t cells (sym (count_other t (layer cell) (map layer cells) n) ∙ h)
+]
+  where
+    second_at : layer cell ≡ t → second_square t (layer cell ∷ map layer cells) ≡ suc (first_square t (map layer cells))
+    second_at e = rw (eq-eqb (layer cell) t e) refl
+
+    second_after : (layer cell ≡ t → ⊥) → second_square t (layer cell ∷ map layer cells) ≡ suc (second_square t (map layer cells))
+    second_after n = rw (ne_eqb (layer cell) t n) refl
+
+pub first_of_layer : (t : ℕ) (cells : List Cell) (mask : ℕ) → length cells ≡ 12 → mask ≡ layer_mask t (map layer cells) → 0 < count t (map layer cells)
+    → layer (get_or cells (lowest mask) None) ≡ t
+first_of_layer t cells mask long is some =
+    ap (λ (k : ℕ). layer (get_or cells k None)) (first_found t cells mask long is some) ∙ first_layer t cells some
+
+pub second_of_layer : (t : ℕ) (cells : List Cell) (mask less : ℕ) → length cells ≡ 12 → mask ≡ layer_mask t (map layer cells) → less ≡ mask - 1
+    → count t (map layer cells) ≡ 2 → layer (get_or cells (lowest (bit_and mask less)) None) ≡ t
+second_of_layer t cells mask less long is less_is two =
+    ap (λ (k : ℕ). layer (get_or cells k None)) (second_found t cells mask less long is less_is two) ∙ second_layer t cells two
+
+-- ---- the form of a cell of a known layer
+
+no_lion : order OwnLion ≡ order Chicks → ⊥
+no_lion e = omega (arith, e)
+
+no_enemy_lion : order EnemyLion ≡ order Chicks → ⊥
+no_enemy_lion e = omega (arith, e)
+
+no_elephant : order Elephants ≡ order Chicks → ⊥
+no_elephant e = omega (arith, e)
+
+no_giraffe : order Giraffes ≡ order Chicks → ⊥
+no_giraffe e = omega (arith, e)
+
+nothing : order Empty ≡ order Chicks → ⊥
+nothing e = omega (arith, e)
+
+chick_form : (cell : Cell) → layer cell ≡ order Chicks → 2 * bit_if (is_enemy cell) + bit_if (is_hen cell) ≡ form cell
+chick_form = of_cell (λ cell. layer cell ≡ order Chicks → 2 * bit_if (is_enemy cell) + bit_if (is_hen cell) ≡ form cell)
+    (λ e. absurd (nothing e)) (λ e. absurd (no_lion e), λ e. absurd (no_giraffe e), λ e. absurd (no_elephant e), λ e. refl, λ e. refl)
+    (λ e. absurd (no_enemy_lion e), λ e. absurd (no_giraffe e), λ e. absurd (no_elephant e), λ e. refl, λ e. refl)
+
+other_form : (cell : Cell) → (layer cell ≡ order Chicks → ⊥) → bit_if (is_enemy cell) ≡ form cell
+other_form = of_cell (λ cell. (layer cell ≡ order Chicks → ⊥) → bit_if (is_enemy cell) ≡ form cell)
+    (λ n. refl) (λ n. refl, λ n. refl, λ n. refl, λ n. absurd (n refl), λ n. absurd (n refl))
+    (λ n. refl, λ n. refl, λ n. refl, λ n. absurd (n refl), λ n. absurd (n refl))
+
+pub chick_found : (setup : Setup) (bits : Bitboards) (square enemy hen : ℕ) → square < 12 → AreBitboards setup bits → layer (at setup square) ≡ order Chicks
+    → enemy ≡ bit_at bits.enemies square → hen ≡ bit_at bits.hens square → 2 * enemy + hen ≡ form (at setup square)
+chick_found setup bits square enemy hen lt are is e h =
+    ap (λ (n : ℕ). 2 * n + hen) (e ∙ are.enemies_are.bits square lt)
+    ∙ ap (λ (n : ℕ). 2 * bit_if (is_enemy (at setup square)) + n) (h ∙ are.hens_are.bits square lt) ∙ chick_form (at setup square) is
+
+pub other_found : (setup : Setup) (bits : Bitboards) (square enemy : ℕ) → square < 12 → AreBitboards setup bits → (layer (at setup square) ≡ order Chicks → ⊥)
+    → enemy ≡ bit_at bits.enemies square → enemy ≡ form (at setup square)
+other_found setup bits square enemy lt are apart e = e ∙ are.enemies_are.bits square lt ∙ other_form (at setup square) apart

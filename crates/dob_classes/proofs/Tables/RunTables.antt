@@ -1,0 +1,319 @@
+-- The tables of runs of a family and of their marks, as they grow and as they are read.
+use Rattle.std.proofs.Common.{◌≡◌, ℕ, ◌+◌, ◌*◌, ◌%◌, ◌^◌, ◌<◌, ◌≤◌, Bool, true, false, List, [], ◌∷◌, ◌++◌, length, slice_index_or}
+use Rattle.std.proofs.Common.{refl, sym, ap, ◌∙◌, subst, inl, inr, arith}
+use Rattle.std.proofs.lemmas.Bool.{cases_lt}
+use Rattle.std.proofs.lemmas.List.{length-append, length_push, get_or_append_left, get_or_push}
+use Rattle.std.proofs.Math.Nat.{mul-le-mul_right}
+use Rattle.dob_pieces.specs.declared.profile.Family.{Family}
+use Rattle.dob_classes.specs.declared.block_classes.BlockClasses.{BlockClasses}
+use Rattle.dob_classes.specs.declared.runs.Run.{Run}
+use Rattle.dob_rank.specs.declared.runs.RunDigits.{RunDigits}
+use Rattle.dob_rank.specs.declared.runs.RunKind.{RunKind}
+use Rattle.dob_rank.specs.declared.runs.RunKind.TheVariants.{First, Later, Mixed}
+use Rattle.dob_classes.specs.declared.stretch_tables.StretchTable.{StretchTable}
+use Rattle.dob_rank.specs.Numbers.{product, digits_of, block_bases, block_size, start_of}
+use Rattle.dob_rank.specs.Marks.{marks_below}
+use Rattle.dob_rank.specs.Families.{is_marked}
+use Rattle.dob_rank.specs.Runs.{runs_in, run_size, run_start, run_kind, run_bases, run_digits, lion_pairs}
+use Rattle.dob_classes.specs.FamilyRuns.{run_size_in, local_marks_in, classes_before, IsInRunOf}
+use Rattle.dob_classes.specs.RunTables.{IsRun, AreRuns, IsTable, HasTable}
+use Rattle.dob_rank.proofs.Positions.Blocks.{block_size-small}
+use Rattle.dob_rank.proofs.Marked.Words.{marks_below-le, marks_below-upto}
+use Rattle.dob_rank.proofs.InRuns.RunPlaces.{block_size-runs, run_start-is}
+use Rattle.dob_rank.proofs.InRuns.RunMarks.{start_small}
+use Rattle.dob_classes.proofs.MarksOfRuns.FamilyMarks.{first_mark_in, later_mark_in, first_marks, later_marks, classes_before_next, IsAlike, alike_by_lions}
+
+-- ---- how many marks a run has
+
+pub same_upto : (n : ℕ) → n ≤ n
+same_upto n = omega arith
+
+pub count_first : (family : Family) (block run size : ℕ) → block < product (block_bases family.set) → run < runs_in family.set block
+    → size ≡ run_size_in family block run → run_kind (run % lion_pairs) ≡ First
+    → marks_below (is_marked family) (run_start family.set block run) + size ≡ marks_below (is_marked family) (run_start family.set block (run + 1))
+count_first family block run size within below is kind =
+    ap (λ n. marks_below (is_marked family) (run_start family.set block run) + n)
+    (is ∙ sym (first_marks family block run (run_size_in family block run) within below (same_upto (run_size_in family block run)) kind))
+    ∙ classes_before_next family block run within below
+
+pub count_later : (family : Family) (block run : ℕ) → block < product (block_bases family.set) → run < runs_in family.set block
+    → run_kind (run % lion_pairs) ≡ Later
+    → marks_below (is_marked family) (run_start family.set block run) + 0 ≡ marks_below (is_marked family) (run_start family.set block (run + 1))
+count_later family block run within below kind =
+    ap (λ n. marks_below (is_marked family) (run_start family.set block run) + n)
+    (sym (later_marks family block run (run_size_in family block run) within below (same_upto (run_size_in family block run)) kind))
+    ∙ classes_before_next family block run within below
+
+-- what a table says of each run of its lions
+pub record IsTableFor (family : Family) (block run : ℕ) (table : StretchTable) : Type 0 where
+  pub size_is : run_size_in table.family table.block table.run ≡ run_size_in family block run
+  pub count_is : table.count ≡ marks_below (local_marks_in family block run) (run_size_in family block run)
+  pub mark_is : (number : ℕ) → number < run_size_in family block run
+      → local_marks_in table.family table.block table.run number ≡ local_marks_in family block run number
+  pub before_is : (number : ℕ) → number ≤ run_size_in family block run
+      → marks_below (local_marks_in table.family table.block table.run) number ≡ marks_below (local_marks_in family block run) number
+
+pub table_for : (family : Family) (block run number : ℕ) (tables : List StretchTable) (table : StretchTable) → block < product (block_bases family.set)
+    → run < runs_in family.set block → HasTable family block run number tables → run_kind (run % lion_pairs) ≡ Mixed
+    → table ≡ slice_index_or tables number table → IsTableFor family block run table
+table_for family block run number tables table within below has kind read =
+    let is : IsTable family block (run % lion_pairs) table = subst (IsTable family block (run % lion_pairs)) (sym read) ((has kind).1 table) in
+    let alike : IsAlike family block run = alike_by_lions family block run within below kind in
+    let size : run_size_in table.family table.block table.run ≡ run_size_in family block run
+    = ap (λ f. run_size_in f table.block table.run) is.family_is ∙ ap (λ b. run_size_in family b table.run) is.block_is
+    ∙ ap (λ r. run_size_in family block r) is.run_is ∙ alike.size_is in
+    let marks : (n : ℕ) → n ≤ run_size_in family block run
+    → marks_below (local_marks_in table.family table.block table.run) n ≡ marks_below (local_marks_in family block run) n
+    = λ n upto. ap (λ f. marks_below (local_marks_in f table.block table.run) n) is.family_is
+    ∙ ap (λ b. marks_below (local_marks_in family b table.run) n) is.block_is ∙ ap (λ r. marks_below (local_marks_in family block r) n) is.run_is
+    ∙ alike.before_is n upto in
+    record {
+      size_is = size;
+      count_is = table.counted ∙ ap (marks_below (local_marks_in table.family table.block table.run)) size
+          ∙ marks (run_size_in family block run) (same_upto (run_size_in family block run));
+      mark_is = λ n low. ap (λ f. local_marks_in f table.block table.run n) is.family_is ∙ ap (λ b. local_marks_in family b table.run n) is.block_is
+          ∙ ap (λ r. local_marks_in family block r n) is.run_is ∙ alike.mark_is n low;
+      before_is = marks;
+    }
+
+pub count_mixed : (family : Family) (block run number : ℕ) (tables : List StretchTable) (table : StretchTable)
+    → block < product (block_bases family.set) → run < runs_in family.set block → HasTable family block run number tables
+    → run_kind (run % lion_pairs) ≡ Mixed → table ≡ slice_index_or tables number table
+    → marks_below (is_marked family) (run_start family.set block run) + table.count ≡ marks_below (is_marked family) (run_start family.set block (run + 1))
+count_mixed family block run number tables table within below has kind read =
+    ap (λ n. marks_below (is_marked family) (run_start family.set block run) + n) (table_for family block run number tables table within below has kind read).count_is
+    ∙ classes_before_next family block run within below
+
+-- ---- the tables of marks
+
+-- a table stays where it is when more are added
+HasTable-more : (family : Family) (block run number : ℕ) (tables more : List StretchTable) → HasTable family block run number tables →
+    HasTable family block run number (tables ++ more)
+HasTable-more family block run number tables more has kind =
+    let old = has kind in (
+      (let long = length-append tables more in let inside = old.0 in omega (arith, long, inside)),
+      λ other. subst (IsTable family block (run % lion_pairs)) (sym (get_or_append_left tables more other number old.0)) (old.1 other),
+    )
+
+pub AreRuns-more : (family : Family) (block count : ℕ) (runs : List Run) (tables news : List StretchTable) (table : StretchTable) → news ≡ tables ++ table ∷ [] →
+    AreRuns family block count runs tables → AreRuns family block count runs news
+AreRuns-more family block count runs tables news table grown are = record {
+  long = are.long;
+  each = λ run other below.
+      (let is = are.each run other below in
+      record {
+        before_is = is.before_is;
+        kind_is = is.kind_is;
+        digits_are = is.digits_are;
+        table_is = subst (HasTable family block run (slice_index_or runs run other).table) (sym grown)
+            (HasTable-more family block run (slice_index_or runs run other).table tables (table ∷ []) is.table_is);
+      });
+}
+
+-- the table just made of the first run of its lions
+pub HasTable-new : (family : Family) (block run number : ℕ) (tables news : List StretchTable) (table : StretchTable) → run < lion_pairs → number ≡ length tables →
+    news ≡ tables ++ table ∷ [] → table.family ≡ family → table.block ≡ block → table.run ≡ run → HasTable family block run number news
+HasTable-new family block run number tables news table first at grown family_is block_is run_is kind =
+    let long = length_push tables table in
+    let lions : run ≡ run % lion_pairs = omega (arith, first) in (
+      subst (λ (ts : List StretchTable). number < length ts) (sym grown) (omega (arith, at, long)),
+      λ other. subst (λ (ts : List StretchTable). IsTable family block (run % lion_pairs) (slice_index_or ts number other)) (sym grown)
+          (subst (IsTable family block (run % lion_pairs)) (sym (get_or_push tables table other number (sym at)))
+          (record { family_is = family_is; block_is = block_is; run_is = run_is ∙ lions })),
+    )
+
+-- and that of a later one is the same
+pub HasTable-again : (family : Family) (block run : ℕ) (runs : List Run) (tables : List StretchTable) (entry : Run) → AreRuns family block run runs tables →
+    lion_pairs ≤ run → entry ≡ slice_index_or runs (run % lion_pairs) entry → HasTable family block run entry.table tables
+HasTable-again family block run runs tables entry are later read kind =
+    let same : run % lion_pairs % lion_pairs ≡ run % lion_pairs = omega arith in
+    let is : IsRun family block (run % lion_pairs) tables entry =
+    subst (IsRun family block (run % lion_pairs) tables) (sym read) (are.each (run % lion_pairs) entry (omega (arith, later))) in
+    let found = is.table_is (ap run_kind same ∙ kind) in
+    (found.0, λ other. subst (λ n. IsTable family block n (slice_index_or tables entry.table other)) same (found.1 other))
+
+-- ---- the entries of runs
+
+abbrev pub make_run : ℕ → ℕ → RunKind → RunDigits → Run
+make_run before table kind digits = record { before = before; table = table; kind = kind; digits = digits }
+
+-- one more run
+pub AreRuns-push : (family : Family) (block run before table : ℕ) (kind : RunKind) (digits : RunDigits) (runs news : List Run) (tables : List StretchTable) →
+    AreRuns family block run runs tables → before ≡ marks_below (is_marked family) (run_start family.set block run) → kind ≡ run_kind (run % lion_pairs) →
+    run_digits digits ≡ digits_of (run_bases family.set (digits_of (block_bases family.set) block)) run →
+    HasTable family block run table tables → news ≡ runs ++ make_run before table kind digits ∷ [] → AreRuns family block (run + 1) news tables
+AreRuns-push family block run before table kind digits runs news tables are before_is kind_is digits_are has news_are =
+    subst (λ rs. AreRuns family block (run + 1) rs tables) (sym news_are) (record {
+      long = length_push runs (make_run before table kind digits) ∙ ap (λ n. n + 1) are.long;
+      each = λ k other below. elim (cases_lt k run) [
+        | inl earlier ↦ subst (IsRun family block k tables)
+            (sym (get_or_append_left runs (make_run before table kind digits ∷ []) other k (let long = are.long in omega arith)))
+            (are.each k other earlier)
+        | inr later ↦
+            let same : k ≡ run = omega arith in
+            subst (λ n. IsRun family block n tables (slice_index_or (runs ++ make_run before table kind digits ∷ []) n other)) (sym same)
+            (subst (IsRun family block run tables) (sym (get_or_push runs (make_run before table kind digits) other run are.long))
+            (record { before_is = before_is; kind_is = kind_is; digits_are = digits_are; table_is = has }))
+      ];
+    })
+
+pub AreRuns-none : (family : Family) (block : ℕ) (runs : List Run) (tables : List StretchTable) → runs ≡ [] → AreRuns family block 0 runs tables
+AreRuns-none family block runs tables none = record { long = ap length none; each = λ run other below. absurd (omega arith) }
+
+-- ---- bounds
+
+pub marks_small : (family : Family) (block run : ℕ) → block < product (block_bases family.set) → run ≤ runs_in family.set block
+    → marks_below (is_marked family) (run_start family.set block run) ≤ 2 ^ 42
+marks_small family block run within upto =
+    let marks = marks_below-le (is_marked family) (run_start family.set block run) in
+    let start = run_start-is family.set block run in
+    let first = start_small family.set block (omega (arith, within)) in
+    let whole = block_size-runs family.set block in
+    let times : run * run_size family.set block ≤ runs_in family.set block * run_size family.set block = mul-le-mul_right (run_size family.set block) upto in
+    let size = block_size-small family.set block within in
+    bounded (marks_below (is_marked family) (run_start family.set block run)) (run_start family.set block run) (start_of family.set block)
+    (run * run_size family.set block) (runs_in family.set block * run_size family.set block) (block_size family.set block) marks start first times whole size
+  where
+    bounded : (marks at start run all block : ℕ) → marks ≤ at → at ≡ start + run → start ≤ 27 * 2 ^ 36 → run ≤ all → block ≡ all → block ≤ 2 ^ 36 →
+        marks ≤ 2 ^ 42
+    bounded marks at start run all block a b c d e f = omega arith
+
+-- so are those before each position of a run
+pub classes_before-small : (family : Family) (block run number : ℕ) → IsInRunOf family block run number → classes_before family block run number ≤ 2 ^ 42
+classes_before-small family block run number at =
+    let run_below = at.run_below in
+    let low = at.number_below in
+    let rise = marks_below-upto (local_marks_in family block run) number (run_size_in family block run) (omega (arith, low)) in
+    let next = classes_before_next family block run at.block_below at.run_below in
+    let few = marks_small family block (run + 1) at.block_below (omega (arith, run_below)) in
+    omega (arith, rise, next, few)
+
+-- ---- what the tables say of a position of a run
+
+pub record IsThere (family : Family) (block run number : ℕ) (tables : List StretchTable) (entry : Run) : Type 0 where
+  pub in_run : IsInRunOf family block run number
+  pub entry_is : IsRun family block run tables entry
+
+pub entry_in : (block : BlockClasses) (run : ℕ) (entry : Run) → run < runs_in block.family.set block.number
+    → entry ≡ slice_index_or block.runs.items run entry → IsRun block.family block.number run block.mixed.items entry
+entry_in block run entry below read =
+    subst (IsRun block.family block.number run block.mixed.items) (sym read)
+    (block.table.each run entry (subst (λ n. run < n) (sym block.whole) below))
+
+pub there_in : (block : BlockClasses) (run number : ℕ) (entry : Run) → run < runs_in block.family.set block.number
+    → number < run_size_in block.family block.number run → entry ≡ slice_index_or block.runs.items run entry
+    → IsThere block.family block.number run number block.mixed.items entry
+there_in block run number entry run_below number_below read = record {
+  in_run = record { block_below = block.within; run_below = run_below; number_below = number_below };
+  entry_is = entry_in block run entry run_below read;
+}
+
+-- its mark, and how many there are before it
+pub record IsFoundIn (family : Family) (block run number : ℕ) (on : Bool) (before : ℕ) : Type 0 where
+  pub mark_is : on ≡ local_marks_in family block run number
+  pub before_is : before ≡ classes_before family block run number
+  pub few : before ≤ 2 ^ 42
+
+found_by : (family : Family) (block run number marks before : ℕ) (on : Bool) → IsInRunOf family block run number
+    → before ≡ marks_below (is_marked family) (run_start family.set block run) → on ≡ local_marks_in family block run number
+    → marks ≡ marks_below (local_marks_in family block run) number → IsFoundIn family block run number on (before + marks)
+found_by family block run number marks before on at before_is on_is marks_are =
+    let whole : before + marks ≡ classes_before family block run number = ap (λ n. n + marks) before_is
+    ∙ ap (λ n. marks_below (is_marked family) (run_start family.set block run) + n) marks_are in
+    record { mark_is = on_is; before_is = whole; few = (let small = classes_before-small family block run number at in omega (arith, whole, small)) }
+
+pub first_found_in : (family : Family) (block run number : ℕ) (tables : List StretchTable) (entry : Run)
+    → IsThere family block run number tables entry → run_kind (run % lion_pairs) ≡ First → IsFoundIn family block run number true (entry.before + number)
+first_found_in family block run number tables entry at kind =
+    let in_run = at.in_run in
+    let low = in_run.number_below in
+    found_by family block run number number entry.before true in_run at.entry_is.before_is (sym (first_mark_in family block run number in_run kind))
+    (sym (first_marks family block run number in_run.block_below in_run.run_below (omega (arith, low)) kind))
+
+pub later_found : (family : Family) (block run number : ℕ) (tables : List StretchTable) (entry : Run)
+    → IsThere family block run number tables entry → run_kind (run % lion_pairs) ≡ Later → IsFoundIn family block run number false entry.before
+later_found family block run number tables entry at kind =
+    let in_run = at.in_run in
+    let low = in_run.number_below in
+    subst (IsFoundIn family block run number false) (none_more entry.before)
+    (found_by family block run number 0 entry.before false in_run at.entry_is.before_is (sym (later_mark_in family block run number in_run kind))
+    (sym (later_marks family block run number in_run.block_below in_run.run_below (omega (arith, low)) kind)))
+  where
+    none_more : (n : ℕ) → n + 0 ≡ n
+    none_more n = omega arith
+
+-- of a run whose table is read
+pub read_for : (family : Family) (block run number : ℕ) (tables : List StretchTable) (entry : Run) (table : StretchTable)
+    → IsThere family block run number tables entry → run_kind (run % lion_pairs) ≡ Mixed → table ≡ slice_index_or tables entry.table table
+    → IsTableFor family block run table
+read_for family block run number tables entry table at kind read =
+    table_for family block run entry.table tables table at.in_run.block_below at.in_run.run_below at.entry_is.table_is kind read
+
+pub table_number : (family : Family) (block run number : ℕ) (tables : List StretchTable) (entry : Run) (table : StretchTable)
+    → IsThere family block run number tables entry → run_kind (run % lion_pairs) ≡ Mixed → table ≡ slice_index_or tables entry.table table
+    → number < run_size_in table.family table.block table.run
+table_number family block run number tables entry table at kind read =
+    subst (λ n. number < n) (sym (read_for family block run number tables entry table at kind read).size_is) at.in_run.number_below
+
+pub mixed_found : (family : Family) (block run number : ℕ) (tables : List StretchTable) (entry : Run) (table : StretchTable) (on : Bool) (marks : ℕ)
+    → IsThere family block run number tables entry → run_kind (run % lion_pairs) ≡ Mixed → table ≡ slice_index_or tables entry.table table
+    → on ≡ local_marks_in table.family table.block table.run number → marks ≡ marks_below (local_marks_in table.family table.block table.run) number
+    → IsFoundIn family block run number on (entry.before + marks)
+mixed_found family block run number tables entry table on marks at kind read on_is marks_are =
+    let by = read_for family block run number tables entry table at kind read in
+    let in_run = at.in_run in
+    let low = in_run.number_below in
+    found_by family block run number marks entry.before on in_run at.entry_is.before_is (on_is ∙ by.mark_is number low)
+    (marks_are ∙ by.before_is number (omega (arith, low)))
+
+-- ---- the representative of a number
+
+-- the number of the run's representative before which there are so many in the run
+pub record IsNumberLeft (family : Family) (block run number left : ℕ) : Type 0 where
+  pub number_below : number < run_size_in family block run
+  pub mark_is : local_marks_in family block run number ≡ true
+  pub left_is : marks_below (local_marks_in family block run) number ≡ left
+
+pub first_left : (family : Family) (block run left : ℕ) → block < product (block_bases family.set) → run < runs_in family.set block
+    → run_kind (run % lion_pairs) ≡ First
+    → marks_below (is_marked family) (run_start family.set block run) + left < marks_below (is_marked family) (run_start family.set block (run + 1))
+    → IsNumberLeft family block run left left
+first_left family block run left within below kind fits =
+    let all = count_first family block run (run_size_in family block run) within below refl kind in
+    let low : left < run_size_in family block run = omega (arith, all, fits) in
+    record {
+      number_below = low;
+      mark_is = first_mark_in family block run left (record { block_below = within; run_below = below; number_below = low }) kind;
+      left_is = first_marks family block run left within below (omega (arith, low)) kind;
+    }
+
+-- none is left where the lions say later
+pub none_left : (family : Family) (block run left : ℕ) → block < product (block_bases family.set) → run < runs_in family.set block
+    → run_kind (run % lion_pairs) ≡ Later
+    → marks_below (is_marked family) (run_start family.set block run) + left < marks_below (is_marked family) (run_start family.set block (run + 1)) → ⊥
+none_left family block run left within below kind fits =
+    let all = count_later family block run within below kind in
+    omega (arith, all, fits)
+
+pub table_left : (family : Family) (block run left number : ℕ) (tables : List StretchTable) (table : StretchTable)
+    → block < product (block_bases family.set) → run < runs_in family.set block → HasTable family block run number tables
+    → run_kind (run % lion_pairs) ≡ Mixed → table ≡ slice_index_or tables number table
+    → marks_below (is_marked family) (run_start family.set block run) + left < marks_below (is_marked family) (run_start family.set block (run + 1))
+    → left < table.count
+table_left family block run left number tables table within below has kind read fits =
+    let all = count_mixed family block run number tables table within below has kind read in
+    omega (arith, all, fits)
+
+pub mixed_left : (family : Family) (block run left number entry : ℕ) (tables : List StretchTable) (table : StretchTable)
+    → block < product (block_bases family.set) → run < runs_in family.set block → HasTable family block run entry tables
+    → run_kind (run % lion_pairs) ≡ Mixed → table ≡ slice_index_or tables entry table → number < run_size_in table.family table.block table.run
+    → local_marks_in table.family table.block table.run number ≡ true → marks_below (local_marks_in table.family table.block table.run) number ≡ left
+    → IsNumberLeft family block run number left
+mixed_left family block run left number entry tables table within below has kind read low on left_is =
+    let by = table_for family block run entry tables table within below has kind read in
+    let inside : number < run_size_in family block run = subst (λ n. number < n) by.size_is low in
+    record {
+      number_below = inside;
+      mark_is = sym (by.mark_is number inside) ∙ on;
+      left_is = sym (by.before_is number (omega (arith, inside))) ∙ left_is;
+    }

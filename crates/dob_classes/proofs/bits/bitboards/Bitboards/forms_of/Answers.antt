@@ -1,0 +1,39 @@
+-- The lowest bit of a mask is the square of the layer's first piece.
+use Rattle.std.proofs.Common.{sym, ◌∙◌, arith}
+use Rattle.dob_rank.specs.Numbers.{order}
+use Rattle.dob_classes.proofs.SquareSets.BitSquares.{first_of_layer, second_of_layer}
+use Rattle.dob_rank.proofs.Boards.Planes.{no_form, form_found, forms_found, first_on_board, second_on_board}
+use Rattle.dob_classes.proofs.bits.bitboards.Bitboards.forms_of.Goals as goal
+
+pub returns-then-pieces-eq0 : goal.returns-then-pieces-eq0
+returns-then-pieces-eq0 c = λ setup has. sym (no_form (order c.args.of_layer) setup.board (sym has.pieces_are ∙ c.if-pieces-eq0.true))
+
+pub form_at-first-requires : goal.form_at-first-requires
+form_at-first-requires c =
+    let has = c.requires.layer.1 in
+    let some = has.pieces_are in
+    first_on_board (order c.args.of_layer) c.requires.layer.0.board c.args.mask has.long has.mask_is (omega (arith, some))
+
+pub returns-then-pieces-eq1 : goal.returns-then-pieces-eq1
+returns-then-pieces-eq1 c = λ setup has.
+    form_found (order c.args.of_layer) setup.board c.args.mask _ has.long has.mask_is (sym has.pieces_are ∙ c.if-pieces-eq1.true)
+    (c.form_at-first.ensures.value setup has.squares
+    (first_of_layer (order c.args.of_layer) setup.board c.args.mask has.long has.mask_is (let one = sym has.pieces_are ∙ c.if-pieces-eq1.true in omega (arith, one))))
+
+pub form_at-second-requires : goal.form_at-second-requires
+form_at-second-requires c =
+    let has = c.requires.layer.1 in
+    let few = c.requires.few in
+    let some = has.pieces_are in
+    second_on_board (order c.args.of_layer) c.requires.layer.0.board c.args.mask _ has.long has.mask_is c.saturating_sub.ensures (omega (arith, some, few))
+
+pub returns : goal.returns
+returns c = λ setup has.
+    let few = c.requires.few in
+    let some = has.pieces_are in
+    forms_found (order c.args.of_layer) setup.board c.args.mask _ _ _ _ has.long has.mask_is c.saturating_sub.ensures (omega (arith, some, few))
+    (c.form_at-first.ensures.value setup has.squares
+    (first_of_layer (order c.args.of_layer) setup.board c.args.mask has.long has.mask_is (omega (arith, some, few))))
+    (c.form_at-second.ensures.value setup has.squares
+    (second_of_layer (order c.args.of_layer) setup.board c.args.mask _ has.long has.mask_is c.saturating_sub.ensures (omega (arith, some, few))))
+    c.base_of.ensures.value

@@ -1,0 +1,26 @@
+-- In profile A the place is the number itself, in profile B the place found has so many before it.
+use Rattle.dob_classes.proofs.Tables.FamilyBlocks.{number_fits, place_of_own, place_of_far, few_on_board, lions_below}
+use Rattle.dob_classes.proofs.block_classes.BlockClasses.place_at.Goals as goal
+
+pub returns-in-A : goal.returns-in-A
+returns-in-A c =
+    let block = c.args.self.now in
+    place_of_own block.family block.number c.args.run c.args.number (record { block_below = block.within; run_below = c.requires.run; number_below = c.requires.number }) c.in-A.is
+
+pub local_at-requires-clause-few : goal.local_at-requires-clause-few
+local_at-requires-clause-few c = few_on_board c.args.self.now
+
+pub local_at-requires-clause-lions : goal.local_at-requires-clause-lions
+local_at-requires-clause-lions c = lions_below c.args.run
+
+pub local_at-requires-clause-number : goal.local_at-requires-clause-number
+local_at-requires-clause-number c =
+    let block = c.args.self.now in
+    number_fits block.family block.number c.args.run c.args.number block.on_board
+    (record { block_below = block.within; run_below = c.requires.run; number_below = c.requires.number }) c.in-B.is block.numbers
+
+pub returns-in-B : goal.returns-in-B
+returns-in-B c =
+    let block = c.args.self.now in
+    place_of_far block.family block.number c.args.run c.args.number c.local_at.result block.on_board
+    (record { block_below = block.within; run_below = c.requires.run; number_below = c.requires.number }) c.in-B.is block.numbers c.local_at.ensures

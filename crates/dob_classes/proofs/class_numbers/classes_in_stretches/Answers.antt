@@ -1,0 +1,16 @@
+-- A walk from the run's start passes all representatives before the place.
+use Rattle.std.proofs.Common.{ap, ◌∙◌, arith}
+use Rattle.dob_classes.specs.FamilyRuns.{is_there, local_marks_in}
+use Rattle.dob_rank.specs.Marks.{marks_below}
+use Rattle.dob_rank.proofs.Marked.Words.{marks_below_none}
+use Rattle.dob_classes.proofs.class_numbers.classes_in_stretches.Goals as goal
+
+pub returns : goal.returns
+returns c =
+    let mark = local_marks_in c.args.family c.args.block c.args.run in
+    let there = is_there c.args.family c.args.block c.args.run in
+    let none = ap (marks_below mark) (c.walk_from-walk.ensures.walk.number_is ∙ ap (marks_below there) c.walk_from-walk.ensures.place ∙ marks_below_none there)
+    ∙ marks_below_none mark in
+    let all = ap (marks_below mark) (c.walk_to.ensures.walk.number_is ∙ ap (marks_below there) c.walk_to.ensures.place) in
+    let count = c.walk_to.ensures.count in
+    omega (arith, none, all, count)

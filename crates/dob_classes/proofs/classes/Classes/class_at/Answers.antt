@@ -1,0 +1,47 @@
+-- The position at the class's spot is its representative.
+use Rattle.std.proofs.Common.{arith}
+use Rattle.dob_classes.proofs.Tables.FamilyBlocks.{classes_read, spot_in_block, at_spot_in}
+use Rattle.dob_classes.proofs.OfFamilies.FamilyNumbers.{IsAtClass}
+use Rattle.dob_classes.proofs.classes.Classes.class_at.Goals as goal
+
+pub position_by-requires-clause-on_board : goal.position_by-requires-clause-on_board
+position_by-requires-clause-on_board c =
+    let classes = c.args.self.now in
+    let block = c.index-block.result.now in
+    let there = classes_read classes.family classes.blocks.items c.block_at.result block classes.table
+    (omega (arith, c.block_at.ensures.block, classes.whole, classes.blocks.ok)) c.index-block.ensures in
+    (spot_in_block classes.family c.block_at.result _ _ block there.is c.spot_at.ensures.run c.spot_at.ensures.local).on_board_has
+
+pub position_by-requires-clause-run : goal.position_by-requires-clause-run
+position_by-requires-clause-run c =
+    let classes = c.args.self.now in
+    let block = c.index-block.result.now in
+    let there = classes_read classes.family classes.blocks.items c.block_at.result block classes.table
+    (omega (arith, c.block_at.ensures.block, classes.whole, classes.blocks.ok)) c.index-block.ensures in
+    (spot_in_block classes.family c.block_at.result _ _ block there.is c.spot_at.ensures.run c.spot_at.ensures.local).run_below
+
+pub position_by-requires-clause-local : goal.position_by-requires-clause-local
+position_by-requires-clause-local c =
+    let classes = c.args.self.now in
+    let block = c.index-block.result.now in
+    let there = classes_read classes.family classes.blocks.items c.block_at.result block classes.table
+    (omega (arith, c.block_at.ensures.block, classes.whole, classes.blocks.ok)) c.index-block.ensures in
+    (spot_in_block classes.family c.block_at.result _ _ block there.is c.spot_at.ensures.run c.spot_at.ensures.local).local_below
+
+at_class_of_set : (c : goal.After-position_by) → IsAtClass c.args.self.now.family c.position_by.result.setup c.args.class
+at_class_of_set c =
+    let classes = c.args.self.now in
+    let block = c.index-block.result.now in
+    let there = classes_read classes.family classes.blocks.items c.block_at.result block classes.table
+    (omega (arith, c.block_at.ensures.block, classes.whole, classes.blocks.ok)) c.index-block.ensures in
+    at_spot_in classes.family c.block_at.result c.spot_at.result.run c.spot_at.result.local c.args.class block c.position_by.result.setup there.is
+    c.spot_at.ensures.run c.spot_at.ensures.local c.spot_at.ensures.mark c.spot_at.ensures.class c.position_by.ensures
+
+pub returns-clause-representative : goal.returns-clause-representative
+returns-clause-representative c = (at_class_of_set c).representative
+
+pub returns-clause-class : goal.returns-clause-class
+returns-clause-class c = (at_class_of_set c).before
+
+pub returns-clause-number : goal.returns-clause-number
+returns-clause-number c = (at_class_of_set c).number_is

@@ -1,0 +1,14 @@
+-- The first blocks stand, and the count is of the classes in them.
+use Rattle.std.proofs.Common.{◌≡◌, vec_len}
+use Rattle.dob_rank.specs.Numbers.{start_of}
+use Rattle.dob_rank.specs.Marks.{marks_below}
+use Rattle.dob_rank.specs.Families.{is_marked}
+use Rattle.dob_classes.specs.BlockTables.{AreBlocks}
+use Rattle.dob_classes.proofs.classes.Classes.open.Given as goal
+
+abbrev pub invariant-loop-number : goal.invariant-loop-number
+invariant-loop-number l = record {
+  blocks_are : AreBlocks l.family l.blocks.items;
+  long : vec_len l.blocks ≡ l.number;
+  count_is : l.count ≡ marks_below (is_marked l.family) (start_of l.family.set l.number);
+}

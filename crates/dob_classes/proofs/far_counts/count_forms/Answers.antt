@@ -1,0 +1,24 @@
+-- One more number is of forms that the chicks may have, or none.
+use Rattle.std.proofs.Common.{sym, ◌∙◌, arith}
+use Rattle.dob_rank.specs.Weights.{forms_stand}
+use Rattle.dob_rank.proofs.Marked.Words.{marks_below_none}
+use Rattle.dob_rank.proofs.ProfileB.FarSpots.{one_counted, none_counted}
+use Rattle.dob_classes.proofs.far_counts.count_forms.Goals as goal
+use Rattle.dob_classes.proofs.far_counts.count_forms.Goals.{then-may_have_forms, else-may_have_forms}
+
+pub loop-forms-init : goal.loop-forms-init
+loop-forms-init c = record { counted = sym (marks_below_none (forms_stand c.args.chicks c.args.squares.0 c.args.squares.1)); few = omega arith }
+
+pub loop-forms-preserved : goal.loop-forms-preserved
+loop-forms-preserved c = elim c.if-may_have_forms.branch [
+  | then-may_have_forms w ↦ record {
+    counted = w.count-is ∙ one_counted (forms_stand c.args.chicks c.args.squares.0 c.args.squares.1) c.loop-forms.forms c.loop-forms.count c.loop-forms.invariant.counted
+        (sym c.may_have_forms.ensures ∙ w.if-may_have_forms.true);
+    few = omega (arith, w.count-is, c.loop-forms.invariant.few);
+  }
+  | else-may_have_forms w ↦ record {
+    counted = w.count-is ∙ none_counted (forms_stand c.args.chicks c.args.squares.0 c.args.squares.1) c.loop-forms.forms c.loop-forms.count c.loop-forms.invariant.counted
+        (sym c.may_have_forms.ensures ∙ w.if-may_have_forms.false);
+    few = omega (arith, w.count-is, c.loop-forms.invariant.few);
+  }
+]

@@ -1,0 +1,158 @@
+-- The parts of the place are small, and what they count is what the run has up to there.
+use Rattle.std.proofs.Common.{◌*◌, ◌≤◌, [], refl, arith}
+use Rattle.std.proofs.Math.Nat.{mul-le-mul}
+use Rattle.dob_rank.proofs.Positions.Blocks.{HasDigits-numbers}
+use Rattle.dob_rank.proofs.InRuns.DigitParts.{AreFewOnBoard-digits}
+use Rattle.dob_rank.proofs.ProfileB.PlaceParts.{others_squares_are, others_forms_are}
+use Rattle.dob_classes.proofs.Counting.FarCounts.{upto_parts, upto_small, at_most, sums, count_is}
+use Rattle.dob_classes.proofs.far_counts.count_upto.Goals as goal
+
+pub overflow_mul-others : goal.overflow_mul-others
+overflow_mul-others c =
+    let few = AreFewOnBoard-digits c.args.set _ (HasDigits-numbers c.args.set c.args.block _ c.requires.block c.numbers_in-on_board.ensures) in
+    let of_squares = others_squares_are c.numbers_in-on_board.result [] c.choices_in-choices.result few c.choices_in-choices.ensures in
+    omega (arith, of_squares.count_is, of_squares.count_few)
+
+pub overflow_mul-forms : goal.overflow_mul-forms
+overflow_mul-forms c =
+    let few = AreFewOnBoard-digits c.args.set _ (HasDigits-numbers c.args.set c.args.block _ c.requires.block c.numbers_in-on_board.ensures) in
+    let of_forms = others_forms_are c.numbers_in-on_board.result [] c.power.result c.power-2.result few c.power.ensures c.power-2.ensures in
+    omega (arith, of_forms.count_is, of_forms.count_few)
+
+pub overflow_mul-all_forms : goal.overflow_mul-all_forms
+overflow_mul-all_forms c =
+    let at = upto_parts c.args.set c.args.block c.args.last c.numbers_in-on_board.result c.choices_in-choices.result c.power.result c.power-2.result c.power-3.result
+    c.requires.block c.numbers_in-on_board.ensures c.requires.last c.choices_in-choices.ensures c.power.ensures c.power-2.ensures c.power-3.ensures in
+    (let low = at.parts.few_forms in omega (arith, low))
+
+pub nonzero_div-choice : goal.nonzero_div-choice
+nonzero_div-choice c =
+    let at = upto_parts c.args.set c.args.block c.args.last c.numbers_in-on_board.result c.choices_in-choices.result c.power.result c.power-2.result c.power-3.result
+    c.requires.block c.numbers_in-on_board.ensures c.requires.last c.choices_in-choices.ensures c.power.ensures c.power-2.ensures c.power-3.ensures in
+    at.parts.some_forms
+
+pub nonzero_div-choice-2 : goal.nonzero_div-choice-2
+nonzero_div-choice-2 c =
+    let at = upto_parts c.args.set c.args.block c.args.last c.numbers_in-on_board.result c.choices_in-choices.result c.power.result c.power-2.result c.power-3.result
+    c.requires.block c.numbers_in-on_board.ensures c.requires.last c.choices_in-choices.ensures c.power.ensures c.power-2.ensures c.power-3.ensures in
+    at.parts.some_squares
+
+pub nonzero_div-squares : goal.nonzero_div-squares
+nonzero_div-squares c =
+    let at = upto_parts c.args.set c.args.block c.args.last c.numbers_in-on_board.result c.choices_in-choices.result c.power.result c.power-2.result c.power-3.result
+    c.requires.block c.numbers_in-on_board.ensures c.requires.last c.choices_in-choices.ensures c.power.ensures c.power-2.ensures c.power-3.ensures in
+    at.parts.some_forms
+
+pub nonzero_rem-squares : goal.nonzero_rem-squares
+nonzero_rem-squares c =
+    let at = upto_parts c.args.set c.args.block c.args.last c.numbers_in-on_board.result c.choices_in-choices.result c.power.result c.power-2.result c.power-3.result
+    c.requires.block c.numbers_in-on_board.ensures c.requires.last c.choices_in-choices.ensures c.power.ensures c.power-2.ensures c.power-3.ensures in
+    at.parts.some_squares
+
+pub before_choice-requires-clause-choice : goal.before_choice-requires-clause-choice
+before_choice-requires-clause-choice c =
+    let at = upto_parts c.args.set c.args.block c.args.last c.numbers_in-on_board.result c.choices_in-choices.result c.power.result c.power-2.result c.power-3.result
+    c.requires.block c.numbers_in-on_board.ensures c.requires.last c.choices_in-choices.ensures c.power.ensures c.power-2.ensures c.power-3.ensures in
+    at_most _ _ at.parts.choice_below
+
+pub overflow_mul-before : goal.overflow_mul-before
+overflow_mul-before c =
+    let at = upto_parts c.args.set c.args.block c.args.last c.numbers_in-on_board.result c.choices_in-choices.result c.power.result c.power-2.result c.power-3.result
+    c.requires.block c.numbers_in-on_board.ensures c.requires.last c.choices_in-choices.ensures c.power.ensures c.power-2.ensures c.power-3.ensures in
+    let few : c.before_choice.result * _ ≤ 582 * 2025 = mul-le-mul c.before_choice.ensures.bound at.few_squares in
+    omega (arith, few)
+
+pub weight_of-requires-clause-chicks : goal.weight_of-requires-clause-chicks
+weight_of-requires-clause-chicks c =
+    let at = upto_parts c.args.set c.args.block c.args.last c.numbers_in-on_board.result c.choices_in-choices.result c.power.result c.power-2.result c.power-3.result
+    c.requires.block c.numbers_in-on_board.ensures c.requires.last c.choices_in-choices.ensures c.power.ensures c.power-2.ensures c.power-3.ensures in
+    at.few.chicks
+
+pub weight_of-requires-clause-choice : goal.weight_of-requires-clause-choice
+weight_of-requires-clause-choice c =
+    let at = upto_parts c.args.set c.args.block c.args.last c.numbers_in-on_board.result c.choices_in-choices.result c.power.result c.power-2.result c.power-3.result
+    c.requires.block c.numbers_in-on_board.ensures c.requires.last c.choices_in-choices.ensures c.power.ensures c.power-2.ensures c.power-3.ensures in
+    at.parts.choice_below
+
+pub overflow_mul-before-2 : goal.overflow_mul-before-2
+overflow_mul-before-2 c =
+    let at = upto_parts c.args.set c.args.block c.args.last c.numbers_in-on_board.result c.choices_in-choices.result c.power.result c.power-2.result c.power-3.result
+    c.requires.block c.numbers_in-on_board.ensures c.requires.last c.choices_in-choices.ensures c.power.ensures c.power-2.ensures c.power-3.ensures in
+    let few = upto_small _ _ (c.power.result * c.power-2.result) c.before_choice.result c.weight_of.result at.few_squares at.parts.squares_below at.few_others
+    c.before_choice.ensures.bound c.weight_of.ensures.bound in
+    (let low = few.own in omega (arith, low))
+
+pub overflow_add-before : goal.overflow_add-before
+overflow_add-before c =
+    let at = upto_parts c.args.set c.args.block c.args.last c.numbers_in-on_board.result c.choices_in-choices.result c.power.result c.power-2.result c.power-3.result
+    c.requires.block c.numbers_in-on_board.ensures c.requires.last c.choices_in-choices.ensures c.power.ensures c.power-2.ensures c.power-3.ensures in
+    let few = upto_small _ _ (c.power.result * c.power-2.result) c.before_choice.result c.weight_of.result at.few_squares at.parts.squares_below at.few_others
+    c.before_choice.ensures.bound c.weight_of.ensures.bound in
+    (let low = few.own in let first = few.before in omega (arith, low, first))
+
+pub chick_squares-chosen-requires-clause-chicks : goal.chick_squares-chosen-requires-clause-chicks
+chick_squares-chosen-requires-clause-chicks c =
+    let at = upto_parts c.args.set c.args.block c.args.last c.numbers_in-on_board.result c.choices_in-choices.result c.power.result c.power-2.result c.power-3.result
+    c.requires.block c.numbers_in-on_board.ensures c.requires.last c.choices_in-choices.ensures c.power.ensures c.power-2.ensures c.power-3.ensures in
+    at.few.chicks
+
+pub chick_squares-chosen-requires-clause-choice : goal.chick_squares-chosen-requires-clause-choice
+chick_squares-chosen-requires-clause-choice c =
+    let at = upto_parts c.args.set c.args.block c.args.last c.numbers_in-on_board.result c.choices_in-choices.result c.power.result c.power-2.result c.power-3.result
+    c.requires.block c.numbers_in-on_board.ensures c.requires.last c.choices_in-choices.ensures c.power.ensures c.power-2.ensures c.power-3.ensures in
+    at.parts.choice_below
+
+pub overflow_mul-result : goal.overflow_mul-result
+overflow_mul-result c =
+    let at = upto_parts c.args.set c.args.block c.args.last c.numbers_in-on_board.result c.choices_in-choices.result c.power.result c.power-2.result c.power-3.result
+    c.requires.block c.numbers_in-on_board.ensures c.requires.last c.choices_in-choices.ensures c.power.ensures c.power-2.ensures c.power-3.ensures in
+    let few = upto_small _ _ (c.power.result * c.power-2.result) c.before_choice.result c.weight_of.result at.few_squares at.parts.squares_below at.few_others
+    c.before_choice.ensures.bound c.weight_of.ensures.bound in
+    (let low = few.all in omega (arith, low))
+
+pub nonzero_rem-last : goal.nonzero_rem-last
+nonzero_rem-last c =
+    let at = upto_parts c.args.set c.args.block c.args.last c.numbers_in-on_board.result c.choices_in-choices.result c.power.result c.power-2.result c.power-3.result
+    c.requires.block c.numbers_in-on_board.ensures c.requires.last c.choices_in-choices.ensures c.power.ensures c.power-2.ensures c.power-3.ensures in
+    at.parts.some_forms
+
+pub count_forms_upto-requires-clause-chicks : goal.count_forms_upto-requires-clause-chicks
+count_forms_upto-requires-clause-chicks c =
+    let at = upto_parts c.args.set c.args.block c.args.last c.numbers_in-on_board.result c.choices_in-choices.result c.power.result c.power-2.result c.power-3.result
+    c.requires.block c.numbers_in-on_board.ensures c.requires.last c.choices_in-choices.ensures c.power.ensures c.power-2.ensures c.power-3.ensures in
+    at.few.chicks
+
+pub count_forms_upto-requires-clause-others : goal.count_forms_upto-requires-clause-others
+count_forms_upto-requires-clause-others c =
+    let at = upto_parts c.args.set c.args.block c.args.last c.numbers_in-on_board.result c.choices_in-choices.result c.power.result c.power-2.result c.power-3.result
+    c.requires.block c.numbers_in-on_board.ensures c.requires.last c.choices_in-choices.ensures c.power.ensures c.power-2.ensures c.power-3.ensures in
+    at.some_others
+
+pub count_forms_upto-requires-clause-few : goal.count_forms_upto-requires-clause-few
+count_forms_upto-requires-clause-few c =
+    let at = upto_parts c.args.set c.args.block c.args.last c.numbers_in-on_board.result c.choices_in-choices.result c.power.result c.power-2.result c.power-3.result
+    c.requires.block c.numbers_in-on_board.ensures c.requires.last c.choices_in-choices.ensures c.power.ensures c.power-2.ensures c.power-3.ensures in
+    at.few_others
+
+pub count_forms_upto-requires-clause-last : goal.count_forms_upto-requires-clause-last
+count_forms_upto-requires-clause-last c =
+    let at = upto_parts c.args.set c.args.block c.args.last c.numbers_in-on_board.result c.choices_in-choices.result c.power.result c.power-2.result c.power-3.result
+    c.requires.block c.numbers_in-on_board.ensures c.requires.last c.choices_in-choices.ensures c.power.ensures c.power-2.ensures c.power-3.ensures in
+    (let low = at.parts.form_below in let most = at.parts.few_forms in omega (arith, low, most))
+
+pub overflow_add-result : goal.overflow_add-result
+overflow_add-result c =
+    let at = upto_parts c.args.set c.args.block c.args.last c.numbers_in-on_board.result c.choices_in-choices.result c.power.result c.power-2.result c.power-3.result
+    c.requires.block c.numbers_in-on_board.ensures c.requires.last c.choices_in-choices.ensures c.power.ensures c.power-2.ensures c.power-3.ensures in
+    let few = upto_small _ _ (c.power.result * c.power-2.result) c.before_choice.result c.weight_of.result at.few_squares at.parts.squares_below at.few_others
+    c.before_choice.ensures.bound c.weight_of.ensures.bound in
+    (let low = few.all in omega (arith, low, c.count_forms_upto.ensures.bound))
+
+pub returns : goal.returns
+returns c =
+    let at = upto_parts c.args.set c.args.block c.args.last c.numbers_in-on_board.result c.choices_in-choices.result c.power.result c.power-2.result c.power-3.result
+    c.requires.block c.numbers_in-on_board.ensures c.requires.last c.choices_in-choices.ensures c.power.ensures c.power-2.ensures c.power-3.ensures in
+    count_is c.args.set c.args.block c.args.run c.args.last _ (c.power.result * c.power-2.result) (c.power-3.result * (c.power.result * c.power-2.result)) _
+    c.chick_squares-chosen.result.0 c.chick_squares-chosen.result.1 _ c.count_forms_upto.result c.numbers_in-on_board.result
+    c.requires.block c.requires.run c.numbers_in-on_board.ensures at.squares_are at.forms_are at.all_are at.parts refl c.chick_squares-chosen.ensures
+    (sums _ _ _ _ _ _ c.before_choice.ensures.value c.weight_of.ensures.value) c.count_forms_upto.ensures.value

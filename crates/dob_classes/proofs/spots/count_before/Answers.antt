@@ -1,0 +1,22 @@
+-- In profile A each place is one of the family's, in profile B those up to the place before are counted.
+use Rattle.std.proofs.Common.{ℕ, sym, ap, ◌∙◌}
+use Rattle.dob_pieces.specs.declared.profile.Profile.{Profile}
+use Rattle.dob_rank.specs.Marks.{marks_below}
+use Rattle.dob_rank.specs.Families.{family_of}
+use Rattle.dob_classes.specs.FamilyRuns.{is_there}
+use Rattle.dob_rank.proofs.Marked.Words.{marks_below_none}
+use Rattle.dob_classes.proofs.Counting.FarCounts.{all_there, one_before}
+use Rattle.dob_classes.proofs.spots.count_before.Goals as goal
+
+pub returns-in-A : goal.returns-in-A
+returns-in-A c = sym (all_there c.args.family c.args.block c.args.run c.args.place c.in-A.is)
+
+pub returns-then-place-eq0 : goal.returns-then-place-eq0
+returns-then-place-eq0 c =
+    sym (ap (marks_below (is_there c.args.family c.args.block c.args.run)) c.if-place-eq0.true ∙ marks_below_none (is_there c.args.family c.args.block c.args.run))
+
+pub returns-else-place-eq0 : goal.returns-else-place-eq0
+returns-else-place-eq0 c =
+    c.count_upto.ensures
+    ∙ ap (λ (n : ℕ). marks_below (is_there (family_of c.args.family.set _) c.args.block c.args.run) n) (one_before c.args.place c.if-place-eq0.false)
+    ∙ ap (λ (p : Profile). marks_below (is_there (family_of c.args.family.set p) c.args.block c.args.run) c.args.place) (sym c.in-B.is)

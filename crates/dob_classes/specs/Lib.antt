@@ -1,0 +1,11 @@
+pub mod Bitboards
+pub mod Changes
+pub mod Views
+pub mod Laws
+pub mod Stretches
+pub mod FamilyRuns
+pub mod RunTables
+pub mod RunIndex
+pub mod BlockTables
+pub mod BlockRows
+pub mod Walks

@@ -1,0 +1,6 @@
+// Positions as sets of squares, with no board.
+
+pub(crate) mod bit_placing;
+pub(crate) mod bitboards;
+pub(crate) mod shown;
+pub(crate) mod shown_spots;

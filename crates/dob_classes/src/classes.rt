@@ -1,0 +1,208 @@
+// The classes of a family, block by block.
+ghost use Rattle.std.specs.Prelude.{◌≡◌, ◌<◌, ◌≤◌, ◌+◌, ◌^◌, IfOk, IfSome, MatchOption, vec_len};
+ghost use Rattle.dob_rank.specs.Order.{IsFirstOfTwo};
+ghost use Rattle.dob_rank.specs.Families.{IsPositionOf, IsRepresentative, HasClasses, HasClass, IsInClass, is_marked, classes_of, class_number};
+ghost use Rattle.dob_rank.specs.Numbers.{product, block_bases, start_of, rank_of_set};
+ghost use Rattle.dob_rank.specs.Marks.{marks_below};
+ghost use Rattle.dob_classes.specs.BlockTables.{AreBlocks};
+ghost use Rattle.dob_pieces.specs.declared.setup.Setup.{Setup};
+ghost use Rattle.dob_classes.specs.Bitboards.{AreBitboards, IsShown};
+ghost use Rattle.dob_classes.specs.Views.{seen_by};
+ghost use Rattle.dob_rank.specs.BoardMasks.{AreMasks};
+
+use crate::bits::bitboards::Bitboards;
+use crate::bits::shown::Shown;
+use crate::bits::shown_spots::shown_by;
+use crate::block_classes::BlockClasses;
+use crate::spots::{spot_in, spot_shown_in};
+use dob_pieces::{Family, Memory, Position, Side};
+use dob_rank::block;
+use dob_rank::masks::{Masks, masks_of};
+use dob_rank::set_ranks::position_by;
+use std::alloc::Global;
+
+/// The classes of a family, each with its number.
+#[derive(Debug, Drop)]
+pub struct Classes {
+    /// The family whose classes these are.
+    pub family: Family,
+    blocks: Vec<BlockClasses>,
+    count: u64,
+    ghost whole: { vec_len blocks ≡ product (block_bases family.set) },
+    ghost table: { AreBlocks family blocks.items },
+    ghost counted: { count ≡ classes_of family },
+}
+
+impl Classes {
+    /// Opens the classes of a family.
+    ///
+    /// Error: `Memory`.
+    pub fn open(alloc: Global, family: Family) -> Result<Classes, Memory>
+        ensures family { IfOk result (λ classes. classes.family ≡ family) }
+    {
+        let mut blocks = Vec::new(alloc);
+        let mut count = 0;
+        for number in 0..block::blocks(family.set) {
+            let block = BlockClasses::open(alloc, family, number, count)?;
+            count = block.after;
+            blocks.push(block)?;
+        }
+        Ok(Classes {
+            family,
+            blocks,
+            count,
+        })
+    }
+
+    /// How many classes the family has.
+    pub fn class_count(&self) -> u64
+        ensures count { HasClasses self.now.family result }
+        ensures number { result ≡ classes_of self.now.family }
+        ensures bound { result < 2 ^ 31 }
+    {
+        self.count
+    }
+
+    /// The number of the class of a position of the family: how many representatives stand before the earlier of it
+    /// and its mirror image.
+    pub fn class_of(&self, position: &Position) -> u64
+        requires { IsPositionOf self.now.family position.now.setup }
+        ensures class { IsInClass self.now.family position.now.setup result }
+        ensures number { result ≡ class_number self.now.family position.now.setup }
+        ensures bound { result < classes_of self.now.family }
+    {
+        let masks = masks_of(&position.setup.board);
+        if masks.stand_later() {
+            let image = position.mirrored();
+            self.class_by(&image, masks_of(&image.setup.board))
+        } else {
+            self.class_by(position, masks)
+        }
+    }
+
+    /// The same by the position's masks. It takes longer where the mirror image is the earlier one.
+    fn class_by(&self, position: &Position, masks: Masks) -> u64
+        requires position { IsPositionOf self.now.family position.now.setup }
+        requires masks { AreMasks position.now.setup.board masks }
+        ensures { result ≡ class_number self.now.family position.now.setup }
+    {
+        let (is_representative, class) = self.look_up_by(position, masks);
+        if is_representative {
+            class
+        } else {
+            self.look_up(&position.mirrored()).1
+        }
+    }
+
+    /// The number of the class whose representative the position of the family is; `None` where its mirror image is
+    /// earlier.
+    pub fn class_of_representative(&self, position: &Position) -> Option<u64>
+        requires { IsPositionOf self.now.family position.now.setup }
+        ensures class { MatchOption result (¬ IsFirstOfTwo position.now.setup)
+            (λ class. IsFirstOfTwo position.now.setup × HasClass self.now.family position.now.setup class) }
+        ensures number { IfSome result (λ class. class ≡ class_number self.now.family position.now.setup) }
+        ensures bound { IfSome result (λ class. class < classes_of self.now.family) }
+    {
+        let (is_representative, class) = self.look_up(position);
+        if is_representative { Some(class) } else { None }
+    }
+
+    /// The same by the sets of squares that show the position.
+    pub fn class_of_shown(&self, bits: &Bitboards) -> Option<u64>
+        requires { (setup : Setup) × IsShown self.now.family setup bits.now }
+        ensures class { (setup : Setup) → IsShown self.now.family setup bits.now → MatchOption result (¬ IsFirstOfTwo setup)
+            (λ class. IsFirstOfTwo setup × HasClass self.now.family setup class) }
+        ensures number { (setup : Setup) → IsShown self.now.family setup bits.now → IfSome result (λ class. class ≡ class_number self.now.family setup) }
+        ensures bound { IfSome result (λ class. class < classes_of self.now.family) }
+    {
+        let (is_first, class) = self.look_up_shown(bits);
+        if is_first { Some(class) } else { None }
+    }
+
+    /// The representative of the class of that number, which is below the number of classes.
+    pub fn class_at(&self, class: u64) -> Position
+        requires { class < classes_of self.now.family }
+        ensures representative { IsRepresentative self.now.family result.setup }
+        ensures class { HasClass self.now.family result.setup class }
+        ensures number { class_number self.now.family result.setup ≡ class }
+    {
+        let block = &self.blocks[self.block_at(class)];
+        position_by(
+            self.family.set,
+            &block.on_board,
+            &block.choices,
+            block.spot_at(class),
+        )
+    }
+
+    /// The same with the sets of squares that the side sees of the representative: the mover those of the setup, the enemy those of the
+    /// turned one. They are found without its board, which isn't made where it isn't read.
+    #[inline(always)]
+    pub fn shown_at(&self, class: u64, side: Side) -> Shown
+        requires { class < classes_of self.now.family }
+        ensures representative { IsRepresentative self.now.family result.position.setup }
+        ensures class { HasClass self.now.family result.position.setup class }
+        ensures number { class_number self.now.family result.position.setup ≡ class }
+        ensures bits { AreBitboards (seen_by side result.position.setup) result.bits }
+    {
+        let block = &self.blocks[self.block_at(class)];
+        let spot = block.spot_at(class);
+        shown_by(
+            self.family.set,
+            &block.on_board,
+            &block.choices,
+            &block.places,
+            block.digits_of(spot.run),
+            spot,
+            side,
+        )
+    }
+
+    /// The block in which the representative of that class stands: the last one with no more classes before it.
+    fn block_at(&self, class: u64) -> usize
+        requires { class < classes_of self.now.family }
+        ensures block { result < product (block_bases self.now.family.set) }
+        ensures low { marks_below (is_marked self.now.family) (start_of self.now.family.set result) ≤ class }
+        ensures high { class < marks_below (is_marked self.now.family) (start_of self.now.family.set (result + 1)) }
+    {
+        for block in (0..self.blocks.len()).rev() {
+            if self.blocks[block].before <= class {
+                return block;
+            }
+        }
+        0
+    }
+
+    /// Whether a position of the family is a representative, and how many stand before it.
+    fn look_up(&self, position: &Position) -> (bool, u64)
+        requires { IsPositionOf self.now.family position.now.setup }
+        ensures mark { result.0 ≡ is_marked self.now.family (rank_of_set self.now.family.set position.now.setup) }
+        ensures before { result.1 ≡ marks_below (is_marked self.now.family) (rank_of_set self.now.family.set position.now.setup) }
+    {
+        self.look_up_by(position, masks_of(&position.setup.board))
+    }
+
+    /// The same by the position's masks.
+    #[inline(always)]
+    fn look_up_by(&self, position: &Position, masks: Masks) -> (bool, u64)
+        requires position { IsPositionOf self.now.family position.now.setup }
+        requires masks { AreMasks position.now.setup.board masks }
+        ensures mark { result.0 ≡ is_marked self.now.family (rank_of_set self.now.family.set position.now.setup) }
+        ensures before { result.1 ≡ marks_below (is_marked self.now.family) (rank_of_set self.now.family.set position.now.setup) }
+    {
+        let (block, spot) = spot_in(self.family, position, masks);
+        self.blocks[block as usize].look_up(spot)
+    }
+
+    /// The same by the sets of squares that show the position.
+    fn look_up_shown(&self, bits: &Bitboards) -> (bool, u64)
+        requires { (setup : Setup) × IsShown self.now.family setup bits.now }
+        ensures mark { (setup : Setup) → IsShown self.now.family setup bits.now
+            → result.0 ≡ is_marked self.now.family (rank_of_set self.now.family.set setup) }
+        ensures before { (setup : Setup) → IsShown self.now.family setup bits.now
+            → result.1 ≡ marks_below (is_marked self.now.family) (rank_of_set self.now.family.set setup) }
+    {
+        let (block, spot) = spot_shown_in(self.family, bits);
+        self.blocks[block as usize].look_up(spot)
+    }
+}

@@ -1,0 +1,36 @@
+// Classes: a position of a family and its mirror image are one, which stands by the earlier of them. A class number counts the classes before. The positions
+// of a run have the same hands and lions, and the lions' columns say of most runs whether they are representatives; in the others stretches of marks say it.
+#![tactic(auto)]
+
+mod any_rows;
+mod bits;
+mod block_classes;
+mod class_counts;
+mod class_numbers;
+mod class_rows;
+mod class_walks;
+mod classes;
+mod far_counts;
+pub mod laws;
+mod place_tables;
+mod representatives;
+mod run_index;
+mod runs;
+mod spots;
+mod stretch_tables;
+mod stretches;
+
+pub use any_rows::class_number_by_any;
+pub use bits::bitboards::Bitboards;
+pub use bits::shown::Shown;
+pub use class_counts::count_classes;
+pub use class_numbers::{class_number, classes_in_run};
+pub use class_rows::{block_number, class_number_by, count_blocks, write_row};
+pub use class_walks::{MixedRun, Walk};
+pub use classes::Classes;
+pub use representatives::representative;
+
+// What an index of classes is made by.
+pub use dob_rank::block::{count_runs, run_size_in};
+pub use dob_rank::runs::{LIONS, RunKind, Spot, kind_of};
+pub use dob_rank::set_ranks::spot_of;

@@ -1,0 +1,122 @@
+// The positions of a family in a run of its set, numbered among themselves: in profile A by their places, in profile B by how many chicks' forms are
+// allowed before theirs.
+ghost use Rattle.std.specs.Prelude.{◌≡◌, ◌<◌, ◌≤◌, slice_index};
+ghost use Rattle.dob_pieces.specs.Profiles.{IsAllowed};
+ghost use Rattle.dob_pieces.specs.declared.profile.Profile.TheVariants.{B};
+ghost use Rattle.dob_pieces.specs.declared.setup.Setup.{Setup};
+ghost use Rattle.dob_classes.specs.Bitboards.{IsShown};
+ghost use Rattle.dob_rank.specs.BoardMasks.{AreMasks};
+ghost use Rattle.dob_rank.specs.Order.{IsPositionOfSet};
+ghost use Rattle.dob_rank.specs.Families.{family_of, IsPositionOf};
+ghost use Rattle.dob_classes.specs.FamilyRuns.{is_there};
+ghost use Rattle.dob_rank.specs.Weights.{local_in, squares_by, others_by, others_squares, others_forms};
+ghost use Rattle.dob_rank.specs.Marks.{marks_below};
+ghost use Rattle.dob_rank.specs.Numbers.{product, block_bases, block_of, choose, free_squares};
+ghost use Rattle.dob_rank.specs.Runs.{AreFewOnBoard, runs_in, run_size, run_of, local_of};
+
+use crate::bits::bitboards::Bitboards;
+use crate::bits::shown_spots::spot_shown;
+use crate::far_counts::count_upto;
+use dob_pieces::{Family, PieceSet, Position, Profile};
+use dob_rank::block::{self, DIGITS, EachKind};
+use dob_rank::far_rows::before_choice;
+use dob_rank::masks::Masks;
+use dob_rank::radix;
+use dob_rank::ranks::{add_product, allowed_forms, weight_of};
+use dob_rank::runs::{LIONS, Spot};
+use dob_rank::set_ranks::{digits_of, numbers_on_board, spot_by};
+
+/// How many positions of the family a run has before that place, or before its end. Within its callers, since in profile A it is the place.
+#[inline(always)]
+pub(crate) fn count_before(family: Family, block: u64, run: u64, place: u64) -> u64
+    requires block { block < product (block_bases family.set) }
+    requires run { run < runs_in family.set block }
+    requires place { place ≤ run_size family.set block }
+    ensures { result ≡ marks_below (is_there family block run) place }
+{
+    match family.profile {
+        Profile::A => place,
+        Profile::B => {
+            if place == 0 {
+                0
+            } else {
+                count_upto(family.set, block, run, place - 1)
+            }
+        }
+    }
+}
+
+/// The number of the block of a position of the family, and the position's run and number among those of the family there.
+pub(crate) fn spot_in(family: Family, position: &Position, masks: Masks) -> (u64, Spot)
+    requires position { IsPositionOf family position.now.setup }
+    requires masks { AreMasks position.now.setup.board masks }
+    ensures block { result.0 ≡ block_of family.set position.now.setup }
+    ensures run { result.1.run ≡ run_of family.set position.now.setup }
+    ensures local { result.1.local
+        ≡ marks_below (is_there family (block_of family.set position.now.setup) (run_of family.set position.now.setup)) (local_of position.now.setup) }
+{
+    match family.profile {
+        Profile::A => spot_by(family.set, position, masks),
+        Profile::B => far_spot(family.set, position, masks),
+    }
+}
+
+/// The same by the sets of squares that show the position.
+pub(crate) fn spot_shown_in(family: Family, bits: &Bitboards) -> (u64, Spot)
+    requires { (setup : Setup) × IsShown family setup bits.now }
+    ensures block { (setup : Setup) → IsShown family setup bits.now → result.0 ≡ block_of family.set setup }
+    ensures run { (setup : Setup) → IsShown family setup bits.now → result.1.run ≡ run_of family.set setup }
+    ensures local { (setup : Setup) → IsShown family setup bits.now
+        → result.1.local ≡ marks_below (is_there family (block_of family.set setup) (run_of family.set setup)) (local_of setup) }
+{
+    let (block, spot) = spot_shown(family.set, bits);
+    let local = count_before(family, block, spot.run, spot.local);
+    let run = spot.run;
+    (block, Spot { run, local })
+}
+
+/// The same of a position in profile B, out of the way of what profile A does.
+#[inline(never)]
+fn far_spot(set: PieceSet, position: &Position, masks: Masks) -> (u64, Spot)
+    requires position { IsPositionOfSet set position.now.setup }
+    requires allowed { IsAllowed B position.now.setup }
+    requires masks { AreMasks position.now.setup.board masks }
+    ensures block { result.0 ≡ block_of set position.now.setup }
+    ensures run { result.1.run ≡ run_of set position.now.setup }
+    ensures local { result.1.local
+        ≡ marks_below (is_there (family_of set B) (block_of set position.now.setup) (run_of set position.now.setup)) (local_of position.now.setup) }
+{
+    let on_board = numbers_on_board(position, masks);
+    let block = radix::number_of(&block::block_bases_of(set), &on_board);
+    let digits = digits_of(position, masks, &on_board);
+    let run = block::spot_from(set, &on_board, &digits).run;
+    let forms = allowed_forms(&position.setup.board, masks.chicks, on_board[0]);
+    let local = far_local(&on_board, &digits, run % LIONS, forms);
+    (block, Spot { run, local })
+}
+
+/// How many positions of profile B stand before one in its run: that of those lions and digits, and of so many allowed forms of the chicks before.
+fn far_local(on_board: &EachKind, digits: &[u64; DIGITS], lions: u64, forms: u64) -> u64
+    requires few { AreFewOnBoard on_board.now }
+    requires lions { lions < LIONS }
+    requires choice { slice_index digits.now 5 < choose free_squares (slice_index on_board.now 0) }
+    requires squares { squares_by on_board.now digits.now < others_squares on_board.now }
+    requires others { others_by on_board.now digits.now < others_forms on_board.now }
+    requires forms { forms ≤ 20 }
+    ensures { result ≡ local_in B on_board.now digits.now lions forms }
+{
+    let chicks = on_board[0];
+    let choices = block::choices_in(on_board);
+    let squares = digits[6] * choices[2] + digits[7];
+    let placed = add_product(
+        before_choice(chicks, lions, digits[5]),
+        choices[1] * choices[2],
+        squares * weight_of(chicks, lions, digits[5]) + forms,
+    );
+    let giraffes = block::power(2, on_board[2]);
+    add_product(
+        placed,
+        block::power(2, on_board[1]) * giraffes,
+        digits[9] * giraffes + digits[10],
+    )
+}

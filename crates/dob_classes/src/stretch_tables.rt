@@ -1,0 +1,119 @@
+// The marks of a family's positions in a run whose lions both stand on column b, as stretches of numbers that are all marked or all not: the stretches
+// of the set's places (src/stretches.rt), each as long as the family has positions there.
+ghost use Rattle.std.specs.Prelude.{◌≡◌, true, ◌<◌, ◌%◌, IfOk};
+ghost use Rattle.dob_rank.specs.Numbers.{product, block_bases};
+ghost use Rattle.dob_rank.specs.Marks.{marks_below};
+ghost use Rattle.dob_rank.specs.Runs.{runs_in, run_kind, lion_pairs};
+ghost use Rattle.dob_classes.specs.FamilyRuns.{run_size_in, local_marks_in};
+ghost use Rattle.dob_classes.specs.Stretches.{AreStretches};
+ghost use Rattle.dob_rank.specs.declared.runs.RunKind.TheVariants.{Mixed};
+
+use crate::spots::count_before;
+use crate::stretches::{Stretch, push_stretch, stretch_from};
+use dob_pieces::{Family, Memory};
+use dob_rank::block;
+use std::alloc::Global;
+
+/// The stretches of a run of a family.
+#[derive(Debug, Drop)]
+pub(crate) struct StretchTable {
+    pub(crate) family: Family,
+    pub(crate) block: u64,
+    pub(crate) run: u64,
+    pub(crate) count: u64,
+    list: Vec<Stretch>,
+    ghost within: { block < product (block_bases family.set) },
+    ghost there: { run < runs_in family.set block },
+    ghost table: { AreStretches (local_marks_in family block run) (run_size_in family block run) list.items },
+    ghost counted: { count ≡ marks_below (local_marks_in family block run) (run_size_in family block run) },
+}
+
+impl StretchTable {
+    /// The stretches of a run whose lions both stand on column b.
+    ///
+    /// Error: `Memory`.
+    pub(crate) fn open(
+        alloc: Global,
+        family: Family,
+        block: u64,
+        run: u64,
+    ) -> Result<StretchTable, Memory>
+        requires block { block < product (block_bases family.set) }
+        requires run { run < runs_in family.set block }
+        requires kind { run_kind (run % lion_pairs) ≡ Mixed }
+        ensures family { IfOk result (λ stretches. stretches.family ≡ family) }
+        ensures block { IfOk result (λ stretches. stretches.block ≡ block) }
+        ensures run { IfOk result (λ stretches. stretches.run ≡ run) }
+    {
+        let size = block::run_size_in(family.set, block);
+        let bases = block::local_bases_in(family.set, block);
+        let mut list = Vec::new(alloc);
+        let mut place = 0;
+        let mut start = 0;
+        let mut count = 0;
+        let mut last = false;
+        while place < size {
+            let (is_marked, end) = stretch_from(family.set, block, run, place, &bases);
+            let next = count_before(family, block, run, end);
+            push_stretch(&mut list, start, count, is_marked, last)?;
+            last = is_marked;
+            if is_marked {
+                count += next - start;
+            }
+            place = end;
+            start = next;
+        }
+        Ok(StretchTable {
+            family,
+            block,
+            run,
+            count,
+            list,
+        })
+    }
+
+    /// Whether the run's position of that number is marked, and how many marked ones are before it in the run.
+    pub(crate) fn look_up(&self, number: u64) -> (bool, u64)
+        requires { number < run_size_in self.now.family self.now.block self.now.run }
+        ensures mark { result.0 ≡ local_marks_in self.now.family self.now.block self.now.run number }
+        ensures before { result.1 ≡ marks_below (local_marks_in self.now.family self.now.block self.now.run) number }
+    {
+        let mut low = 0;
+        let mut high = self.list.len();
+        while 1 < high - low {
+            let middle = low + (high - low) / 2;
+            if self.list[middle].start <= number {
+                low = middle;
+            } else {
+                high = middle;
+            }
+        }
+        let stretch = self.list[low];
+        if stretch.is_marked {
+            (true, stretch.before + (number - stretch.start))
+        } else {
+            (false, stretch.before)
+        }
+    }
+
+    /// The number of the marked position of the run before which there are so many marked ones in the run.
+    pub(crate) fn number_at(&self, marks: u64) -> u64
+        requires { marks < self.now.count }
+        ensures number { result < run_size_in self.now.family self.now.block self.now.run }
+        ensures mark { local_marks_in self.now.family self.now.block self.now.run result ≡ true }
+        ensures marks { marks_below (local_marks_in self.now.family self.now.block self.now.run) result ≡ marks }
+    {
+        let mut low = 0;
+        let mut high = self.list.len();
+        while 1 < high - low {
+            let middle = low + (high - low) / 2;
+            if self.list[middle].before <= marks {
+                low = middle;
+            } else {
+                high = middle;
+            }
+        }
+        let stretch = self.list[low];
+        stretch.start + (marks - stretch.before)
+    }
+}

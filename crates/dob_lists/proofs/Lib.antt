@@ -1,0 +1,3 @@
+-- The lemmas, in the order in which they are read.
+pub mod Sums  -- sums over the blocks before one
+pub mod Segmentation  -- lists in segments

@@ -1,0 +1,178 @@
+-- Layers and what a board's tests count.
+use Rattle.std.proofs.Common.{◌≡◌, ℕ, zero, suc, ◌+◌, ◌-◌, ◌<◌, ◌≤◌, Bool, true, false, cond, eqb, List, [], ◌∷◌, Some, None, length, map}
+use Rattle.std.proofs.Common.{get_or, refl, sym, ap, ◌∙◌, subst, inl, inr, arith}
+use Rattle.std.specs.List.{count_by}
+use Rattle.std.proofs.lemmas.Bool.{cases_order, cases_lt, cases_eq}
+use Rattle.std.proofs.lemmas.List.Recursion.{is_count_by}
+use Rattle.dob_pieces.specs.declared.kind.Kind.TheVariants.{Lion}
+use Rattle.dob_pieces.specs.declared.kind.HandKind.{HandKind}
+use Rattle.dob_pieces.specs.declared.kind.HandKind.TheVariants as hand
+use Rattle.dob_pieces.specs.declared.kind.Side.TheVariants.{Mover, Enemy}
+use Rattle.dob_pieces.specs.Setups.{Cell, piece_of, holds_lion, holds_kind}
+use Rattle.dob_rank.specs.Order.{squares_from}
+use Rattle.dob_rank.specs.Numbers.{order, layer, count, count_from, with_first, choice, settle}
+use Rattle.dob_rank.specs.declared.layers.Layer.TheVariants.{OwnLion, Empty, EnemyLion, Chicks, Elephants, Giraffes}
+use Rattle.dob_rank.proofs.Boards.EachCell.{of_cell}
+use Rattle.dob_rank.proofs.Boards.Choices.{count_same, count_other, count_from_lower, count_from_later, choice_later, choice_not_later, layer_squares}
+use Rattle.dob_rank.proofs.Boards.Settled.{AreShown, AreLayers, settle_kept, settle_taken, settle_left}
+
+-- ---- counts of one layer and of all from a layer on
+
+pub count_from-next : (t : ℕ) (ls : List ℕ) → count_from (suc t) ls + count t ls ≡ count_from t ls
+count_from-next t [] = omega arith
+count_from-next t (l ∷ ls) =
+    let rest : count_from (suc t) ls + count t ls ≡ count_from t ls = count_from-next t ls in
+    elim (cases_order l t) [
+      | inl e ↦ (let a : count_from (suc t) (l ∷ ls) ≡ count_from (suc t) ls = count_from_lower (suc t) l ls (omega arith) in
+          let b : count t (l ∷ ls) ≡ suc (count t ls) = ap (λ (x : ℕ). count t (x ∷ ls)) e ∙ count_same t ls in
+          let c : count_from t (l ∷ ls) ≡ suc (count_from t ls) = count_from_later t l ls (omega arith) in omega arith)
+      | inr o ↦ (let other : l ≡ t → ⊥ = elim o [ inl lt ↦ omega arith | inr gt ↦ omega arith ] in
+          let b : count t (l ∷ ls) ≡ count t ls = count_other t l ls other in
+          elim o [
+            | inl lt ↦ (let a : count_from (suc t) (l ∷ ls) ≡ count_from (suc t) ls = count_from_lower (suc t) l ls (omega arith) in
+                let c : count_from t (l ∷ ls) ≡ count_from t ls = count_from_lower t l ls lt in omega arith)
+            | inr gt ↦ (let a : count_from (suc t) (l ∷ ls) ≡ suc (count_from (suc t) ls) = count_from_later (suc t) l ls gt in
+                let c : count_from t (l ∷ ls) ≡ suc (count_from t ls) = count_from_later t l ls (omega arith) in omega arith)
+          ])
+    ]
+
+pub count_from-zero : (ls : List ℕ) → count_from (order OwnLion) ls ≡ length ls
+count_from-zero [] = refl
+count_from-zero (l ∷ ls) = count_from_later 0 l ls (omega arith) ∙ ap suc (count_from-zero ls)
+
+-- where only layers below t and empty squares are, those from t on are the empty ones
+pub count_five : (t : ℕ) (ls : List ℕ) → t ≤ order Empty → AreShown t ls → count (order Empty) ls ≡ count_from t ls
+count_five t [] h a = refl
+count_five t (l ∷ ls) h a =
+    let rest : count (order Empty) ls ≡ count_from t ls = count_five t ls h a.1 in
+    elim a.0 [
+      | inl lt ↦ (let other : l ≡ order Empty → ⊥ = omega arith in count_other (order Empty) l ls other ∙ rest ∙ sym (count_from_lower t l ls lt))
+      | inr e ↦ ap (λ (x : ℕ). count (order Empty) (x ∷ ls)) e ∙ count_same (order Empty) ls ∙ ap suc rest ∙ sym (count_from_later t l ls (omega arith))
+    ]
+
+pub AreLayers-shown : (ls : List ℕ) → AreShown (order Empty) ls → AreLayers ls
+AreLayers-shown [] a = tt
+AreLayers-shown (l ∷ ls) a = ((elim a.0 [ inl lt ↦ omega arith | inr e ↦ omega arith ]), AreLayers-shown ls a.1)
+
+pub length-settle : (t pieces number : ℕ) (ls : List ℕ) → length (settle t pieces number ls) ≡ length ls
+length-settle t pieces number [] = refl
+length-settle t pieces number (l ∷ ls) = elim (cases_eq l (order Empty)) [
+  | inr n ↦ ap length (settle_kept t pieces number l ls n) ∙ ap suc (length-settle t pieces number ls)
+  | inl e ↦ ap (λ (x : ℕ). length (settle t pieces number (x ∷ ls))) e
+      ∙ elim (cases_lt number (with_first (count (order Empty) ls) pieces)) [
+        | inl lt ↦ ap length (settle_taken t pieces number ls lt) ∙ ap suc (length-settle t (pieces - 1) number ls)
+        | inr le ↦ ap length (settle_left t pieces number ls le) ∙ ap suc (length-settle t pieces (number - with_first (count (order Empty) ls) pieces) ls)
+      ]
+]
+
+-- ---- a layer of one cell
+
+pub choice_none : (t : ℕ) (ls : List ℕ) → count t ls ≡ 0 → choice t ls ≡ 0
+choice_none t [] h = refl
+choice_none t (l ∷ ls) h = elim (cases_order l t) [
+  | inl e ↦ absurd (let one : count t (l ∷ ls) ≡ suc (count t ls) = ap (λ (x : ℕ). count t (x ∷ ls)) e ∙ count_same t ls in omega arith)
+  | inr o ↦ (let other : l ≡ t → ⊥ = elim o [ inl lt ↦ omega arith | inr gt ↦ omega arith ] in
+      let none : count t ls ≡ 0 = sym (count_other t l ls other) ∙ h in
+      let rest : choice t ls ≡ 0 = choice_none t ls none in
+      elim o [
+        | inl lt ↦ choice_not_later t l ls (omega arith) ∙ rest
+        | inr gt ↦ choice_later t l ls gt ∙ ap (λ (x : ℕ). with_first (count_from t ls) x + choice t ls) none ∙ ap (λ (x : ℕ). 0 + x) rest
+      ])
+]
+
+pub count_positive : (t : ℕ) (ls : List ℕ) (k : ℕ) → t < order Empty → get_or ls k (order Empty) ≡ t → 0 < count t ls
+count_positive t [] k h e = absurd (let five : order Empty ≡ t = e in omega arith)
+count_positive t (l ∷ ls) zero h e = (let one : count t (l ∷ ls) ≡ suc (count t ls) = ap (λ (x : ℕ). count t (x ∷ ls)) e ∙ count_same t ls in omega arith)
+count_positive t (l ∷ ls) (suc k) h e = (let rest : 0 < count t ls = count_positive t ls k h e in
+    elim (cases_eq l t) [
+      | inl i ↦ (let one : count t (l ∷ ls) ≡ suc (count t ls) = ap (λ (x : ℕ). count t (x ∷ ls)) i ∙ count_same t ls in omega arith)
+      | inr n ↦ (let one : count t (l ∷ ls) ≡ count t ls = count_other t l ls n in omega arith)
+    ])
+
+-- the choice of one square is that square, where no layer is earlier
+pub lion_at : (ls : List ℕ) → count (order OwnLion) ls ≡ 1 → get_or ls (choice (order OwnLion) ls) (order Empty) ≡ order OwnLion
+lion_at [] h = absurd (omega arith)
+lion_at (zero ∷ ls) h =
+    let none : count (order OwnLion) ls ≡ 0 = (let one : count (order OwnLion) (zero ∷ ls) ≡ suc (count (order OwnLion) ls)
+    = count_same (order OwnLion) ls in omega arith) in
+    ap (λ (x : ℕ). get_or (zero ∷ ls) x (order Empty)) (choice_not_later (order OwnLion) 0 ls (omega arith) ∙ choice_none (order OwnLion) ls none)
+lion_at (suc l ∷ ls) h =
+    let one : count (order OwnLion) ls ≡ 1 = sym (count_other (order OwnLion) (suc l) ls (omega arith)) ∙ h in
+    let next : choice (order OwnLion) (suc l ∷ ls) ≡ suc (choice (order OwnLion) ls) = choice_later (order OwnLion) (suc l) ls (omega arith)
+    ∙ ap (λ (x : ℕ). with_first (count_from (order OwnLion) ls) x + choice (order OwnLion) ls) one
+    ∙ (let s : 1 + choice (order OwnLion) ls ≡ suc (choice (order OwnLion) ls) = omega arith in s) in
+    ap (λ (x : ℕ). get_or (suc l ∷ ls) x (order Empty)) next ∙ lion_at ls one
+
+first_only : (ls : List ℕ) (k : ℕ) → count (order OwnLion) ls ≡ 0 → get_or (zero ∷ ls) k (order Empty) ≡ order OwnLion → k ≡ 0
+first_only ls zero none e = refl
+first_only ls (suc k) none e = absurd (let some : 0 < count (order OwnLion) ls = count_positive 0 ls k (omega arith) e in omega arith)
+
+pub lion_only : (ls : List ℕ) (k : ℕ) → count (order OwnLion) ls ≡ 1 → get_or ls k (order Empty) ≡ order OwnLion → k ≡ choice (order OwnLion) ls
+lion_only [] k h e = absurd (omega arith)
+lion_only (zero ∷ ls) k h e =
+    let none : count (order OwnLion) ls ≡ 0 = (let one : count (order OwnLion) (zero ∷ ls) ≡ suc (count (order OwnLion) ls)
+    = count_same (order OwnLion) ls in omega arith) in
+    let here : choice (order OwnLion) (zero ∷ ls) ≡ 0 = choice_not_later (order OwnLion) 0 ls (omega arith) ∙ choice_none (order OwnLion) ls none in
+    first_only ls k none e ∙ sym here
+lion_only (suc l ∷ ls) zero h e = absurd (let z : suc l ≡ 0 = e in omega arith)
+lion_only (suc l ∷ ls) (suc k) h e =
+    let one : count (order OwnLion) ls ≡ 1 = sym (count_other (order OwnLion) (suc l) ls (omega arith)) ∙ h in
+    let next : choice (order OwnLion) (suc l ∷ ls) ≡ suc (choice (order OwnLion) ls) = choice_later (order OwnLion) (suc l) ls (omega arith)
+    ∙ ap (λ (x : ℕ). with_first (count_from (order OwnLion) ls) x + choice (order OwnLion) ls) one
+    ∙ (let s : 1 + choice (order OwnLion) ls ≡ suc (choice (order OwnLion) ls) = omega arith in s) in
+    ap suc (lion_only ls k one e) ∙ sym next
+
+-- ---- layers and the tests of the key
+
+pub holds_mover_lion : (cell : Cell) → holds_lion Mover cell ≡ eqb (layer cell) (order OwnLion)
+holds_mover_lion = of_cell (λ cell. holds_lion Mover cell ≡ eqb (layer cell) (order OwnLion)) refl
+    (refl, refl, refl, refl, refl) (refl, refl, refl, refl, refl)
+
+pub holds_enemy_lion : (cell : Cell) → holds_lion Enemy cell ≡ eqb (layer cell) (order EnemyLion)
+holds_enemy_lion = of_cell (λ cell. holds_lion Enemy cell ≡ eqb (layer cell) (order EnemyLion)) refl
+    (refl, refl, refl, refl, refl) (refl, refl, refl, refl, refl)
+
+-- the layer of a kind of piece that can lie in a hand
+abbrev pub layer_of_kind : HandKind → ℕ
+layer_of_kind hand.Chick = order Chicks
+layer_of_kind hand.Elephant = order Elephants
+layer_of_kind hand.Giraffe = order Giraffes
+
+pub holds_kind-layer : (kind : HandKind) (cell : Cell) → holds_kind kind cell ≡ eqb (layer cell) (layer_of_kind kind)
+holds_kind-layer hand.Chick = of_cell (λ cell. holds_kind hand.Chick cell ≡ eqb (layer cell) (order Chicks)) refl
+    (refl, refl, refl, refl, refl) (refl, refl, refl, refl, refl)
+holds_kind-layer hand.Elephant = of_cell (λ cell. holds_kind hand.Elephant cell ≡ eqb (layer cell) (order Elephants)) refl
+    (refl, refl, refl, refl, refl) (refl, refl, refl, refl, refl)
+holds_kind-layer hand.Giraffe = of_cell (λ cell. holds_kind hand.Giraffe cell ≡ eqb (layer cell) (order Giraffes)) refl
+    (refl, refl, refl, refl, refl) (refl, refl, refl, refl, refl)
+
+-- what passes a test that tells a layer is as many as the layer has, on the squares of the layer
+pub count-layer : (test : Cell → Bool) (t : ℕ) → ((cell : Cell) → test cell ≡ eqb (layer cell) t)
+    → (cells : List Cell) → count_by test cells ≡ count t (map layer cells)
+count-layer test t h cells = sym (is_count_by (λ (xs : List Cell). count t (map layer xs)) test refl
+    (λ x xs. subst (λ (b : Bool). cond (eqb (layer x) t) 1 0 + count t (map layer xs) ≡ cond b (1 + count t (map layer xs)) (count t (map layer xs)))
+    (sym (h x))
+    (one_more (eqb (layer x) t) (count t (map layer xs)))) cells)
+  where
+    one_more : (b : Bool) (n : ℕ) → cond b 1 0 + n ≡ cond b (1 + n) n
+    one_more true n = refl
+    one_more false n = omega arith
+
+pub squares-layer : (test : Cell → Bool) (t : ℕ) → ((cell : Cell) → test cell ≡ eqb (layer cell) t) → (from : ℕ) (cells : List Cell)
+    → squares_from from test cells ≡ layer_squares t from (map layer cells)
+squares-layer test t h from [] = refl
+squares-layer test t h from (cell ∷ cells) =
+    ap (λ (b : Bool). cond b (from ∷ squares_from (suc from) test cells) (squares_from (suc from) test cells)) (h cell)
+    ∙ ap (λ (xs : List ℕ). cond (eqb (layer cell) t) (from ∷ xs) xs) (squares-layer test t h (suc from) cells)
+
+-- a cell of the first layer is the mover's lion
+pub mover_lion : (cell : Cell) → layer cell ≡ order OwnLion → cell ≡ Some (piece_of Mover Lion)
+mover_lion = of_cell (λ cell. layer cell ≡ order OwnLion → cell ≡ Some (piece_of Mover Lion)) (λ e. absurd (omega arith))
+    (λ e. refl, λ e. absurd (omega arith), λ e. absurd (omega arith), λ e. absurd (omega arith), λ e. absurd (omega arith))
+    (λ e. absurd (omega arith), λ e. absurd (omega arith), λ e. absurd (omega arith), λ e. absurd (omega arith), λ e. absurd (omega arith))
+
+-- the layer on a square
+pub layer-at : (cells : List Cell) (k : ℕ) → get_or (map layer cells) k (order Empty) ≡ layer (get_or cells k None)
+layer-at [] k = refl
+layer-at (cell ∷ cells) zero = refl
+layer-at (cell ∷ cells) (suc k) = layer-at cells k

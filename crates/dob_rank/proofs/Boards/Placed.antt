@@ -1,0 +1,481 @@
+-- Pieces placed one after another on the squares that are left make the board of the settled layers.
+use Rattle.std.proofs.Common.{◌≡◌, ℕ, zero, suc, ◌+◌, ◌-◌, ◌*◌, ◌/◌, ◌%◌, ◌^◌, ◌<◌, ◌≤◌, List, [], ◌∷◌, length, replicate, slice_index, slice_index_or, set, ◌≢◌}
+use Rattle.std.proofs.Common.{None, refl, sym, ap, ◌∙◌, subst, inl, inr, arith}
+use Rattle.std.proofs.lemmas.Bool.{cases_eq, cases_lt, lt-ltb, le-ltb}
+use Rattle.std.proofs.Math.Nat.{pow-zero, pow-succ'}
+use Rattle.dob_pieces.specs.Setups.{Cell}
+use Rattle.dob_rank.specs.Numbers.{count, choose, settle, base_of, cell_of, board_of, numbers_by, layers_by, own_squares, enemy_squares, free_squares}
+use Rattle.dob_rank.specs.Placing.{past, lower_of, higher_of, first_place, second_place, put, AreChoices, AreFree}
+use Rattle.dob_rank.specs.Numbers.{order, empty_layers}
+use Rattle.dob_rank.specs.declared.layers.Layer.TheVariants.{OwnLion, EnemyLion, Chicks, Elephants, Giraffes, Empty}
+use Rattle.dob_rank.proofs.Boards.Choices.{count_same, count_other, choose-split}
+use Rattle.dob_rank.proofs.Boards.Settled.{AreShown, IsSettled, settle-settles}
+use Rattle.dob_rank.proofs.Boards.LayerCounts.{length-settle}
+use Rattle.dob_rank.proofs.Positions.Made.{empty_after}
+use Rattle.dob_rank.proofs.Boards.EmptySquares.{empty_place, kept, empty_place-below, empty_place-set, past-low, past-upto, settle_none}
+use Rattle.dob_rank.proofs.Boards.EmptySquares.{settle_one, settle_two, choose_one}
+
+-- ---- a board with one more piece
+
+-- the square is empty, and no square of the layer stands before it
+abbrev IsOpen : ℕ → ℕ → List ℕ → Type 0
+IsOpen s t [] = ⊥
+IsOpen zero t (l ∷ ls) = l ≡ order Empty
+IsOpen (suc s) t (l ∷ ls) = (l ≡ t → ⊥) × IsOpen s t ls
+
+count-set_other : (l t s : ℕ) (ls : List ℕ) → (l ≡ order Empty → ⊥) → (l ≡ t → ⊥) → IsOpen s t ls → count l (set ls s t) ≡ count l ls
+count-set_other l t s [] h k o = absurd o
+count-set_other l t zero (m ∷ ls) h k o =
+    count_other l t ls (λ e. k (sym e)) ∙ sym (ap (λ (x : ℕ). count l (x ∷ ls)) o ∙ count_other l (order Empty) ls (λ e. h (sym e)))
+count-set_other l t (suc s) (m ∷ ls) h k o = (let rest = count-set_other l t s ls h k o.1 in omega (arith, rest))
+
+count-set_same : (t s : ℕ) (ls : List ℕ) → (t ≡ order Empty → ⊥) → IsOpen s t ls → count t (set ls s t) ≡ suc (count t ls)
+count-set_same t s [] h o = absurd o
+count-set_same t zero (l ∷ ls) h o = count_same t ls ∙ ap suc (sym (ap (λ (x : ℕ). count t (x ∷ ls)) o ∙ count_other t (order Empty) ls (λ e. h (sym e))))
+count-set_same t (suc s) (l ∷ ls) h o =
+    count_other t l (set ls s t) o.0 ∙ count-set_same t s ls h o.1 ∙ ap suc (sym (count_other t l ls o.0))
+
+-- the form that the number gives to a further piece of the layer
+abbrev next_cell : (ℕ → ℕ) → ℕ → List ℕ → Cell
+next_cell numbers t ls = cell_of t (numbers t / base_of t ^ count t ls % base_of t)
+
+board_of-set : (numbers : ℕ → ℕ) (t s : ℕ) (ls : List ℕ) → (t ≡ order Empty → ⊥) → IsOpen s t ls
+    → board_of numbers (set ls s t) ≡ set (board_of numbers ls) s (next_cell numbers t ls)
+board_of-set numbers t s [] h o = absurd o
+board_of-set numbers t zero (l ∷ ls) h o =
+    ap (λ (n : ℕ). cell_of t (numbers t / base_of t ^ n % base_of t) ∷ board_of numbers ls)
+    (sym (ap (λ (x : ℕ). count t (x ∷ ls)) o ∙ count_other t (order Empty) ls (λ e. h (sym e))))
+board_of-set numbers t (suc s) (l ∷ ls) h o =
+    ap (λ (c : Cell). c ∷ board_of numbers (set ls s t)) head ∙ ap (λ (cs : List Cell). next_cell numbers l ls ∷ cs) (board_of-set numbers t s ls h o.1)
+    ∙ ap (λ (n : ℕ). next_cell numbers l ls ∷ set (board_of numbers ls) s (cell_of t (numbers t / base_of t ^ n % base_of t))) (sym (count_other t l ls o.0))
+  where
+    empty : (l m n : ℕ) → l ≡ order Empty → cell_of l m ≡ cell_of l n
+    empty l m n e = subst (λ (x : ℕ). cell_of x m ≡ cell_of x n) (sym e) refl
+
+    head : next_cell numbers l (set ls s t) ≡ next_cell numbers l ls
+    head = elim (cases_eq l (order Empty)) [
+      | inl e ↦ empty l (numbers l / base_of l ^ count l (set ls s t) % base_of l) (numbers l / base_of l ^ count l ls % base_of l) e
+      | inr ne ↦ ap (λ (n : ℕ). cell_of l (numbers l / base_of l ^ n % base_of l)) (count-set_other l t s ls ne o.0 o.1)
+    ]
+
+-- ---- the squares that choices take are open
+
+no_layer : (t l : ℕ) (ls : List ℕ) → count t (l ∷ ls) ≡ 0 → (l ≡ t → ⊥) × (count t ls ≡ 0)
+no_layer t l ls h = elim (cases_eq l t) [
+  | inl e ↦ (let more : count t (l ∷ ls) ≡ suc (count t ls) = ap (λ (x : ℕ). count t (x ∷ ls)) e ∙ count_same t ls in absurd (omega arith))
+  | inr ne ↦ (ne, sym (count_other t l ls ne) ∙ h)
+]
+
+five_more : (l : ℕ) (ls : List ℕ) → l ≡ order Empty → count (order Empty) (l ∷ ls) ≡ suc (count (order Empty) ls)
+five_more l ls e = ap (λ (x : ℕ). count (order Empty) (x ∷ ls)) e ∙ count_same (order Empty) ls
+
+open_one : (t n : ℕ) (ls : List ℕ) → (order Empty ≡ t → ⊥) → count t ls ≡ 0 → n < count (order Empty) ls → IsOpen (empty_place ls n) t ls
+open_one t n [] h z k = absurd (omega arith)
+open_one t n (l ∷ ls) h z k =
+    let none = no_layer t l ls z in
+    elim (cases_eq l (order Empty)) [
+      | inl e ↦ subst (λ (x : ℕ). IsOpen (empty_place (x ∷ ls) n) t (x ∷ ls)) (sym e)
+          (five n (subst (λ (m : ℕ). n < m) (five_more l ls e) k) (λ j low. open_one t j ls h none.1 low))
+      | inr ne ↦ subst (λ (s : ℕ). IsOpen s t (l ∷ ls)) (sym (kept l ls n ne))
+          (none.0, open_one t n ls h none.1 (subst (λ (m : ℕ). n < m) (count_other (order Empty) l ls ne) k))
+    ]
+  where
+    five : (n : ℕ) → n < suc (count (order Empty) ls) → ((j : ℕ) → j < count (order Empty) ls → IsOpen (empty_place ls j) t ls)
+        → IsOpen (empty_place (order Empty ∷ ls) n) t (order Empty ∷ ls)
+    five zero low rec = refl
+    five (suc n) low rec = (h, rec n (omega arith))
+
+open_two : (t a b : ℕ) (ls : List ℕ) → (order Empty ≡ t → ⊥) → count t ls ≡ 0 → a < b → b < count (order Empty) ls
+    → IsOpen (empty_place ls a) t (set ls (empty_place ls b) t)
+open_two t a b [] h z k low = absurd (omega arith)
+open_two t a b (l ∷ ls) h z k low =
+    let none = no_layer t l ls z in
+    elim (cases_eq l (order Empty)) [
+      | inl e ↦ subst (λ (x : ℕ). IsOpen (empty_place (x ∷ ls) a) t (set (x ∷ ls) (empty_place (x ∷ ls) b) t)) (sym e)
+          (five a b k (subst (λ (m : ℕ). b < m) (five_more l ls e) low) (λ i j less under. open_two t i j ls h none.1 less under))
+      | inr ne ↦ subst (λ (s : ℕ). IsOpen s t (set (l ∷ ls) (empty_place (l ∷ ls) b) t)) (sym (kept l ls a ne))
+          (subst (λ (s : ℕ). IsOpen (suc (empty_place ls a)) t (set (l ∷ ls) s t)) (sym (kept l ls b ne))
+          (none.0, open_two t a b ls h none.1 k (subst (λ (m : ℕ). b < m) (count_other (order Empty) l ls ne) low)))
+    ]
+  where
+    five : (a b : ℕ) → a < b → b < suc (count (order Empty) ls) →
+        ((i j : ℕ) → i < j → j < count (order Empty) ls → IsOpen (empty_place ls i) t (set ls (empty_place ls j) t)) →
+        IsOpen (empty_place (order Empty ∷ ls) a) t (set (order Empty ∷ ls) (empty_place (order Empty ∷ ls) b) t)
+    five a zero less under rec = absurd (omega arith)
+    five zero (suc b) less under rec = refl
+    five (suc a) (suc b) less under rec = (h, rec a b (omega arith) (omega arith))
+
+-- the two places of a choice
+pub record IsChoice (m a b : ℕ) : Type 0 where
+  pub rising : a < b
+  pub below : b < m
+
+pub choice_of : (m n : ℕ) → n < choose m 2 → IsChoice m (lower_of m n) (higher_of m n)
+choice_of zero n h = absurd (omega arith)
+choice_of (suc m) n h = elim (cases_lt n m) [
+  | inl lt ↦ (let more : suc n < suc m = omega arith in rw (lt-ltb n m lt) (record { rising = omega arith; below = more }))
+  | inr le ↦ (let one = choose_one m in
+      let rest = choice_of m (n - m) (omega (arith, choose-split m 2, one, h, le)) in
+      let less = rest.rising in let low = rest.below in
+      rw (le-ltb n m le) (record { rising = omega arith; below = omega arith }))
+]
+
+-- ---- one layer after another
+
+-- the board of the layers that were settled so far, and where the squares that are left stand
+pub record Stand (numbers : ℕ → ℕ) (t m : ℕ) (ls : List ℕ) (cells : List Cell) (f : ℕ → ℕ) : Type 0 where
+  pub board_is : cells ≡ board_of numbers ls
+  pub empty_is : count (order Empty) ls ≡ m
+  pub long : length ls ≡ 12
+  pub shown : AreShown t ls
+  pub place_is : (n : ℕ) → n < m → empty_place ls n ≡ f n
+
+none_shown : (t : ℕ) (ls : List ℕ) → t < order Empty → AreShown t ls → count t ls ≡ 0
+none_shown t [] h a = refl
+none_shown t (l ∷ ls) h a = count_other t l ls other ∙ none_shown t ls h a.1
+  where
+    other : l ≡ t → ⊥
+    other e = elim a.0 [ inl lt ↦ absurd (omega arith) | inr five ↦ absurd (omega arith) ]
+
+-- what is the same of each number of pieces
+record IsLeft (t p m : ℕ) (rs : List ℕ) : Type 0 where
+  empty_is : count (order Empty) rs ≡ m - p
+  long : length rs ≡ 12
+  shown : AreShown (suc t) rs
+
+left : (numbers : ℕ → ℕ) (t p n m : ℕ) (ls : List ℕ) (cells : List Cell) (f : ℕ → ℕ) → t < order Empty → n < choose m p → Stand numbers t m ls cells f →
+    IsLeft t p m (settle t p n ls)
+left numbers t p n m ls cells f h low s =
+    let settled : IsSettled t p n ls (settle t p n ls) =
+    settle-settles t p n ls h s.shown (subst (λ (x : ℕ). n < choose x p) (sym s.empty_is) low) in
+    let after : count (order Empty) (settle t p n ls) + p ≡ count (order Empty) ls = empty_after t p n ls (settle t p n ls) h settled in
+    let before : count (order Empty) ls ≡ m = s.empty_is in
+    record { empty_is = omega arith; long = length-settle t p n ls ∙ s.long; shown = settled.shown }
+
+without : (n : ℕ) → n / 1 ≡ n
+without n = omega arith
+
+first_form : (numbers : ℕ → ℕ) (t : ℕ) (ls : List ℕ) → count t ls ≡ 0 → next_cell numbers t ls ≡ cell_of t (numbers t % base_of t)
+first_form numbers t ls z =
+    ap (λ (x : ℕ). cell_of t (numbers t / base_of t ^ x % base_of t)) z ∙ ap (λ (x : ℕ). cell_of t (numbers t / x % base_of t)) (pow-zero (base_of t))
+    ∙ ap (λ (x : ℕ). cell_of t (x % base_of t)) (without (numbers t))
+
+second_form : (numbers : ℕ → ℕ) (t : ℕ) (ls : List ℕ) → count t ls ≡ 1 → next_cell numbers t ls ≡ cell_of t (numbers t / base_of t % base_of t)
+second_form numbers t ls o =
+    ap (λ (x : ℕ). cell_of t (numbers t / base_of t ^ x % base_of t)) o
+    ∙ ap (λ (x : ℕ). cell_of t (numbers t / x % base_of t)) (pow-succ' (base_of t) 0 ∙ ap (λ (x : ℕ). base_of t * x) (pow-zero (base_of t)) ∙ once (base_of t))
+  where
+    once : (n : ℕ) → n * 1 ≡ n
+    once n = omega arith
+
+-- one piece
+pub stage_one : (numbers : ℕ → ℕ) (t n m : ℕ) (ls : List ℕ) (cells : List Cell) (f : ℕ → ℕ) → t < order Empty → n < m → Stand numbers t m ls cells f →
+    Stand numbers (suc t) (m - 1) (settle t 1 n ls) (set cells (f n) (cell_of t (numbers t % base_of t))) (λ k. f (past n k))
+stage_one numbers t n m ls cells f h low s =
+    let same : count (order Empty) ls ≡ m = s.empty_is in
+    let here : n < count (order Empty) ls = omega arith in
+    let rest = left numbers t 1 n m ls cells f h (subst (λ (x : ℕ). n < x) (sym (choose_one m)) low) s in
+    let is : settle t 1 n ls ≡ set ls (empty_place ls n) t = settle_one t n ls here in
+    let none : count t ls ≡ 0 = none_shown t ls h s.shown in
+    let five : order Empty ≡ t → ⊥ = λ (e : order Empty ≡ t). absurd (omega arith) in
+    let other : t ≡ order Empty → ⊥ = λ (e : t ≡ order Empty). absurd (omega arith) in
+    record {
+      board_is = ap (λ (cs : List Cell). set cs (f n) (cell_of t (numbers t % base_of t))) s.board_is
+          ∙ ap (λ (x : ℕ). set (board_of numbers ls) x (cell_of t (numbers t % base_of t))) (sym (s.place_is n low))
+          ∙ ap (set (board_of numbers ls) (empty_place ls n)) (sym (first_form numbers t ls none))
+          ∙ sym (board_of-set numbers t (empty_place ls n) ls other (open_one t n ls five none here))
+          ∙ ap (board_of numbers) (sym is);
+      empty_is = rest.empty_is;
+      long = rest.long;
+      shown = rest.shown;
+      place_is = λ k less. (let upto : past n k ≤ k + 1 = past-upto n k in
+          ap (λ (xs : List ℕ). empty_place xs k) is ∙ empty_place-set t n k ls other ∙ s.place_is (past n k) (omega arith));
+    }
+
+-- two pieces
+stage_two : (numbers : ℕ → ℕ) (t n m : ℕ) (ls : List ℕ) (cells : List Cell) (f : ℕ → ℕ) → t < order Empty → n < choose m 2 → Stand numbers t m ls cells f →
+    Stand numbers (suc t) (m - 2) (settle t 2 n ls)
+    (set (set cells (f (higher_of m n)) (cell_of t (numbers t % base_of t))) (f (lower_of m n)) (cell_of t (numbers t / base_of t % base_of t)))
+    (λ k. f (past (higher_of m n) (past (lower_of m n) k)))
+stage_two numbers t n m ls cells f h low s =
+    let same : count (order Empty) ls ≡ m = s.empty_is in
+    let choice = choice_of m n low in
+    let rising : lower_of m n < higher_of m n = choice.rising in
+    let below : higher_of m n < m = choice.below in
+    let here : higher_of m n < count (order Empty) ls = omega arith in
+    let rest = left numbers t 2 n m ls cells f h low s in
+    let once : List ℕ = set ls (empty_place ls (higher_of m n)) t in
+    let is : settle t 2 n ls ≡ set (set ls (empty_place ls (higher_of m n)) t) (empty_place ls (lower_of m n)) t =
+    subst (λ (x : ℕ). settle t 2 n ls ≡ set (set ls (empty_place ls (higher_of x n)) t) (empty_place ls (lower_of x n)) t) same
+    (settle_two t n ls (subst (λ (x : ℕ). n < choose x 2) (sym same) low)) in
+    let none : count t ls ≡ 0 = none_shown t ls h s.shown in
+    let five : order Empty ≡ t → ⊥ = λ (e : order Empty ≡ t). absurd (omega arith) in
+    let other : t ≡ order Empty → ⊥ = λ (e : t ≡ order Empty). absurd (omega arith) in
+    let first = open_one t (higher_of m n) ls five none here in
+    let one : count t (set ls (empty_place ls (higher_of m n)) t) ≡ 1 = count-set_same t (empty_place ls (higher_of m n)) ls other first ∙ ap suc none in
+    let lower : past (higher_of m n) (lower_of m n) ≡ lower_of m n = past-low (higher_of m n) (lower_of m n) rising in
+    record {
+      board_is = ap (λ (cs : List Cell). set (set cs (f (higher_of m n)) (cell_of t (numbers t % base_of t)))
+          (f (lower_of m n)) (cell_of t (numbers t / base_of t % base_of t))) s.board_is
+          ∙ ap (λ (x : ℕ). set (set (board_of numbers ls) x (cell_of t (numbers t % base_of t)))
+          (f (lower_of m n)) (cell_of t (numbers t / base_of t % base_of t)))
+          (sym (s.place_is (higher_of m n) below))
+          ∙ ap (λ (x : ℕ). set (set (board_of numbers ls) (empty_place ls (higher_of m n)) (cell_of t (numbers t % base_of t))) x
+          (cell_of t (numbers t / base_of t % base_of t)))
+          (sym (s.place_is (lower_of m n) (omega arith)))
+          ∙ ap (λ (c : Cell). set (set (board_of numbers ls) (empty_place ls (higher_of m n)) c)
+          (empty_place ls (lower_of m n)) (cell_of t (numbers t / base_of t % base_of t)))
+          (sym (first_form numbers t ls none))
+          ∙ ap (λ (cs : List Cell). set cs (empty_place ls (lower_of m n)) (cell_of t (numbers t / base_of t % base_of t)))
+          (sym (board_of-set numbers t (empty_place ls (higher_of m n)) ls other first))
+          ∙ ap (set (board_of numbers (set ls (empty_place ls (higher_of m n)) t)) (empty_place ls (lower_of m n)))
+          (sym (second_form numbers t (set ls (empty_place ls (higher_of m n)) t) one))
+          ∙ sym (board_of-set numbers t (empty_place ls (lower_of m n)) (set ls (empty_place ls (higher_of m n)) t) other
+          (open_two t (lower_of m n) (higher_of m n) ls five none rising here))
+          ∙ ap (board_of numbers) (sym is);
+      empty_is = rest.empty_is;
+      long = rest.long;
+      shown = rest.shown;
+      place_is = λ k less. (let upto : past (lower_of m n) k ≤ k + 1 = past-upto (lower_of m n) k in
+          let over : past (higher_of m n) (past (lower_of m n) k) ≤ past (lower_of m n) k + 1 = past-upto (higher_of m n) (past (lower_of m n) k) in
+          ap (λ (xs : List ℕ). empty_place xs k) is
+          ∙ ap (λ (x : ℕ). empty_place (set (set ls (empty_place ls (higher_of m n)) t) x t) k)
+          (ap (empty_place ls) (sym lower) ∙ sym (empty_place-set t (higher_of m n) (lower_of m n) ls other))
+          ∙ empty_place-set t (lower_of m n) k (set ls (empty_place ls (higher_of m n)) t) other
+          ∙ empty_place-set t (higher_of m n) (past (lower_of m n) k) ls other
+          ∙ s.place_is (past (higher_of m n) (past (lower_of m n) k)) (omega arith));
+    }
+
+-- any number of pieces up to two
+pub stage : (numbers : ℕ → ℕ) (t p n m : ℕ) (ls : List ℕ) (cells : List Cell) (f : ℕ → ℕ) → t < order Empty
+    → p ≤ 2 → m ≤ 12 → n < choose m p → Stand numbers t m ls cells f →
+    Stand numbers (suc t) (m - p) (settle t p n ls) (put t p (f (first_place m p n)) (f (second_place m p n)) (numbers t) cells)
+    (λ k. f (past (second_place m p n) (past (first_place m p n) k)))
+stage numbers t zero n m ls cells f h few upto low s =
+    let rest = left numbers t 0 n m ls cells f h low s in
+    let is : settle t 0 n ls ≡ ls = settle_none t n ls in
+    record {
+      board_is = s.board_is ∙ ap (board_of numbers) (sym is);
+      empty_is = rest.empty_is;
+      long = rest.long;
+      shown = rest.shown;
+      place_is = λ k less. (let one : past 12 k ≡ k = past-low 12 k (omega arith) in
+          ap (λ (xs : List ℕ). empty_place xs k) is ∙ s.place_is k (omega arith) ∙ ap f (sym (ap (past 12) one ∙ one)));
+    }
+stage numbers t (suc zero) n m ls cells f h few upto low s =
+    let one = stage_one numbers t n m ls cells f h (subst (λ (x : ℕ). n < x) (choose_one m) low) s in
+    record {
+      board_is = one.board_is;
+      empty_is = one.empty_is;
+      long = one.long;
+      shown = one.shown;
+      place_is = λ k less. (let most : past n k ≤ k + 1 = past-upto n k in one.place_is k less ∙ ap f (sym (past-low 12 (past n k) (omega arith))));
+    }
+stage numbers t (suc (suc zero)) n m ls cells f h few upto low s = stage_two numbers t n m ls cells f h low s
+stage numbers t (suc (suc (suc p))) n m ls cells f h few upto low s = absurd (omega arith)
+
+-- the squares of a choice are on the board
+pub place_below : (numbers : ℕ → ℕ) (t n m : ℕ) (ls : List ℕ) (cells : List Cell) (f : ℕ → ℕ) → n < m → Stand numbers t m ls cells f → f n < 12
+place_below numbers t n m ls cells f low s =
+    let same : count (order Empty) ls ≡ m = s.empty_is in
+    let here = empty_place-below ls n (omega arith) in
+    let long : length ls ≡ 12 = s.long in
+    let is : empty_place ls n ≡ f n = s.place_is n low in
+    omega arith
+
+pub first_below : (numbers : ℕ → ℕ) (t p n m : ℕ) (ls : List ℕ) (cells : List Cell) (f : ℕ → ℕ) → p ≤ 2 → n < choose m p → Stand numbers t m ls cells f →
+    0 < p → f (first_place m p n) < 12
+first_below numbers t zero n m ls cells f few low s some = absurd (omega arith)
+first_below numbers t (suc zero) n m ls cells f few low s some = place_below numbers t n m ls cells f (subst (λ (x : ℕ). n < x) (choose_one m) low) s
+first_below numbers t (suc (suc zero)) n m ls cells f few low s some =
+    let choice = choice_of m n low in let rising = choice.rising in let below = choice.below in
+    place_below numbers t (lower_of m n) m ls cells f (omega arith) s
+first_below numbers t (suc (suc (suc p))) n m ls cells f few low s some = absurd (omega arith)
+
+pub second_below : (numbers : ℕ → ℕ) (t p n m : ℕ) (ls : List ℕ) (cells : List Cell) (f : ℕ → ℕ) → p ≤ 2 → n < choose m p → Stand numbers t m ls cells f →
+    1 < p → f (second_place m p n) < 12
+second_below numbers t zero n m ls cells f few low s some = absurd (omega arith)
+second_below numbers t (suc zero) n m ls cells f few low s some = absurd (omega arith)
+second_below numbers t (suc (suc zero)) n m ls cells f few low s some = place_below numbers t (higher_of m n) m ls cells f (choice_of m n low).below s
+second_below numbers t (suc (suc (suc p))) n m ls cells f few low s some = absurd (omega arith)
+
+-- ---- the squares of a choice are empty, and two
+
+none_at : (numbers : ℕ → ℕ) (t s : ℕ) (ls : List ℕ) → IsOpen s t ls → slice_index_or (board_of numbers ls) s None ≡ None
+none_at numbers t s [] o = refl
+none_at numbers t zero (l ∷ ls) o = subst (λ (x : ℕ). cell_of x (numbers x / base_of x ^ count x ls % base_of x) ≡ None) (sym o) refl
+none_at numbers t (suc s) (l ∷ ls) o = none_at numbers t s ls o.1
+
+not_open : (t s : ℕ) (ls : List ℕ) → (t ≡ order Empty → ⊥) → IsOpen s t (set ls s t) → ⊥
+not_open t s [] h o = o
+not_open t zero (l ∷ ls) h o = h o
+not_open t (suc s) (l ∷ ls) h o = not_open t s ls h o.1
+
+pub free_at : (numbers : ℕ → ℕ) (t m : ℕ) (ls : List ℕ) (cells : List Cell) (f : ℕ → ℕ) → t < order Empty → Stand numbers t m ls cells f
+    → (n : ℕ) → n < m → slice_index_or cells (f n) None ≡ None
+free_at numbers t m ls cells f h s n low =
+    let five : order Empty ≡ t → ⊥ = λ (e : order Empty ≡ t). absurd (omega arith) in
+    let same : count (order Empty) ls ≡ m = s.empty_is in
+    ap (λ (cs : List Cell). slice_index_or cs (f n) None) s.board_is
+    ∙ ap (λ (x : ℕ). slice_index_or (board_of numbers ls) x None) (sym (s.place_is n low))
+    ∙ none_at numbers t (empty_place ls n) ls (open_one t n ls five (none_shown t ls h s.shown) (omega arith))
+
+apart_at : (numbers : ℕ → ℕ) (t m : ℕ) (ls : List ℕ) (cells : List Cell) (f : ℕ → ℕ) → t < order Empty → Stand numbers t m ls cells f
+    → (a b : ℕ) → a < b → b < m → f a ≢ f b
+apart_at numbers t m ls cells f h s a b less low =
+    let five : order Empty ≡ t → ⊥ = λ (e : order Empty ≡ t). absurd (omega arith) in
+    let other : t ≡ order Empty → ⊥ = λ (e : t ≡ order Empty). absurd (omega arith) in
+    let same : count (order Empty) ls ≡ m = s.empty_is in
+    λ (e : f a ≡ f b).
+    not_open t (empty_place ls b) ls other
+    (subst (λ (x : ℕ). IsOpen x t (set ls (empty_place ls b) t))
+    (s.place_is a (omega arith) ∙ e ∙ sym (s.place_is b low))
+    (open_two t a b ls five (none_shown t ls h s.shown) less (omega arith)))
+
+pub are_free : (numbers : ℕ → ℕ) (t p n m : ℕ) (ls : List ℕ) (cells : List Cell) (f : ℕ → ℕ) → t < order Empty → p ≤ 2 → n < choose m p
+    → Stand numbers t m ls cells f → AreFree p (f (first_place m p n)) (f (second_place m p n)) cells
+are_free numbers t zero n m ls cells f h few low s =
+    record { first_free = λ some. absurd (omega arith); second_free = λ some. absurd (omega arith); are_two = λ some. absurd (omega arith) }
+are_free numbers t (suc zero) n m ls cells f h few low s = record {
+  first_free = λ some. free_at numbers t m ls cells f h s n (subst (λ (x : ℕ). n < x) (choose_one m) low);
+  second_free = λ some. absurd (omega arith);
+  are_two = λ some. absurd (omega arith);
+}
+are_free numbers t (suc (suc zero)) n m ls cells f h few low s =
+    let choice = choice_of m n low in
+    let rising : lower_of m n < higher_of m n = choice.rising in
+    let below : higher_of m n < m = choice.below in
+    record {
+      first_free = λ some. free_at numbers t m ls cells f h s (lower_of m n) (omega arith);
+      second_free = λ some. free_at numbers t m ls cells f h s (higher_of m n) below;
+      are_two = λ some. apart_at numbers t m ls cells f h s (lower_of m n) (higher_of m n) rising below;
+    }
+are_free numbers t (suc (suc (suc p))) n m ls cells f h few low s = absurd (omega arith)
+
+-- ---- the empty board
+
+all_empty : (n : ℕ) → AreShown (order OwnLion) (replicate n (order Empty))
+all_empty zero = tt
+all_empty (suc n) = (inr refl, all_empty n)
+
+empty_board : (numbers : ℕ → ℕ) (n : ℕ) → replicate n None ≡ board_of numbers (replicate n (order Empty))
+empty_board numbers zero = refl
+empty_board numbers (suc n) = ap (λ (cs : List Cell). None ∷ cs) (empty_board numbers n)
+
+every_place : (m n : ℕ) → n < m → empty_place (replicate m (order Empty)) n ≡ n
+every_place zero n h = absurd (omega arith)
+every_place (suc m) zero h = refl
+every_place (suc m) (suc n) h = ap suc (every_place m n (omega arith))
+
+pub start : (numbers : ℕ → ℕ) → Stand numbers (order OwnLion) 12 empty_layers (replicate 12 None) (λ n. n)
+start numbers = record {
+  board_is = empty_board numbers 12;
+  empty_is = refl;
+  long = refl;
+  shown = all_empty 12;
+  place_is = every_place 12;
+}
+
+-- ---- the layers of a board's digits
+
+-- where the squares stand that the lions, the chicks and the elephants leave
+abbrev pub after_lions : List ℕ → ℕ → ℕ
+after_lions ds n = past (slice_index ds 3) (past (slice_index ds 4) n)
+
+abbrev pub after_chicks : List ℕ → List ℕ → ℕ → ℕ
+after_chicks ob ds n =
+    let i = slice_index ob 0 in
+    let choice = slice_index ds 5 in
+    after_lions ds (past (second_place free_squares i choice) (past (first_place free_squares i choice) n))
+
+abbrev pub after_elephants : List ℕ → List ℕ → ℕ → ℕ
+after_elephants ob ds n =
+    let left = free_squares - slice_index ob 0 in
+    let j = slice_index ob 1 in
+    let choice = slice_index ds 6 in
+    after_chicks ob ds (past (second_place left j choice) (past (first_place left j choice) n))
+
+-- the board with the lions, with the chicks, with the elephants and with the giraffes
+abbrev pub with_lions : List ℕ → List Cell
+with_lions ds = set (set (replicate 12 None) (slice_index ds 3) (cell_of (order OwnLion) 0)) (past (slice_index ds 3) (slice_index ds 4))
+    (cell_of (order EnemyLion) 0)
+
+abbrev pub with_chicks : List ℕ → List ℕ → List Cell
+with_chicks ob ds =
+    let i = slice_index ob 0 in
+    let choice = slice_index ds 5 in
+    put (order Chicks) i (after_lions ds (first_place free_squares i choice)) (after_lions ds (second_place free_squares i choice)) (slice_index ds 8)
+    (with_lions ds)
+
+abbrev pub with_elephants : List ℕ → List ℕ → List Cell
+with_elephants ob ds =
+    let left = free_squares - slice_index ob 0 in
+    let j = slice_index ob 1 in
+    let choice = slice_index ds 6 in
+    put (order Elephants) j (after_chicks ob ds (first_place left j choice)) (after_chicks ob ds (second_place left j choice)) (slice_index ds 9)
+    (with_chicks ob ds)
+
+abbrev pub with_giraffes : List ℕ → List ℕ → List Cell
+with_giraffes ob ds =
+    let left = free_squares - slice_index ob 0 - slice_index ob 1 in
+    let k = slice_index ob 2 in
+    let choice = slice_index ds 7 in
+    put (order Giraffes) k (after_elephants ob ds (first_place left k choice)) (after_elephants ob ds (second_place left k choice)) (slice_index ds 10)
+    (with_elephants ob ds)
+
+-- the layers settled up to the lions, the chicks and the elephants
+abbrev pub lions_by : List ℕ → List ℕ
+lions_by ds = settle (order EnemyLion) 1 (slice_index ds 4) (settle (order OwnLion) 1 (slice_index ds 3) empty_layers)
+
+abbrev pub chicks_by : List ℕ → List ℕ → List ℕ
+chicks_by ob ds = settle (order Chicks) (slice_index ob 0) (slice_index ds 5) (lions_by ds)
+
+abbrev pub elephants_by : List ℕ → List ℕ → List ℕ
+elephants_by ob ds = settle (order Elephants) (slice_index ob 1) (slice_index ds 6) (chicks_by ob ds)
+
+-- the board with the mover's lion alone
+pub own_lion_stands : (ob ds : List ℕ) → AreChoices ob ds → Stand (numbers_by ds) (order EnemyLion) enemy_squares
+    (settle (order OwnLion) 1 (slice_index ds 3) empty_layers)
+    (set (replicate 12 None) (slice_index ds 3) (cell_of (order OwnLion) 0)) (past (slice_index ds 3))
+own_lion_stands ob ds c =
+    let own : slice_index ds 3 < own_squares = c.own_lion in
+    let zero_low : order OwnLion < order Empty = omega arith in
+    stage_one (numbers_by ds) (order OwnLion) (slice_index ds 3) 12 empty_layers (replicate 12 None) (λ n. n) zero_low (omega arith) (start (numbers_by ds))
+
+pub lions_stand : (ob ds : List ℕ) → AreChoices ob ds → Stand (numbers_by ds) (order Chicks) free_squares (lions_by ds) (with_lions ds) (after_lions ds)
+lions_stand ob ds c =
+    let one_low : order EnemyLion < order Empty = omega arith in
+    stage_one (numbers_by ds) (order EnemyLion) (slice_index ds 4) enemy_squares (settle (order OwnLion) 1 (slice_index ds 3) empty_layers)
+    (set (replicate 12 None) (slice_index ds 3) (cell_of (order OwnLion) 0))
+    (past (slice_index ds 3)) one_low c.other_lion (own_lion_stands ob ds c)
+
+pub chicks_stand : (ob ds : List ℕ) → AreChoices ob ds →
+    Stand (numbers_by ds) (order Elephants) (free_squares - slice_index ob 0) (chicks_by ob ds) (with_chicks ob ds) (after_chicks ob ds)
+chicks_stand ob ds c =
+    let low : order Chicks < order Empty = omega arith in
+    let room : free_squares ≤ 12 = omega arith in
+    stage (numbers_by ds) (order Chicks) (slice_index ob 0) (slice_index ds 5) free_squares (lions_by ds) (with_lions ds)
+    (after_lions ds) low c.chicks room c.chick_squares (lions_stand ob ds c)
+
+pub elephants_stand : (ob ds : List ℕ) → AreChoices ob ds →
+    Stand (numbers_by ds) (order Giraffes) (free_squares - slice_index ob 0 - slice_index ob 1) (elephants_by ob ds) (with_elephants ob ds)
+    (after_elephants ob ds)
+elephants_stand ob ds c =
+    let low : order Elephants < order Empty = omega arith in
+    let room : free_squares - slice_index ob 0 ≤ 12 = omega arith in
+    stage (numbers_by ds) (order Elephants) (slice_index ob 1) (slice_index ds 6) (free_squares - slice_index ob 0) (chicks_by ob ds) (with_chicks ob ds)
+    (after_chicks ob ds)
+    low c.elephants room c.elephant_squares (chicks_stand ob ds c)
+
+pub whole_board : (ob ds : List ℕ) → AreChoices ob ds → with_giraffes ob ds ≡ board_of (numbers_by ds) (layers_by ob ds)
+whole_board ob ds c =
+    let low : order Giraffes < order Empty = omega arith in
+    let room : free_squares - slice_index ob 0 - slice_index ob 1 ≤ 12 = omega arith in
+    (stage (numbers_by ds) (order Giraffes) (slice_index ob 2) (slice_index ds 7) (free_squares - slice_index ob 0 - slice_index ob 1) (elephants_by ob ds)
+    (with_elephants ob ds) (after_elephants ob ds) low c.giraffes room c.giraffe_squares (elephants_stand ob ds c)).board_is
+
+-- pieces put on the same squares of the same board
+pub put-same : (t p a b n : ℕ) (cells : List Cell) (a' b' : ℕ) (cells' : List Cell) → a ≡ a' → b ≡ b'
+    → cells ≡ cells' → put t p a b n cells ≡ put t p a' b' n cells'
+put-same t p a b n cells a' b' cells' e f g =
+    ap (λ (x : ℕ). put t p x b n cells) e ∙ ap (λ (x : ℕ). put t p a' x n cells) f ∙ ap (put t p a' b' n) g

@@ -1,0 +1,303 @@
+-- The digits of a place in a block, part by part: the hands, the lions, the squares and the forms.
+use Rattle.std.proofs.Common.{◌≡◌, ℕ, ◌+◌, ◌-◌, ◌*◌, ◌/◌, ◌%◌, ◌^◌, ◌<◌, ◌≤◌, nat_eq, Bool, true, List, [], ◌∷◌, ◌++◌, length, get_or, slice_index}
+use Rattle.std.proofs.Common.{refl, sym, ap, ◌∙◌, subst, arith}
+use Rattle.std.proofs.lemmas.Nat.{div_below, mod_below, div-add-mod', mul-le, one_shl}
+use Rattle.dob_pieces.specs.declared.piece_set.PieceSet.{PieceSet}
+use Rattle.dob_pieces.proofs.Boards.{all_below, all_below-at}
+use Rattle.dob_rank.specs.Numbers.{product, number_of, digits_of, HasDigits, choose, block_bases, bases_by, own_squares, enemy_squares, free_squares}
+use Rattle.dob_rank.specs.Runs.{run_bases, local_bases, square_bases, form_bases, run_number, local_number, AreFewOnBoard, lion_pairs}
+use Rattle.dob_rank.proofs.Arithmetic.MixedRadix.{factor_positive, product-append, number_of-below, number_of-append, number_by_three}
+use Rattle.dob_rank.proofs.Arithmetic.MixedRadix.{digits_of-append, digits_of-parts, digits_of-two, digits_of-three}
+use Rattle.dob_rank.proofs.Positions.Loops.{digit-at}
+use Rattle.dob_rank.proofs.Positions.Blocks.{few_from_digits, few_of_three, four_small, two_small, choose-small, most_choices}
+use Rattle.dob_rank.proofs.Positions.BlockStarts.{same_number}
+
+abbrev pub hand_bases : PieceSet → List ℕ → List ℕ
+hand_bases set ob = (set.chicks - slice_index ob 0 + 1) ∷ (set.elephants - slice_index ob 1 + 1) ∷ (set.giraffes - slice_index ob 2 + 1) ∷ []
+
+-- the numbers of a spot's parts, below the products of their bases, and the digits of the whole
+pub record AreParts (set : PieceSet) (ob : List ℕ) (run local forms : ℕ) : Type 0 where
+  pub hands_low : run / lion_pairs < product (hand_bases set ob)
+  pub squares_low : local / forms < product (square_bases ob)
+  pub forms_low : local % forms < product (form_bases ob)
+  pub digits_are : digits_of (bases_by set ob) (run * product (local_bases ob) + local)
+      ≡ (digits_of (hand_bases set ob) (run / lion_pairs) ++ (run % lion_pairs / enemy_squares ∷ run % lion_pairs % enemy_squares ∷ []))
+      ++ (digits_of (square_bases ob) (local / forms) ++ digits_of (form_bases ob) (local % forms))
+
+pub parts_are : (set : PieceSet) (ob : List ℕ) (run local forms : ℕ) → run < product (run_bases set ob) → local < product (local_bases ob) →
+    forms ≡ product (form_bases ob) → AreParts set ob run local forms
+parts_are set ob run local forms h l f =
+    let run_parts : run < product (hand_bases set ob) * lion_pairs =
+    subst (λ (n : ℕ). run < n) (product-append (hand_bases set ob) (own_squares ∷ enemy_squares ∷ [])) h in
+    let lions_some : 0 < lion_pairs = omega arith in
+    let local_parts : local < product (square_bases ob) * product (form_bases ob) =
+    subst (λ (n : ℕ). local < n) (product-append (square_bases ob) (form_bases ob)) l in
+    let form_some : 0 < product (form_bases ob) = factor_positive local (product (square_bases ob)) (product (form_bases ob)) local_parts in
+    let lions : run % lion_pairs < lion_pairs = mod_below run lion_pairs lions_some in
+    subst (AreParts set ob run local) (sym f) (record {
+      hands_low = div_below run lion_pairs (product (hand_bases set ob)) lions_some run_parts;
+      squares_low = div_below local (product (form_bases ob)) (product (square_bases ob)) form_some local_parts;
+      forms_low = mod_below local (product (form_bases ob)) form_some;
+      digits_are = digits_of-parts (run_bases set ob) (local_bases ob) run local h l
+          ∙ ap (λ (xs : List ℕ). xs ++ digits_of (local_bases ob) local)
+          (digits_of-append (hand_bases set ob) (own_squares ∷ enemy_squares ∷ []) run h)
+          ∙ ap (λ (xs : List ℕ). (digits_of (hand_bases set ob) (run / lion_pairs) ++ xs) ++ digits_of (local_bases ob) local)
+          (digits_of-two own_squares enemy_squares (run % lion_pairs) lions)
+          ∙ ap (λ (xs : List ℕ). (digits_of (hand_bases set ob) (run / lion_pairs)
+          ++ (run % lion_pairs / enemy_squares ∷ run % lion_pairs % enemy_squares ∷ [])) ++ xs)
+          (digits_of-append (square_bases ob) (form_bases ob) local l);
+    })
+
+-- ---- the forms' bases are powers of 2
+
+abbrev shifted : ℕ → ℕ → ℕ → Bool
+shifted i j k = nat_eq (1 * 2 ^ (2 * i + j + k) % 2 ^ 64) (4 ^ i * (2 ^ j * (2 ^ k * 1)))
+
+computed : all_below (λ i. all_below (λ j. all_below (shifted i j) 3) 3) 3 ≡ true
+computed = refl
+
+pub forms_shifted : (i j k : ℕ) → i ≤ 2 → j ≤ 2 → k ≤ 2 → 1 * 2 ^ (2 * i + j + k) % 2 ^ 64 ≡ 4 ^ i * (2 ^ j * (2 ^ k * 1))
+forms_shifted i j k a b c =
+    let first = all_below-at (λ i. all_below (λ j. all_below (shifted i j) 3) 3) 3 i computed (omega arith) in
+    let second = all_below-at (λ j. all_below (shifted i j) 3) 3 j first (omega arith) in
+    same_number (1 * 2 ^ (2 * i + j + k) % 2 ^ 64) (4 ^ i * (2 ^ j * (2 ^ k * 1))) (all_below-at (shifted i j) 3 k second (omega arith))
+
+pub form_bits_are : (i j k : ℕ) → i ≤ 2 → j ≤ 2 → k ≤ 2 → 2 ^ (2 * i + j + k) ≡ 4 ^ i * (2 ^ j * (2 ^ k * 1))
+form_bits_are i j k a b c = sym (one_shl (2 * i + j + k) 64 (omega arith)) ∙ forms_shifted i j k a b c
+
+pub AreFewOnBoard-digits : (set : PieceSet) (ob : List ℕ) → HasDigits (block_bases set) ob → AreFewOnBoard ob
+AreFewOnBoard-digits set ob h =
+    let few = few_from_digits set ob h in
+    record {
+      chicks = few_of_three set.chicks (slice_index ob 0) set.few_chicks few.chicks;
+      elephants = few_of_three set.elephants (slice_index ob 1) set.few_elephants few.elephants;
+      giraffes = few_of_three set.giraffes (slice_index ob 2) set.few_giraffes few.giraffes;
+    }
+
+pub form_digits_are : (ob : List ℕ) (n rest giraffes chicks elephants : ℕ) → n < product (form_bases ob) →
+    rest ≡ n / 2 ^ slice_index ob 2 → giraffes ≡ n % 2 ^ slice_index ob 2 →
+    chicks ≡ rest / 2 ^ slice_index ob 1 → elephants ≡ rest % 2 ^ slice_index ob 1 →
+    chicks ∷ elephants ∷ giraffes ∷ [] ≡ digits_of (form_bases ob) n
+form_digits_are ob n rest giraffes chicks elephants h r g c e =
+    ap (λ (x : ℕ). x ∷ elephants ∷ giraffes ∷ []) (c ∙ ap (λ (x : ℕ). x / 2 ^ slice_index ob 1) r)
+    ∙ ap (λ (x : ℕ). n / 2 ^ slice_index ob 2 / 2 ^ slice_index ob 1 ∷ x ∷ giraffes ∷ []) (e ∙ ap (λ (x : ℕ). x % 2 ^ slice_index ob 1) r)
+    ∙ ap (λ (x : ℕ). n / 2 ^ slice_index ob 2 / 2 ^ slice_index ob 1 ∷ n / 2 ^ slice_index ob 2 % 2 ^ slice_index ob 1 ∷ x ∷ []) g
+    ∙ sym (digits_of-three (4 ^ slice_index ob 0) (2 ^ slice_index ob 1) (2 ^ slice_index ob 2) n h)
+
+-- ---- the parts as the code finds them
+
+forms_few : (i j k : ℕ) → i ≤ 2 → j ≤ 2 → k ≤ 2 → 4 ^ i * (2 ^ j * (2 ^ k * 1)) ≤ 256
+forms_few i j k a b c = mul-le (4 ^ i) (2 ^ j * (2 ^ k * 1)) 16 16 (four_small i a)
+    (mul-le (2 ^ j) (2 ^ k * 1) 4 4 (two_small j b) (let few = two_small k c in omega arith))
+
+-- the bases as the code finds them
+pub record AreBasesFound (set : PieceSet) (ob bs : List ℕ) : Type 0 where
+  pub hands_are : get_or bs 0 0 ∷ get_or bs 1 0 ∷ get_or bs 2 0 ∷ [] ≡ hand_bases set ob
+  pub squares_are : get_or bs 5 0 ∷ get_or bs 6 0 ∷ get_or bs 7 0 ∷ [] ≡ square_bases ob
+
+pub bases_found : (set : PieceSet) (ob bs : List ℕ) → bs ≡ bases_by set ob → AreBasesFound set ob bs
+bases_found set ob bs e = subst (AreBasesFound set ob) (sym e) (record { hands_are = refl; squares_are = refl })
+
+-- how many positions a run has, from the last factor on
+pub record AreFewInRun (ob cs : List ℕ) (forms : ℕ) : Type 0 where
+  pub one_fits : get_or cs 2 0 * forms ≤ most_choices * 256
+  pub two_fits : get_or cs 1 0 * (get_or cs 2 0 * forms) ≤ most_choices * (most_choices * 256)
+  pub three_fits : get_or cs 0 0 * (get_or cs 1 0 * (get_or cs 2 0 * forms)) ≤ most_choices * (most_choices * (most_choices * 256))
+  pub size_is : get_or cs 0 0 * (get_or cs 1 0 * (get_or cs 2 0 * forms)) ≡ product (local_bases ob)
+
+pub few_in_run : (ob cs : List ℕ) (forms : ℕ) → AreFewOnBoard ob → cs ≡ square_bases ob → forms ≡ product (form_bases ob) → AreFewInRun ob cs forms
+few_in_run ob cs forms few chosen f =
+    let one = choose free_squares (slice_index ob 0) in
+    let two = choose (free_squares - slice_index ob 0) (slice_index ob 1) in
+    let three = choose (free_squares - slice_index ob 0 - slice_index ob 1) (slice_index ob 2) in
+    let all = product (form_bases ob) in
+    let most : all ≤ 256 = forms_few (slice_index ob 0) (slice_index ob 1) (slice_index ob 2) few.chicks few.elephants few.giraffes in
+    let first : one ≤ most_choices = choose-small free_squares (slice_index ob 0) (omega arith) few.chicks in
+    let second : two ≤ most_choices = choose-small (free_squares - slice_index ob 0) (slice_index ob 1) (omega arith) few.elephants in
+    let third : three ≤ most_choices = choose-small (free_squares - slice_index ob 0 - slice_index ob 1) (slice_index ob 2) (omega arith) few.giraffes in
+    let one_low : three * all ≤ most_choices * 256 = mul-le three all most_choices 256 third most in
+    let two_low : two * (three * all) ≤ most_choices * (most_choices * 256) = mul-le two (three * all) most_choices (most_choices * 256) second one_low in
+    subst (λ (n : ℕ). AreFewInRun ob cs n) (sym f) (subst (λ (xs : List ℕ). AreFewInRun ob xs (product (form_bases ob))) (sym chosen) (record {
+      one_fits = one_low;
+      two_fits = two_low;
+      three_fits = mul-le one (two * (three * all)) most_choices (most_choices * (most_choices * 256)) first two_low;
+      size_is = refl;
+    }))
+
+-- a part of a place that a shift or a mask finds
+pub quotient_is : (local bits forms found : ℕ) → found ≡ local / 2 ^ bits → 2 ^ bits ≡ forms → found ≡ local / forms
+quotient_is local bits forms found e b = e ∙ ap (λ (n : ℕ). local / n) b
+
+pub rest_is : (local bits forms found : ℕ) → found ≡ local % 2 ^ bits → 2 ^ bits ≡ forms → found ≡ local % forms
+rest_is local bits forms found e b = e ∙ ap (λ (n : ℕ). local % n) b
+
+abbrev eleven : ℕ → List ℕ → List ℕ → List ℕ → List ℕ
+eleven run hands squares kinds =
+    get_or hands 0 0 ∷ get_or hands 1 0 ∷ get_or hands 2 0 ∷ run % lion_pairs / enemy_squares ∷ run % lion_pairs % enemy_squares
+    ∷ get_or squares 0 0 ∷ get_or squares 1 0 ∷ get_or squares 2 0 ∷ get_or kinds 0 0 ∷ get_or kinds 1 0 ∷ get_or kinds 2 0 ∷ []
+
+-- the digits that the code finds are those of the spot
+pub digits_found : (set : PieceSet) (ob : List ℕ) (run local forms : ℕ) (hands squares kinds : List ℕ) → AreParts set ob run local forms →
+    hands ≡ digits_of (hand_bases set ob) (run / lion_pairs) → squares ≡ digits_of (square_bases ob) (local / forms) →
+    kinds ≡ digits_of (form_bases ob) (local % forms) →
+    get_or hands 0 0 ∷ get_or hands 1 0 ∷ get_or hands 2 0 ∷ run % lion_pairs / enemy_squares ∷ run % lion_pairs % enemy_squares
+    ∷ get_or squares 0 0 ∷ get_or squares 1 0 ∷ get_or squares 2 0 ∷ get_or kinds 0 0 ∷ get_or kinds 1 0 ∷ get_or kinds 2 0 ∷ []
+    ≡ digits_of (bases_by set ob) (run * product (local_bases ob) + local)
+digits_found set ob run local forms hands squares kinds parts h s k =
+    ap (λ (xs : List ℕ). eleven run xs squares kinds) h
+    ∙ ap (λ (xs : List ℕ). eleven run (digits_of (hand_bases set ob) (run / lion_pairs)) xs kinds) s
+    ∙ ap (eleven run (digits_of (hand_bases set ob) (run / lion_pairs)) (digits_of (square_bases ob) (local / forms))) k
+    ∙ sym parts.digits_are
+
+pub below_same : (n : ℕ) (xs ys : List ℕ) → xs ≡ ys → n < product ys → n < product xs
+below_same n xs ys e h = subst (λ (zs : List ℕ). n < product zs) (sym e) h
+
+pub digits_below : (xs ys ds : List ℕ) → xs ≡ ys → HasDigits ys ds → HasDigits xs ds
+digits_below xs ys ds e h = subst (λ (zs : List ℕ). HasDigits zs ds) (sym e) h
+
+pub digits_same : (n : ℕ) (xs ys : List ℕ) → xs ≡ ys → digits_of xs n ≡ digits_of ys n
+digits_same n xs ys e = ap (λ (zs : List ℕ). digits_of zs n) e
+
+-- ---- the spot that digits write
+
+hands_few : (set : PieceSet) (ob : List ℕ) → product (hand_bases set ob) ≤ 3 * (3 * (3 * 1))
+hands_few set ob =
+    let one : set.chicks - slice_index ob 0 + 1 ≤ 3 = (let few = set.few_chicks in omega arith) in
+    let two : set.elephants - slice_index ob 1 + 1 ≤ 3 = (let few = set.few_elephants in omega arith) in
+    let three : (set.giraffes - slice_index ob 2 + 1) * 1 ≤ 3 * 1 = (let few = set.few_giraffes in omega arith) in
+    mul-le (set.chicks - slice_index ob 0 + 1) ((set.elephants - slice_index ob 1 + 1) * ((set.giraffes - slice_index ob 2 + 1) * 1)) 3 (3 * (3 * 1)) one
+    (mul-le (set.elephants - slice_index ob 1 + 1) ((set.giraffes - slice_index ob 2 + 1) * 1) 3 (3 * 1) two three)
+
+squares_few : (ob : List ℕ) → AreFewOnBoard ob → product (square_bases ob) ≤ most_choices * (most_choices * (most_choices * 1))
+squares_few ob few =
+    let one = choose-small free_squares (slice_index ob 0) (omega arith) few.chicks in
+    let two = choose-small (free_squares - slice_index ob 0) (slice_index ob 1) (omega arith) few.elephants in
+    let third = choose-small (free_squares - slice_index ob 0 - slice_index ob 1) (slice_index ob 2) (omega arith) few.giraffes in
+    let three : choose (free_squares - slice_index ob 0 - slice_index ob 1) (slice_index ob 2) * 1 ≤ most_choices * 1 = omega (arith, third) in
+    mul-le (choose free_squares (slice_index ob 0))
+    (choose (free_squares - slice_index ob 0) (slice_index ob 1) * (choose (free_squares - slice_index ob 0 - slice_index ob 1) (slice_index ob 2) * 1))
+    most_choices (most_choices * (most_choices * 1)) one
+    (mul-le (choose (free_squares - slice_index ob 0) (slice_index ob 1)) (choose (free_squares - slice_index ob 0 - slice_index ob 1) (slice_index ob 2) * 1)
+    most_choices (most_choices * 1) two three)
+
+-- what digits below their bases are, part by part
+pub record AreSpotDigits (set : PieceSet) (ob ds : List ℕ) : Type 0 where
+  pub hands_have : HasDigits (hand_bases set ob) (get_or ds 0 0 ∷ get_or ds 1 0 ∷ get_or ds 2 0 ∷ [])
+  pub own_low : get_or ds 3 0 < own_squares
+  pub enemy_low : get_or ds 4 0 < enemy_squares
+  pub squares_have : HasDigits (square_bases ob) (get_or ds 5 0 ∷ get_or ds 6 0 ∷ get_or ds 7 0 ∷ [])
+  pub forms_have : HasDigits (form_bases ob) (get_or ds 8 0 ∷ get_or ds 9 0 ∷ get_or ds 10 0 ∷ [])
+  pub hands_small : product (hand_bases set ob) ≤ 27
+  pub squares_small : product (square_bases ob) ≤ 2 ^ 17
+  pub run_is : number_of (hand_bases set ob) (get_or ds 0 0 ∷ get_or ds 1 0 ∷ get_or ds 2 0 ∷ []) * lion_pairs + (get_or ds 3 0 * enemy_squares + get_or ds 4 0)
+      ≡ run_number set ob ds
+  pub local_is : number_of (square_bases ob) (get_or ds 5 0 ∷ get_or ds 6 0 ∷ get_or ds 7 0 ∷ []) * product (form_bases ob)
+      + number_of (form_bases ob) (get_or ds 8 0 ∷ get_or ds 9 0 ∷ get_or ds 10 0 ∷ []) ≡ local_number ob ds
+
+pub spot_digits : (set : PieceSet) (ob ds : List ℕ) → length ds ≡ 11 → HasDigits (block_bases set) ob → HasDigits (bases_by set ob) ds → AreSpotDigits set ob ds
+spot_digits set ob (a ∷ b ∷ c ∷ d ∷ e ∷ f ∷ g ∷ h ∷ i ∷ j ∷ k ∷ []) long on has =
+    let hands = hands_few set ob in
+    let squares = squares_few ob (AreFewOnBoard-digits set ob on) in
+    let run = number_of-append (hand_bases set ob) (own_squares ∷ enemy_squares ∷ []) (a ∷ b ∷ c ∷ []) (d ∷ e ∷ []) refl in
+    record {
+      hands_have = (has.0, (has.1.0, (has.1.1.0, tt)));
+      own_low = has.1.1.1.0;
+      enemy_low = has.1.1.1.1.0;
+      squares_have = (has.1.1.1.1.1.0, (has.1.1.1.1.1.1.0, (has.1.1.1.1.1.1.1.0, tt)));
+      forms_have = has.1.1.1.1.1.1.1.1;
+      hands_small = omega (arith, hands);
+      squares_small = omega (arith, squares);
+      run_is = omega (arith, run);
+      local_is = sym (number_of-append (square_bases ob) (form_bases ob) (f ∷ g ∷ h ∷ []) (i ∷ j ∷ k ∷ []) refl);
+    }
+spot_digits set ob ds long on has = absurd (omega arith)
+
+-- the number of a run and that of a place in it, as the code finds them
+pub record IsRunFound (set : PieceSet) (ob ds : List ℕ) (hands : ℕ) : Type 0 where
+  pub hands_low : hands < product (hand_bases set ob)
+  pub run_is : hands * lion_pairs + (get_or ds 3 0 * enemy_squares + get_or ds 4 0) ≡ run_number set ob ds
+
+pub run_found : (set : PieceSet) (ob ds bs : List ℕ) (hands : ℕ) → AreBasesFound set ob bs → AreSpotDigits set ob ds →
+    hands ≡ number_of (get_or bs 0 0 ∷ get_or bs 1 0 ∷ get_or bs 2 0 ∷ []) (get_or ds 0 0 ∷ get_or ds 1 0 ∷ get_or ds 2 0 ∷ []) →
+    IsRunFound set ob ds hands
+run_found set ob ds bs hands found are e =
+    let same : hands ≡ number_of (hand_bases set ob) (get_or ds 0 0 ∷ get_or ds 1 0 ∷ get_or ds 2 0 ∷ []) =
+    e ∙ ap (λ (xs : List ℕ). number_of xs (get_or ds 0 0 ∷ get_or ds 1 0 ∷ get_or ds 2 0 ∷ [])) found.hands_are in
+    subst (IsRunFound set ob ds) (sym same) (record {
+      hands_low = number_of-below (hand_bases set ob) (get_or ds 0 0 ∷ get_or ds 1 0 ∷ get_or ds 2 0 ∷ []) are.hands_have;
+      run_is = are.run_is;
+    })
+
+pub record IsLocalFound (ob ds : List ℕ) (squares : ℕ) : Type 0 where
+  pub squares_low : squares < product (square_bases ob)
+  pub local_is : (bits forms : ℕ) → 2 ^ bits ≡ product (form_bases ob)
+      → forms ≡ number_of (form_bases ob) (get_or ds 8 0 ∷ get_or ds 9 0 ∷ get_or ds 10 0 ∷ [])
+      → squares * 2 ^ bits + forms ≡ local_number ob ds
+
+pub local_found : (set : PieceSet) (ob ds bs : List ℕ) (squares : ℕ) → AreBasesFound set ob bs → AreSpotDigits set ob ds →
+    squares ≡ number_of (get_or bs 5 0 ∷ get_or bs 6 0 ∷ get_or bs 7 0 ∷ []) (get_or ds 5 0 ∷ get_or ds 6 0 ∷ get_or ds 7 0 ∷ []) →
+    IsLocalFound ob ds squares
+local_found set ob ds bs squares found are e =
+    let same : squares ≡ number_of (square_bases ob) (get_or ds 5 0 ∷ get_or ds 6 0 ∷ get_or ds 7 0 ∷ []) =
+    e ∙ ap (λ (xs : List ℕ). number_of xs (get_or ds 5 0 ∷ get_or ds 6 0 ∷ get_or ds 7 0 ∷ [])) found.squares_are in
+    subst (IsLocalFound ob ds) (sym same) (record {
+      squares_low = number_of-below (square_bases ob) (get_or ds 5 0 ∷ get_or ds 6 0 ∷ get_or ds 7 0 ∷ []) are.squares_have;
+      local_is = λ bits forms b f.
+          ap (λ (n : ℕ). number_of (square_bases ob) (get_or ds 5 0 ∷ get_or ds 6 0 ∷ get_or ds 7 0 ∷ []) * n + forms) b
+          ∙ ap (λ (n : ℕ). number_of (square_bases ob) (get_or ds 5 0 ∷ get_or ds 6 0 ∷ get_or ds 7 0 ∷ []) * product (form_bases ob) + n) f
+          ∙ are.local_is;
+    })
+
+-- forms joined by shifts
+pub record AreFormsJoined (ob fs : List ℕ) (elephants : ℕ) : Type 0 where
+  pub few_elephants : slice_index ob 1 ≤ 31
+  pub few_giraffes : slice_index ob 2 ≤ 31
+  pub first_low : get_or fs 0 0 < 2 ^ 31
+  pub second_low : get_or fs 1 0 < 2 ^ 32
+  pub third_low : get_or fs 2 0 < 2 ^ 32
+  pub joined_low : elephants < 2 ^ 31
+  pub number_is : elephants * 2 ^ slice_index ob 2 + get_or fs 2 0 ≡ number_of (form_bases ob) fs
+  pub number_low : number_of (form_bases ob) fs < 256
+
+pub forms_joined : (ob fs : List ℕ) (elephants : ℕ) → length fs ≡ 3 → AreFewOnBoard ob → HasDigits (form_bases ob) fs →
+    elephants ≡ get_or fs 0 0 * 2 ^ slice_index ob 1 + get_or fs 1 0 → AreFormsJoined ob fs elephants
+forms_joined ob fs elephants long few has e =
+    let by = number_by_three (form_bases ob) fs refl long has in
+    let most = forms_few (slice_index ob 0) (slice_index ob 1) (slice_index ob 2) few.chicks few.elephants few.giraffes in
+    let four = four_small (slice_index ob 0) few.chicks in
+    let two = two_small (slice_index ob 1) few.elephants in
+    let last = two_small (slice_index ob 2) few.giraffes in
+    let first : get_or fs 0 0 < 4 ^ slice_index ob 0 = digit-at (form_bases ob) fs 0 has (omega arith) in
+    let second : get_or fs 1 0 < 2 ^ slice_index ob 1 = digit-at (form_bases ob) fs 1 has (omega arith) in
+    let third : get_or fs 2 0 < 2 ^ slice_index ob 2 = digit-at (form_bases ob) fs 2 has (omega arith) in
+    subst (AreFormsJoined ob fs) (sym e) (record {
+      few_elephants = (let small = few.elephants in omega arith);
+      few_giraffes = (let small = few.giraffes in omega arith);
+      first_low = omega (arith, first, four);
+      second_low = omega (arith, second, two);
+      third_low = omega (arith, third, last);
+      joined_low = omega (arith, by.second_low, most);
+      number_is = by.number_is;
+      number_low = omega (arith, by.number_low, most);
+    })
+
+-- ---- the spot of a place
+
+pub record IsSplit (set : PieceSet) (ob : List ℕ) (place size : ℕ) : Type 0 where
+  pub some : 0 < size
+  pub run_low : place / size < product (run_bases set ob)
+  pub local_low : place % size < product (local_bases ob)
+  pub whole : place / size * product (local_bases ob) + place % size ≡ place
+
+pub split_place : (set : PieceSet) (ob : List ℕ) (place size : ℕ) → place < product (bases_by set ob) → size ≡ product (local_bases ob) →
+    IsSplit set ob place size
+split_place set ob place size below is =
+    let both : place < product (run_bases set ob) * product (local_bases ob) =
+    subst (λ (n : ℕ). place < n) (product-append (run_bases set ob) (local_bases ob)) below in
+    let some : 0 < product (local_bases ob) = factor_positive place (product (run_bases set ob)) (product (local_bases ob)) both in
+    subst (IsSplit set ob place) (sym is) (record {
+      some = some;
+      run_low = div_below place (product (local_bases ob)) (product (run_bases set ob)) some both;
+      local_low = mod_below place (product (local_bases ob)) some;
+      whole = div-add-mod' place (product (local_bases ob));
+    })

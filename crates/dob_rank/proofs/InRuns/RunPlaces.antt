@@ -1,0 +1,385 @@
+-- A place in a block is a run and a place in that run, and the lions of a run compare its positions with their mirror
+-- images.
+use Rattle.std.proofs.Common.{◌≡◌, ℕ, zero, suc, ◌+◌, ◌-◌, ◌*◌, ◌/◌, ◌%◌, ◌<◌, ◌≤◌, Bool, true, false, List, [], ◌∷◌, ◌++◌, length, get_or, ◌^◌}
+use Rattle.std.proofs.Common.{map, refl, sym, ap, ◌∙◌, subst, inl, inr, arith}
+use Rattle.std.specs.List.{All}
+use Rattle.std.proofs.lemmas.Bool.{cases_Bool, cases_lt}
+use Rattle.std.proofs.lemmas.List.{length-map}
+use Rattle.std.proofs.lemmas.Nat.{div-mul-add}
+use Rattle.std.proofs.Math.Nat.{mul-pos}
+use Rattle.dob_pieces.specs.declared.piece_set.PieceSet.{PieceSet}
+use Rattle.dob_pieces.specs.declared.setup.Setup.{Setup}
+use Rattle.dob_pieces.specs.Setups.{mirrored}
+use Rattle.dob_rank.specs.declared.runs.RunKind.TheVariants.{First, Later}
+use Rattle.dob_rank.specs.Order.{IsPositionOfSet}
+use Rattle.dob_rank.specs.Numbers.{layer, count, choice, forms_number, product, number_of, digits_of, sum_below, block_bases, bases_by, order}
+use Rattle.dob_rank.specs.Numbers.{on_board, block_of, block_size, size_of_set, rank_of_set, setup_in, own_squares, enemy_squares}
+use Rattle.dob_rank.specs.Marks.{is_first, marked}
+use Rattle.dob_rank.specs.Runs.{run_bases, local_bases, runs_in, run_size, run_start, run_of, local_of, IsInRun, lions_of, run_kind, lion_pairs}
+use Rattle.dob_rank.specs.declared.layers.Layer.TheVariants.{OwnLion, EnemyLion, Chicks, Elephants, Giraffes}
+use Rattle.dob_rank.proofs.Positions.Blocks.{AreBases-by, few_in_block, block_size-small, run_bases-few, place_below_size}
+use Rattle.dob_rank.proofs.Arithmetic.MixedRadix.{digit_below, number_of-below, product-append, number_of-append}
+use Rattle.dob_rank.proofs.Positions.Digits.{HasParts-from_position, HasDigits-digits}
+use Rattle.dob_rank.proofs.Positions.Numbering.{HasBlock, place_of, rank_of_set-place, block_of-below, block_size-product, on_board-block}
+use Rattle.dob_rank.proofs.Positions.Numbering.{HasBlock-setup_in, rank_of_set-block, rank_of_set-below}
+use Rattle.dob_rank.proofs.Positions.Found.{IsPositionOfSet-mirrored}
+use Rattle.dob_rank.proofs.Marked.Marks.{first-marked, marked-first, marked-first_of}
+use Rattle.dob_rank.proofs.Marked.Representatives.{first_by_rank, rank_of_first}
+use Rattle.dob_rank.proofs.InRuns.Lions.{mirror_layers, layers-mirrored, image_lions, lions_of-mirrored, lions_of-below, first_lions, later_lions}
+
+-- ---- a position's run, and its place there
+
+abbrev pub hand_bases : PieceSet → List ℕ → List ℕ
+hand_bases set ob = (set.chicks - get_or ob 0 0 + 1) ∷ (set.elephants - get_or ob 1 0 + 1) ∷ (set.giraffes - get_or ob 2 0 + 1) ∷ []
+
+abbrev pub hand_digits : Setup → List ℕ
+hand_digits s = s.hands.mover.chicks ∷ s.hands.mover.elephants ∷ s.hands.mover.giraffes ∷ []
+
+abbrev pub lions_digits : Setup → List ℕ
+lions_digits s = choice (order OwnLion) (map layer s.board) ∷ choice (order EnemyLion) (map layer s.board) ∷ []
+
+abbrev pub local_digits : Setup → List ℕ
+local_digits s =
+    choice (order Chicks) (map layer s.board) ∷ choice (order Elephants) (map layer s.board) ∷ choice (order Giraffes) (map layer s.board)
+    ∷ forms_number (order Chicks) s.board ∷ forms_number (order Elephants) s.board ∷ forms_number (order Giraffes) s.board ∷ []
+
+-- the number of the hands, and the size of the run
+pub hand_of : PieceSet → Setup → ℕ
+hand_of set s = number_of (hand_bases set (on_board s)) (hand_digits s)
+
+pub local_size : Setup → ℕ
+local_size s = product (local_bases (on_board s))
+
+pub place_of-run : (set : PieceSet) (s : Setup) → place_of set s ≡ run_of set s * local_size s + local_of s
+unfolding run_of local_of local_size
+place_of-run set s =
+    number_of-append (run_bases set (on_board s)) (local_bases (on_board s)) (hand_digits s ++ lions_digits s) (local_digits s) refl
+
+pub run_of-lions : (set : PieceSet) (s : Setup) → run_of set s ≡ hand_of set s * lion_pairs + lions_of s
+unfolding run_of hand_of
+run_of-lions set s =
+    let split : number_of (run_bases set (on_board s)) (hand_digits s ++ lions_digits s)
+    ≡ number_of (hand_bases set (on_board s)) (hand_digits s) * lion_pairs + number_of (own_squares ∷ enemy_squares ∷ []) (lions_digits s) =
+    number_of-append (hand_bases set (on_board s)) (own_squares ∷ enemy_squares ∷ []) (hand_digits s) (lions_digits s) refl in
+    omega (arith, split)
+
+pub local_of-below : (set : PieceSet) (s : Setup) → IsPositionOfSet set s → local_of s < local_size s
+unfolding local_of local_size
+local_of-below set s p =
+    number_of-below (local_bases (on_board s)) (local_digits s) (HasDigits-digits set s (HasParts-from_position set s p)).1.1.1.1.1
+
+-- ---- the mirror image
+
+count-mirror : (t : ℕ) (ls : List ℕ) → length ls ≡ 12 → count t (mirror_layers ls) ≡ count t ls
+count-mirror t (a ∷ b ∷ c ∷ d ∷ e ∷ i ∷ j ∷ k ∷ l ∷ m ∷ n ∷ o ∷ []) eq = omega arith
+count-mirror t ls eq = absurd (omega arith)
+
+three : (a b c d e f : ℕ) → a ≡ d → b ≡ e → c ≡ f → a ∷ b ∷ c ∷ [] ≡ d ∷ e ∷ f ∷ []
+three a b c d e f p q r = cc
+
+pub on_board-mirrored : (s : Setup) → length s.board ≡ 12 → on_board (mirrored s) ≡ on_board s
+on_board-mirrored s eq =
+    let twelve : length (map layer s.board) ≡ 12 = length-map s.board layer ∙ eq in
+    let same : (t : ℕ) → count t (map layer (mirrored s).board) ≡ count t (map layer s.board) =
+    λ t. ap (count t) (layers-mirrored s eq) ∙ count-mirror t (map layer s.board) twelve in
+    three _ _ _ _ _ _ (same 2) (same 3) (same 4)
+
+pub hand_of-mirrored : (set : PieceSet) (s : Setup) → length s.board ≡ 12 → hand_of set (mirrored s) ≡ hand_of set s
+unfolding hand_of mirrored
+hand_of-mirrored set s eq = ap (λ xs. number_of (hand_bases set xs) (hand_digits s)) (on_board-mirrored s eq)
+
+pub local_size-mirrored : (s : Setup) → length s.board ≡ 12 → local_size (mirrored s) ≡ local_size s
+unfolding local_size
+local_size-mirrored s eq = ap (λ xs. product (local_bases xs)) (on_board-mirrored s eq)
+
+pub block_of-mirrored : (set : PieceSet) (s : Setup) → IsPositionOfSet set s → block_of set (mirrored s) ≡ block_of set s
+block_of-mirrored set s p = ap (number_of (block_bases set)) (on_board-mirrored s p.legal.squares)
+
+-- runs with the same hands stand in the order of their lions
+runs_apart : (hand low high size local other : ℕ) → low < high → local < size →
+    (hand * lion_pairs + low) * size + local < (hand * lion_pairs + high) * size + other
+runs_apart hand low high size local other less below =
+    let step : (hand * lion_pairs + low) * size + local < (hand * lion_pairs + high) * size =
+    digit_below (hand * lion_pairs + low) (hand * lion_pairs + high) size local (omega arith) below in
+    omega (arith, step)
+
+pub place-parts : (set : PieceSet) (s : Setup) (size lions : ℕ) → local_size s ≡ size → lions_of s ≡ lions →
+    place_of set s ≡ (hand_of set s * lion_pairs + lions) * size + local_of s
+place-parts set s size lions same is =
+    place_of-run set s ∙ ap (λ n. run_of set s * n + local_of s) same
+    ∙ ap (λ n. n * size + local_of s) (run_of-lions set s ∙ ap (λ n. hand_of set s * lion_pairs + n) is)
+
+pub image-parts : (set : PieceSet) (s : Setup) → IsPositionOfSet set s →
+    place_of set (mirrored s) ≡ (hand_of set s * lion_pairs + image_lions (lions_of s)) * local_size s + local_of (mirrored s)
+image-parts set s p =
+    place-parts set (mirrored s) (local_size s) (image_lions (lions_of s)) (local_size-mirrored s p.legal.squares) (lions_of-mirrored set s p)
+    ∙ ap (λ n. (n * lion_pairs + image_lions (lions_of s)) * local_size s + local_of (mirrored s)) (hand_of-mirrored set s p.legal.squares)
+
+-- the earlier place of a position and its mirror image has the lower rank
+rank_by_place : (set : PieceSet) (s : Setup) → IsPositionOfSet set s →
+    rank_of_set set (mirrored s) ≡ sum_below (block_size set) (block_of set s) + place_of set (mirrored s)
+rank_by_place set s p =
+    rank_of_set-place set (mirrored s) ∙ ap (λ b. sum_below (block_size set) b + place_of set (mirrored s)) (block_of-mirrored set s p)
+
+pub first_by_place : (set : PieceSet) (s : Setup) → IsPositionOfSet set s → place_of set s ≤ place_of set (mirrored s) →
+    is_first set (rank_of_set set s) ≡ true
+first_by_place set s p le =
+    let own = rank_of_set-place set s in
+    let image = rank_by_place set s p in
+    first-marked set s p (first_by_rank set s p (omega (arith, own, image)))
+
+pub later_by_place : (set : PieceSet) (s : Setup) → IsPositionOfSet set s → place_of set (mirrored s) < place_of set s →
+    is_first set (rank_of_set set s) ≡ false
+later_by_place set s p lt = elim (cases_Bool (is_first set (rank_of_set set s))) [
+  | inl on ↦
+      let own = rank_of_set-place set s in
+      let image = rank_by_place set s p in
+      let first = rank_of_first set s p (marked-first set s p on) in
+      absurd (omega (arith, own, image, first))
+  | inr off ↦ off
+]
+
+-- ---- the marks of a run
+
+-- the position that stands there
+pub record StandsIn (set : PieceSet) (block run local : ℕ) (s : Setup) : Type 0 where
+  pub position : IsPositionOfSet set s
+  pub rank_is : rank_of_set set s ≡ run_start set block run + local
+  pub lions_are : lions_of s ≡ run % lion_pairs
+
+pub block_size-runs : (set : PieceSet) (block : ℕ) → block_size set block ≡ runs_in set block * run_size set block
+unfolding runs_in run_size
+block_size-runs set block =
+    let ob = digits_of (block_bases set) block in
+    block_size-product set block ∙ product-append (run_bases set ob) (local_bases ob)
+
+pub local_size-block : (set : PieceSet) (block : ℕ) (s : Setup) → IsPositionOfSet set s → block_of set s ≡ block → local_size s ≡ run_size set block
+unfolding local_size run_size
+local_size-block set block s p is =
+    ap (λ xs. product (local_bases xs)) (sym (on_board-block set s p) ∙ ap (digits_of (block_bases set)) is)
+
+same_quotient : (a b n x y : ℕ) → a * n + x ≡ b * n + y → x < n → y < n → a ≡ b
+same_quotient a b n x y e p q = sym (div-mul-add a n x p) ∙ ap (λ m. m / n) e ∙ div-mul-add b n y q
+
+pub place_in_run : (set : PieceSet) (block run local : ℕ) → IsInRun set block run local →
+    run * run_size set block + local < block_size set block
+place_in_run set block run local h =
+    let sizes = block_size-runs set block in
+    let below = digit_below run (runs_in set block) (run_size set block) local h.run_below h.local_below in
+    omega (arith, sizes, below)
+
+pub run_start-is : (set : PieceSet) (block run : ℕ) → run_start set block run ≡ sum_below (block_size set) block + run * run_size set block
+unfolding run_start
+run_start-is set block run = refl
+
+pub stands_in : (set : PieceSet) (block run local : ℕ) → IsInRun set block run local → (s : Setup) × StandsIn set block run local s
+stands_in set block run local h =
+    let place = run * run_size set block + local in
+    let s = setup_in set block place in
+    let there : HasBlock set block place s =
+    HasBlock-setup_in set block place (record { block_below = h.block_below; place_below = place_in_run set block run local h }) in
+    let size : local_size s ≡ run_size set block = local_size-block set block s there.position there.block_is in
+    let parts : run_of set s * run_size set block + local_of s ≡ run * run_size set block + local =
+    ap (λ n. run_of set s * n + local_of s) (sym size) ∙ sym (place_of-run set s) ∙ there.place_is in
+    let low : local_of s < run_size set block = subst (λ n. local_of s < n) size (local_of-below set s there.position) in
+    let run_is : run_of set s ≡ run = same_quotient (run_of set s) run (run_size set block) (local_of s) local parts low h.local_below in
+    let lions : lions_of s < lion_pairs = lions_of-below set s there.position in
+    let whole : run_of set s ≡ hand_of set s * lion_pairs + lions_of s = run_of-lions set s in (
+      s,
+      record {
+        position = there.position;
+        rank_is = rank_of_set-block set block place s there ∙ from_start (sum_below (block_size set) block) (run * run_size set block) local
+            ∙ ap (λ n. n + local) (sym (run_start-is set block run));
+        lions_are = remainder (hand_of set s) (lions_of s) (run_of set s) run run_is whole lions;
+      },
+    )
+  where
+    from_start : (start run local : ℕ) → start + (run + local) ≡ start + run + local
+    from_start start run local = omega arith
+
+    remainder : (hand lions is run : ℕ) → is ≡ run → is ≡ hand * lion_pairs + lions → lions < lion_pairs → lions ≡ run % lion_pairs
+    remainder hand lions is run same whole below = omega arith
+
+-- a position's own spot
+pub record HasSpot (set : PieceSet) (s : Setup) (of : PieceSet) (block run local : ℕ) : Type 0 where
+  pub there : IsInRun of block run local
+  pub rank_is : run_start of block run + local ≡ rank_of_set set s
+
+pub run_of-below : (set : PieceSet) (s : Setup) → IsPositionOfSet set s → run_of set s < runs_in set (block_of set s)
+unfolding run_of runs_in
+run_of-below set s p =
+    let h = HasDigits-digits set s (HasParts-from_position set s p) in
+    subst (λ xs. run_of set s < product (run_bases set xs)) (sym (on_board-block set s p))
+    (number_of-below (run_bases set (on_board s)) (hand_digits s ++ lions_digits s) (h.0, (h.1.0, (h.1.1.0, (h.1.1.1.0, (h.1.1.1.1.0, tt))))))
+
+own_spot : (set : PieceSet) (s : Setup) → IsPositionOfSet set s → HasSpot set s set (block_of set s) (run_of set s) (local_of s)
+own_spot set s p =
+    let size : local_size s ≡ run_size set (block_of set s) = local_size-block set (block_of set s) s p refl in
+    let place : place_of set s ≡ run_of set s * run_size set (block_of set s) + local_of s =
+    place_of-run set s ∙ ap (λ n. run_of set s * n + local_of s) size in
+    let rank = rank_of_set-place set s in
+    let start = run_start-is set (block_of set s) (run_of set s) in
+    record {
+      there = record {
+        block_below = block_of-below set s p;
+        run_below = run_of-below set s p;
+        local_below = subst (λ n. local_of s < n) size (local_of-below set s p);
+      };
+      rank_is = omega (arith, place, rank, start);
+    }
+
+pub spot_there : (set : PieceSet) (s : Setup) (of : PieceSet) (block run local : ℕ) → IsPositionOfSet set s → of ≡ set → block ≡ block_of set s →
+    run ≡ run_of set s → local ≡ local_of s → HasSpot set s of block run local
+spot_there set s of block run local p of_is block_is run_is local_is =
+    subst (λ q. HasSpot set s q block run local) (sym of_is) (subst (λ n. HasSpot set s set n run local) (sym block_is)
+    (subst (λ n. HasSpot set s set (block_of set s) n local) (sym run_is)
+    (subst (λ n. HasSpot set s set (block_of set s) (run_of set s) n) (sym local_is) (own_spot set s p))))
+
+pub mark_at : (set : PieceSet) (block run local : ℕ) (s : Setup) (on : Bool) → StandsIn set block run local s → is_first set (rank_of_set set s) ≡ on →
+    marked set (run_start set block run + local) ≡ on
+mark_at set block run local s on there is =
+    ap (marked set) (sym there.rank_is) ∙ marked-first_of set (rank_of_set set s) (rank_of_set-below set s there.position) ∙ is
+
+-- where the lions' columns say first each position of a run is marked
+pub marked_first : (set : PieceSet) (block run local : ℕ) → IsInRun set block run local → run_kind (run % lion_pairs) ≡ First →
+    marked set (run_start set block run + local) ≡ true
+marked_first set block run local h kind =
+    let at = stands_in set block run local h in
+    let s = at.0 in
+    let p = at.1.position in
+    let lions : lions_of s < image_lions (lions_of s) =
+    first_lions (lions_of s) (lions_of-below set s p) (ap run_kind at.1.lions_are ∙ kind) in
+    let own = place-parts set s (local_size s) (lions_of s) refl refl in
+    let image = image-parts set s p in
+    let apart = runs_apart (hand_of set s) (lions_of s) (image_lions (lions_of s)) (local_size s) (local_of s) (local_of (mirrored s))
+    lions (local_of-below set s p) in
+    mark_at set block run local s true at.1 (first_by_place set s p (omega (arith, own, image, apart)))
+
+-- and where they say later none is
+pub marked_later : (set : PieceSet) (block run local : ℕ) → IsInRun set block run local → run_kind (run % lion_pairs) ≡ Later →
+    marked set (run_start set block run + local) ≡ false
+marked_later set block run local h kind =
+    let at = stands_in set block run local h in
+    let s = at.0 in
+    let p = at.1.position in
+    let lions : image_lions (lions_of s) < lions_of s =
+    later_lions (lions_of s) (lions_of-below set s p) (ap run_kind at.1.lions_are ∙ kind) in
+    let own = place-parts set s (local_size s) (lions_of s) refl refl in
+    let image = image-parts set s p in
+    let below : local_of (mirrored s) < local_size s =
+    subst (λ n. local_of (mirrored s) < n) (local_size-mirrored s p.legal.squares) (local_of-below set (mirrored s) (IsPositionOfSet-mirrored set s p)) in
+    let apart = runs_apart (hand_of set s) (image_lions (lions_of s)) (lions_of s) (local_size s) (local_of (mirrored s)) (local_of s) lions below in
+    mark_at set block run local s false at.1 (later_by_place set s p (omega (arith, own, image, apart)))
+
+-- ---- how many runs, and of which size
+
+pub positive_locals : (set : PieceSet) (ob : List ℕ) → All (λ (n : ℕ). 0 < n) (bases_by set ob) → All (λ (n : ℕ). 0 < n) (local_bases ob)
+positive_locals set ob all k other below = all (suc (suc (suc (suc (suc k))))) other (omega arith)
+
+positive_runs : (set : PieceSet) (ob : List ℕ) → All (λ (n : ℕ). 0 < n) (bases_by set ob) → All (λ (n : ℕ). 0 < n) (run_bases set ob)
+positive_runs set ob all zero other below = all 0 other (omega arith)
+positive_runs set ob all (suc zero) other below = all 1 other (omega arith)
+positive_runs set ob all (suc (suc zero)) other below = all 2 other (omega arith)
+positive_runs set ob all (suc (suc (suc zero))) other below = all 3 other (omega arith)
+positive_runs set ob all (suc (suc (suc (suc zero)))) other below = all 4 other (omega arith)
+positive_runs set ob all (suc (suc (suc (suc (suc k))))) other below = absurd (omega arith)
+
+product-positive : (bs : List ℕ) → All (λ (n : ℕ). 0 < n) bs → 0 < product bs
+product-positive [] all = omega arith
+product-positive (b ∷ bs) all =
+    let rest = product-positive bs (λ k other below. all (suc k) other (omega arith)) in
+    let here : 0 < b = all 0 b (omega arith) in
+    mul_positive b (product bs) here rest
+  where
+    mul_positive : (a b : ℕ) → 0 < a → 0 < b → 0 < a * b
+    mul_positive a b p q = mul-pos p q
+
+-- what the code finds of a block's numbers
+pub runs_found : (set : PieceSet) (block : ℕ) (nums bs : List ℕ) → nums ≡ digits_of (block_bases set) block → bs ≡ bases_by set nums →
+    get_or bs 0 0 * (get_or bs 1 0 * (get_or bs 2 0 * (get_or bs 3 0 * get_or bs 4 0))) ≡ runs_in set block
+unfolding runs_in
+runs_found set block nums bs is bases_are =
+    ap (λ (xs : List ℕ). get_or xs 0 0 * (get_or xs 1 0 * (get_or xs 2 0 * (get_or xs 3 0 * get_or xs 4 0)))) (bases_are ∙ ap (bases_by set) is)
+
+pub run_size-found : (set : PieceSet) (block size : ℕ) (nums : List ℕ) → nums ≡ digits_of (block_bases set) block → size ≡ product (local_bases nums) →
+    size ≡ run_size set block
+unfolding run_size
+run_size-found set block size nums is found = found ∙ ap (λ (xs : List ℕ). product (local_bases xs)) is
+
+pub runs_few : (set : PieceSet) (block : ℕ) → block < product (block_bases set) → runs_in set block ≤ 2 ^ 12
+unfolding runs_in
+runs_few set block within = run_bases-few set (digits_of (block_bases set) block)
+
+pub no_runs : (set : PieceSet) (block : ℕ) → block < product (block_bases set) → runs_in set block ≤ 0 → ⊥
+unfolding runs_in
+no_runs set block within none =
+    let ob = digits_of (block_bases set) block in
+    let all = (AreBases-by set ob (bases_by set ob) (few_in_block set block within) refl).positive in
+    let some : 0 < product (run_bases set ob) = product-positive (run_bases set ob) (positive_runs set ob all) in
+    none_but_some (product (run_bases set ob)) none some
+  where
+    none_but_some : (n : ℕ) → n ≤ 0 → 0 < n → ⊥
+    none_but_some n p q = omega arith
+
+pub run_size-small : (set : PieceSet) (block : ℕ) → block < product (block_bases set) → run_size set block ≤ 2 ^ 36
+run_size-small set block within =
+    let whole = block_size-runs set block in
+    let small = block_size-small set block within in
+    elim (cases_lt 0 (runs_in set block)) [
+      | inl some ↦ (let upto = times_at_least (runs_in set block) (run_size set block) some in omega (arith, whole, small, upto))
+      | inr none ↦ absurd (no_runs set block within none)
+    ]
+  where
+    times_at_least : (a b : ℕ) → 0 < a → b ≤ a * b
+    times_at_least (zero) b h = absurd (omega arith)
+    times_at_least (suc a) b h = omega arith
+
+-- ---- the mark of a place
+
+mark_of_place : (set : PieceSet) (block place : ℕ) (s : Setup) (on : Bool) → HasBlock set block place s → is_first set (rank_of_set set s) ≡ on →
+    marked set (sum_below (block_size set) block + place) ≡ on
+mark_of_place set block place s on there is =
+    ap (marked set) (sym (rank_of_set-block set block place s there)) ∙ marked-first_of set (rank_of_set set s) (rank_of_set-below set s there.position) ∙ is
+
+pub marked_by_place : (set : PieceSet) (block place other : ℕ) (s t : Setup) → HasBlock set block place s → t ≡ mirrored s → other ≡ place_of set t →
+    place ≤ other → marked set (sum_below (block_size set) block + place) ≡ true
+marked_by_place set block place other s t there image is le =
+    let same : other ≡ place_of set (mirrored s) = is ∙ ap (place_of set) image in
+    let own : place_of set s ≡ place = there.place_is in
+    mark_of_place set block place s true there
+    (first_by_place set s there.position (ordered (place_of set s) (place_of set (mirrored s)) place other own same le))
+  where
+    ordered : (own image place other : ℕ) → own ≡ place → other ≡ image → place ≤ other → own ≤ image
+    ordered own image place other p q le = omega arith
+
+pub unmarked_by_place : (set : PieceSet) (block place other : ℕ) (s t : Setup) → HasBlock set block place s → t ≡ mirrored s → other ≡ place_of set t →
+    other < place → marked set (sum_below (block_size set) block + place) ≡ false
+unmarked_by_place set block place other s t there image is lt =
+    let same : other ≡ place_of set (mirrored s) = is ∙ ap (place_of set) image in
+    let own : place_of set s ≡ place = there.place_is in
+    mark_of_place set block place s false there
+    (later_by_place set s there.position (ordered (place_of set s) (place_of set (mirrored s)) place other own same lt))
+  where
+    ordered : (own image place other : ℕ) → own ≡ place → other ≡ image → other < place → image < own
+    ordered own image place other p q lt = omega arith
+
+-- the mark of a spot is that of its place
+pub mark_of_spot : (set : PieceSet) (block run local : ℕ) (on : Bool) →
+    marked set (sum_below (block_size set) block + (run * run_size set block + local)) ≡ on → marked set (run_start set block run + local) ≡ on
+mark_of_spot set block run local on is =
+    let start = run_start-is set block run in
+    let whole : run_start set block run + local ≡ sum_below (block_size set) block + (run * run_size set block + local) = omega (arith, start) in
+    ap (marked set) whole ∙ is
+
+pub run_size-some : (set : PieceSet) (block : ℕ) → block < product (block_bases set) → 0 < run_size set block
+unfolding run_size
+run_size-some set block within =
+    let ob = digits_of (block_bases set) block in
+    product-positive (local_bases ob) (positive_locals set ob (AreBases-by set ob (bases_by set ob) (few_in_block set block within) refl).positive)
+
+-- a place of a run is below the set's size
+pub in_set : (set : PieceSet) (block run local : ℕ) → IsInRun set block run local → run_start set block run + local < size_of_set set
+in_set set block run local h =
+    let start = run_start-is set block run in
+    let below = place_below_size set block (run * run_size set block + local) h.block_below (place_in_run set block run local h) in
+    omega (arith, start, below)

@@ -1,0 +1,132 @@
+-- Marked places: how many setups there are whose place is marked and below a bound, and the places of first setups.
+use Rattle.std.proofs.Common.{◌≡◌, ◌≢◌, ℕ, zero, suc, ◌+◌, ◌<◌, ◌≤◌, Bool, true, false, ◌&&◌, leb, [], ◌∷◌, ◌++◌, length, get_or, refl, sym}
+use Rattle.std.proofs.Common.{ap, ◌∙◌, subst, inl, inr, arith}
+use Rattle.std.specs.List.{Contains}
+use Rattle.std.proofs.lemmas.Bool.{cases_lt, cases_Bool, le-leb, leb-true, lt-ltb, both_ways}
+use Rattle.std.proofs.lemmas.List.{length_push}
+use Rattle.std.proofs.lemmas.List.Elements.{All-nil, All-push, All-weaker, Contains-push, Contains-append_left}
+use Rattle.std.proofs.lemmas.List.Quantifiers.{all_pairs_push}
+use Rattle.dob_pieces.specs.declared.piece_set.PieceSet.{PieceSet}
+use Rattle.dob_pieces.specs.declared.setup.Setup.{Setup}
+use Rattle.dob_pieces.specs.Setups.{mirrored}
+use Rattle.dob_rank.specs.Order.{IsPositionOfSet, HasCount, IsFirstOfTwo}
+use Rattle.dob_rank.specs.Numbers.{size_of_set, rank_of_set, nth}
+use Rattle.dob_rank.specs.Marks.{one_if, marks_below, is_first, marked}
+use Rattle.dob_rank.proofs.Arithmetic.Counts.{IsNumbering}
+use Rattle.dob_rank.proofs.Positions.Numbering.{nth-block, nth-rank_of_set, rank_of_set-nth, rank_of_set-below, rank_of_set-rises, Before-from_rank}
+use Rattle.dob_rank.proofs.Positions.Found.{IsPositionOfSet-mirrored}
+
+-- the same setups are as many
+pub HasCount-same : (P Q : Setup → Type 0) (n : ℕ) → ((s : Setup) → P s → Q s) → ((s : Setup) → Q s → P s) → HasCount P n → HasCount Q n
+HasCount-same P Q n f g h = record {
+  list = h.list;
+  sound = All-weaker P Q f h.list h.sound;
+  whole = λ s q. h.whole s (g s q);
+  once = h.once;
+  counted = h.counted;
+}
+
+-- the setup has the property, its place is marked, and lies below the bound
+abbrev pub IsMarkedBelow : (Setup → Type 0) → (ℕ → Bool) → (Setup → ℕ) → ℕ → Setup → Type 0
+IsMarkedBelow P mark index n s = P s × (mark (index s) ≡ true) × (index s < n)
+
+wider : (P : Setup → Type 0) (mark : ℕ → Bool) (index : Setup → ℕ) (n : ℕ) (s : Setup) → IsMarkedBelow P mark index n s → IsMarkedBelow P mark index (suc n) s
+wider P mark index n s q = (q.0, q.1, (let low : index s < n = q.2 in omega arith))
+
+narrower : (P : Setup → Type 0) (mark : ℕ → Bool) (index : Setup → ℕ) (n : ℕ) (s : Setup) → mark n ≡ false
+    → IsMarkedBelow P mark index (suc n) s → IsMarkedBelow P mark index n s
+narrower P mark index n s off q = elim (cases_lt (index s) n) [
+  | inl lt ↦ (q.0, q.1, lt)
+  | inr le ↦ absurd (let low : index s < suc n = q.2 in let same : index s ≡ n = omega arith in
+      both_ways (mark n) off (ap mark (sym same) ∙ q.1))
+]
+
+none_more : (P : Setup → Type 0) (nth : ℕ → Setup) (index : Setup → ℕ) (mark : ℕ → Bool) (n : ℕ)
+    → HasCount (IsMarkedBelow P mark index n) (marks_below mark n) → mark n ≡ false
+    → HasCount (IsMarkedBelow P mark index (suc n)) (marks_below mark (suc n))
+unfolding marks_below
+none_more P nth index mark n h off =
+    subst (HasCount (IsMarkedBelow P mark index (suc n)))
+    (let zero_more : one_if (mark n) ≡ 0 = ap one_if off in
+    let same : marks_below mark n ≡ marks_below mark n + one_if (mark n) = omega arith in same)
+    (HasCount-same (IsMarkedBelow P mark index n) (IsMarkedBelow P mark index (suc n)) (marks_below mark n)
+    (wider P mark index n) (λ s q. narrower P mark index n s off q) h)
+
+one_more : (P : Setup → Type 0) (size : ℕ) (nth : ℕ → Setup) (index : Setup → ℕ) (mark : ℕ → Bool) → IsNumbering P size nth index
+    → (n : ℕ) → suc n ≤ size → HasCount (IsMarkedBelow P mark index n) (marks_below mark n) → index (nth n) ≡ n → mark n ≡ true
+    → HasCount (IsMarkedBelow P mark index (suc n)) (marks_below mark (suc n))
+unfolding marks_below
+one_more P size nth index mark num n le h place on =
+    let one : one_if (mark n) ≡ 1 = ap one_if on in
+    let len : length h.list ≡ marks_below mark n = h.counted in
+    record {
+      list = h.list ++ nth n ∷ [];
+      sound = All-push (IsMarkedBelow P mark index (suc n)) h.list (nth n)
+          (All-weaker (IsMarkedBelow P mark index n) (IsMarkedBelow P mark index (suc n)) (wider P mark index n) h.list h.sound)
+          (num.sound n le, ap mark place ∙ on, (omega arith));
+      whole = λ s q. elim (cases_lt (index s) n) [
+        | inl lt ↦ Contains-append_left h.list (nth n ∷ []) s (h.whole s (q.0, q.1, lt))
+        | inr ge ↦ (let low : index s < suc n = q.2 in let same : index s ≡ n = omega arith in
+            subst (Contains (h.list ++ nth n ∷ [])) (ap nth (sym same) ∙ num.back s q.0) (Contains-push h.list (nth n)))
+      ];
+      once = all_pairs_push (λ (p q : Setup). p ≢ q) h.list (nth n) h.once
+          (λ k d l e. (let at : IsMarkedBelow P mark index n (get_or h.list k d) = h.sound k d l in
+          let low : index (get_or h.list k d) < n = at.2 in
+          let same : index (get_or h.list k d) ≡ index (nth n) = ap index e in
+          let both : index (get_or h.list k d) ≡ n = same ∙ place in omega arith));
+      counted = length_push h.list (nth n) ∙ (let sum : length h.list + 1 ≡ marks_below mark n + one_if (mark n) = omega arith in sum);
+    }
+
+pub HasCount-marked : (P : Setup → Type 0) (size : ℕ) (nth : ℕ → Setup) (index : Setup → ℕ) (mark : ℕ → Bool) → IsNumbering P size nth index
+    → (n : ℕ) → n ≤ size → HasCount (IsMarkedBelow P mark index n) (marks_below mark n)
+unfolding marks_below
+HasCount-marked P size nth index mark h zero le = record {
+  list = [];
+  sound = All-nil (IsMarkedBelow P mark index 0);
+  whole = λ s q. absurd (let low : index s < 0 = q.2 in omega arith);
+  once = λ i j d lt l. absurd (omega arith);
+  counted = refl;
+}
+HasCount-marked P size nth index mark h (suc n) le =
+    let before : HasCount (IsMarkedBelow P mark index n) (marks_below mark n) = HasCount-marked P size nth index mark h n (omega arith) in
+    let place : index (nth n) ≡ n = h.forth n (omega arith) in
+    elim (cases_Bool (mark n)) [
+      | inl on ↦ one_more P size nth index mark h n le before place on
+      | inr off ↦ none_more P nth index mark n before off
+    ]
+
+-- ---- first setups
+
+pub numbering : (set : PieceSet) → IsNumbering (IsPositionOfSet set) (size_of_set set) (nth set) (rank_of_set set)
+numbering set = record {
+  sound = λ i h. (nth-block set i h).position;
+  below = λ s p. rank_of_set-below set s p;
+  back = λ s p. nth-rank_of_set set s p;
+  forth = λ i h. rank_of_set-nth set i h;
+}
+
+-- a position's rank is marked just where the position is no later than its mirror image
+pub first-marked : (set : PieceSet) (s : Setup) → IsPositionOfSet set s → IsFirstOfTwo s → is_first set (rank_of_set set s) ≡ true
+first-marked set s p first =
+    let image : IsPositionOfSet set (mirrored s) = IsPositionOfSet-mirrored set s p in
+    ap (λ (x : Setup). leb (rank_of_set set s) (rank_of_set set (mirrored x))) (nth-rank_of_set set s p)
+    ∙ le-leb (rank_of_set set s) (rank_of_set set (mirrored s))
+    (elim (cases_lt (rank_of_set set (mirrored s)) (rank_of_set set s)) [
+      | inl lt ↦ absurd (first (Before-from_rank set (mirrored s) s image p lt))
+      | inr ge ↦ ge
+    ])
+
+pub marked-first : (set : PieceSet) (s : Setup) → IsPositionOfSet set s → is_first set (rank_of_set set s) ≡ true → IsFirstOfTwo s
+marked-first set s p on b =
+    let image : IsPositionOfSet set (mirrored s) = IsPositionOfSet-mirrored set s p in
+    let low : rank_of_set set (mirrored s) < rank_of_set set s = rank_of_set-rises set (mirrored s) s image p b in
+    let le : rank_of_set set s ≤ rank_of_set set (mirrored s) = leb-true (rank_of_set set s) (rank_of_set set (mirrored s))
+    (ap (λ (x : Setup). leb (rank_of_set set s) (rank_of_set set (mirrored x))) (sym (nth-rank_of_set set s p)) ∙ on) in
+    omega arith
+
+-- ---- the marks of a whole set
+
+-- below the size the marks are those of first setups
+pub marked-first_of : (set : PieceSet) (r : ℕ) → r < size_of_set set → marked set r ≡ is_first set r
+unfolding marked
+marked-first_of set r h = ap (λ (b : Bool). b && is_first set r) (lt-ltb r (size_of_set set) h)

@@ -1,0 +1,68 @@
+-- Marks below a place.
+use Rattle.std.proofs.Common.{◌≡◌, ℕ, zero, suc, ◌+◌, ◌-◌, ◌<◌, ◌≤◌, Bool, true, false, refl, ap, arith}
+use Rattle.dob_rank.specs.Marks.{one_if, marks_below}
+
+one_if-below : (b : Bool) → one_if b < 2
+one_if-below true = omega arith
+one_if-below false = omega arith
+
+-- one more place
+pub marks_below_more : (mark : ℕ → Bool) (n : ℕ) → marks_below mark (suc n) ≡ marks_below mark n + one_if (mark n)
+unfolding marks_below
+marks_below_more mark n = refl
+
+-- ---- marks below a place
+
+pub marks_below-le : (mark : ℕ → Bool) (n : ℕ) → marks_below mark n ≤ n
+unfolding marks_below
+marks_below-le mark zero = omega arith
+marks_below-le mark (suc n) = (let rest : marks_below mark n ≤ n = marks_below-le mark n in
+    let bit : one_if (mark n) < 2 = one_if-below (mark n) in omega arith)
+
+pub marks_below_none : (mark : ℕ → Bool) → marks_below mark 0 ≡ 0
+unfolding marks_below
+marks_below_none mark = refl
+
+pub marks_below-up : (mark : ℕ → Bool) (from n : ℕ) → marks_below mark from ≤ marks_below mark (from + n)
+marks_below-up mark from zero =
+    let same : marks_below mark (from + 0) ≡ marks_below mark from = ap (marks_below mark) (let e : from + 0 ≡ from = omega arith in e) in
+    omega (arith, same)
+marks_below-up mark from (suc n) =
+    let rest = marks_below-up mark from n in
+    let more = marks_below_more mark (from + n) in
+    let same : marks_below mark (from + suc n) ≡ marks_below mark (suc (from + n)) =
+    ap (marks_below mark) (let e : from + suc n ≡ suc (from + n) = omega arith in e) in
+    omega (arith, rest, more, same)
+
+-- a stretch of marked places
+pub marks_below-all : (mark : ℕ → Bool) (from n : ℕ) → ((k : ℕ) → k < n → mark (from + k) ≡ true) →
+    marks_below mark (from + n) ≡ marks_below mark from + n
+marks_below-all mark from zero all =
+    let same : marks_below mark (from + 0) ≡ marks_below mark from = ap (marks_below mark) (let e : from + 0 ≡ from = omega arith in e) in
+    omega (arith, same)
+marks_below-all mark from (suc n) all =
+    let rest = marks_below-all mark from n (λ k below. all k (omega arith)) in
+    let more = marks_below_more mark (from + n) in
+    let one : one_if (mark (from + n)) ≡ 1 = ap one_if (all n (omega arith)) in
+    let same : marks_below mark (from + suc n) ≡ marks_below mark (suc (from + n)) =
+    ap (marks_below mark) (let e : from + suc n ≡ suc (from + n) = omega arith in e) in
+    omega (arith, rest, more, one, same)
+
+-- and one of places that aren't
+pub marks_below-unmarked : (mark : ℕ → Bool) (from n : ℕ) → ((k : ℕ) → k < n → mark (from + k) ≡ false) →
+    marks_below mark (from + n) ≡ marks_below mark from
+marks_below-unmarked mark from zero all = ap (marks_below mark) (let e : from + 0 ≡ from = omega arith in e)
+marks_below-unmarked mark from (suc n) all =
+    let rest = marks_below-unmarked mark from n (λ k below. all k (omega arith)) in
+    let more = marks_below_more mark (from + n) in
+    let none : one_if (mark (from + n)) ≡ 0 = ap one_if (all n (omega arith)) in
+    let same : marks_below mark (from + suc n) ≡ marks_below mark (suc (from + n)) =
+    ap (marks_below mark) (let e : from + suc n ≡ suc (from + n) = omega arith in e) in
+    omega (arith, rest, more, none, same)
+
+-- marks below a place are no more than those below a later one
+pub marks_below-upto : (mark : ℕ → Bool) (m n : ℕ) → m ≤ n → marks_below mark m ≤ marks_below mark n
+marks_below-upto mark m n upto =
+    let up = marks_below-up mark m (n - m) in
+    let end : marks_below mark (m + (n - m)) ≡ marks_below mark n = ap (marks_below mark) (let e : m + (n - m) ≡ n = omega (arith, upto) in e) in
+    omega (arith, up, end)

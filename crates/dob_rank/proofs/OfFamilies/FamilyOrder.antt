@@ -1,0 +1,64 @@
+-- Ranks in a family are below its size, and no two of its positions have one; the position of a present rank of its set.
+use Rattle.std.proofs.Common.{◌≡◌, ℕ, suc, ◌+◌, ◌-◌, ◌<◌, Bool, true, sym, ap, ◌∙◌, subst, inl, inr, arith}
+use Rattle.std.proofs.lemmas.Bool.{cases_lt}
+use Rattle.dob_pieces.specs.declared.profile.Family.{Family}
+use Rattle.dob_pieces.specs.declared.setup.Setup.{Setup}
+use Rattle.dob_rank.specs.Order.{Before}
+use Rattle.dob_rank.specs.Numbers.{size_of_set, rank_of_set, nth}
+use Rattle.dob_rank.specs.Marks.{one_if, marks_below}
+use Rattle.dob_rank.specs.Families.{IsPositionOf, HasRank, IsRanked, is_present, size_of, rank_of}
+use Rattle.dob_rank.proofs.Positions.Numbering.{nth-block, rank_of_set-nth, rank_of_set-below, rank_of_set-same, rank_of_set-rises}
+use Rattle.dob_rank.proofs.Marked.Words.{marks_below_more, marks_below-up}
+use Rattle.dob_rank.proofs.OfFamilies.Present.{present, allowed, HasRank-rank_of}
+
+-- a marked place adds to the marks below each later one
+marks_rise : (mark : ℕ → Bool) (a b : ℕ) → a < b → mark a ≡ true → marks_below mark a < marks_below mark b
+marks_rise mark a b low on =
+    let more = marks_below_more mark a in
+    let one : one_if (mark a) ≡ 1 = ap one_if on in
+    let up = marks_below-up mark (suc a) (b - suc a) in
+    let end : marks_below mark (suc a + (b - suc a)) ≡ marks_below mark b = ap (marks_below mark) (let e : suc a + (b - suc a) ≡ b = omega (arith, low) in e) in
+    omega (arith, more, one, up, end)
+
+pub rank_of-below : (family : Family) (s : Setup) → IsPositionOf family s → rank_of family s < size_of family
+unfolding rank_of size_of
+rank_of-below family s p =
+    marks_rise (is_present family) (rank_of_set family.set s) (size_of_set family.set) (rank_of_set-below family.set s p.of_set) (present family s p)
+
+-- the earlier of two positions has the lower rank
+pub rank_of-rises : (family : Family) (p q : Setup) → IsPositionOf family p → IsPositionOf family q → Before p q → rank_of family p < rank_of family q
+unfolding rank_of
+rank_of-rises family p q hp hq before =
+    marks_rise (is_present family) (rank_of_set family.set p) (rank_of_set family.set q) (rank_of_set-rises family.set p q hp.of_set hq.of_set before)
+    (present family p hp)
+
+pub rank_of-same : (family : Family) (p q : Setup) → IsPositionOf family p → IsPositionOf family q → rank_of family p ≡ rank_of family q → p ≡ q
+unfolding rank_of
+rank_of-same family p q hp hq same = elim (cases_lt (rank_of_set family.set p) (rank_of_set family.set q)) [
+  | inl lt ↦ absurd (let less = marks_rise (is_present family) (rank_of_set family.set p) (rank_of_set family.set q) lt (present family p hp) in omega (arith, less, same))
+  | inr ge ↦ elim (cases_lt (rank_of_set family.set q) (rank_of_set family.set p)) [
+    | inl lt ↦ absurd (let less = marks_rise (is_present family) (rank_of_set family.set q) (rank_of_set family.set p) lt (present family q hq) in omega (arith, less, same))
+    | inr le ↦ rank_of_set-same family.set p q hp.of_set hq.of_set (omega (arith, ge, le))
+  ]
+]
+
+pub ranked_at : (family : Family) (r : ℕ) → r < size_of_set family.set → is_present family r ≡ true
+    → IsRanked family (nth family.set r) (marks_below (is_present family) r)
+unfolding rank_of
+ranked_at family r below on =
+    let s : Setup = nth family.set r in
+    let back : rank_of_set family.set (nth family.set r) ≡ r = rank_of_set-nth family.set r below in
+    let p = allowed family (nth family.set r) (nth-block family.set r below).position (ap (is_present family) back ∙ on) in
+    let same : marks_below (is_present family) (rank_of_set family.set (nth family.set r)) ≡ marks_below (is_present family) r = ap (marks_below (is_present family)) back in
+    record {
+      position = p;
+      rank_is = same;
+      count = subst (HasRank family (nth family.set r)) same (HasRank-rank_of family (nth family.set r) p);
+    }
+
+-- a position of that rank is the only one
+pub record IsOnly (family : Family) (s : Setup) (number : ℕ) : Type 0 where
+  pub only : (p : Setup) → IsPositionOf family p → rank_of family p ≡ number → p ≡ s
+
+pub only_ranked : (family : Family) (s : Setup) (number : ℕ) → IsRanked family s number → IsOnly family s number
+only_ranked family s number at = record { only = λ p is same. rank_of-same family p s is at.position (same ∙ sym at.rank_is) }

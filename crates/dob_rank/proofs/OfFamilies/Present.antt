@@ -1,0 +1,121 @@
+-- The positions of a family, counted among the setups of its set.
+use Rattle.std.proofs.Common.{◌≡◌, ℕ, zero, suc, ◌<◌, Bool, true, false, ◌&&◌, refl, sym, ap, ◌∙◌, arith}
+use Rattle.dob_pieces.specs.declared.profile.Family.{Family}
+use Rattle.dob_pieces.specs.declared.profile.Profile.{Profile}
+use Rattle.dob_pieces.specs.declared.profile.Profile.TheVariants.{A, B}
+use Rattle.dob_pieces.specs.declared.setup.Setup.{Setup}
+use Rattle.dob_pieces.specs.Profiles.{is_allowed}
+use Rattle.dob_rank.specs.Order.{IsPositionOfSet, Before}
+use Rattle.dob_rank.specs.Numbers.{size_of_set, rank_of_set, nth, product, block_bases, start_of}
+use Rattle.dob_rank.specs.Marks.{one_if, marks_below, is_first}
+use Rattle.dob_rank.specs.Families.{IsPositionOf, HasSize, HasRank, IsRepresentative, HasClasses, HasClass}
+use Rattle.dob_rank.specs.Families.{family_of, is_present, is_marked, size_of, rank_of, classes_of}
+use Rattle.dob_rank.proofs.Positions.Numbering.{nth-rank_of_set, rank_of_set-below, rank_of_set-rises, Before-from_rank}
+use Rattle.dob_rank.proofs.Marked.Marks.{HasCount-same, HasCount-marked, IsMarkedBelow, numbering, first-marked, marked-first}
+
+-- a position's number is present just where the position is one of the family
+pub present : (family : Family) (s : Setup) → IsPositionOf family s → is_present family (rank_of_set family.set s) ≡ true
+unfolding is_present
+present family s p = ap (is_allowed family.profile) (nth-rank_of_set family.set s p.of_set) ∙ p.allowed
+
+pub allowed : (family : Family) (s : Setup) → IsPositionOfSet family.set s → is_present family (rank_of_set family.set s) ≡ true → IsPositionOf family s
+unfolding is_present
+allowed family s p on = record {
+  of_set = p;
+  allowed = ap (is_allowed family.profile) (sym (nth-rank_of_set family.set s p)) ∙ on;
+}
+
+pub HasSize-size_of : (family : Family) → HasSize family (size_of family)
+unfolding size_of
+HasSize-size_of family =
+    HasCount-same (IsMarkedBelow (IsPositionOfSet family.set) (is_present family) (rank_of_set family.set) (size_of_set family.set)) (IsPositionOf family)
+    (marks_below (is_present family) (size_of_set family.set))
+    (λ s q. allowed family s q.0 q.1)
+    (λ s p. (p.of_set, present family s p, rank_of_set-below family.set s p.of_set))
+    (HasCount-marked (IsPositionOfSet family.set) (size_of_set family.set) (nth family.set) (rank_of_set family.set) (is_present family) (numbering family.set)
+    (size_of_set family.set) (omega arith))
+
+pub HasRank-rank_of : (family : Family) (s : Setup) → IsPositionOf family s → HasRank family s (rank_of family s)
+unfolding rank_of
+HasRank-rank_of family s p =
+    let low : rank_of_set family.set s < size_of_set family.set = rank_of_set-below family.set s p.of_set in
+    HasCount-same (IsMarkedBelow (IsPositionOfSet family.set) (is_present family) (rank_of_set family.set) (rank_of_set family.set s))
+    (λ (q : Setup). IsPositionOf family q × Before q s) (marks_below (is_present family) (rank_of_set family.set s))
+    (λ q h. (allowed family q h.0 h.1, Before-from_rank family.set q s h.0 p.of_set h.2))
+    (λ q h. (h.0.of_set, present family q h.0, rank_of_set-rises family.set q s h.0.of_set p.of_set h.1))
+    (HasCount-marked (IsPositionOfSet family.set) (size_of_set family.set) (nth family.set) (rank_of_set family.set) (is_present family) (numbering family.set)
+    (rank_of_set family.set s) (omega arith))
+
+and_left : (a b : Bool) → a && b ≡ true → a ≡ true
+and_left true b e = refl
+and_left false b e = e
+
+and_right : (a b : Bool) → a && b ≡ true → b ≡ true
+and_right true b e = e
+and_right false b e = absurd (let e' : false ≡ true = e in cc)
+
+and_both : (a b : Bool) → a ≡ true → b ≡ true → a && b ≡ true
+and_both a b e f = ap (λ (x : Bool). x && b) e ∙ f
+
+pub marked : (family : Family) (s : Setup) → IsRepresentative family s → is_marked family (rank_of_set family.set s) ≡ true
+unfolding is_marked
+marked family s h = and_both (is_present family (rank_of_set family.set s)) (is_first family.set (rank_of_set family.set s)) (present family s h.0)
+    (first-marked family.set s h.0.of_set h.1)
+
+pub represents : (family : Family) (s : Setup) → IsPositionOfSet family.set s → is_marked family (rank_of_set family.set s) ≡ true → IsRepresentative family s
+unfolding is_marked
+represents family s p on = (
+  allowed family s p (and_left (is_present family (rank_of_set family.set s)) (is_first family.set (rank_of_set family.set s)) on),
+  marked-first family.set s p (and_right (is_present family (rank_of_set family.set s)) (is_first family.set (rank_of_set family.set s)) on),
+)
+
+pub HasClasses-classes_of : (family : Family) → HasClasses family (classes_of family)
+unfolding classes_of
+HasClasses-classes_of family =
+    HasCount-same (IsMarkedBelow (IsPositionOfSet family.set) (is_marked family) (rank_of_set family.set) (size_of_set family.set)) (IsRepresentative family)
+    (marks_below (is_marked family) (size_of_set family.set))
+    (λ s q. represents family s q.0 q.1)
+    (λ s h. (h.0.of_set, marked family s h, rank_of_set-below family.set s h.0.of_set))
+    (HasCount-marked (IsPositionOfSet family.set) (size_of_set family.set) (nth family.set) (rank_of_set family.set) (is_marked family) (numbering family.set)
+    (size_of_set family.set) (omega arith))
+
+pub HasClass-marked : (family : Family) (s : Setup) → IsPositionOf family s
+    → HasClass family s (marks_below (is_marked family) (rank_of_set family.set s))
+HasClass-marked family s p =
+    let low : rank_of_set family.set s < size_of_set family.set = rank_of_set-below family.set s p.of_set in
+    HasCount-same (IsMarkedBelow (IsPositionOfSet family.set) (is_marked family) (rank_of_set family.set) (rank_of_set family.set s))
+    (λ (q : Setup). IsRepresentative family q × Before q s) (marks_below (is_marked family) (rank_of_set family.set s))
+    (λ q h. (represents family q h.0 h.1, Before-from_rank family.set q s h.0 p.of_set h.2))
+    (λ q h. (h.0.0.of_set, marked family q h.0, rank_of_set-rises family.set q s h.0.0.of_set p.of_set h.1))
+    (HasCount-marked (IsPositionOfSet family.set) (size_of_set family.set) (nth family.set) (rank_of_set family.set) (is_marked family) (numbering family.set)
+    (rank_of_set family.set s) (omega arith))
+
+-- ---- in profile A every setup of the set is there
+
+pub there : (family : Family) (n : ℕ) → family.profile ≡ A → is_present family n ≡ true
+unfolding is_present
+there family n a = ap (λ (p : Profile). is_allowed p (nth family.set n)) a
+
+pub all_present : (family : Family) (n : ℕ) → family.profile ≡ A → marks_below (is_present family) n ≡ n
+unfolding marks_below
+all_present family zero a = refl
+all_present family (suc n) a =
+    let rest : marks_below (is_present family) n ≡ n = all_present family n a in
+    let one : one_if (is_present family n) ≡ 1 = ap one_if (there family n a) in omega arith
+
+pub size_of-whole : (family : Family) → family.profile ≡ A → size_of family ≡ size_of_set family.set
+unfolding size_of
+size_of-whole family a = all_present family (size_of_set family.set) a
+
+pub rank_of-whole : (family : Family) (s : Setup) → family.profile ≡ A → rank_of family s ≡ rank_of_set family.set s
+unfolding rank_of
+rank_of-whole family s a = all_present family (rank_of_set family.set s) a
+
+-- ---- in profile B those before the end of the last block are all
+
+pub size_of-end : (family : Family) (blocks number : ℕ) → family.profile ≡ B → blocks ≡ product (block_bases family.set)
+    → number ≡ marks_below (is_present (family_of family.set B)) (start_of family.set blocks) → number ≡ size_of family
+unfolding size_of size_of_set
+size_of-end family blocks number b whole is =
+    is ∙ ap (λ (n : ℕ). marks_below (is_present (family_of family.set B)) (start_of family.set n)) whole
+    ∙ ap (λ (p : Profile). marks_below (is_present (family_of family.set p)) (start_of family.set (product (block_bases family.set)))) (sym b)

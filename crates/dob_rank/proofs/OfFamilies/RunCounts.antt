@@ -1,0 +1,139 @@
+-- How many positions of the family a run has before each of its places.
+use Rattle.std.proofs.Common.{◌≡◌, ℕ, ◌+◌, ◌-◌, ◌*◌, ◌/◌, ◌%◌, ◌^◌, ◌<◌, ◌≤◌, Bool, List, [], ◌∷◌, slice_index, sym, ap, ◌∙◌, subst, arith}
+use Rattle.std.proofs.lemmas.Nat.{div-mul-add, mod-mul-add}
+use Rattle.dob_pieces.specs.declared.profile.Family.{Family}
+use Rattle.dob_pieces.specs.declared.profile.Profile.{Profile}
+use Rattle.dob_rank.specs.Numbers.{sum_below, count, choose, settle, order, product, digits_of, block_bases, free_squares}
+use Rattle.dob_rank.specs.Marks.{one_if, marks_below}
+use Rattle.dob_rank.specs.Runs.{local_bases, square_bases, form_bases, runs_in, run_size, run_start, IsInRun}
+use Rattle.dob_rank.specs.Families.{is_present}
+use Rattle.dob_rank.specs.Weights.{may_have, are_allowed, lions_in, choice_weight}
+use Rattle.dob_rank.specs.declared.layers.Layer.TheVariants.{Chicks}
+use Rattle.dob_rank.proofs.Arithmetic.MixedRadix.{product-append, digit_below}
+use Rattle.dob_lists.proofs.Sums.{sum_same, sum_parts}
+use Rattle.dob_rank.proofs.ProfileB.Weights.{forms_weigh}
+use Rattle.dob_rank.proofs.ProfileB.RunWeights.{middle_alike, low_alike}
+use Rattle.dob_rank.proofs.OfFamilies.RunPresent.{allowed_in_run}
+
+-- of the forms of a choice, those before a number that are allowed; r is how many forms the other pieces have
+abbrev pub is_form : Profile → ℕ → ℕ → ℕ → ℕ → ℕ → Bool
+is_form profile run chicks r c g = are_allowed (may_have profile) 4 (order Chicks) (g / r) 0 (settle (order Chicks) chicks c (lions_in run))
+
+none_more : (x : ℕ) → x ≡ x + 0
+none_more x = omega arith
+
+no_rest : (x y : ℕ) → x + 0 * y ≡ x
+no_rest x y = omega arith
+
+four_some : 0 < 4
+four_some = omega arith
+
+nothing : (n : ℕ) → 0 ≤ n
+nothing n = omega arith
+
+-- all forms of a choice
+pub all_forms : (profile : Profile) (run chicks r c : ℕ) → 0 < r → count (order Chicks) (settle (order Chicks) chicks c (lions_in run)) ≡ chicks
+    → marks_below (is_form profile run chicks r c) (4 ^ chicks * r) ≡ choice_weight profile run chicks c * r
+all_forms profile run chicks r c some is =
+    let ls = settle (order Chicks) chicks c (lions_in run) in
+    ap (marks_below (is_form profile run chicks r c)) (none_more (4 ^ chicks * r))
+    ∙ low_alike (is_form profile run chicks r c)
+    (λ n. are_allowed (may_have profile) 4 (order Chicks) n 0 (settle (order Chicks) chicks c (lions_in run))) r (4 ^ chicks) 0
+    (λ q x lq lx. ap (λ (n : ℕ). are_allowed (may_have profile) 4 (order Chicks) n 0 (settle (order Chicks) chicks c (lions_in run))) (div-mul-add q r x lx))
+    (nothing r)
+    ∙ no_rest (marks_below (λ n. are_allowed (may_have profile) 4 (order Chicks) n 0 (settle (order Chicks) chicks c (lions_in run))) (4 ^ chicks) * r)
+    (one_if (are_allowed (may_have profile) 4 (order Chicks) (4 ^ chicks) 0 (settle (order Chicks) chicks c (lions_in run))))
+    ∙ ap (λ (x : ℕ). x * r)
+    (ap (λ (x : ℕ). marks_below (λ n. are_allowed (may_have profile) 4 (order Chicks) n 0 (settle (order Chicks) chicks c (lions_in run))) (4 ^ x)) (sym is)
+    ∙ forms_weigh (may_have profile) 4 (order Chicks) 0 (settle (order Chicks) chicks c (lions_in run)) four_some)
+
+-- The positions of the family before a place of a run: those before the run; for each choice of the chicks' squares before its own n times
+-- the choice's weight, and the weight for each choice of the others' squares before; and the allowed forms before.
+pub record IsSpotIn (family : Family) (block run c s f n r : ℕ) : Type 0 where
+  pub block_below : block < product (block_bases family.set)
+  pub run_below : run < runs_in family.set block
+  pub n_is : n ≡ product (choose (free_squares - slice_index (digits_of (block_bases family.set) block) 0) (slice_index (digits_of (block_bases family.set) block) 1)
+      ∷ choose (free_squares - slice_index (digits_of (block_bases family.set) block) 0 - slice_index (digits_of (block_bases family.set) block) 1)
+      (slice_index (digits_of (block_bases family.set) block) 2) ∷ [])
+  pub r_is : r ≡ product ((2 ^ slice_index (digits_of (block_bases family.set) block) 1) ∷ (2 ^ slice_index (digits_of (block_bases family.set) block) 2) ∷ [])
+  pub some : 0 < r
+  pub choice_below : c < choose free_squares (slice_index (digits_of (block_bases family.set) block) 0)
+  pub squares_below : s < n
+  pub forms_below : f ≤ 4 ^ slice_index (digits_of (block_bases family.set) block) 0 * r
+  pub settled : (d : ℕ) → d ≤ c → count (order Chicks) (settle (order Chicks) (slice_index (digits_of (block_bases family.set) block) 0) d (lions_in run))
+      ≡ slice_index (digits_of (block_bases family.set) block) 0
+
+-- a place of the run by its parts
+in_run : (family : Family) (block run c s f n r d t g : ℕ) → IsSpotIn family block run c s f n r → d ≤ c → t < n
+    → g < 4 ^ slice_index (digits_of (block_bases family.set) block) 0 * r
+    → IsInRun family.set block run ((d * n + t) * (4 ^ slice_index (digits_of (block_bases family.set) block) 0 * r) + g)
+unfolding run_size
+in_run family block run c s f n r d t g i ld lt lg =
+    let ob : List ℕ = digits_of (block_bases family.set) block in
+    let low : d * n + t < choose free_squares (slice_index ob 0) * n
+    = digit_below d (choose free_squares (slice_index ob 0)) n t (let a : c < choose free_squares (slice_index ob 0) = i.choice_below in omega arith) lt in
+    let below : (d * n + t) * (4 ^ slice_index ob 0 * r) + g < choose free_squares (slice_index ob 0) * n * (4 ^ slice_index ob 0 * r)
+    = digit_below (d * n + t) (choose free_squares (slice_index ob 0) * n) (4 ^ slice_index ob 0 * r) g low lg in
+    let whole : product (local_bases ob) ≡ choose free_squares (slice_index ob 0) * n * (4 ^ slice_index ob 0 * r)
+    = product-append (square_bases ob) (form_bases ob)
+    ∙ ap (λ (x : ℕ). choose free_squares (slice_index ob 0) * x * product (form_bases ob)) (sym i.n_is)
+    ∙ ap (λ (x : ℕ). choose free_squares (slice_index ob 0) * n * (4 ^ slice_index ob 0 * x)) (sym i.r_is) in
+    record {
+      block_below = i.block_below;
+      run_below = i.run_below;
+      local_below = subst (λ (x : ℕ). (d * n + t) * (4 ^ slice_index ob 0 * r) + g < x) (sym whole) below;
+    }
+
+-- what stands there
+pub form_in_run : (family : Family) (block run c s f n r d t g : ℕ) → IsSpotIn family block run c s f n r → d ≤ c → t < n
+    → g < 4 ^ slice_index (digits_of (block_bases family.set) block) 0 * r
+    → is_present family (run_start family.set block run + ((d * n + t) * (4 ^ slice_index (digits_of (block_bases family.set) block) 0 * r) + g))
+    ≡ is_form family.profile run (slice_index (digits_of (block_bases family.set) block) 0) r d g
+form_in_run family block run c s f n r d t g i ld lt lg =
+    let ob : List ℕ = digits_of (block_bases family.set) block in
+    let m : ℕ = 4 ^ slice_index ob 0 * r in
+    let local : ℕ = (d * n + t) * (4 ^ slice_index ob 0 * r) + g in
+    let forms : 4 ^ slice_index ob 0 * r ≡ product (form_bases ob) = ap (λ (x : ℕ). 4 ^ slice_index ob 0 * x) i.r_is in
+    let high : ((d * n + t) * (4 ^ slice_index ob 0 * r) + g) / (4 ^ slice_index ob 0 * r) ≡ d * n + t = div-mul-add (d * n + t) (4 ^ slice_index ob 0 * r) g lg in
+    let rest : ((d * n + t) * (4 ^ slice_index ob 0 * r) + g) % (4 ^ slice_index ob 0 * r) ≡ g = mod-mul-add (d * n + t) (4 ^ slice_index ob 0 * r) g lg in
+    allowed_in_run family block run ((d * n + t) * (4 ^ slice_index ob 0 * r) + g) (4 ^ slice_index ob 0 * r) (in_run family block run c s f n r d t g i ld lt lg) forms
+    ∙ ap (λ (x : ℕ). are_allowed (may_have family.profile) 4 (order Chicks)
+    (((d * n + t) * (4 ^ slice_index ob 0 * r) + g) % (4 ^ slice_index ob 0 * r) / x) 0
+    (settle (order Chicks) (slice_index ob 0) (((d * n + t) * (4 ^ slice_index ob 0 * r) + g) / (4 ^ slice_index ob 0 * r)
+    / product (choose (free_squares - slice_index ob 0) (slice_index ob 1) ∷ choose (free_squares - slice_index ob 0 - slice_index ob 1) (slice_index ob 2) ∷ []))
+    (lions_in run))) (sym i.r_is)
+    ∙ ap (λ (x : ℕ). are_allowed (may_have family.profile) 4 (order Chicks)
+    (((d * n + t) * (4 ^ slice_index ob 0 * r) + g) % (4 ^ slice_index ob 0 * r) / r) 0
+    (settle (order Chicks) (slice_index ob 0) (((d * n + t) * (4 ^ slice_index ob 0 * r) + g) / (4 ^ slice_index ob 0 * r) / x) (lions_in run))) (sym i.n_is)
+    ∙ ap (λ (x : ℕ). are_allowed (may_have family.profile) 4 (order Chicks)
+    (((d * n + t) * (4 ^ slice_index ob 0 * r) + g) % (4 ^ slice_index ob 0 * r) / r) 0
+    (settle (order Chicks) (slice_index ob 0) (x / n) (lions_in run))) high
+    ∙ ap (λ (x : ℕ). are_allowed (may_have family.profile) 4 (order Chicks) (x / r) 0 (settle (order Chicks) (slice_index ob 0) ((d * n + t) / n) (lions_in run))) rest
+    ∙ ap (λ (x : ℕ). are_allowed (may_have family.profile) 4 (order Chicks) (g / r) 0 (settle (order Chicks) (slice_index ob 0) x (lions_in run))) (div-mul-add d n t lt)
+
+pub present_before : (family : Family) (block run c s f n r : ℕ) → IsSpotIn family block run c s f n r
+    → (let i = slice_index (digits_of (block_bases family.set) block) 0 in
+    marks_below (is_present family) (run_start family.set block run + ((c * n + s) * (4 ^ i * r) + f))
+    ≡ marks_below (is_present family) (run_start family.set block run)
+    + (sum_below (λ d. n * (choice_weight family.profile run i d * r)) c + s * (choice_weight family.profile run i c * r) + marks_below (is_form family.profile run i r c) f))
+unfolding marks_below
+present_before family block run c s f n r spot =
+    let i = slice_index (digits_of (block_bases family.set) block) 0 in
+    let start : ℕ = run_start family.set block run in
+    sum_parts (λ x. one_if (is_present family x)) (run_start family.set block run)
+    ((c * n + s) * (4 ^ slice_index (digits_of (block_bases family.set) block) 0 * r) + f)
+    ∙ ap (λ (x : ℕ). sum_below (λ y. one_if (is_present family y)) (run_start family.set block run) + x)
+    (middle_alike (λ x. is_present family (run_start family.set block run + x))
+    (is_form family.profile run (slice_index (digits_of (block_bases family.set) block) 0) r) n
+    (4 ^ slice_index (digits_of (block_bases family.set) block) 0 * r) c s f
+    (λ d t g ld lt lg. form_in_run family block run c s f n r d t g spot ld lt lg) spot.squares_below spot.forms_below
+    ∙ ap (λ (x : ℕ). x + s * marks_below (is_form family.profile run (slice_index (digits_of (block_bases family.set) block) 0) r c)
+    (4 ^ slice_index (digits_of (block_bases family.set) block) 0 * r)
+    + marks_below (is_form family.profile run (slice_index (digits_of (block_bases family.set) block) 0) r c) f)
+    (sum_same (λ d. n * marks_below (is_form family.profile run (slice_index (digits_of (block_bases family.set) block) 0) r d)
+    (4 ^ slice_index (digits_of (block_bases family.set) block) 0 * r))
+    (λ d. n * (choice_weight family.profile run (slice_index (digits_of (block_bases family.set) block) 0) d * r)) c
+    (λ d ld. ap (λ (x : ℕ). n * x) (all_forms family.profile run (slice_index (digits_of (block_bases family.set) block) 0) r d spot.some (spot.settled d (omega arith)))))
+    ∙ ap (λ (x : ℕ). sum_below (λ d. n * (choice_weight family.profile run (slice_index (digits_of (block_bases family.set) block) 0) d * r)) c + s * x
+    + marks_below (is_form family.profile run (slice_index (digits_of (block_bases family.set) block) 0) r c) f)
+    (all_forms family.profile run (slice_index (digits_of (block_bases family.set) block) 0) r c spot.some (spot.settled c (omega arith))))

@@ -1,0 +1,224 @@
+-- The digits of a position of a set: each is below its base, and they give the position back.
+use Rattle.std.proofs.Common.{◌≡◌, ℕ, zero, suc, ◌+◌, ◌-◌, ◌%◌, ◌^◌, ◌<◌, ◌≤◌, List, [], ◌∷◌, length, map, replicate, refl, sym, ap, ◌∙◌}
+use Rattle.std.proofs.Common.{subst, inl, inr, arith}
+use Rattle.std.specs.List.{count_by}
+use Rattle.std.proofs.lemmas.Bool.{cases_lt}
+use Rattle.std.proofs.lemmas.List.{length-map}
+use Rattle.std.proofs.Math.Nat.{pow-zero, pow-succ', mod-eq_of_lt}
+use Rattle.dob_pieces.specs.declared.kind.HandKind.{HandKind}
+use Rattle.dob_pieces.specs.declared.kind.HandKind.TheVariants as hand
+use Rattle.dob_pieces.specs.declared.kind.Side.TheVariants.{Mover, Enemy}
+use Rattle.dob_pieces.specs.declared.hand.Hand.{Hand}
+use Rattle.dob_pieces.specs.declared.piece_set.PieceSet.{PieceSet}
+use Rattle.dob_pieces.specs.declared.setup.Setup.{Setup}
+use Rattle.dob_pieces.specs.Setups.{Cell, at, held, holds_lion, holds_kind, total, IsLegal}
+use Rattle.dob_rank.specs.declared.layers.Layer.TheVariants.{OwnLion, EnemyLion, Chicks, Elephants, Giraffes, Empty}
+use Rattle.dob_rank.specs.Order.{IsPositionOfSet, pieces_of}
+use Rattle.dob_rank.specs.Numbers.{order, layer, count, count_from, choose, choice, settle, HasDigits, base_of, forms_number, board_of, empty_layers}
+use Rattle.dob_rank.specs.Numbers.{bases_by, block_bases, on_board, digits, numbers_by, layers_by, setup_by, own_squares, enemy_squares, free_squares}
+use Rattle.dob_rank.proofs.Boards.Choices.{choice-below}
+use Rattle.dob_rank.proofs.Boards.Settled.{hidden, hide, hidden_lower, hidden_later, settle-choice, AreLayers}
+use Rattle.dob_rank.proofs.Boards.FormDigits.{AreLayers-map, forms_number-below, board_of-back}
+use Rattle.dob_rank.proofs.Boards.LayerCounts.{count_from-next, count_from-zero, lion_at, holds_mover_lion, holds_enemy_lion, holds_kind-layer}
+use Rattle.dob_rank.proofs.Boards.LayerCounts.{count-layer, mover_lion, layer-at}
+
+-- what a position of the set says of its layers and hands
+pub record HasParts (set : PieceSet) (s : Setup) : Type 0 where
+  pub squares : length (map layer s.board) ≡ 12
+  pub own_lion : count (order OwnLion) (map layer s.board) ≡ 1
+  pub other_lion : count (order EnemyLion) (map layer s.board) ≡ 1
+  pub home : choice (order OwnLion) (map layer s.board) < own_squares
+  pub chicks : count (order Chicks) (map layer s.board) + s.hands.mover.chicks + s.hands.enemy.chicks ≡ set.chicks
+  pub elephants : count (order Elephants) (map layer s.board) + s.hands.mover.elephants + s.hands.enemy.elephants ≡ set.elephants
+  pub giraffes : count (order Giraffes) (map layer s.board) + s.hands.mover.giraffes + s.hands.enemy.giraffes ≡ set.giraffes
+
+lion_home : (s : Setup) → IsLegal s → count (order OwnLion) (map layer s.board) ≡ 1 → choice (order OwnLion) (map layer s.board) < own_squares
+lion_home s legal one = elim (cases_lt (choice (order OwnLion) (map layer s.board)) own_squares) [
+  | inl lt ↦ lt
+  | inr le ↦ absurd (legal.home (choice (order OwnLion) (map layer s.board)) le
+      (mover_lion (at s (choice (order OwnLion) (map layer s.board)))
+      (sym (layer-at s.board (choice (order OwnLion) (map layer s.board))) ∙ lion_at (map layer s.board) one)))
+]
+
+of_kind : (kind : HandKind) (t : ℕ) (set : PieceSet) (s : Setup) → IsPositionOfSet set s
+    → ((cells : List Cell) → count_by (holds_kind kind) cells ≡ count t (map layer cells))
+    → count t (map layer s.board) + held s.hands.mover kind + held s.hands.enemy kind ≡ pieces_of set kind
+unfolding total
+of_kind kind t set s p h = ap (λ (n : ℕ). n + held s.hands.mover kind + held s.hands.enemy kind) (sym (h s.board)) ∙ p.pieces kind
+
+pub HasParts-from_position : (set : PieceSet) (s : Setup) → IsPositionOfSet set s → HasParts set s
+HasParts-from_position set s p =
+    let one : count (order OwnLion) (map layer s.board) ≡ 1 = sym (count-layer (holds_lion Mover) (order OwnLion) holds_mover_lion s.board)
+    ∙ p.legal.lions Mover in
+    record {
+      squares = length-map s.board layer ∙ p.legal.squares;
+      own_lion = one;
+      other_lion = sym (count-layer (holds_lion Enemy) (order EnemyLion) holds_enemy_lion s.board) ∙ p.legal.lions Enemy;
+      home = lion_home s p.legal one;
+      chicks = of_kind hand.Chick (order Chicks) set s p (count-layer (holds_kind hand.Chick) (order Chicks) (holds_kind-layer hand.Chick));
+      elephants = of_kind hand.Elephant (order Elephants) set s p (count-layer (holds_kind hand.Elephant) (order Elephants) (holds_kind-layer hand.Elephant));
+      giraffes = of_kind hand.Giraffe (order Giraffes) set s p (count-layer (holds_kind hand.Giraffe) (order Giraffes) (holds_kind-layer hand.Giraffe));
+    }
+
+-- how many squares each layer chooses from
+pub record HasRoom (s : Setup) : Type 0 where
+  pub one : count_from (order EnemyLion) (map layer s.board) ≡ enemy_squares
+  pub two : count_from (order Chicks) (map layer s.board) ≡ free_squares
+  pub three : count_from (order Elephants) (map layer s.board) ≡ free_squares - count (order Chicks) (map layer s.board)
+  pub four : count_from (order Giraffes) (map layer s.board) ≡ free_squares - count (order Chicks) (map layer s.board) - count (order Elephants)
+      (map layer s.board)
+
+HasRoom-from_parts : (set : PieceSet) (s : Setup) → HasParts set s → HasRoom s
+HasRoom-from_parts set s h =
+    let len : length (map layer s.board) ≡ 12 = h.squares in
+    let a : count (order OwnLion) (map layer s.board) ≡ 1 = h.own_lion in
+    let b : count (order EnemyLion) (map layer s.board) ≡ 1 = h.other_lion in
+    let c0 : count_from (order OwnLion) (map layer s.board) ≡ length (map layer s.board) = count_from-zero (map layer s.board) in
+    let c1 : count_from (order EnemyLion) (map layer s.board) + count (order OwnLion) (map layer s.board) ≡ count_from (order OwnLion) (map layer s.board)
+    = count_from-next (order OwnLion) (map layer s.board) in
+    let c2 : count_from (order Chicks) (map layer s.board) + count (order EnemyLion) (map layer s.board) ≡ count_from (order EnemyLion) (map layer s.board)
+    = count_from-next (order EnemyLion) (map layer s.board) in
+    let c3 : count_from (order Elephants) (map layer s.board) + count (order Chicks) (map layer s.board) ≡ count_from (order Chicks) (map layer s.board)
+    = count_from-next (order Chicks) (map layer s.board) in
+    let c4 : count_from (order Giraffes) (map layer s.board) + count (order Elephants) (map layer s.board) ≡ count_from (order Elephants) (map layer s.board)
+    = count_from-next (order Elephants) (map layer s.board) in
+    record { one = omega arith; two = omega arith; three = omega arith; four = omega arith }
+
+pub HasDigits-on_board : (set : PieceSet) (s : Setup) → HasParts set s → HasDigits (block_bases set) (on_board s)
+HasDigits-on_board set s h =
+    let a : count (order Chicks) (map layer s.board) + s.hands.mover.chicks + s.hands.enemy.chicks ≡ set.chicks = h.chicks in
+    let b : count (order Elephants) (map layer s.board) + s.hands.mover.elephants + s.hands.enemy.elephants ≡ set.elephants = h.elephants in
+    let c : count (order Giraffes) (map layer s.board) + s.hands.mover.giraffes + s.hands.enemy.giraffes ≡ set.giraffes = h.giraffes in
+    ((omega arith), ((omega arith), ((omega arith), tt)))
+
+pub HasDigits-digits : (set : PieceSet) (s : Setup) → HasParts set s → HasDigits (bases_by set (on_board s)) (digits s)
+HasDigits-digits set s h =
+    let r : HasRoom s = HasRoom-from_parts set s h in
+    let a : count (order Chicks) (map layer s.board) + s.hands.mover.chicks + s.hands.enemy.chicks ≡ set.chicks = h.chicks in
+    let b : count (order Elephants) (map layer s.board) + s.hands.mover.elephants + s.hands.enemy.elephants ≡ set.elephants = h.elephants in
+    let c : count (order Giraffes) (map layer s.board) + s.hands.mover.giraffes + s.hands.enemy.giraffes ≡ set.giraffes = h.giraffes in
+    let n1 : choice (order EnemyLion) (map layer s.board) < choose enemy_squares 1
+    = subst (λ (x : ℕ). choice (order EnemyLion) (map layer s.board) < choose enemy_squares x) h.other_lion
+    (subst (λ (x : ℕ). choice (order EnemyLion) (map layer s.board) < choose x (count (order EnemyLion) (map layer s.board))) r.one
+    (choice-below (order EnemyLion) (map layer s.board))) in (
+      (omega arith),
+      (
+        (omega arith),
+        (
+          (omega arith),
+          (
+            h.home,
+            (
+              (omega arith),
+              (
+                subst (λ (x : ℕ). choice (order Chicks) (map layer s.board) < choose x (count (order Chicks) (map layer s.board))) r.two
+                    (choice-below (order Chicks) (map layer s.board)),
+                (
+                  subst (λ (x : ℕ). choice (order Elephants) (map layer s.board) < choose x (count (order Elephants) (map layer s.board))) r.three
+                      (choice-below (order Elephants) (map layer s.board)),
+                  (
+                    subst (λ (x : ℕ). choice (order Giraffes) (map layer s.board) < choose x (count (order Giraffes) (map layer s.board))) r.four
+                        (choice-below (order Giraffes) (map layer s.board)),
+                    (
+                      forms_number-below (order Chicks) s.board,
+                      (forms_number-below (order Elephants) s.board, (forms_number-below (order Giraffes) s.board, tt)),
+                    ),
+                  ),
+                ),
+              ),
+            ),
+          ),
+        ),
+      ),
+    )
+
+-- ---- back
+
+pub hide_zero : (ls : List ℕ) → hide (order OwnLion) ls ≡ replicate (length ls) (order Empty)
+hide_zero [] = refl
+hide_zero (l ∷ ls) = (let head : hidden (order OwnLion) l ≡ order Empty
+    = hidden_later (order OwnLion) l (omega arith) in let rest : hide (order OwnLion) ls ≡ replicate (length ls) (order Empty) = hide_zero ls in cc)
+
+pub hide_all : (ls : List ℕ) → AreLayers ls → hide (order Empty) ls ≡ ls
+hide_all [] a = refl
+hide_all (l ∷ ls) a = (let head : hidden (order Empty) l ≡ l
+    = elim (cases_lt l (order Empty)) [
+      | inl lt ↦ hidden_lower (order Empty) l lt
+      | inr le ↦ hidden_later (order Empty) l le
+          ∙ (let m : l ≤ order Empty = a.0 in let five : order Empty ≡ l = omega arith in five)
+    ] in
+    let rest : hide (order Empty) ls ≡ ls = hide_all ls a.1 in cc)
+
+pub layers_by-back : (set : PieceSet) (s : Setup) → HasParts set s → layers_by (on_board s) (digits s) ≡ map layer s.board
+layers_by-back set s h =
+    let ok : AreLayers (map layer s.board) = AreLayers-map s.board in
+    let start : empty_layers ≡ hide (order OwnLion) (map layer s.board)
+    = sym (hide_zero (map layer s.board) ∙ ap (λ (n : ℕ). replicate n (order Empty)) h.squares) in
+    let r0 : settle (order OwnLion) 1 (choice (order OwnLion) (map layer s.board)) empty_layers ≡ hide (order EnemyLion) (map layer s.board)
+    = ap (settle (order OwnLion) 1 (choice (order OwnLion) (map layer s.board))) start
+    ∙ ap (λ (n : ℕ). settle (order OwnLion) n (choice (order OwnLion) (map layer s.board)) (hide (order OwnLion) (map layer s.board))) (sym h.own_lion)
+    ∙ settle-choice (order OwnLion) (map layer s.board) (omega arith) ok in
+    let r1 : settle (order EnemyLion) 1 (choice (order EnemyLion) (map layer s.board))
+    (settle (order OwnLion) 1 (choice (order OwnLion) (map layer s.board)) empty_layers) ≡ hide (order Chicks) (map layer s.board)
+    = ap (settle (order EnemyLion) 1 (choice (order EnemyLion) (map layer s.board))) r0
+    ∙ ap (λ (n : ℕ). settle (order EnemyLion) n (choice (order EnemyLion) (map layer s.board)) (hide (order EnemyLion) (map layer s.board))) (sym h.other_lion)
+    ∙ settle-choice (order EnemyLion) (map layer s.board) (omega arith) ok in
+    ap (λ (x : List ℕ). settle (order Giraffes) (count (order Giraffes) (map layer s.board)) (choice (order Giraffes) (map layer s.board))
+    (settle (order Elephants) (count (order Elephants) (map layer s.board)) (choice (order Elephants) (map layer s.board))
+    (settle (order Chicks) (count (order Chicks) (map layer s.board)) (choice (order Chicks) (map layer s.board)) x))) r1
+    ∙ ap (λ (x : List ℕ). settle (order Giraffes) (count (order Giraffes) (map layer s.board)) (choice (order Giraffes) (map layer s.board))
+    (settle (order Elephants) (count (order Elephants) (map layer s.board)) (choice (order Elephants) (map layer s.board)) x))
+    (settle-choice (order Chicks) (map layer s.board) (omega arith) ok)
+    ∙ ap (λ (x : List ℕ). settle (order Giraffes) (count (order Giraffes) (map layer s.board)) (choice (order Giraffes) (map layer s.board)) x)
+    (settle-choice (order Elephants) (map layer s.board) (omega arith) ok)
+    ∙ settle-choice (order Giraffes) (map layer s.board) (omega arith) ok
+    ∙ hide_all (map layer s.board) ok
+
+-- without forms a layer's forms number is 0
+one_pow : (n : ℕ) → 1 ^ n ≡ 1
+one_pow zero = pow-zero 1
+one_pow (suc n) = pow-succ' 1 n ∙ (let rest : 1 ^ n ≡ 1 = one_pow n in omega arith)
+
+no_forms : (t : ℕ) (cells : List Cell) → base_of t ≡ 1 → 0 % base_of t ^ count t (map layer cells) ≡ forms_number t cells
+no_forms t cells h =
+    let low : forms_number t cells < base_of t ^ count t (map layer cells) = forms_number-below t cells in
+    let one : base_of t ^ count t (map layer cells) ≡ 1 = ap (λ (b : ℕ). b ^ count t (map layer cells)) h ∙ one_pow (count t (map layer cells)) in
+    mod-eq_of_lt (let p : 0 < base_of t ^ count t (map layer cells) = omega arith in p) ∙ (let e : 0 ≡ forms_number t cells = omega arith in e)
+
+pub numbers-back : (s : Setup) (t : ℕ) → numbers_by (digits s) t % base_of t ^ count t (map layer s.board) ≡ forms_number t s.board
+numbers-back s zero = no_forms 0 s.board refl
+numbers-back s (suc zero) = no_forms 1 s.board refl
+numbers-back s (suc (suc zero)) = mod-eq_of_lt (forms_number-below (order Chicks) s.board)
+numbers-back s (suc (suc (suc zero))) = mod-eq_of_lt (forms_number-below (order Elephants) s.board)
+numbers-back s (suc (suc (suc (suc zero)))) = mod-eq_of_lt (forms_number-below (order Giraffes) s.board)
+numbers-back s (suc (suc (suc (suc (suc zero))))) = no_forms (order Empty) s.board refl
+numbers-back s (suc (suc (suc (suc (suc (suc t)))))) = no_forms (suc (suc (suc (suc (suc (suc t)))))) s.board refl
+
+abbrev make_hand : ℕ → ℕ → ℕ → Hand
+make_hand c e g = record { chicks = c; elephants = e; giraffes = g }
+
+abbrev make_setup : List Cell → Hand → Hand → Setup
+make_setup board mover enemy = record { board = board; hands = record { mover = mover; enemy = enemy } }
+
+make_hand-same : (a b c d e f : ℕ) → a ≡ d → b ≡ e → c ≡ f → make_hand a b c ≡ make_hand d e f
+make_hand-same a b c d e f p q r = ap (λ (x : ℕ). make_hand x b c) p ∙ ap (λ (x : ℕ). make_hand d x c) q ∙ ap (λ (x : ℕ). make_hand d e x) r
+
+-- a position is the setup of its numbers on the board and its digits
+pub setup_by-back : (set : PieceSet) (s : Setup) → HasParts set s → setup_by set (on_board s) (digits s) ≡ s
+setup_by-back set s h =
+    let a : count (order Chicks) (map layer s.board) + s.hands.mover.chicks + s.hands.enemy.chicks ≡ set.chicks = h.chicks in
+    let b : count (order Elephants) (map layer s.board) + s.hands.mover.elephants + s.hands.enemy.elephants ≡ set.elephants = h.elephants in
+    let c : count (order Giraffes) (map layer s.board) + s.hands.mover.giraffes + s.hands.enemy.giraffes ≡ set.giraffes = h.giraffes in
+    let board : board_of (numbers_by (digits s)) (layers_by (on_board s) (digits s)) ≡ s.board
+    = ap (board_of (numbers_by (digits s))) (layers_by-back set s h) ∙ board_of-back (numbers_by (digits s)) s.board (numbers-back s) in
+    let enemy : make_hand (set.chicks - count (order Chicks) (map layer s.board) - s.hands.mover.chicks)
+    (set.elephants - count (order Elephants) (map layer s.board) - s.hands.mover.elephants)
+    (set.giraffes - count (order Giraffes) (map layer s.board) - s.hands.mover.giraffes) ≡ s.hands.enemy
+    = make_hand-same (set.chicks - count (order Chicks) (map layer s.board) - s.hands.mover.chicks)
+    (set.elephants - count (order Elephants) (map layer s.board) - s.hands.mover.elephants)
+    (set.giraffes - count (order Giraffes) (map layer s.board) - s.hands.mover.giraffes) s.hands.enemy.chicks s.hands.enemy.elephants s.hands.enemy.giraffes
+    (omega arith) (omega arith) (omega arith) in
+    ap (λ (x : List Cell). make_setup x s.hands.mover (make_hand (set.chicks - count (order Chicks) (map layer s.board) - s.hands.mover.chicks)
+    (set.elephants - count (order Elephants) (map layer s.board) - s.hands.mover.elephants)
+    (set.giraffes - count (order Giraffes) (map layer s.board) - s.hands.mover.giraffes))) board
+    ∙ ap (λ (x : Hand). make_setup s.board s.hands.mover x) enemy

@@ -1,0 +1,238 @@
+-- Ranks number the positions of a set, in their order.
+use Rattle.std.proofs.Common.{◌≡◌, ℕ, zero, suc, ◌+◌, ◌-◌, ◌<◌, ◌≤◌, Bool, cond, List, [], ◌∷◌, refl, sym, ap, ◌∙◌, subst, inl, inr, arith}
+use Rattle.std.proofs.lemmas.Bool.{cases_lt, lt-ltb, le-ltb}
+use Rattle.dob_pieces.specs.declared.piece_set.PieceSet.{PieceSet}
+use Rattle.dob_pieces.specs.declared.setup.Setup.{Setup}
+use Rattle.dob_rank.specs.Order.{IsPositionOfSet, Before, key}
+use Rattle.dob_rank.specs.Numbers.{product, number_of, digits_of, HasDigits, sum_below, block_bases, bases_by, on_board, digits}
+use Rattle.dob_rank.specs.Numbers.{block_of, block_size, size_of_set, rank_of_set, setup_by, setup_in, find, nth}
+pub use Rattle.dob_rank.specs.Numbers.{place_of, HasBlock}
+use Rattle.dob_rank.proofs.Arithmetic.MixedRadix.{number_of-below, number_of-rises, HasDigits-digits_of, number_of-digits_of, digits_of-number_of}
+use Rattle.dob_lists.proofs.Sums.{sum_below-rises, same_block}
+use Rattle.dob_rank.proofs.Positions.Digits.{HasParts, HasParts-from_position, HasDigits-on_board, HasDigits-digits, setup_by-back}
+use Rattle.dob_rank.proofs.Positions.Made.{HasPlace, made, IsMade-made, IsPositionOfSet-made, on_board-made, digits-made, all_settled}
+use Rattle.dob_rank.proofs.Positions.Keys.{Before-digits, key-same}
+use Rattle.dob_rank.proofs.Arithmetic.Order.{Precedes-total}
+
+-- ---- a rank is the start of its block and the place there
+
+pub rank_of_set-place : (set : PieceSet) (s : Setup) → rank_of_set set s ≡ sum_below (block_size set) (block_of set s) + place_of set s
+unfolding rank_of_set
+rank_of_set-place set s = refl
+
+pub block_size-product : (set : PieceSet) (block : ℕ) → block_size set block ≡ product (bases_by set (digits_of (block_bases set) block))
+unfolding block_size
+block_size-product set block = refl
+
+pub block_of-below : (set : PieceSet) (s : Setup) → IsPositionOfSet set s → block_of set s < product (block_bases set)
+block_of-below set s p = number_of-below (block_bases set) (on_board s) (HasDigits-on_board set s (HasParts-from_position set s p))
+
+pub on_board-block : (set : PieceSet) (s : Setup) → IsPositionOfSet set s → digits_of (block_bases set) (block_of set s) ≡ on_board s
+on_board-block set s p = digits_of-number_of (block_bases set) (on_board s) (HasDigits-on_board set s (HasParts-from_position set s p))
+
+pub place_of-below : (set : PieceSet) (s : Setup) → IsPositionOfSet set s → place_of set s < block_size set (block_of set s)
+place_of-below set s p =
+    subst (λ (n : ℕ). place_of set s < n) (ap (λ (xs : List ℕ). product (bases_by set xs)) (sym (on_board-block set s p))
+    ∙ sym (block_size-product set (block_of set s)))
+    (number_of-below (bases_by set (on_board s)) (digits s) (HasDigits-digits set s (HasParts-from_position set s p)))
+
+pub rank_of_set-below : (set : PieceSet) (s : Setup) → IsPositionOfSet set s → rank_of_set set s < size_of_set set
+unfolding size_of_set
+rank_of_set-below set s p =
+    let a : block_of set s < product (block_bases set) = block_of-below set s p in
+    let b : place_of set s < block_size set (block_of set s) = place_of-below set s p in
+    let c : sum_below (block_size set) (block_of set s) + block_size set (block_of set s) ≤ sum_below (block_size set) (product (block_bases set))
+    = sum_below-rises (block_size set) (block_of set s) (product (block_bases set)) a in
+    let d : rank_of_set set s ≡ sum_below (block_size set) (block_of set s) + place_of set s = rank_of_set-place set s in
+    omega arith
+
+-- the block and place of a position give it back
+pub setup_in-back : (set : PieceSet) (s : Setup) → IsPositionOfSet set s → setup_in set (block_of set s) (place_of set s) ≡ s
+setup_in-back set s p =
+    let h : HasParts set s = HasParts-from_position set s p in
+    ap (λ (xs : List ℕ). setup_by set xs (digits_of (bases_by set xs) (place_of set s))) (on_board-block set s p)
+    ∙ ap (setup_by set (on_board s)) (digits_of-number_of (bases_by set (on_board s)) (digits s) (HasDigits-digits set s h))
+    ∙ setup_by-back set s h
+
+-- ---- a place below its block's size
+
+pub record IsPlace (set : PieceSet) (block place : ℕ) : Type 0 where
+  pub block_below : block < product (block_bases set)
+  pub place_below : place < block_size set block
+
+-- any place makes a position of the set that has that block and place
+
+-- what the setup of digits has
+record HasBoth (set : PieceSet) (ob ds : List ℕ) (s : Setup) : Type 0 where
+  position : IsPositionOfSet set s
+  on_board_is : on_board s ≡ ob
+  digits_are : digits s ≡ ds
+
+from_digits : (set : PieceSet) (i j k : ℕ) (ds : List ℕ) → HasDigits (block_bases set) (i ∷ j ∷ k ∷ []) → HasDigits (bases_by set (i ∷ j ∷ k ∷ [])) ds
+    → HasBoth set (i ∷ j ∷ k ∷ []) ds (setup_by set (i ∷ j ∷ k ∷ []) ds)
+from_digits set i j k ([]) h d = absurd d
+from_digits set i j k (h1 ∷ []) h d = absurd d.1
+from_digits set i j k (h1 ∷ h2 ∷ []) h d = absurd d.1.1
+from_digits set i j k (h1 ∷ h2 ∷ h3 ∷ []) h d = absurd d.1.1.1
+from_digits set i j k (h1 ∷ h2 ∷ h3 ∷ n0 ∷ []) h d = absurd d.1.1.1.1
+from_digits set i j k (h1 ∷ h2 ∷ h3 ∷ n0 ∷ n1 ∷ []) h d = absurd d.1.1.1.1.1
+from_digits set i j k (h1 ∷ h2 ∷ h3 ∷ n0 ∷ n1 ∷ n2 ∷ []) h d = absurd d.1.1.1.1.1.1
+from_digits set i j k (h1 ∷ h2 ∷ h3 ∷ n0 ∷ n1 ∷ n2 ∷ n3 ∷ []) h d = absurd d.1.1.1.1.1.1.1
+from_digits set i j k (h1 ∷ h2 ∷ h3 ∷ n0 ∷ n1 ∷ n2 ∷ n3 ∷ n4 ∷ []) h d = absurd d.1.1.1.1.1.1.1.1
+from_digits set i j k (h1 ∷ h2 ∷ h3 ∷ n0 ∷ n1 ∷ n2 ∷ n3 ∷ n4 ∷ f2 ∷ []) h d = absurd d.1.1.1.1.1.1.1.1.1
+from_digits set i j k (h1 ∷ h2 ∷ h3 ∷ n0 ∷ n1 ∷ n2 ∷ n3 ∷ n4 ∷ f2 ∷ f3 ∷ []) h d = absurd d.1.1.1.1.1.1.1.1.1.1
+from_digits set i j k (h1 ∷ h2 ∷ h3 ∷ n0 ∷ n1 ∷ n2 ∷ n3 ∷ n4 ∷ f2 ∷ f3 ∷ f4 ∷ x ∷ xs) h d = absurd d.1.1.1.1.1.1.1.1.1.1.1
+from_digits set i j k (h1 ∷ h2 ∷ h3 ∷ n0 ∷ n1 ∷ n2 ∷ n3 ∷ n4 ∷ f2 ∷ f3 ∷ f4 ∷ []) h d =
+    let p : HasPlace set i j k h1 h2 h3 n0 n1 n2 n3 n4 f2 f3 f4 = record { on_board_below = h; digits_below = d } in
+    let m = IsMade-made set i j k h1 h2 h3 n0 n1 n2 n3 n4 f2 f3 f4 p in
+    record {
+      position = IsPositionOfSet-made set i j k n0 n1 n2 n3 n4
+          (all_settled i j k n0 n1 n2 n3 n4) (made set i j k h1 h2 h3 n0 n1 n2 n3 n4 f2 f3 f4) m;
+      on_board_is = on_board-made set i j k n0 n1 n2 n3 n4
+          (all_settled i j k n0 n1 n2 n3 n4) (made set i j k h1 h2 h3 n0 n1 n2 n3 n4 f2 f3 f4) m;
+      digits_are = digits-made set i j k h1 h2 h3 n0 n1 n2 n3 n4 f2 f3 f4 p;
+    }
+
+from_lists : (set : PieceSet) (ob ds : List ℕ) → HasDigits (block_bases set) ob → HasDigits (bases_by set ob) ds → HasBoth set ob ds (setup_by set ob ds)
+from_lists set [] ds h d = absurd h
+from_lists set (i ∷ []) ds h d = absurd h.1
+from_lists set (i ∷ j ∷ []) ds h d = absurd h.1.1
+from_lists set (i ∷ j ∷ k ∷ x ∷ xs) ds h d = absurd h.1.1.1
+from_lists set (i ∷ j ∷ k ∷ []) ds h d = from_digits set i j k ds h d
+
+pub HasBlock-setup_in : (set : PieceSet) (block place : ℕ) → IsPlace set block place → HasBlock set block place (setup_in set block place)
+HasBlock-setup_in set block place p =
+    let low : place < product (bases_by set (digits_of (block_bases set) block)) = subst (λ (n : ℕ). place < n) (block_size-product set block) p.place_below in
+    let b : HasBoth set (digits_of (block_bases set) block) (digits_of (bases_by set (digits_of (block_bases set) block)) place) (setup_in set block place)
+    = from_lists set (digits_of (block_bases set) block) (digits_of (bases_by set (digits_of (block_bases set) block)) place)
+    (HasDigits-digits_of (block_bases set) block p.block_below)
+    (HasDigits-digits_of (bases_by set (digits_of (block_bases set) block)) place low) in
+    record {
+      position = b.position;
+      block_is = ap (number_of (block_bases set)) b.on_board_is ∙ number_of-digits_of (block_bases set) block p.block_below;
+      place_is = ap (λ (xs : List ℕ). number_of (bases_by set xs) (digits (setup_in set block place))) b.on_board_is
+          ∙ ap (number_of (bases_by set (digits_of (block_bases set) block))) b.digits_are
+          ∙ number_of-digits_of (bases_by set (digits_of (block_bases set) block)) place low;
+    }
+
+-- sums of a start and a place
+lower : (rp rq a x w b y : ℕ) → rp ≡ a + x → rq ≡ b + y → x < w → a + w ≤ b → rp < rq
+lower rp rq a x w b y h k l m = omega arith
+
+nearer : (rp rq a x z b y : ℕ) → rp ≡ a + x → rq ≡ b + y → z < y → x ≡ z → a ≡ b → rp < rq
+nearer rp rq a x z b y h k l m n = omega arith
+
+cancel : (a b x y : ℕ) → a ≡ b → a + x ≡ b + y → x ≡ y
+cancel a b x y h k = omega arith
+
+-- ---- the order
+
+pub rank_of_set-rises : (set : PieceSet) (p q : Setup) → IsPositionOfSet set p → IsPositionOfSet set q → Before p q → rank_of_set set p < rank_of_set set q
+rank_of_set-rises set p q hp hq h =
+    let rp : rank_of_set set p ≡ sum_below (block_size set) (block_of set p) + place_of set p = rank_of_set-place set p in
+    let rq : rank_of_set set q ≡ sum_below (block_size set) (block_of set q) + place_of set q = rank_of_set-place set q in
+    elim (Before-digits set p q hp hq h) [
+      | inl lt ↦ (let a : block_of set p < block_of set q
+          = number_of-rises (block_bases set) (on_board p) (on_board q) (HasDigits-on_board set p (HasParts-from_position set p hp))
+          (HasDigits-on_board set q (HasParts-from_position set q hq)) lt in
+          let b : place_of set p < block_size set (block_of set p) = place_of-below set p hp in
+          let c : sum_below (block_size set) (block_of set p) + block_size set (block_of set p) ≤ sum_below (block_size set) (block_of set q)
+          = sum_below-rises (block_size set) (block_of set p) (block_of set q) a in
+          lower (rank_of_set set p) (rank_of_set set q) (sum_below (block_size set) (block_of set p)) (place_of set p) (block_size set (block_of set p))
+          (sum_below (block_size set) (block_of set q)) (place_of set q) rp rq b c)
+      | inr r ↦ (let dp : HasDigits (bases_by set (on_board q)) (digits p)
+          = subst (λ (xs : List ℕ). HasDigits (bases_by set xs) (digits p)) r.0 (HasDigits-digits set p (HasParts-from_position set p hp)) in
+          let a : number_of (bases_by set (on_board q)) (digits p) < place_of set q
+          = number_of-rises (bases_by set (on_board q)) (digits p) (digits q) dp (HasDigits-digits set q (HasParts-from_position set q hq)) r.1 in
+          let b : place_of set p ≡ number_of (bases_by set (on_board q)) (digits p) = ap (λ (xs : List ℕ). number_of (bases_by set xs) (digits p)) r.0 in
+          let c : sum_below (block_size set) (block_of set p) ≡ sum_below (block_size set) (block_of set q)
+          = ap (λ (xs : List ℕ). sum_below (block_size set) (number_of (block_bases set) xs)) r.0 in
+          nearer (rank_of_set set p) (rank_of_set set q) (sum_below (block_size set) (block_of set p)) (place_of set p)
+          (number_of (bases_by set (on_board q)) (digits p)) (sum_below (block_size set) (block_of set q)) (place_of set q) rp rq a b c)
+    ]
+
+-- positions of one set with one rank are one
+pub rank_of_set-same : (set : PieceSet) (p q : Setup) → IsPositionOfSet set p → IsPositionOfSet set q → rank_of_set set p ≡ rank_of_set set q → p ≡ q
+rank_of_set-same set p q hp hq e =
+    let sums : sum_below (block_size set) (block_of set p) + place_of set p ≡ sum_below (block_size set) (block_of set q) + place_of set q
+    = sym (rank_of_set-place set p) ∙ e ∙ rank_of_set-place set q in
+    let block : block_of set p ≡ block_of set q
+    = same_block (block_size set) (block_of set p) (block_of set q) (place_of set p) (place_of set q)
+    (place_of-below set p hp) (place_of-below set q hq) sums in
+    let start : sum_below (block_size set) (block_of set p) ≡ sum_below (block_size set) (block_of set q) = ap (sum_below (block_size set)) block in
+    let place : place_of set p ≡ place_of set q
+    = cancel (sum_below (block_size set) (block_of set p)) (sum_below (block_size set) (block_of set q)) (place_of set p) (place_of set q) start sums in
+    sym (setup_in-back set p hp) ∙ ap (λ (b : ℕ). setup_in set b (place_of set p)) block ∙ ap (setup_in set (block_of set q)) place ∙ setup_in-back set q hq
+
+-- positions of one key have one rank
+same_key : (set : PieceSet) (p q : Setup) → IsPositionOfSet set p → IsPositionOfSet set q → rank_of_set set p < rank_of_set set q → key p ≡ key q → ⊥
+same_key set p q hp hq lt e =
+    let k = key-same set p q hp hq e in
+    let same : rank_of_set set p ≡ rank_of_set set q
+    = rank_of_set-place set p
+    ∙ ap (λ (xs : List ℕ). sum_below (block_size set) (number_of (block_bases set) xs) + number_of (bases_by set xs) (digits p)) k.0
+    ∙ ap (λ (xs : List ℕ). sum_below (block_size set) (block_of set q) + number_of (bases_by set (on_board q)) xs) k.1
+    ∙ sym (rank_of_set-place set q) in
+    omega arith
+
+-- a lower rank stands before
+pub Before-from_rank : (set : PieceSet) (p q : Setup) → IsPositionOfSet set p → IsPositionOfSet set q → rank_of_set set p < rank_of_set set q → Before p q
+unfolding Before
+Before-from_rank set p q hp hq lt = elim (Precedes-total (key p) (key q)) [
+  | inl h ↦ h
+  | inr o ↦ absurd (elim o [
+    | inl e ↦ same_key set p q hp hq lt e
+    | inr h ↦ (let up : rank_of_set set q < rank_of_set set p = rank_of_set-rises set q p hq hp h in omega arith)
+  ])
+]
+
+-- ---- the numbering
+
+record IsFound (f : ℕ → ℕ) (blocks n : ℕ) (at : ℕ × ℕ) : Type 0 where
+  block_below : at.0 < blocks
+  place_below : at.1 < f at.0
+  whole : sum_below f at.0 + at.1 ≡ n
+
+find-found : (f : ℕ → ℕ) (blocks n : ℕ) → n < sum_below f blocks → IsFound f blocks n (find f blocks n)
+find-found f zero n h = absurd (omega arith)
+find-found f (suc b) n h = elim (cases_lt n (sum_below f b)) [
+  | inl lt ↦ subst (IsFound f (suc b) n) (ap (λ (t : Bool). cond t (find f b n) (b, n - sum_below f b)) (sym (lt-ltb n (sum_below f b) lt)))
+      (let r : IsFound f b n (find f b n) = find-found f b n lt in
+      record { block_below = (let x : (find f b n).0 < b = r.block_below in omega arith); place_below = r.place_below; whole = r.whole })
+  | inr le ↦ subst (IsFound f (suc b) n) (ap (λ (t : Bool). cond t (find f b n) (b, n - sum_below f b)) (sym (le-ltb n (sum_below f b) le)))
+      (record { block_below = omega arith; place_below = omega arith; whole = omega arith })
+]
+
+pub nth-is : (set : PieceSet) (n : ℕ)
+    → nth set n ≡ setup_in set (find (block_size set) (product (block_bases set)) n).0 (find (block_size set) (product (block_bases set)) n).1
+unfolding nth
+nth-is set n = refl
+
+nth-found : (set : PieceSet) (n : ℕ) → n < size_of_set set
+    → IsFound (block_size set) (product (block_bases set)) n (find (block_size set) (product (block_bases set)) n)
+unfolding size_of_set
+nth-found set n h = find-found (block_size set) (product (block_bases set)) n h
+
+pub nth-block : (set : PieceSet) (n : ℕ) → n < size_of_set set
+    → HasBlock set (find (block_size set) (product (block_bases set)) n).0 (find (block_size set) (product (block_bases set)) n).1 (nth set n)
+nth-block set n h =
+    let r = nth-found set n h in
+    subst (HasBlock set (find (block_size set) (product (block_bases set)) n).0 (find (block_size set) (product (block_bases set)) n).1) (sym (nth-is set n))
+    (HasBlock-setup_in set (find (block_size set) (product (block_bases set)) n).0 (find (block_size set) (product (block_bases set)) n).1
+    (record { block_below = r.block_below; place_below = r.place_below }))
+
+-- the setup of a place has the rank of that place
+pub rank_of_set-block : (set : PieceSet) (block place : ℕ) (s : Setup) → HasBlock set block place s → rank_of_set set s ≡ sum_below (block_size set) block + place
+rank_of_set-block set block place s h =
+    rank_of_set-place set s ∙ ap (λ (b : ℕ). sum_below (block_size set) b + place_of set s) h.block_is
+    ∙ ap (λ (x : ℕ). sum_below (block_size set) block + x) h.place_is
+
+pub rank_of_set-nth : (set : PieceSet) (n : ℕ) → n < size_of_set set → rank_of_set set (nth set n) ≡ n
+rank_of_set-nth set n h =
+    rank_of_set-block set (find (block_size set) (product (block_bases set)) n).0
+    (find (block_size set) (product (block_bases set)) n).1 (nth set n) (nth-block set n h)
+    ∙ (nth-found set n h).whole
+
+pub nth-rank_of_set : (set : PieceSet) (s : Setup) → IsPositionOfSet set s → nth set (rank_of_set set s) ≡ s
+nth-rank_of_set set s p = rank_of_set-same set (nth set (rank_of_set set s)) s (nth-block set (rank_of_set set s) (rank_of_set-below set s p)).position p
+    (rank_of_set-nth set (rank_of_set set s) (rank_of_set-below set s p))

@@ -1,0 +1,94 @@
+-- A position's place in profile B by what the code finds of it.
+use Rattle.std.proofs.Common.{◌≡◌, ℕ, ◌+◌, ◌-◌, ◌*◌, ◌/◌, ◌%◌, ◌^◌, ◌<◌, ◌≤◌, List, [], ◌∷◌, map, get_or, slice_index, refl, sym, ap, ◌∙◌, subst, arith}
+use Rattle.dob_pieces.specs.declared.piece_set.PieceSet.{PieceSet}
+use Rattle.dob_pieces.specs.declared.profile.Profile.TheVariants.{B}
+use Rattle.dob_pieces.specs.declared.setup.Setup.{Setup}
+use Rattle.dob_rank.specs.Order.{IsPositionOfSet}
+use Rattle.dob_rank.specs.Numbers.{product, block_bases, size_of_set, rank_of_set, choose, free_squares, block_of, start_of, on_board, digits, layer, count, order}
+use Rattle.dob_rank.specs.Marks.{marks_below}
+use Rattle.dob_rank.specs.Runs.{run_of, lions_of, lion_pairs, local_of}
+use Rattle.dob_rank.specs.Families.{family_of, IsPositionOf, is_present, rank_of}
+use Rattle.dob_rank.specs.Weights.{may_have, allowed_number, others_squares, others_forms, squares_by, others_by, place_in}
+use Rattle.dob_rank.specs.declared.layers.Layer.TheVariants.{Chicks}
+use Rattle.dob_rank.proofs.Arithmetic.MixedRadix.{number_of-below}
+use Rattle.dob_rank.proofs.Positions.Digits.{HasParts-from_position, HasDigits-digits}
+use Rattle.dob_rank.proofs.Positions.Numbering.{rank_of_set-below}
+use Rattle.dob_rank.proofs.Marked.Words.{marks_below-le}
+use Rattle.dob_rank.proofs.InRuns.RunMarks.{start_small}
+use Rattle.dob_rank.proofs.Positions.Found.{spot_small}
+use Rattle.dob_rank.proofs.InRuns.RunPlaces.{hand_of, run_of-lions}
+use Rattle.dob_rank.proofs.InRuns.Lions.{lions_of-below}
+use Rattle.dob_rank.proofs.OfFamilies.FamilyRanks.{rank_of-parts}
+
+-- the parts are in range
+pub record AreFarParts (ob ds : List ℕ) (run : ℕ) : Type 0 where
+  pub run_few : run < 2 ^ 12
+  pub choice_below : slice_index ds 5 < choose free_squares (slice_index ob 0)
+  pub squares_below : squares_by ob ds < others_squares ob
+  pub others_below : others_by ob ds < others_forms ob
+
+own_parts : (set : PieceSet) (s : Setup) → IsPositionOfSet set s → AreFarParts (on_board s) (digits s) (run_of set s)
+own_parts set s p =
+    let h = HasDigits-digits set s (HasParts-from_position set s p) in
+    record {
+      run_few = (spot_small set s (on_board s) (run_of set s) (local_of s) p refl refl refl).0;
+      choice_below = h.1.1.1.1.1.0;
+      squares_below = number_of-below (choose (free_squares - slice_index (on_board s) 0) (slice_index (on_board s) 1)
+          ∷ choose (free_squares - slice_index (on_board s) 0 - slice_index (on_board s) 1) (slice_index (on_board s) 2) ∷ [])
+          (slice_index (digits s) 6 ∷ slice_index (digits s) 7 ∷ []) (h.1.1.1.1.1.1.0, (h.1.1.1.1.1.1.1.0, tt));
+      others_below = number_of-below ((2 ^ slice_index (on_board s) 1) ∷ (2 ^ slice_index (on_board s) 2) ∷ [])
+          (slice_index (digits s) 9 ∷ slice_index (digits s) 10 ∷ []) (h.1.1.1.1.1.1.1.1.1.0, (h.1.1.1.1.1.1.1.1.1.1.0, tt));
+    }
+
+pub far_parts : (set : PieceSet) (s : Setup) (ob ds : List ℕ) (run : ℕ) → IsPositionOfSet set s → ob ≡ on_board s → ds ≡ digits s → run ≡ run_of set s
+    → AreFarParts ob ds run
+far_parts set s ob ds run p ob_is ds_is run_is =
+    subst (λ (xs : List ℕ). AreFarParts xs ds run) (sym ob_is)
+    (subst (λ (xs : List ℕ). AreFarParts (on_board s) xs run) (sym ds_is)
+    (subst (AreFarParts (on_board s) (digits s)) (sym run_is) (own_parts set s p)))
+
+pub chicks_on_board : (s : Setup) (ob : List ℕ) → ob ≡ on_board s → get_or ob 0 0 ≡ count (order Chicks) (map layer s.board)
+chicks_on_board s ob is = ap (λ (xs : List ℕ). get_or xs 0 0) is
+
+-- and the place makes the rank
+pub far_place_is : (set : PieceSet) (s : Setup) (ob ds : List ℕ) (run forms place : ℕ) → IsPositionOf (family_of set B) s → ob ≡ on_board s → ds ≡ digits s
+    → run ≡ run_of set s → forms ≡ allowed_number (may_have B) 4 (order Chicks) 0 s.board
+    → place ≡ place_in B ob ds (run / lion_pairs) (run % lion_pairs) forms
+    → marks_below (is_present (family_of set B)) (start_of set (block_of set s)) + place ≡ rank_of (family_of set B) s
+far_place_is set s ob ds run forms place p ob_is ds_is run_is forms_is place_is =
+    let whole = run_of-lions set s in
+    let few = lions_of-below set s p.of_set in
+    let hand : run / lion_pairs ≡ hand_of set s = quotient run (run_of set s) (hand_of set s) (lions_of s) run_is whole few in
+    let lions : run % lion_pairs ≡ lions_of s = rest run (run_of set s) (hand_of set s) (lions_of s) run_is whole few in
+    ap (λ (x : ℕ). marks_below (is_present (family_of set B)) (start_of set (block_of set s)) + x)
+    (place_is
+    ∙ ap (λ (xs : List ℕ). place_in B xs ds (run / lion_pairs) (run % lion_pairs) forms) ob_is
+    ∙ ap (λ (xs : List ℕ). place_in B (on_board s) xs (run / lion_pairs) (run % lion_pairs) forms) ds_is
+    ∙ ap (λ (x : ℕ). place_in B (on_board s) (digits s) x (run % lion_pairs) forms) hand
+    ∙ ap (λ (x : ℕ). place_in B (on_board s) (digits s) (hand_of set s) x forms) lions
+    ∙ ap (place_in B (on_board s) (digits s) (hand_of set s) (lions_of s)) forms_is)
+    ∙ sym (rank_of-parts (family_of set B) s p)
+  where
+    quotient : (run own hand lions : ℕ) → run ≡ own → own ≡ hand * lion_pairs + lions → lions < lion_pairs → run / lion_pairs ≡ hand
+    quotient run own hand lions e f low = omega arith
+
+    rest : (run own hand lions : ℕ) → run ≡ own → own ≡ hand * lion_pairs + lions → lions < lion_pairs → run % lion_pairs ≡ lions
+    rest run own hand lions e f low = omega arith
+
+-- the start of the position's block and its place there
+pub far_rank_is : (set : PieceSet) (s : Setup) (block start place : ℕ) → start ≡ marks_below (is_present (family_of set B)) (start_of set block)
+    → block ≡ block_of set s → marks_below (is_present (family_of set B)) (start_of set (block_of set s)) + place ≡ rank_of (family_of set B) s
+    → start + place ≡ rank_of (family_of set B) s
+far_rank_is set s block start place start_is block_is place_is =
+    ap (λ (x : ℕ). x + place) (start_is ∙ ap (λ (n : ℕ). marks_below (is_present (family_of set B)) (start_of set n)) block_is) ∙ place_is
+
+pub far_rank_small : (set : PieceSet) (s : Setup) → IsPositionOfSet set s → rank_of (family_of set B) s < 2 ^ 42
+unfolding rank_of size_of_set
+far_rank_small set s p =
+    let few = marks_below-le (is_present (family_of set B)) (rank_of_set set s) in
+    let below = rank_of_set-below set s p in
+    let small = start_small set (product (block_bases set)) (all_blocks (product (block_bases set))) in
+    omega (arith, few, below, small)
+  where
+    all_blocks : (n : ℕ) → n ≤ n
+    all_blocks n = omega arith

@@ -1,0 +1,246 @@
+-- The position of a rank of profile B: its block, its spot there, and that it is the one of that rank.
+use Rattle.std.proofs.Common.{◌≡◌, ℕ, ◌+◌, ◌-◌, ◌*◌, ◌/◌, ◌%◌, ◌^◌, ◌<◌, ◌≤◌, true, List, slice_index, refl, sym, ap, ◌∙◌, subst, arith}
+use Rattle.std.proofs.lemmas.Nat.{div_below, div-add-mod'}
+use Rattle.std.proofs.Math.Nat.{mul_comm, mul-pos, mul-le-mul}
+use Rattle.dob_pieces.specs.declared.piece_set.PieceSet.{PieceSet}
+use Rattle.dob_pieces.specs.declared.profile.Family.{Family}
+use Rattle.dob_pieces.specs.declared.profile.Profile.{Profile}
+use Rattle.dob_pieces.specs.declared.profile.Profile.TheVariants.{A, B}
+use Rattle.dob_pieces.specs.declared.setup.Setup.{Setup}
+use Rattle.dob_pieces.specs.Profiles.{is_allowed}
+use Rattle.dob_rank.specs.Order.{IsPositionOfSet}
+use Rattle.dob_rank.specs.Numbers.{product, number_of, digits_of, block_bases, start_of, free_squares, nth, size_of_set, rank_of_set, HasBlock}
+use Rattle.dob_rank.specs.Marks.{marks_below}
+use Rattle.dob_rank.specs.Runs.{AreFewOnBoard, runs_in, run_size, run_start, lion_pairs, local_bases}
+use Rattle.dob_rank.specs.Families.{family_of, IsPositionOf, HasRank, IsRanked, is_present, size_of, rank_of}
+use Rattle.dob_rank.specs.Places.{IsPlaceFor, IsPresentIn, IsSpotFor}
+use Rattle.dob_rank.specs.Weights.{forms_in, lions_before, hand_size, others_squares, others_forms}
+use Rattle.dob_rank.proofs.Positions.Blocks.{sum_below_more, choose-positive, room_left}
+use Rattle.dob_rank.proofs.Marked.Words.{marks_below-le}
+use Rattle.dob_rank.proofs.InRuns.RunMarks.{start_small}
+use Rattle.dob_rank.proofs.Positions.Numbering.{rank_of_set-block, nth-rank_of_set}
+use Rattle.dob_rank.proofs.Positions.Found.{made_in_block}
+use Rattle.dob_rank.proofs.InRuns.RunPlaces.{run_start-is, hand_bases, in_set}
+use Rattle.dob_rank.proofs.InRuns.RunSums.{runs_by_hand}
+use Rattle.dob_rank.proofs.OfFamilies.Present.{size_of-end, size_of-whole, rank_of-whole, HasRank-rank_of}
+use Rattle.dob_rank.proofs.OfFamilies.FamilyOrder.{ranked_at}
+use Rattle.dob_rank.proofs.OfFamilies.FamilyRuns.{present_before_run, block_present}
+use Rattle.dob_rank.proofs.ProfileB.FarSpots.{in_choice, hand_size_is}
+
+-- ---- the block
+
+-- past the last block nothing is left
+pub none_beyond : (set : PieceSet) (rank start block blocks : ℕ) → rank < size_of (family_of set B) → blocks ≡ product (block_bases set) → blocks ≤ block
+    → block ≤ blocks → start ≡ marks_below (is_present (family_of set B)) (start_of set block) → start ≤ rank → ⊥
+none_beyond set rank start block blocks below is low high start_is upto =
+    let same : block ≡ product (block_bases set) = equal block blocks (product (block_bases set)) low high is in
+    let whole = size_of-end (family_of set B) block start refl same start_is in
+    over (size_of (family_of set B)) start rank below whole upto
+  where
+    equal : (a b c : ℕ) → b ≤ a → a ≤ b → b ≡ c → a ≡ c
+    equal a b c h k l = omega (arith, h, k, l)
+
+    over : (size start rank : ℕ) → rank < size → start ≡ size → start ≤ rank → ⊥
+    over size start rank h e k = omega (arith, h, e, k)
+
+pub reached : (start rank number : ℕ) → start ≤ rank → number ≡ rank - start → start + number ≡ rank
+reached start rank number h e = omega (arith, h, e)
+
+-- ---- the spot in it
+
+-- the forms of the others, and of the choices those before the run of the lions found
+pub record IsBeforeRun (number others before forms : ℕ) : Type 0 where
+  pub low : before * others ≤ number
+  pub left : number - before * others < forms * others
+
+pub before_run : (chicks lions number others hand before_lions : ℕ) → 0 < others → 0 < hand → hand ≡ hand_size B chicks
+    → lions_before B chicks lions ≤ number / others % hand → number / others % hand < lions_before B chicks (lions + 1)
+    → before_lions ≡ lions_before B chicks lions
+    → IsBeforeRun number others (number / others / hand * hand + before_lions) (forms_in B chicks lions)
+before_run chicks lions number others hand before_lions some some_hand hand_is low high is =
+    let parts = div-add-mod' (number / others) hand in
+    let more = sum_below_more (forms_in B chicks) lions in
+    let at = in_choice others number (number / others / hand * hand + before_lions) (forms_in B chicks lions) some
+    (under (number / others) (number / others / hand * hand) (number / others % hand) (lions_before B chicks lions) before_lions parts is low)
+    (over (number / others) (number / others / hand * hand) (number / others % hand) (lions_before B chicks (lions + 1)) (lions_before B chicks lions)
+    (forms_in B chicks lions) before_lions parts is more high) in
+    record { low = at.low; left = subst (λ (x : ℕ). number - (number / others / hand * hand + before_lions) * others < x) (mul_comm others (forms_in B chicks lions)) at.left }
+  where
+    under : (chosen whole rest sum before : ℕ) → whole + rest ≡ chosen → before ≡ sum → sum ≤ rest → whole + before ≤ chosen
+    under chosen whole rest sum before e f h = omega (arith, e, f, h)
+
+    over : (chosen whole rest next sum forms before : ℕ) → whole + rest ≡ chosen → before ≡ sum → next ≡ sum + forms → rest < next → chosen < whole + before + forms
+    over chosen whole rest next sum forms before e f g h = omega (arith, e, f, g, h)
+
+less : (start number next size : ℕ) → start + number < next → start + size ≡ next → number < size
+less start number next size h e = omega (arith, h, e)
+
+-- a number below the block's is one of its hands
+hand_within : (set : PieceSet) (block number others hand : ℕ) → block < product (block_bases set)
+    → others ≡ others_squares (digits_of (block_bases set) block) * others_forms (digits_of (block_bases set) block) → 0 < others
+    → hand ≡ lions_before B (slice_index (digits_of (block_bases set) block) 0) lion_pairs → 0 < hand
+    → marks_below (is_present (family_of set B)) (start_of set block) + number < marks_below (is_present (family_of set B)) (start_of set (block + 1))
+    → number / others / hand < product (hand_bases set (digits_of (block_bases set) block))
+hand_within set block number others hand within others_is some hand_is some_hand low =
+    let whole = block_present (family_of set B) block within in
+    let below : number < product (hand_bases set (digits_of (block_bases set) block)) * hand * others
+    = subst (λ (x : ℕ). number < product (hand_bases set (digits_of (block_bases set) block)) * hand * x) (sym others_is)
+    (subst (λ (x : ℕ). number < product (hand_bases set (digits_of (block_bases set) block)) * x
+    * (others_squares (digits_of (block_bases set) block) * others_forms (digits_of (block_bases set) block))) (sym hand_is)
+    (less (marks_below (is_present (family_of set B)) (start_of set block)) number _ _ low whole)) in
+    div_below (number / others) hand (product (hand_bases set (digits_of (block_bases set) block))) some_hand
+    (div_below number others (product (hand_bases set (digits_of (block_bases set) block)) * hand) some below)
+
+in_runs : (hands all lions runs : ℕ) → hands < all → lions < lion_pairs → runs ≡ all * lion_pairs → hands * lion_pairs + lions < runs
+in_runs hands all lions runs h k e = omega (arith, h, k, e)
+
+rest : (hands lions : ℕ) → lions < lion_pairs → (hands * lion_pairs + lions) % lion_pairs ≡ lions
+rest hands lions h = omega (arith, h)
+
+weaker : (lions : ℕ) → lions < lion_pairs → lions ≤ lion_pairs
+weaker lions h = omega (arith, h)
+
+weaker_runs : (run runs : ℕ) → run < runs → run ≤ runs
+weaker_runs run runs h = omega (arith, h)
+
+whole : (start before number run : ℕ) → start + before ≡ run → before ≤ number → run + (number - before) ≡ start + number
+whole start before number run e h = omega (arith, e, h)
+
+-- the spot, where the lions' run has it
+spot_in : (set : PieceSet) (block lions number others hand before local : ℕ) → block < product (block_bases set) → lions < lion_pairs
+    → others ≡ others_squares (digits_of (block_bases set) block) * others_forms (digits_of (block_bases set) block) → 0 < others
+    → hand ≡ lions_before B (slice_index (digits_of (block_bases set) block) 0) lion_pairs → 0 < hand
+    → before ≡ lions_before B (slice_index (digits_of (block_bases set) block) 0) lions
+    → (number / others / hand * hand + before) * others ≤ number
+    → IsPlaceFor (digits_of (block_bases set) block) lions (number - (number / others / hand * hand + before) * others) local
+    → marks_below (is_present (family_of set B)) (start_of set block) + number < marks_below (is_present (family_of set B)) (start_of set (block + 1))
+    → IsPresentIn (family_of set B) block number (number / others / hand * lion_pairs + lions) local
+spot_in set block lions number others hand before local within few others_is some hand_is some_hand before_is upto place low =
+    let hands = hand_within set block number others hand within others_is some hand_is some_hand low in
+    let all = runs_by_hand set block in
+    let below : number / others / hand * lion_pairs + lions < runs_in set block
+    = in_runs (number / others / hand) (product (hand_bases set (digits_of (block_bases set) block))) lions (runs_in set block) hands few all in
+    let own : (number / others / hand * lion_pairs + lions) % lion_pairs ≡ lions = rest (number / others / hand) lions few in
+    let at = place set block (number / others / hand * lion_pairs + lions) within refl below own in
+    let start = present_before_run (family_of set B) block (number / others / hand) lions within (weaker lions few) (weaker_runs _ _ below) in
+    let known : marks_below (is_present (family_of set B)) (start_of set block) + (number / others / hand * hand + before) * others
+    ≡ marks_below (is_present (family_of set B)) (run_start set block (number / others / hand * lion_pairs + lions))
+    = ap (λ (x : ℕ). marks_below (is_present (family_of set B)) (start_of set block) + (number / others / hand * x + before) * others) hand_is
+    ∙ ap (λ (x : ℕ). marks_below (is_present (family_of set B)) (start_of set block)
+    + (number / others / hand * lions_before B (slice_index (digits_of (block_bases set) block) 0) lion_pairs + x) * others) before_is
+    ∙ ap (λ (x : ℕ). marks_below (is_present (family_of set B)) (start_of set block)
+    + (number / others / hand * lions_before B (slice_index (digits_of (block_bases set) block) 0) lion_pairs
+    + lions_before B (slice_index (digits_of (block_bases set) block) 0) lions) * x) others_is
+    ∙ start in
+    record {
+      run_below = below;
+      local_below = at.local_below;
+      present = at.present;
+      before = at.before ∙ whole (marks_below (is_present (family_of set B)) (start_of set block)) ((number / others / hand * hand + before) * others) number _ known upto;
+    }
+
+pub spot_for : (ob : List ℕ) (lions number others hand before local run : ℕ) → lions < lion_pairs → others ≡ others_squares ob * others_forms ob → 0 < others
+    → hand ≡ hand_size B (slice_index ob 0) → 0 < hand → before ≡ lions_before B (slice_index ob 0) lions
+    → (number / others / hand * hand + before) * others ≤ number
+    → IsPlaceFor ob lions (number - (number / others / hand * hand + before) * others) local → run ≡ number / others / hand * lion_pairs + lions
+    → IsSpotFor ob number run local
+spot_for ob lions number others hand before local run few others_is some hand_is some_hand before_is upto place run_is = λ set block within ob_is low.
+    subst (λ (x : ℕ). IsPresentIn (family_of set B) block number x local) (sym run_is)
+    (spot_in set block lions number others hand before local within few
+    (others_is ∙ ap (λ (xs : List ℕ). others_squares xs * others_forms xs) ob_is) some
+    (hand_is ∙ hand_size_is (slice_index ob 0) ∙ ap (λ (xs : List ℕ). lions_before B (slice_index xs 0) lion_pairs) ob_is) some_hand
+    (before_is ∙ ap (λ (xs : List ℕ). lions_before B (slice_index xs 0) lions) ob_is) upto
+    (subst (λ (xs : List ℕ). IsPlaceFor xs lions (number - (number / others / hand * hand + before) * others) local) ob_is place) low)
+
+-- ---- the position there
+
+pub far_ranked : (set : PieceSet) (block number rank run local : ℕ) (ob : List ℕ) (s : Setup) → block < product (block_bases set)
+    → ob ≡ digits_of (block_bases set) block → IsPresentIn (family_of set B) block number run local
+    → marks_below (is_present (family_of set B)) (start_of set block) + number ≡ rank
+    → HasBlock set (number_of (block_bases set) ob) (run * product (local_bases ob) + local) s → IsRanked (family_of set B) s rank
+far_ranked set block number rank run local ob s within ob_is at is made =
+    let here = made_in_block set block run local ob s within ob_is made in
+    let start = run_start-is set block run in
+    let rank_is : rank_of_set set s ≡ run_start set block run + local
+    = rank_of_set-block set block (run * run_size set block + local) s here ∙ joined _ _ _ _ start in
+    let below = in_set set block run local (record { block_below = within; run_below = at.run_below; local_below = at.local_below }) in
+    let back : nth set (run_start set block run + local) ≡ s = ap (nth set) (sym rank_is) ∙ nth-rank_of_set set s here.position in
+    subst (λ (x : Setup). IsRanked (family_of set B) x rank) back
+    (subst (IsRanked (family_of set B) (nth set (run_start set block run + local))) (at.before ∙ is)
+    (ranked_at (family_of set B) (run_start set block run + local) below at.present))
+  where
+    joined : (sum part local start : ℕ) → start ≡ sum + part → sum + (part + local) ≡ start + local
+    joined sum part local start e = omega (arith, e)
+
+-- ---- the two profiles
+
+pub below_in_A : (family : Family) (rank : ℕ) → family.profile ≡ A → rank < size_of family → rank < size_of_set family.set
+below_in_A family rank a low = subst (λ (n : ℕ). rank < n) (size_of-whole family a) low
+
+pub ranked_in_A : (family : Family) (rank : ℕ) (s : Setup) → family.profile ≡ A → IsPositionOfSet family.set s → rank_of_set family.set s ≡ rank → IsRanked family s rank
+ranked_in_A family rank s a p is =
+    let allowed : is_allowed family.profile s ≡ true = ap (λ (q : Profile). is_allowed q s) a in
+    let here : IsPositionOf family s = record { of_set = p; allowed = allowed } in
+    let rank_is : rank_of family s ≡ rank = rank_of-whole family s a ∙ is in
+    record { position = here; rank_is = rank_is; count = subst (HasRank family s) rank_is (HasRank-rank_of family s here) }
+
+same_family : (family : Family) → family.profile ≡ B → family_of family.set B ≡ family
+same_family family b = ap (family_of family.set) (sym b)
+
+pub below_in_B : (family : Family) (rank : ℕ) → family.profile ≡ B → rank < size_of family → rank < size_of (family_of family.set B)
+below_in_B family rank b low = subst (λ (f : Family). rank < size_of f) (sym (same_family family b)) low
+
+pub ranked_in_B : (family : Family) (rank : ℕ) (s : Setup) → family.profile ≡ B → IsRanked (family_of family.set B) s rank → IsRanked family s rank
+ranked_in_B family rank s b at = subst (λ (f : Family). IsRanked f s rank) (same_family family b) at
+
+-- ---- what the code finds
+
+pub product_is : (a b x y : ℕ) → a ≡ x → b ≡ y → a * b ≡ x * y
+product_is a b x y e f = ap (λ (n : ℕ). n * b) e ∙ ap (λ (n : ℕ). x * n) f
+
+pub product_some : (a b x y : ℕ) → a ≡ x → b ≡ y → 0 < x → 0 < y → 0 < a * b
+product_some a b x y e f h k = subst (λ (n : ℕ). 0 < n) (sym (product_is a b x y e f)) (mul-pos h k)
+
+pub product_small : (a b x y : ℕ) → a ≡ x → b ≡ y → x ≤ 2025 → y ≤ 16 → a * b ≤ 2025 * 16
+product_small a b x y e f h k = subst (λ (n : ℕ). n ≤ 2025 * 16) (sym (product_is a b x y e f)) (mul-le-mul h k)
+
+pub squares_some : (ob : List ℕ) → AreFewOnBoard ob → 0 < others_squares ob
+squares_some ob few =
+    let room = room_left (slice_index ob 0) (slice_index ob 1) few.chicks few.elephants in
+    mul-pos (choose-positive (free_squares - slice_index ob 0) (slice_index ob 1) (left_two (slice_index ob 0) few.chicks) few.elephants)
+    (mul-pos (choose-positive (free_squares - slice_index ob 0 - slice_index ob 1) (slice_index ob 2) room.1 few.giraffes) one_some)
+  where
+    left_two : (i : ℕ) → i ≤ 2 → 2 ≤ free_squares - i
+    left_two i h = omega (arith, h)
+
+    one_some : 0 < 1
+    one_some = omega arith
+
+size_small : (set : PieceSet) → size_of (family_of set B) < 2 ^ 42
+unfolding size_of size_of_set
+size_small set =
+    let few = marks_below-le (is_present (family_of set B)) (size_of_set set) in
+    let small = start_small set (product (block_bases set)) (all_blocks (product (block_bases set))) in
+    omega (arith, few, small)
+  where
+    all_blocks : (n : ℕ) → n ≤ n
+    all_blocks n = omega arith
+
+-- the number of a rank is below all ranks
+pub number_small : (set : PieceSet) (start number rank : ℕ) → start + number ≡ rank → rank < size_of (family_of set B) → number < 2 ^ 42
+number_small set start number rank is below =
+    let few = size_small set in
+    omega (arith, is, below, few)
+
+pub spot_within : (set : PieceSet) (block number rank : ℕ) (ob : List ℕ) (run local : ℕ) → block < product (block_bases set)
+    → ob ≡ digits_of (block_bases set) block → marks_below (is_present (family_of set B)) (start_of set block) + number ≡ rank
+    → rank < marks_below (is_present (family_of set B)) (start_of set (block + 1)) → IsSpotFor ob number run local
+    → IsPresentIn (family_of set B) block number run local
+spot_within set block number rank ob run local within ob_is is below at =
+    at set block within ob_is (subst (λ (x : ℕ). x < marks_below (is_present (family_of set B)) (start_of set (block + 1))) (sym is) below)
+
+pub below_same : (n a b : ℕ) → a ≡ b → n < a → n < b
+below_same n a b e h = subst (λ (x : ℕ). n < x) e h
+
+pub below_product : (n f a b : ℕ) → a ≡ b → n < f * a → n < f * b
+below_product n f a b e h = subst (λ (x : ℕ). n < f * x) e h

@@ -1,0 +1,125 @@
+-- The parts of a place of profile B as the code finds them, and that they are small.
+use Rattle.std.proofs.Common.{◌≡◌, ℕ, ◌+◌, ◌-◌, ◌*◌, ◌^◌, ◌<◌, ◌≤◌, List, [], ◌∷◌, get_or, slice_index, sym, ap, ◌∙◌, subst, arith}
+use Rattle.std.proofs.Math.Nat.{mul-le-mul}
+use Rattle.dob_pieces.specs.declared.profile.Profile.TheVariants.{B}
+use Rattle.dob_rank.specs.Numbers.{product, number_of, choose, free_squares}
+use Rattle.dob_rank.specs.Runs.{AreFewOnBoard, square_bases}
+use Rattle.dob_rank.specs.Weights.{others_squares, others_forms, squares_by, others_by, hand_size, lions_before, forms_before, choice_weight, place_in}
+use Rattle.dob_rank.specs.Weights.{local_in}
+use Rattle.dob_rank.proofs.Positions.Blocks.{product-at_most, choose-small, two_small, most_choices}
+
+two_digits : (b c x y : ℕ) → x * c + y ≡ number_of (b ∷ c ∷ []) (x ∷ y ∷ [])
+two_digits b c x y = (let one : x * (c * 1) ≡ x * c = ap (λ (n : ℕ). x * n) (once c) in omega (arith, one))
+  where
+    once : (n : ℕ) → n * 1 ≡ n
+    once n = omega arith
+
+two_bases : (b c : ℕ) → b * c ≡ product (b ∷ c ∷ [])
+two_bases b c = ap (λ (n : ℕ). b * n) (once c)
+  where
+    once : (n : ℕ) → n ≡ n * 1
+    once n = omega arith
+
+-- the others' squares
+pub record AreOthersSquares (ob ds choices : List ℕ) : Type 0 where
+  pub number_is : get_or ds 6 0 * get_or choices 2 0 + get_or ds 7 0 ≡ squares_by ob ds
+  pub count_is : get_or choices 1 0 * get_or choices 2 0 ≡ others_squares ob
+  pub count_few : others_squares ob ≤ 2025
+
+pub others_squares_are : (ob ds choices : List ℕ) → AreFewOnBoard ob → choices ≡ square_bases ob → AreOthersSquares ob ds choices
+others_squares_are ob ds choices few is =
+    let i : ℕ = slice_index ob 0 in
+    record {
+      number_is = ap (λ (cs : List ℕ). get_or ds 6 0 * get_or cs 2 0 + get_or ds 7 0) is
+          ∙ two_digits (choose (free_squares - slice_index ob 0) (slice_index ob 1)) (choose (free_squares - slice_index ob 0 - slice_index ob 1) (slice_index ob 2))
+          (slice_index ds 6) (slice_index ds 7);
+      count_is = ap (λ (cs : List ℕ). get_or cs 1 0 * get_or cs 2 0) is
+          ∙ two_bases (choose (free_squares - slice_index ob 0) (slice_index ob 1)) (choose (free_squares - slice_index ob 0 - slice_index ob 1) (slice_index ob 2));
+      count_few = product-at_most (choose (free_squares - slice_index ob 0) (slice_index ob 1)
+          ∷ choose (free_squares - slice_index ob 0 - slice_index ob 1) (slice_index ob 2) ∷ []) (most_choices ∷ most_choices ∷ []) (
+            choose-small (free_squares - slice_index ob 0) (slice_index ob 1) (less (slice_index ob 0)) few.elephants,
+            (choose-small (free_squares - slice_index ob 0 - slice_index ob 1) (slice_index ob 2) (less_still (slice_index ob 0) (slice_index ob 1)) few.giraffes, tt),
+          );
+    }
+  where
+    less : (i : ℕ) → free_squares - i ≤ free_squares
+    less i = omega arith
+
+    less_still : (i j : ℕ) → free_squares - i - j ≤ free_squares
+    less_still i j = omega arith
+
+-- and their forms
+pub record AreOthersForms (ob ds : List ℕ) (elephants giraffes : ℕ) : Type 0 where
+  pub number_is : get_or ds 9 0 * giraffes + get_or ds 10 0 ≡ others_by ob ds
+  pub count_is : elephants * giraffes ≡ others_forms ob
+  pub count_few : others_forms ob ≤ 16
+
+pub others_forms_are : (ob ds : List ℕ) (elephants giraffes : ℕ) → AreFewOnBoard ob → elephants ≡ 2 ^ slice_index ob 1 → giraffes ≡ 2 ^ slice_index ob 2
+    → AreOthersForms ob ds elephants giraffes
+others_forms_are ob ds elephants giraffes few e g = record {
+  number_is = ap (λ (n : ℕ). get_or ds 9 0 * n + get_or ds 10 0) g ∙ two_digits (2 ^ slice_index ob 1) (2 ^ slice_index ob 2) (slice_index ds 9) (slice_index ds 10);
+  count_is = ap (λ (n : ℕ). n * giraffes) e ∙ ap (λ (n : ℕ). 2 ^ slice_index ob 1 * n) g ∙ two_bases (2 ^ slice_index ob 1) (2 ^ slice_index ob 2);
+  count_few = product-at_most ((2 ^ slice_index ob 1) ∷ (2 ^ slice_index ob 2) ∷ []) (4 ∷ 4 ∷ [])
+      (two_small (slice_index ob 1) few.elephants, (two_small (slice_index ob 2) few.giraffes, tt));
+}
+
+-- products of small numbers
+pub product_few : (a b m n : ℕ) → a ≤ m → b ≤ n → a * b ≤ m * n
+product_few a b m n h k = mul-le-mul h k
+
+-- what the code joins
+pub place_found : (ob ds : List ℕ) (hands lions forms chosen count weight squares r f placed : ℕ)
+    → chosen ≡ hands * hand_size B (slice_index ob 0) + lions_before B (slice_index ob 0) lions + forms_before B lions (slice_index ob 0) (slice_index ds 5)
+    → count ≡ others_squares ob → squares ≡ squares_by ob ds → weight ≡ choice_weight B lions (slice_index ob 0) (slice_index ds 5)
+    → placed ≡ chosen * count + (squares * weight + forms) → r ≡ others_forms ob → f ≡ others_by ob ds
+    → placed * r + f ≡ place_in B ob ds hands lions forms
+unfolding place_in
+place_found ob ds hands lions forms chosen count weight squares r f placed chosen_is count_is squares_is weight_is placed_is r_is f_is =
+    ap (λ (x : ℕ). x * r + f) (placed_is
+    ∙ ap (λ (x : ℕ). x * count + (squares * weight + forms)) chosen_is
+    ∙ ap (λ (x : ℕ). (hands * hand_size B (slice_index ob 0) + lions_before B (slice_index ob 0) lions
+    + forms_before B lions (slice_index ob 0) (slice_index ds 5)) * x + (squares * weight + forms)) count_is
+    ∙ ap (λ (x : ℕ). (hands * hand_size B (slice_index ob 0) + lions_before B (slice_index ob 0) lions
+    + forms_before B lions (slice_index ob 0) (slice_index ds 5)) * others_squares ob + (x * weight + forms)) squares_is
+    ∙ ap (λ (x : ℕ). (hands * hand_size B (slice_index ob 0) + lions_before B (slice_index ob 0) lions
+    + forms_before B lions (slice_index ob 0) (slice_index ds 5)) * others_squares ob + (squares_by ob ds * x + forms)) weight_is)
+    ∙ ap (λ (x : ℕ). ((hands * hand_size B (slice_index ob 0) + lions_before B (slice_index ob 0) lions
+    + forms_before B lions (slice_index ob 0) (slice_index ds 5)) * others_squares ob
+    + (squares_by ob ds * choice_weight B lions (slice_index ob 0) (slice_index ds 5) + forms)) * x + f) r_is
+    ∙ ap (λ (x : ℕ). ((hands * hand_size B (slice_index ob 0) + lions_before B (slice_index ob 0) lions
+    + forms_before B lions (slice_index ob 0) (slice_index ds 5)) * others_squares ob
+    + (squares_by ob ds * choice_weight B lions (slice_index ob 0) (slice_index ds 5) + forms)) * others_forms ob + x) f_is
+
+-- and in a run alone
+pub local_found : (ob ds : List ℕ) (lions forms sum count weight squares r f placed : ℕ)
+    → sum ≡ forms_before B lions (slice_index ob 0) (slice_index ds 5) → count ≡ others_squares ob → squares ≡ squares_by ob ds
+    → weight ≡ choice_weight B lions (slice_index ob 0) (slice_index ds 5) → placed ≡ sum * count + (squares * weight + forms) → r ≡ others_forms ob
+    → f ≡ others_by ob ds → placed * r + f ≡ local_in B ob ds lions forms
+unfolding local_in
+local_found ob ds lions forms sum count weight squares r f placed sum_is count_is squares_is weight_is placed_is r_is f_is =
+    ap (λ (x : ℕ). x * r + f) (placed_is
+    ∙ ap (λ (x : ℕ). x * count + (squares * weight + forms)) sum_is
+    ∙ ap (λ (x : ℕ). forms_before B lions (slice_index ob 0) (slice_index ds 5) * x + (squares * weight + forms)) count_is
+    ∙ ap (λ (x : ℕ). forms_before B lions (slice_index ob 0) (slice_index ds 5) * others_squares ob + (x * weight + forms)) squares_is
+    ∙ ap (λ (x : ℕ). forms_before B lions (slice_index ob 0) (slice_index ds 5) * others_squares ob + (squares_by ob ds * x + forms)) weight_is)
+    ∙ ap (λ (x : ℕ). (forms_before B lions (slice_index ob 0) (slice_index ds 5) * others_squares ob
+    + (squares_by ob ds * choice_weight B lions (slice_index ob 0) (slice_index ds 5) + forms)) * x + f) r_is
+    ∙ ap (λ (x : ℕ). (forms_before B lions (slice_index ob 0) (slice_index ds 5) * others_squares ob
+    + (squares_by ob ds * choice_weight B lions (slice_index ob 0) (slice_index ds 5) + forms)) * others_forms ob + x) f_is
+
+pub sum_of_three : (h a b c x y z : ℕ) → a ≡ x → b ≡ y → c ≡ z → h * a + b + c ≡ h * x + y + z
+sum_of_three h a b c x y z e f g =
+    ap (λ (n : ℕ). h * n + b + c) e ∙ ap (λ (n : ℕ). h * x + n + c) f ∙ ap (λ (n : ℕ). h * x + y + n) g
+
+pub one_step : (now next before more : ℕ) → now ≡ before → next ≡ before + more → next - now ≡ more
+one_step now next before more a b = omega arith
+
+pub not_less : (now next before more : ℕ) → now ≡ before → next ≡ before + more → now ≤ next
+not_less now next before more a b = omega arith
+
+-- one of them known by another name
+pub product_within : (a found b m n : ℕ) → found ≡ b → a ≤ m → b ≤ n → a * found ≤ m * n
+product_within a found b m n e h k = product_few a found m n h (subst (λ (x : ℕ). x ≤ n) (sym e) k)
+
+pub few_squares : (a b c w : ℕ) → a ≡ b → b < c → c ≤ 2025 → w ≤ 582 → a * w ≤ 2025 * 582
+few_squares a b c w e low few weight = product_few a w 2025 582 (omega (arith, e, low, few)) weight

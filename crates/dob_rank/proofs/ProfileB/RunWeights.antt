@@ -1,0 +1,94 @@
+-- How many of a run's places are of the family, before each of them.
+use Rattle.std.proofs.Common.{◌≡◌, ℕ, suc, ◌+◌, ◌-◌, ◌*◌, ◌/◌, ◌%◌, ◌^◌, ◌<◌, ◌≤◌, ◌&&◌, cond, eqb, Bool, true, List, [], ◌∷◌, refl, sym, ap, ◌∙◌, subst, inl, inr, arith}
+use Rattle.std.proofs.lemmas.Bool.{cases_eq, cases_lt, ne_eqb}
+use Rattle.std.proofs.Math.Nat.{mul_comm}
+use Rattle.dob_rank.specs.Numbers.{sum_below, count, with_first, settle, order}
+use Rattle.dob_rank.specs.Marks.{one_if, marks_below}
+use Rattle.dob_rank.specs.Weights.{are_allowed}
+use Rattle.dob_rank.specs.declared.layers.Layer.TheVariants.{Empty}
+use Rattle.dob_rank.proofs.Arithmetic.MixedRadix.{digit_below}
+use Rattle.dob_rank.proofs.Boards.Choices.{count_other}
+use Rattle.dob_rank.proofs.Boards.Settled.{settle_kept, settle_taken, settle_left}
+use Rattle.dob_lists.proofs.Sums.{sum_same, sum_times, sum_blocks, sum_alike}
+
+-- ---- marks that a part of the place tells
+
+-- The low part doesn't matter: marks by blocks of n alike, up to a place within one.
+pub low_alike : (mark high : ℕ → Bool) (n a b : ℕ) → ((q r : ℕ) → q * n + r < a * n + b → r < n → mark (q * n + r) ≡ high q) → b ≤ n
+    → marks_below mark (a * n + b) ≡ marks_below high a * n + b * one_if (high a)
+unfolding marks_below
+low_alike mark high n a b h le =
+    sum_blocks (λ r. one_if (mark r)) n a b
+    ∙ ap (λ (x : ℕ). x + sum_below (λ r. one_if (mark (a * n + r))) b)
+    (sum_same (λ q. sum_below (λ r. one_if (mark (q * n + r))) n) (λ q. n * one_if (high q)) a
+    (λ q lq. sum_same (λ r. one_if (mark (q * n + r))) (λ r. one_if (high q)) n
+    (λ r lr. ap one_if (h q r (let first = digit_below q a n r lq lr in omega arith) lr)) ∙ sum_alike (one_if (high q)) n)
+    ∙ sum_times n (λ q. one_if (high q)) a ∙ mul_comm n (sum_below (λ q. one_if (high q)) a))
+    ∙ ap (λ (x : ℕ). sum_below (λ q. one_if (high q)) a * n + x)
+    (sum_same (λ r. one_if (mark (a * n + r))) (λ r. one_if (high a)) b
+    (λ r lr. ap one_if (h a r (omega arith) (omega arith))) ∙ sum_alike (one_if (high a)) b)
+
+-- The part between doesn't matter: of each c there are n blocks of m places each, marked alike.
+pub middle_alike : (mark : ℕ → Bool) (ok : ℕ → ℕ → Bool) (n m c s f : ℕ)
+    → ((d t g : ℕ) → d ≤ c → t < n → g < m → mark ((d * n + t) * m + g) ≡ ok d g) → s < n → f ≤ m
+    → marks_below mark ((c * n + s) * m + f)
+    ≡ sum_below (λ d. n * marks_below (ok d) m) c + s * marks_below (ok c) m + marks_below (ok c) f
+unfolding marks_below
+middle_alike mark ok n m c s f h ls lf =
+    sum_blocks (λ r. one_if (mark r)) m (c * n + s) f
+    ∙ ap (λ (x : ℕ). x + sum_below (λ g. one_if (mark ((c * n + s) * m + g))) f)
+    (sum_blocks (λ q. sum_below (λ g. one_if (mark (q * m + g))) m) n c s
+    ∙ ap (λ (x : ℕ). x + sum_below (λ t. sum_below (λ g. one_if (mark ((c * n + t) * m + g))) m) s)
+    (sum_same (λ d. sum_below (λ t. sum_below (λ g. one_if (mark ((d * n + t) * m + g))) m) n) (λ d. n * sum_below (λ g. one_if (ok d g)) m) c
+    (λ d ld. sum_same (λ t. sum_below (λ g. one_if (mark ((d * n + t) * m + g))) m) (λ t. sum_below (λ g. one_if (ok d g)) m) n
+    (λ t lt. sum_same (λ g. one_if (mark ((d * n + t) * m + g))) (λ g. one_if (ok d g)) m (λ g lg. ap one_if (h d t g (omega arith) lt lg)))
+    ∙ sum_alike (sum_below (λ g. one_if (ok d g)) m) n))
+    ∙ ap (λ (x : ℕ). sum_below (λ d. n * sum_below (λ g. one_if (ok d g)) m) c + x)
+    (sum_same (λ t. sum_below (λ g. one_if (mark ((c * n + t) * m + g))) m) (λ t. sum_below (λ g. one_if (ok c g)) m) s
+    (λ t lt. sum_same (λ g. one_if (mark ((c * n + t) * m + g))) (λ g. one_if (ok c g)) m (λ g lg. ap one_if (h c t g (omega arith) (omega arith) lg)))
+    ∙ sum_alike (sum_below (λ g. one_if (ok c g)) m) s))
+    ∙ ap (λ (x : ℕ). sum_below (λ d. n * sum_below (λ g. one_if (ok d g)) m) c + s * sum_below (λ g. one_if (ok c g)) m + x)
+    (sum_same (λ g. one_if (mark ((c * n + s) * m + g))) (λ g. one_if (ok c g)) f (λ g lg. ap one_if (h c s g (omega arith) ls (omega arith))))
+
+-- ---- layers settled later
+
+allowed_kept : (ok : ℕ → ℕ → Bool) (base t n s l : ℕ) (ls rs : List ℕ) → count t rs ≡ count t ls
+    → are_allowed ok base t n (suc s) rs ≡ are_allowed ok base t n (suc s) ls → are_allowed ok base t n s (l ∷ rs) ≡ are_allowed ok base t n s (l ∷ ls)
+allowed_kept ok base t n s l ls rs e f =
+    ap (λ (x : ℕ). cond (eqb l t) (ok s (n / base ^ x % base)) true && are_allowed ok base t n (suc s) rs) e
+    ∙ ap (λ (x : Bool). cond (eqb l t) (ok s (n / base ^ count t ls % base)) true && x) f
+
+allowed_other : (ok : ℕ → ℕ → Bool) (base t n s l : ℕ) (ls : List ℕ) → (l ≡ t → ⊥) → are_allowed ok base t n s (l ∷ ls) ≡ are_allowed ok base t n (suc s) ls
+allowed_other ok base t n s l ls h = rw (ne_eqb l t h) refl
+
+-- what a later layer's pieces leave of an earlier one
+pub record LeavesLayer (ok : ℕ → ℕ → Bool) (base t n s : ℕ) (ls rs : List ℕ) : Type 0 where
+  pub counted : count t rs ≡ count t ls
+  pub allowed_is : are_allowed ok base t n s rs ≡ are_allowed ok base t n s ls
+
+pub settled_later : (ok : ℕ → ℕ → Bool) (base t n u s pieces number : ℕ) (ls : List ℕ) → t < u → u < order Empty
+    → LeavesLayer ok base t n s ls (settle u pieces number ls)
+settled_later ok base t n u s pieces number [] h k = record { counted = refl; allowed_is = refl }
+settled_later ok base t n u s pieces number (l ∷ ls) h k = elim (cases_eq l (order Empty)) [
+  | inl e ↦ subst (λ (x : ℕ). LeavesLayer ok base t n s (x ∷ ls) (settle u pieces number (x ∷ ls))) (sym e)
+      (let free : order Empty ≡ t → ⊥ = (λ (q : order Empty ≡ t). (let same : order Empty ≡ t = q in omega arith)) in
+      let other : u ≡ t → ⊥ = omega arith in
+      elim (cases_lt number (with_first (count (order Empty) ls) pieces)) [
+        | inl lt ↦ (let rest = settled_later ok base t n u (suc s) (pieces - 1) number ls h k in
+            subst (LeavesLayer ok base t n s (order Empty ∷ ls)) (sym (settle_taken u pieces number ls lt)) (record {
+              counted = count_other t u (settle u (pieces - 1) number ls) other ∙ rest.counted ∙ sym (count_other t (order Empty) ls free);
+              allowed_is = allowed_other ok base t n s u (settle u (pieces - 1) number ls) other ∙ rest.allowed_is
+                  ∙ sym (allowed_other ok base t n s (order Empty) ls free);
+            }))
+        | inr le ↦ (let rest = settled_later ok base t n u (suc s) pieces (number - with_first (count (order Empty) ls) pieces) ls h k in
+            subst (LeavesLayer ok base t n s (order Empty ∷ ls)) (sym (settle_left u pieces number ls le)) (record {
+              counted = ap (λ (x : ℕ). cond (eqb (order Empty) t) 1 0 + x) rest.counted;
+              allowed_is = allowed_kept ok base t n s (order Empty) ls (settle u pieces (number - with_first (count (order Empty) ls) pieces) ls) rest.counted rest.allowed_is;
+            }))
+      ])
+  | inr full ↦ (let rest = settled_later ok base t n u (suc s) pieces number ls h k in
+      subst (LeavesLayer ok base t n s (l ∷ ls)) (sym (settle_kept u pieces number l ls full)) (record {
+        counted = ap (λ (x : ℕ). cond (eqb l t) 1 0 + x) rest.counted;
+        allowed_is = allowed_kept ok base t n s l ls (settle u pieces number ls) rest.counted rest.allowed_is;
+      }))
+]

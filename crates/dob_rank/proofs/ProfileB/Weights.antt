@@ -1,0 +1,172 @@
+-- Weighted counts: the sum of the weights of all choices, and how many numbers tell allowed forms.
+use Rattle.std.proofs.Common.{◌≡◌, ℕ, zero, suc, ◌+◌, ◌-◌, ◌*◌, ◌/◌, ◌%◌, ◌^◌, ◌<◌, ◌&&◌, Bool, true, false, List, [], ◌∷◌, refl, sym, ap, ◌∙◌, subst, inl, inr, arith}
+use Rattle.std.proofs.lemmas.Bool.{cases_eq, eq-eqb, ne_eqb}
+use Rattle.std.proofs.lemmas.Nat.{div-mul-add, mod-mul-add, mod_below, same_from_place}
+use Rattle.std.proofs.Math.Arith.{mod-mul}
+use Rattle.std.proofs.Math.Nat.{mul_comm, pow-succ', pow-zero, mod-eq_of_lt}
+use Rattle.dob_rank.specs.Numbers.{sum_below, count, choose, with_first, settle, order}
+use Rattle.dob_rank.specs.Marks.{one_if, marks_below}
+use Rattle.dob_rank.specs.Weights.{weight, all_weights, are_allowed}
+use Rattle.dob_rank.specs.declared.layers.Layer.TheVariants.{Empty}
+use Rattle.dob_lists.proofs.Sums.{sum_same, sum_parts, sum_times, sum_blocks}
+use Rattle.dob_rank.proofs.Boards.Choices.{count_same, count_other}
+use Rattle.dob_rank.proofs.Boards.Settled.{settle_kept, settle_taken, settle_left}
+use Rattle.dob_rank.proofs.Boards.FormDigits.{power_positive}
+
+-- ---- choices
+
+pub weight_same : (w : ℕ → ℕ) (t s : ℕ) (ls : List ℕ) → weight w t s (t ∷ ls) ≡ w s * weight w t (suc s) ls
+weight_same w t s ls = rw (eq-eqb t t refl) refl
+
+pub weight_other : (w : ℕ → ℕ) (t s l : ℕ) (ls : List ℕ) → (l ≡ t → ⊥) → weight w t s (l ∷ ls) ≡ weight w t (suc s) ls
+weight_other w t s l ls h = rw (ne_eqb l t h) (omega arith)
+
+not_first : (t l : ℕ) (ls : List ℕ) → count t (l ∷ ls) ≡ 0 → (l ≡ t → ⊥)
+not_first t l ls h e = (let one : count t (l ∷ ls) ≡ suc (count t ls) = ap (λ (x : ℕ). count t (x ∷ ls)) e ∙ count_same t ls in omega arith)
+
+-- the sum of the weights of all choices, from square s on
+abbrev pub summed : (ℕ → ℕ) → ℕ → ℕ → ℕ → List ℕ → ℕ
+summed w t s pieces ls = sum_below (λ c. weight w t s (settle t pieces c ls)) (choose (count (order Empty) ls) pieces)
+
+-- a square that isn't order Empty adds nothing
+kept : (w : ℕ → ℕ) (t s pieces l : ℕ) (ls : List ℕ) → (l ≡ order Empty → ⊥) → (l ≡ t → ⊥) → summed w t s pieces (l ∷ ls) ≡ summed w t (suc s) pieces ls
+kept w t s pieces l ls full other =
+    ap (λ (n : ℕ). sum_below (λ c. weight w t s (settle t pieces c (l ∷ ls))) (choose n pieces)) (count_other (order Empty) l ls full)
+    ∙ sum_same (λ c. weight w t s (settle t pieces c (l ∷ ls))) (λ c. weight w t (suc s) (settle t pieces c ls)) (choose (count (order Empty) ls) pieces)
+    (λ c lt. ap (weight w t s) (settle_kept t pieces c l ls full) ∙ weight_other w t s l (settle t pieces c ls) other)
+
+-- of an order Empty square the choices that leave it
+left : (w : ℕ → ℕ) (t s pieces : ℕ) (ls : List ℕ) → t < order Empty
+    → sum_below (λ k. weight w t s (settle t pieces (with_first (count (order Empty) ls) pieces + k) (order Empty ∷ ls))) (choose (count (order Empty) ls) pieces)
+    ≡ summed w t (suc s) pieces ls
+left w t s pieces ls low =
+    sum_same (λ k. weight w t s (settle t pieces (with_first (count (order Empty) ls) pieces + k) (order Empty ∷ ls))) (λ c. weight w t (suc s) (settle t pieces c ls))
+    (choose (count (order Empty) ls) pieces)
+    (λ k lt. ap (weight w t s) (settle_left t pieces (with_first (count (order Empty) ls) pieces + k) ls (omega arith))
+    ∙ weight_other w t s (order Empty) (settle t pieces (with_first (count (order Empty) ls) pieces + k - with_first (count (order Empty) ls) pieces) ls)
+    (λ (e : order Empty ≡ t). (let same : order Empty ≡ t = e in omega arith))
+    ∙ ap (λ (x : ℕ). weight w t (suc s) (settle t pieces x ls)) (let e : with_first (count (order Empty) ls) pieces + k - with_first (count (order Empty) ls) pieces ≡ k = omega arith in e))
+
+-- and those that take it
+taken : (w : ℕ → ℕ) (t s pieces : ℕ) (ls : List ℕ)
+    → sum_below (λ c. weight w t s (settle t (suc pieces) c (order Empty ∷ ls))) (choose (count (order Empty) ls) pieces) ≡ w s * summed w t (suc s) pieces ls
+taken w t s pieces ls =
+    sum_same (λ c. weight w t s (settle t (suc pieces) c (order Empty ∷ ls))) (λ c. w s * weight w t (suc s) (settle t pieces c ls)) (choose (count (order Empty) ls) pieces)
+    (λ c lt. ap (weight w t s) (settle_taken t (suc pieces) c ls lt)
+    ∙ ap (λ (x : ℕ). weight w t s (t ∷ settle t x c ls)) (let e : suc pieces - 1 ≡ pieces = omega arith in e)
+    ∙ weight_same w t s (settle t pieces c ls))
+    ∙ sum_times (w s) (λ c. weight w t (suc s) (settle t pieces c ls)) (choose (count (order Empty) ls) pieces)
+
+-- all choices together weigh what the recursion over the squares says
+pub choices_weigh : (w : ℕ → ℕ) (t s pieces : ℕ) (ls : List ℕ) → t < order Empty → count t ls ≡ 0 → summed w t s pieces ls ≡ all_weights w s pieces ls
+choices_weigh w t s zero [] low none = refl
+choices_weigh w t s (suc pieces) [] low none = refl
+choices_weigh w t s zero (l ∷ ls) low none =
+    let other : l ≡ t → ⊥ = not_first t l ls none in
+    let rest : summed w t (suc s) 0 ls ≡ all_weights w (suc s) 0 ls = choices_weigh w t (suc s) 0 ls low (sym (count_other t l ls other) ∙ none) in
+    elim (cases_eq l (order Empty)) [
+      | inl e ↦ subst (λ (x : ℕ). summed w t s 0 (x ∷ ls) ≡ all_weights w (suc s) 0 ls) (sym e)
+          (ap (λ (n : ℕ). sum_below (λ c. weight w t s (settle t 0 c (order Empty ∷ ls))) (choose n 0)) (count_same (order Empty) ls)
+          ∙ left w t s 0 ls low ∙ rest)
+      | inr full ↦ kept w t s 0 l ls full other ∙ rest
+    ]
+choices_weigh w t s (suc pieces) (l ∷ ls) low none =
+    let other : l ≡ t → ⊥ = not_first t l ls none in
+    let none' : count t ls ≡ 0 = sym (count_other t l ls other) ∙ none in
+    let more : summed w t (suc s) (suc pieces) ls ≡ all_weights w (suc s) (suc pieces) ls = choices_weigh w t (suc s) (suc pieces) ls low none' in
+    let fewer : summed w t (suc s) pieces ls ≡ all_weights w (suc s) pieces ls = choices_weigh w t (suc s) pieces ls low none' in
+    elim (cases_eq l (order Empty)) [
+      | inl e ↦ subst (λ (x : ℕ). summed w t s (suc pieces) (x ∷ ls) ≡ all_weights w s (suc pieces) (x ∷ ls)) (sym e)
+          (ap (λ (n : ℕ). sum_below (λ c. weight w t s (settle t (suc pieces) c (order Empty ∷ ls))) (choose n (suc pieces))) (count_same (order Empty) ls)
+          ∙ sum_parts (λ c. weight w t s (settle t (suc pieces) c (order Empty ∷ ls))) (choose (count (order Empty) ls) pieces) (choose (count (order Empty) ls) (suc pieces))
+          ∙ ap (λ (x : ℕ). x + sum_below (λ k. weight w t s (settle t (suc pieces) (choose (count (order Empty) ls) pieces + k) (order Empty ∷ ls))) (choose (count (order Empty) ls) (suc pieces)))
+          (taken w t s pieces ls)
+          ∙ ap (λ (x : ℕ). w s * summed w t (suc s) pieces ls + x) (left w t s (suc pieces) ls low ∙ more)
+          ∙ ap (λ (x : ℕ). w s * x + all_weights w (suc s) (suc pieces) ls) fewer)
+      | inr full ↦ kept w t s (suc pieces) l ls full other ∙ more
+          ∙ sym (rw (ne_eqb l (order Empty) full) (let e : 0 + all_weights w (suc s) (suc pieces) ls ≡ all_weights w (suc s) (suc pieces) ls = omega arith in e))
+    ]
+
+-- ---- forms
+
+pub one_if-and : (a b : Bool) → one_if (a && b) ≡ one_if a * one_if b
+one_if-and true b = (let e : one_if b ≡ 1 * one_if b = omega arith in e)
+one_if-and false b = (let e : 0 ≡ 0 * one_if b = omega arith in e)
+
+-- the two low digits of numbers with one remainder
+low_digits : (n m b w : ℕ) → 0 < b → 0 < w → n % (b * w) ≡ m % (b * w) → (n / w % b ≡ m / w % b) × (n % w ≡ m % w)
+low_digits n m b w hb hw e = same_from_place (n / w % b) (n % w) (m / w % b) (m % w) w (mod_below n w hw) (mod_below m w hw)
+    (sym (mod-mul n hb hw) ∙ e ∙ mod-mul m hb hw)
+
+more_digits : (base t : ℕ) (ls : List ℕ) → base ^ count t (t ∷ ls) ≡ base * base ^ count t ls
+more_digits base t ls = ap (λ (x : ℕ). base ^ x) (count_same t ls) ∙ pow-succ' base (count t ls)
+
+pub allowed_same : (ok : ℕ → ℕ → Bool) (base t n s : ℕ) (ls : List ℕ)
+    → are_allowed ok base t n s (t ∷ ls) ≡ ok s (n / base ^ count t ls % base) && are_allowed ok base t n (suc s) ls
+allowed_same ok base t n s ls = rw (eq-eqb t t refl) refl
+
+pub allowed_other : (ok : ℕ → ℕ → Bool) (base t n s l : ℕ) (ls : List ℕ) → (l ≡ t → ⊥) → are_allowed ok base t n s (l ∷ ls) ≡ are_allowed ok base t n (suc s) ls
+allowed_other ok base t n s l ls h = rw (ne_eqb l t h) refl
+
+-- only the low digits of the number matter
+pub allowed_low : (ok : ℕ → ℕ → Bool) (base t n m s : ℕ) (ls : List ℕ) → 0 < base → n % base ^ count t ls ≡ m % base ^ count t ls
+    → are_allowed ok base t n s ls ≡ are_allowed ok base t m s ls
+allowed_low ok base t n m s [] h e = refl
+allowed_low ok base t n m s (l ∷ ls) h e = elim (cases_eq l t) [
+  | inl i ↦ subst (λ (x : ℕ). are_allowed ok base t n s (x ∷ ls) ≡ are_allowed ok base t m s (x ∷ ls)) (sym i)
+      (let e' : n % base ^ count t (t ∷ ls) ≡ m % base ^ count t (t ∷ ls) = subst (λ (x : ℕ). n % base ^ count t (x ∷ ls) ≡ m % base ^ count t (x ∷ ls)) i e in
+      let two = low_digits n m base (base ^ count t ls) h (power_positive base (count t ls) h)
+      (subst (λ (x : ℕ). n % x ≡ m % x) (more_digits base t ls) e') in
+      allowed_same ok base t n s ls
+      ∙ ap (λ (x : ℕ). ok s x && are_allowed ok base t n (suc s) ls) two.0
+      ∙ ap (λ (x : Bool). ok s (m / base ^ count t ls % base) && x) (allowed_low ok base t n m (suc s) ls h two.1)
+      ∙ sym (allowed_same ok base t m s ls))
+  | inr o ↦ allowed_other ok base t n s l ls o
+      ∙ allowed_low ok base t n m (suc s) ls h (subst (λ (x : ℕ). n % base ^ x ≡ m % base ^ x) (count_other t l ls o) e)
+      ∙ sym (allowed_other ok base t m s l ls o)
+]
+
+-- of one more piece its own form and those of the others
+pub one_more : (ok : ℕ → ℕ → Bool) (base t q r s : ℕ) (ls : List ℕ) → 0 < base → q < base → r < base ^ count t ls
+    → are_allowed ok base t (q * base ^ count t ls + r) s (t ∷ ls) ≡ ok s q && are_allowed ok base t r (suc s) ls
+one_more ok base t q r s ls h lq lr =
+    let w : ℕ = base ^ count t ls in
+    allowed_same ok base t (q * base ^ count t ls + r) s ls
+    ∙ ap (λ (x : ℕ). ok s (x % base) && are_allowed ok base t (q * base ^ count t ls + r) (suc s) ls) (div-mul-add q (base ^ count t ls) r lr)
+    ∙ ap (λ (x : ℕ). ok s x && are_allowed ok base t (q * base ^ count t ls + r) (suc s) ls) (mod-eq_of_lt lq)
+    ∙ ap (λ (x : Bool). ok s q && x) (allowed_low ok base t (q * base ^ count t ls + r) r (suc s) ls h
+    (mod-mul-add q (base ^ count t ls) r lr ∙ sym (mod-eq_of_lt lr)))
+
+-- how many of the numbers of forms are allowed
+pub forms_weigh : (ok : ℕ → ℕ → Bool) (base t s : ℕ) (ls : List ℕ) → 0 < base
+    → marks_below (λ number. are_allowed ok base t number s ls) (base ^ count t ls) ≡ weight (λ square. marks_below (ok square) base) t s ls
+unfolding marks_below
+forms_weigh ok base t s [] h = ap (λ (x : ℕ). sum_below (λ (r : ℕ). one_if true) x) (pow-zero base)
+forms_weigh ok base t s (l ∷ ls) h =
+    let rest : sum_below (λ (r : ℕ). one_if (are_allowed ok base t r (suc s) ls)) (base ^ count t ls)
+    ≡ weight (λ square. sum_below (λ (r : ℕ). one_if (ok square r)) base) t (suc s) ls = forms_weigh ok base t (suc s) ls h in
+    elim (cases_eq l t) [
+      | inl e ↦ subst (λ (x : ℕ). sum_below (λ (n : ℕ). one_if (are_allowed ok base t n s (x ∷ ls))) (base ^ count t (x ∷ ls))
+          ≡ weight (λ square. sum_below (λ (r : ℕ). one_if (ok square r)) base) t s (x ∷ ls)) (sym e)
+          (ap (λ (x : ℕ). sum_below (λ (n : ℕ). one_if (are_allowed ok base t n s (t ∷ ls))) x)
+          (more_digits base t ls ∙ (let z : base * base ^ count t ls ≡ base * base ^ count t ls + 0 = omega arith in z))
+          ∙ sum_blocks (λ (n : ℕ). one_if (are_allowed ok base t n s (t ∷ ls))) (base ^ count t ls) base 0
+          ∙ ap (λ (x : ℕ). x + 0)
+          (sum_same (λ q. sum_below (λ r. one_if (are_allowed ok base t (q * base ^ count t ls + r) s (t ∷ ls))) (base ^ count t ls))
+          (λ q. sum_below (λ (r : ℕ). one_if (are_allowed ok base t r (suc s) ls)) (base ^ count t ls) * one_if (ok s q)) base
+          (λ q lq. sum_same (λ r. one_if (are_allowed ok base t (q * base ^ count t ls + r) s (t ∷ ls)))
+          (λ r. one_if (ok s q) * one_if (are_allowed ok base t r (suc s) ls)) (base ^ count t ls)
+          (λ r lr. ap one_if (one_more ok base t q r s ls h lq lr) ∙ one_if-and (ok s q) (are_allowed ok base t r (suc s) ls))
+          ∙ sum_times (one_if (ok s q)) (λ r. one_if (are_allowed ok base t r (suc s) ls)) (base ^ count t ls)
+          ∙ mul_comm (one_if (ok s q)) (sum_below (λ (r : ℕ). one_if (are_allowed ok base t r (suc s) ls)) (base ^ count t ls)))
+          ∙ sum_times (sum_below (λ (r : ℕ). one_if (are_allowed ok base t r (suc s) ls)) (base ^ count t ls)) (λ q. one_if (ok s q)) base
+          ∙ mul_comm (sum_below (λ (r : ℕ). one_if (are_allowed ok base t r (suc s) ls)) (base ^ count t ls)) (sum_below (λ q. one_if (ok s q)) base))
+          ∙ (let z : sum_below (λ q. one_if (ok s q)) base * sum_below (λ (r : ℕ). one_if (are_allowed ok base t r (suc s) ls)) (base ^ count t ls) + 0
+          ≡ sum_below (λ q. one_if (ok s q)) base * sum_below (λ (r : ℕ). one_if (are_allowed ok base t r (suc s) ls)) (base ^ count t ls) = omega arith in z)
+          ∙ ap (λ (x : ℕ). sum_below (λ q. one_if (ok s q)) base * x) rest
+          ∙ sym (weight_same (λ square. sum_below (λ (r : ℕ). one_if (ok square r)) base) t s ls))
+      | inr o ↦ ap (λ (x : ℕ). sum_below (λ (n : ℕ). one_if (are_allowed ok base t n s (l ∷ ls))) (base ^ x)) (count_other t l ls o)
+          ∙ sum_same (λ (n : ℕ). one_if (are_allowed ok base t n s (l ∷ ls))) (λ (n : ℕ). one_if (are_allowed ok base t n (suc s) ls)) (base ^ count t ls)
+          (λ n ln. ap one_if (allowed_other ok base t n s l ls o))
+          ∙ rest ∙ sym (weight_other (λ square. sum_below (λ (r : ℕ). one_if (ok square r)) base) t s l ls o)
+    ]

@@ -1,6 +1,0 @@
--- The law, from the numbering of the representatives.
-use Rattle.dob_rank.proofs.FamilyRepresentatives.{classes_keep_order as law}
-use Rattle.dob_rank.proofs.laws.classes_keep_order.Goals as goal
-
-pub returns : goal.returns
-returns c = law

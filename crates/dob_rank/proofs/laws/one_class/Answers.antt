@@ -1,6 +1,0 @@
--- The law, from the one representative of a position.
-use Rattle.dob_rank.proofs.FamilyRepresentatives.{one_class as law}
-use Rattle.dob_rank.proofs.laws.one_class.Goals as goal
-
-pub returns : goal.returns
-returns c = law
