@@ -7,10 +7,10 @@ ghost use Rattle.dob_rank.specs.Families.{classes_of};
 
 use crate::opened::Opened;
 use crate::value_names::{Named, read_value};
-use dob_node::opening_in;
-use dob_pieces::{Family, Memory};
 use dob_classes::Classes;
 use dob_lists::{SegmentLength, Segments};
+use dob_node::opening_in;
+use dob_pieces::{Family, Memory};
 use dob_share::{Item, Opening, Share, owner};
 use dob_value::{Fault, Value};
 use std::alloc::{AllocError, Global};

@@ -59,9 +59,9 @@ fn tell_moves(alloc: Global, profile: Profile, position: &Position) -> Result<St
         Status::Open => "open",
     };
     let mut text = format!(in alloc; "status {name} moves")?;
-    let choices = moves(alloc, profile, position)?;
-    for choice in &choices {
-        let word = write_move(alloc, *choice, false)?;
+    let the_moves = moves(alloc, profile, position)?;
+    for the_move in &the_moves {
+        let word = write_move(alloc, *the_move, false)?;
         write!(text, " {word}")?;
     }
     Ok(text)
@@ -74,11 +74,11 @@ fn tell_after(
     profile: Profile,
     position: &Position,
 ) -> Result<String, Memory> {
-    let choices = moves(alloc, profile, position)?;
-    if number >= choices.len() {
+    let the_moves = moves(alloc, profile, position)?;
+    if number >= the_moves.len() {
         return Ok("none".to_string(alloc)?);
     }
-    let after = apply(position, choices[number]);
+    let after = apply(position, the_moves[number]);
     write_position(alloc, &after)
 }
 
@@ -86,7 +86,7 @@ fn tell_after(
 fn tell_catch(alloc: Global, position: &Position) -> Result<String, Memory> {
     match first_catch(position) {
         None => Ok("none".to_string(alloc)?),
-        Some(choice) => write_move(alloc, choice, false),
+        Some(the_move) => write_move(alloc, the_move, false),
     }
 }
 

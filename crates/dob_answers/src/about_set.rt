@@ -1,8 +1,8 @@
 // Answers about a piece set by the rules of a profile. Where it has no such rank or class, the answer is `none`.
 use crate::opened::Opened;
 use crate::question::{OfClasses, OfSet};
-use dob_pieces::{Family, Memory};
 use dob_classes::Classes;
+use dob_pieces::{Family, Memory};
 use dob_rank::{size, unrank};
 use dob_text::write_position;
 use dob_unmove::back;

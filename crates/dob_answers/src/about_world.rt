@@ -4,7 +4,7 @@
 // pass of the token and `A` for the announcement. Behind it stands what the world then shows, as shown.rt says.
 ghost use Rattle.std.specs.Prelude.{◌≡◌, ◌*◌, ◌^◌, ◌≤◌, None, true, OnOk};
 ghost use Rattle.dob_world.specs.Rounds.{round_length};
-ghost use Rattle.dob_world.specs.Standing.{IsStanding, IsKept};
+ghost use Rattle.dob_world.specs.Standing.{IsStanding, StandsOrStopped};
 
 use crate::shown::show;
 use dob_pieces::{Family, Memory};
@@ -96,7 +96,7 @@ fn are_few(rounds: u64, nodes: usize) -> bool
 fn tell_events(alloc: Global, mut world: World, nodes: usize, events: &str) -> Result<String, Fault>
     requires nodes { world.n ≡ nodes }
     requires standing { IsStanding world }
-    requires kept { IsKept world }
+    requires kept { StandsOrStopped world }
 {
     let mut letters = String::new(alloc);
     for word in events.split_whitespace() {
@@ -110,8 +110,8 @@ fn tell_events(alloc: Global, mut world: World, nodes: usize, events: &str) -> R
 /// The letter of the event that is written so.
 fn happen(world: &mut World, word: &str) -> Result<char, Fault>
     requires standing { IsStanding world.old }
-    requires kept { IsKept world.old }
-    ensures standing { OnOk result (IsStanding world.new × IsKept world.new × (world.new.n ≡ world.old.n)) }
+    requires kept { StandsOrStopped world.old }
+    ensures standing { OnOk result (IsStanding world.new × StandsOrStopped world.new × (world.new.n ≡ world.old.n)) }
 {
     let Some(event) = read_event(word) else {
         return Ok('?');

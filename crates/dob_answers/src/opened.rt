@@ -2,8 +2,8 @@
 // open its classes once and sweep them once.
 ghost use Rattle.std.specs.Prelude.{◌≡◌, IfOk, IsTrue};
 
-use dob_pieces::{Family, Memory, PieceSet, Profile};
 use dob_classes::Classes;
+use dob_pieces::{Family, Memory, PieceSet, Profile};
 use dob_value::{Table, sweep_table};
 use std::alloc::Global;
 
@@ -25,7 +25,9 @@ impl Opened {
 
     /// The classes of the family, opened where those that are kept are another family's.
     ///
-    /// Errors: as those of `Classes::open`.
+    /// # Errors
+    ///
+    /// As those of `Classes::open`.
     pub(crate) fn classes_of(&mut self, alloc: Global, family: Family) -> Result<&Classes, Memory>
         ensures { IfOk result (λ classes. classes.now.family ≡ family) }
     {
@@ -35,7 +37,9 @@ impl Opened {
 
     /// The values of the family, swept where those that are kept are another family's.
     ///
-    /// Errors: as those of `sweep_table`.
+    /// # Errors
+    ///
+    /// As those of `sweep_table`.
     pub(crate) fn table_of(
         &mut self,
         alloc: Global,

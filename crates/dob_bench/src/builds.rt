@@ -4,10 +4,10 @@
 use crate::counts::{self, Outcomes};
 use crate::timer::Timer;
 use anyhow::{Result, bail};
-use dob_node::{alone, opening};
-use dob_pieces::Memory;
 use dob_classes::Classes;
 use dob_lists::SegmentLength;
+use dob_node::{alone, opening};
+use dob_pieces::Memory;
 use dob_share::{Item, Share};
 use dob_unmove::back_into;
 use dob_value::{Table, Value};

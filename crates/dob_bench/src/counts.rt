@@ -1,7 +1,7 @@
 // What is counted over a whole piece set.
+use dob_classes::Classes;
 use dob_pieces::{Family, Memory};
 use dob_probe::{Fault, line, probe};
-use dob_classes::Classes;
 use dob_rank::{rank, size, unrank};
 use dob_unmove::{back, back_into};
 use dob_value::{Table, Value};

@@ -2,9 +2,9 @@
 // moves in one list that is kept and in a new list for each position.
 use crate::timer::Rounds;
 use anyhow::Result;
+use dob_classes::Classes;
 use dob_moves::{Status, count_moves, moves, moves_into, status};
 use dob_pieces::{Memory, Position, Profile};
-use dob_classes::Classes;
 use std::alloc::Global;
 use std::rt::Clock;
 

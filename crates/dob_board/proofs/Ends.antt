@@ -26,7 +26,7 @@ use Rattle.dob_board.specs.declared.seat.NodeSeat.{NodeSeat}
 use Rattle.dob_board.specs.declared.board.Closed.{Closed}
 use Rattle.dob_board.specs.Histories.{GoesOn}
 use Rattle.dob_board.specs.Rule.{fresh}
-use Rattle.dob_board.specs.Seats.{stand_of, witnessed_by, log_of, IsSeatOf, AreSeats, AreWords, IsHistory}
+use Rattle.dob_board.specs.Seats.{stand_of, witnessed_by, log_of, IsSeatOf, AreSeats, AreWords, IsBoardHistory}
 use Rattle.dob_board.specs.Boards.{joined, nobody, behind, gathered, closed_view, LeadsTo, IsWord, AreRead, AreAsWitnessed, Read}
 use Rattle.dob_pieces.proofs.Elements.{get_front, middle}
 use Rattle.dob_board.proofs.Places.{posted_within, taken_within}
@@ -436,7 +436,7 @@ are_words board n seats log words are read = record {
 -- what happened on a closed board
 pub is_history : (n : ℕ) (seats : List NodeSeat) (closed : Closed) (witnessed : List BoardEvent) → 0 < n →
     ((seat : NodeSeat) → slice_get seats 0 ≡ Some seat → witnessed ≡ witnessed_by seat) → GoesOn witnessed (log_of closed) →
-    AreRead n (map stand_of seats) (log_of closed) closed.words.items → IsHistory n seats closed
+    AreRead n (map stand_of seats) (log_of closed) closed.words.items → IsBoardHistory n seats closed
 is_history n seats closed witnessed some_nodes first on read =
     let has = read_ring n (map stand_of seats) (log_of closed) closed.words.items some_nodes read in
     record {

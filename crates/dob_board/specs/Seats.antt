@@ -133,7 +133,7 @@ log_of closed = closed.rest.me.0.witnessed
 -- What happened on a board of n nodes with these seats until it was closed, the first of it as the seat of node 0 has witnessed:
 -- it led to this lawful ring, which shows how each node stands; word 1 is that of its token; its end is announced where word 2 is
 -- 1, and nowhere else; and word 2 is the halt that the events tell.
-pub record IsHistory (n : ℕ) (seats : List NodeSeat) (closed : Closed) : Type 0 where
+pub record IsBoardHistory (n : ℕ) (seats : List NodeSeat) (closed : Closed) : Type 0 where
   pub witnessed : (seat : NodeSeat) → slice_get seats 0 ≡ Some seat → GoesOn (witnessed_by seat) (log_of closed)
   pub ring : Ring
   pub runs : Runs n (log_of closed) ring

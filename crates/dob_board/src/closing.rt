@@ -4,7 +4,7 @@ ghost use Rattle.std.specs.Arc.{arc_value};
 ghost use Rattle.dob_board.specs.Words.{word_count};
 ghost use Rattle.dob_board.specs.Boards.{behind, gathered, joined, closed_view, AreRead};
 ghost use Rattle.dob_board.specs.Histories.{GoesOn};
-ghost use Rattle.dob_board.specs.Seats.{stand_of, witnessed_by, IsSeatOf, AreSeats, AreWords, IsHistory};
+ghost use Rattle.dob_board.specs.Seats.{stand_of, witnessed_by, IsSeatOf, AreSeats, AreWords, IsBoardHistory};
 
 use crate::rule::{Back, Reads};
 use crate::seat::Words;
@@ -19,7 +19,7 @@ impl Board {
     pub fn close(self, seats: Vec<NodeSeat>) -> Closed
         requires { AreSeats self.rest.table_id self.nodes seats.items }
         ensures words { AreWords self.nodes seats.items result.words.items }
-        ensures history { IsHistory self.nodes seats.items result }
+        ensures history { IsBoardHistory self.nodes seats.items result }
     {
         let Board {
             shared,

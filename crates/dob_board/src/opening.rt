@@ -23,7 +23,9 @@ impl Board {
     /// Opens a board of `nodes` nodes, with the seat of each in their order. At the start nothing is posted or taken, each
     /// node is black, and the black token is at node 0 with sum 0.
     ///
-    /// Errors: E9 where the number isn't 1 to 16; E23 where no memory is left.
+    /// # Errors
+    ///
+    /// E9 where the number isn't 1 to 16; E23 where no memory is left.
     pub fn open(alloc: Global, nodes: usize) -> Result<(Board, Vec<NodeSeat>), Fault>
         ensures size { (result ≡ Err fault.Nodes) ↔ (¬ IsSize nodes) }
         ensures nodes { IfOk result (λ opened. opened.0.nodes ≡ nodes) }

@@ -44,13 +44,13 @@ abbrev pub capacity_of : SendEnd → ℕ
 capacity_of end = ruled_capacity (arc_value end.inbox)
 
 -- the end of the sender of this place among so many, which has sent nothing; the taking pass is of the same inbox
-abbrev pub IsOpened : Pass BatchView Note → ℕ → ℕ → ℕ → SendEnd → Type 0
-IsOpened pass capacity senders from send = (send.pass.table_id ≡ pass.table_id) × (place_of send ≡ from)
+abbrev pub IsEndOpened : Pass BatchView Note → ℕ → ℕ → ℕ → SendEnd → Type 0
+IsEndOpened pass capacity senders from send = (send.pass.table_id ≡ pass.table_id) × (place_of send ≡ from)
     × (capacity_of send ≡ capacity) × (senders_beside send ≡ senders) × (sent_by send ≡ [])
 
 -- these are the ends of the first senders, in order
 abbrev pub AreOpened : Pass BatchView Note → ℕ → ℕ → List SendEnd → Type 0
-AreOpened pass capacity senders sends = (from : ℕ) (send : SendEnd) → slice_get sends from ≡ Some send → IsOpened pass capacity senders from send
+AreOpened pass capacity senders sends = (from : ℕ) (send : SendEnd) → slice_get sends from ≡ Some send → IsEndOpened pass capacity senders from send
 
 -- the sending end is that of the inbox's sender of this place
 abbrev pub IsEndOf : TakeEnd → ℕ → SendEnd → Type 0

@@ -3,7 +3,7 @@ ghost use Rattle.std.specs.Prelude.{◌≡◌, ℕ, suc, ◌<◌, ◌≤◌, ◌
 ghost use Rattle.std.specs.Arc.{arc_value};
 ghost use Rattle.crossbeam_queue.specs.Passes.{view, IsPassOf, IsSamePass, ruled_capacity};
 ghost use Rattle.dob_chan.specs.Inboxes.{most_batches, batches_of, sending, taking, untold, HasSent, HasReceived};
-ghost use Rattle.dob_chan.specs.Ends.{sent_by, place_of, senders_beside, taken_by, taken_of, senders_of, capacity_of, IsOpened, AreOpened, AreEndsOf, SendsToSame, TakesFromSame, WasFull, WasEmpty, send_told, take_told};
+ghost use Rattle.dob_chan.specs.Ends.{sent_by, place_of, senders_beside, taken_by, taken_of, senders_of, capacity_of, IsEndOpened, AreOpened, AreEndsOf, SendsToSame, TakesFromSame, WasFull, WasEmpty, send_told, take_told};
 
 use crate::ends::{Full, Inbox, SendEnd, TakeEnd};
 use crate::rule::{Counts, Note, Opens, Sends, Takes};
@@ -80,7 +80,7 @@ fn open_next(
     requires within { from < senders }
     ensures seat { IsSamePass pass.old pass.new }
     ensures role { IfOk result (λ _. view pass.new ≡ taking senders (suc from) [] [] untold) }
-    ensures opened { IfOk result (IsOpened pass.old (ruled_capacity (arc_value inbox.now)) senders from) }
+    ensures opened { IfOk result (IsEndOpened pass.old (ruled_capacity (arc_value inbox.now)) senders from) }
 {
     let shared = Arc::try_clone(inbox)?;
     let own = inbox.another::<Opens>(pass);

@@ -39,7 +39,9 @@ impl Watch for Unwatched {
 /// is the value table. The classes are looked at by themselves, in as many threads as there are processors, each thread with
 /// one room for lists of moves.
 ///
-/// Errors: `Inconsistent` with the least class whose value doesn't follow; `Memory`.
+/// # Errors
+///
+/// `Inconsistent` with the least class whose value doesn't follow; `Memory`.
 pub fn check(rt: &(impl Threads + Sync), alloc: Global, table: &Table) -> Result<(), Fault>
     ensures consistent { IfOk result (λ _. IsConsistent table.now.family table.now.values) }
     ensures right { IfOk result (λ _. IsValueTable table.now.family table.now.values) }
@@ -49,10 +51,12 @@ pub fn check(rt: &(impl Threads + Sync), alloc: Global, table: &Table) -> Result
     check_watched(rt, alloc, table, &Unwatched)
 }
 
-/// The same, where the watch is told at each 65,536th class, and at the last one of all that are left: of a table that passes it is
-/// told of as many classes as there are.
+/// As [`check`], and reports to the watch at each 65,536th class and at the last one that is left: of a table that passes it
+/// reports as many classes as there are.
 ///
-/// Errors: those of [`check`].
+/// # Errors
+///
+/// Those of [`check`].
 pub fn check_watched<R: Threads + Sync, W: Watch + Sync>(
     rt: &R,
     alloc: Global,

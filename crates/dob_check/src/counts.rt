@@ -25,7 +25,9 @@ struct Part {
 /// odd ones of wins and even ones of losses. The last win and the last loss are the longest. Parts of the classes are counted by as
 /// many threads as there are processors, and added up in their order.
 ///
-/// Error: `Memory`.
+/// # Errors
+///
+/// `Memory`.
 pub fn statistics(
     rt: &(impl Threads + Sync),
     alloc: Global,

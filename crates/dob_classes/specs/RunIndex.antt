@@ -12,7 +12,7 @@ abbrev pub AreEntries : List Run → ℕ → ℕ → List ℕ → Type 0
 AreEntries runs before step entries = (k other : ℕ) → k < length entries → IsAtMost runs (before + k * step) (slice_index_or entries k other)
 
 -- the entries of all classes from one to before another
-pub record IsIndex (runs : List Run) (before after : ℕ) (index : RunIndex) : Type 0 where
+pub record IsRunIndex (runs : List Run) (before after : ℕ) (index : RunIndex) : Type 0 where
   pub few : index.exponent ≤ 32
   pub all : after ≤ before + length index.entries.items * 2 ^ index.exponent
   pub each : AreEntries runs before (2 ^ index.exponent) index.entries.items

@@ -10,7 +10,7 @@ use Rattle.dob_rank.specs.Numbers.{digits_of, block_bases}
 use Rattle.dob_rank.specs.Runs.{run_start, run_kind, run_bases, run_digits, lion_pairs}
 
 -- the stretches of the first run of those lions, whose marks are those of each run of them
-pub record IsTable (family : Family) (block lions : ℕ) (table : StretchTable) : Type 0 where
+pub record IsTableOfRuns (family : Family) (block lions : ℕ) (table : StretchTable) : Type 0 where
   pub family_is : table.family ≡ family
   pub block_is : table.block ≡ block
   pub run_is : table.run ≡ lions
@@ -18,7 +18,7 @@ pub record IsTable (family : Family) (block lions : ℕ) (table : StretchTable) 
 -- the table of a run, if its lions don't tell its marks
 abbrev pub HasTable : Family → ℕ → ℕ → ℕ → List StretchTable → Type 0
 HasTable family block run number tables = run_kind (run % lion_pairs) ≡ Mixed →
-    (number < length tables) × ((other : StretchTable) → IsTable family block (run % lion_pairs) (slice_index_or tables number other))
+    (number < length tables) × ((other : StretchTable) → IsTableOfRuns family block (run % lion_pairs) (slice_index_or tables number other))
 
 -- the entry of a run: how many marks are before it, its kind, its digits, and where its table is if its kind is mixed
 pub record IsRun (family : Family) (block run : ℕ) (tables : List StretchTable) (entry : Run) : Type 0 where

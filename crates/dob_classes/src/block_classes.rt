@@ -9,7 +9,7 @@ ghost use Rattle.dob_rank.specs.Runs.{square_bases, run_bases, run_digits, runs_
 ghost use Rattle.dob_classes.specs.declared.runs.Run.{Run};
 ghost use Rattle.dob_rank.specs.declared.runs.RunKind.TheVariants.{Mixed};
 ghost use Rattle.dob_classes.specs.RunTables.{AreRuns, HasTable};
-ghost use Rattle.dob_classes.specs.RunIndex.{IsIndex};
+ghost use Rattle.dob_classes.specs.RunIndex.{IsRunIndex};
 ghost use Rattle.dob_rank.specs.Placing.{AreAllPlaces};
 
 use crate::place_tables::all_places;
@@ -48,13 +48,15 @@ pub(crate) struct BlockClasses {
     ghost whole: { vec_len runs ≡ runs_in family.set number },
     ghost table: { AreRuns family number (vec_len runs) runs.items mixed.items },
     ghost placed: { AreAllPlaces on_board places.items },
-    ghost indexed: { IsIndex runs.items before after index },
+    ghost indexed: { IsRunIndex runs.items before after index },
 }
 
 impl BlockClasses {
     /// Opens the classes of the block of that number, before which there are so many.
     ///
-    /// Error: `Memory`.
+    /// # Errors
+    ///
+    /// `Memory`.
     pub(crate) fn open(
         alloc: Global,
         family: Family,
@@ -203,7 +205,9 @@ impl BlockClasses {
 
 /// The number of a run's table, which is made for the first run of its lions; none is needed where these tell its marks.
 ///
-/// Error: `Memory`.
+/// # Errors
+///
+/// `Memory`.
 fn table_of(
     alloc: Global,
     family: Family,
@@ -233,7 +237,9 @@ fn table_of(
 
 /// Appends the table of the first run of its lions.
 ///
-/// Error: `Memory`.
+/// # Errors
+///
+/// `Memory`.
 fn push_table(
     alloc: Global,
     family: Family,

@@ -92,7 +92,7 @@ pub fn classes_in_run(family: Family, block: u64, run: u64, place: u64) -> u64
     }
 }
 
-/// The same of a run whose lions both stand on column b, one stretch after another.
+/// The classes before a place of a run whose lions both stand on column b, one stretch after another.
 fn classes_in_stretches(family: Family, block: u64, run: u64, place: u64) -> u64
     requires block { block < product (block_bases family.set) }
     requires run { run < runs_in family.set block }

@@ -8,7 +8,7 @@ ghost use Rattle.dob_classes.specs.BlockTables.{AreBlocks};
 ghost use Rattle.dob_pieces.specs.declared.setup.Setup.{Setup};
 ghost use Rattle.dob_classes.specs.Bitboards.{AreBitboards, IsShown};
 ghost use Rattle.dob_classes.specs.Views.{seen_by};
-ghost use Rattle.dob_rank.specs.BoardMasks.{AreMasks};
+ghost use Rattle.dob_rank.specs.BoardMasks.{AreMasksOfBoard};
 
 use crate::bits::bitboards::Bitboards;
 use crate::bits::shown::Shown;
@@ -36,7 +36,9 @@ pub struct Classes {
 impl Classes {
     /// Opens the classes of a family.
     ///
-    /// Error: `Memory`.
+    /// # Errors
+    ///
+    /// `Memory`.
     pub fn open(alloc: Global, family: Family) -> Result<Classes, Memory>
         ensures family { IfOk result (λ classes. classes.family ≡ family) }
     {
@@ -80,10 +82,10 @@ impl Classes {
         }
     }
 
-    /// The same by the position's masks. It takes longer where the mirror image is the earlier one.
+    /// The class's number by the position's masks. It takes longer where the mirror image is the earlier one.
     fn class_by(&self, position: &Position, masks: Masks) -> u64
         requires position { IsPositionOf self.now.family position.now.setup }
-        requires masks { AreMasks position.now.setup.board masks }
+        requires masks { AreMasksOfBoard position.now.setup.board masks }
         ensures { result ≡ class_number self.now.family position.now.setup }
     {
         let (is_representative, class) = self.look_up_by(position, masks);
@@ -107,7 +109,7 @@ impl Classes {
         if is_representative { Some(class) } else { None }
     }
 
-    /// The same by the sets of squares that show the position.
+    /// The number of the class, by the sets of squares that show the position, if that is the class's representative.
     pub fn class_of_shown(&self, bits: &Bitboards) -> Option<u64>
         requires { (setup : Setup) × IsShown self.now.family setup bits.now }
         ensures class { (setup : Setup) → IsShown self.now.family setup bits.now → MatchOption result (¬ IsFirstOfTwo setup)
@@ -135,7 +137,7 @@ impl Classes {
         )
     }
 
-    /// The same with the sets of squares that the side sees of the representative: the mover those of the setup, the enemy those of the
+    /// A class's representative with the sets of squares that the side sees of it: the mover those of the setup, the enemy those of the
     /// turned one. They are found without its board, which isn't made where it isn't read.
     #[inline(always)]
     pub fn shown_at(&self, class: u64, side: Side) -> Shown
@@ -182,11 +184,11 @@ impl Classes {
         self.look_up_by(position, masks_of(&position.setup.board))
     }
 
-    /// The same by the position's masks.
+    /// The mark and the marks before it by the position's masks.
     #[inline(always)]
     fn look_up_by(&self, position: &Position, masks: Masks) -> (bool, u64)
         requires position { IsPositionOf self.now.family position.now.setup }
-        requires masks { AreMasks position.now.setup.board masks }
+        requires masks { AreMasksOfBoard position.now.setup.board masks }
         ensures mark { result.0 ≡ is_marked self.now.family (rank_of_set self.now.family.set position.now.setup) }
         ensures before { result.1 ≡ marks_below (is_marked self.now.family) (rank_of_set self.now.family.set position.now.setup) }
     {
@@ -194,7 +196,7 @@ impl Classes {
         self.blocks[block as usize].look_up(spot)
     }
 
-    /// The same by the sets of squares that show the position.
+    /// The mark and the marks before it by the sets of squares that show the position.
     fn look_up_shown(&self, bits: &Bitboards) -> (bool, u64)
         requires { (setup : Setup) × IsShown self.now.family setup bits.now }
         ensures mark { (setup : Setup) → IsShown self.now.family setup bits.now

@@ -11,7 +11,9 @@ use std::alloc::Global;
 
 /// The places of each choice of the squares of all kinds, by its number.
 ///
-/// Error: `Memory`.
+/// # Errors
+///
+/// `Memory`.
 pub(crate) fn all_places(
     alloc: Global,
     on_board: &EachKind,

@@ -2,7 +2,7 @@
 // it is mostly the run itself, and else one of the next.
 ghost use Rattle.std.specs.Prelude.{ℕ, ◌<◌, ◌≤◌, ◌+◌, ◌^◌, IfOk, length, slice_index_or, vec_len};
 ghost use Rattle.dob_classes.specs.declared.runs.Run.{Run};
-ghost use Rattle.dob_classes.specs.RunIndex.{IsAtMost, IsIndex};
+ghost use Rattle.dob_classes.specs.RunIndex.{IsAtMost, IsRunIndex};
 
 use crate::runs::Run;
 use dob_lists::split_by_power;
@@ -19,7 +19,9 @@ pub(crate) struct RunIndex {
 impl RunIndex {
     /// The index of runs of so many places, before which stand the classes from one to before another.
     ///
-    /// Error: `Memory`.
+    /// # Errors
+    ///
+    /// `Memory`.
     pub(crate) fn open(
         alloc: Global,
         runs: &Vec<Run>,
@@ -30,7 +32,7 @@ impl RunIndex {
         requires few { vec_len runs.now ≤ 2 ^ 12 }
         requires first { before < after → IsAtMost runs.now.items before 0 }
         requires bound { after ≤ 2 ^ 42 }
-        ensures { IfOk result (IsIndex runs.now.items before after) }
+        ensures { IfOk result (IsRunIndex runs.now.items before after) }
     {
         let exponent = exponent_for(size);
         let mut entries = Vec::new(alloc);
@@ -47,7 +49,7 @@ impl RunIndex {
     /// The last run with no more than so many classes before it, by how many of these stand before the block too.
     pub(crate) fn run_at(&self, runs: &Vec<Run>, before: u64, class: u64) -> usize
         requires low { before ≤ class }
-        requires index { (after : ℕ) × (class < after) × IsIndex runs.now.items before after self.now }
+        requires index { (after : ℕ) × (class < after) × IsRunIndex runs.now.items before after self.now }
         ensures run { IsAtMost runs.now.items class result }
         ensures last { (other : Run) → result + 1 < length runs.now.items → class < (slice_index_or runs.now.items (result + 1) other).before }
     {

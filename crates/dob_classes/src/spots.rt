@@ -5,7 +5,7 @@ ghost use Rattle.dob_pieces.specs.Profiles.{IsAllowed};
 ghost use Rattle.dob_pieces.specs.declared.profile.Profile.TheVariants.{B};
 ghost use Rattle.dob_pieces.specs.declared.setup.Setup.{Setup};
 ghost use Rattle.dob_classes.specs.Bitboards.{IsShown};
-ghost use Rattle.dob_rank.specs.BoardMasks.{AreMasks};
+ghost use Rattle.dob_rank.specs.BoardMasks.{AreMasksOfBoard};
 ghost use Rattle.dob_rank.specs.Order.{IsPositionOfSet};
 ghost use Rattle.dob_rank.specs.Families.{family_of, IsPositionOf};
 ghost use Rattle.dob_classes.specs.FamilyRuns.{is_there};
@@ -49,7 +49,7 @@ pub(crate) fn count_before(family: Family, block: u64, run: u64, place: u64) -> 
 /// The number of the block of a position of the family, and the position's run and number among those of the family there.
 pub(crate) fn spot_in(family: Family, position: &Position, masks: Masks) -> (u64, Spot)
     requires position { IsPositionOf family position.now.setup }
-    requires masks { AreMasks position.now.setup.board masks }
+    requires masks { AreMasksOfBoard position.now.setup.board masks }
     ensures block { result.0 ≡ block_of family.set position.now.setup }
     ensures run { result.1.run ≡ run_of family.set position.now.setup }
     ensures local { result.1.local
@@ -61,7 +61,7 @@ pub(crate) fn spot_in(family: Family, position: &Position, masks: Masks) -> (u64
     }
 }
 
-/// The same by the sets of squares that show the position.
+/// Block and spot by the sets of squares that show the position.
 pub(crate) fn spot_shown_in(family: Family, bits: &Bitboards) -> (u64, Spot)
     requires { (setup : Setup) × IsShown family setup bits.now }
     ensures block { (setup : Setup) → IsShown family setup bits.now → result.0 ≡ block_of family.set setup }
@@ -75,12 +75,12 @@ pub(crate) fn spot_shown_in(family: Family, bits: &Bitboards) -> (u64, Spot)
     (block, Spot { run, local })
 }
 
-/// The same of a position in profile B, out of the way of what profile A does.
+/// Block and spot of a position in profile B, out of the way of what profile A does.
 #[inline(never)]
 fn far_spot(set: PieceSet, position: &Position, masks: Masks) -> (u64, Spot)
     requires position { IsPositionOfSet set position.now.setup }
     requires allowed { IsAllowed B position.now.setup }
-    requires masks { AreMasks position.now.setup.board masks }
+    requires masks { AreMasksOfBoard position.now.setup.board masks }
     ensures block { result.0 ≡ block_of set position.now.setup }
     ensures run { result.1.run ≡ run_of set position.now.setup }
     ensures local { result.1.local

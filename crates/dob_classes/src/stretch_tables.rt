@@ -31,7 +31,9 @@ pub(crate) struct StretchTable {
 impl StretchTable {
     /// The stretches of a run whose lions both stand on column b.
     ///
-    /// Error: `Memory`.
+    /// # Errors
+    ///
+    /// `Memory`.
     pub(crate) fn open(
         alloc: Global,
         family: Family,

@@ -24,7 +24,9 @@ pub(crate) struct Stretch {
 
 /// Appends the entry of the places from one on, before which there are so many marks, unless the last entry's marks go on.
 ///
-/// Error: `Memory`.
+/// # Errors
+///
+/// `Memory`.
 pub(crate) fn push_stretch(
     list: &mut Vec<Stretch>,
     start: u64,

@@ -17,7 +17,7 @@ use Rattle.dob_query.specs.Program.{AnswersValue}
 use Rattle.dob_query.specs.Sizes.{AnswersCount}
 use Rattle.dob_cli.specs.Builds.{AnswersBuild}
 use Rattle.dob_query.specs.Looks.{AnswersLook}
-use Rattle.dob_query.specs.Choices.{AnswersBest, AnswersMoves}
+use Rattle.dob_query.specs.ValuedMoves.{AnswersBest, AnswersMoves}
 use Rattle.dob_query.specs.Each.{AnswersEach}
 use Rattle.dob_query.specs.LooksEach.{AnswersLookEach}
 use Rattle.dob_query.specs.Shows.{AnswersShow, KeepsButPicture}

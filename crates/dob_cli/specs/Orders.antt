@@ -9,7 +9,7 @@ use Rattle.dob_query.specs.Program.{IsFaultOf, IsValueLineOf}
 use Rattle.dob_query.specs.Sizes.{AreCountLinesOf, IsCountFaultOf}
 use Rattle.dob_cli.specs.Builds.{AreBuildLines, IsBuildFault}
 use Rattle.dob_query.specs.Looks.{IsLookFault, IsLookLine}
-use Rattle.dob_query.specs.Choices.{AreChoiceLines, IsBestLine}
+use Rattle.dob_query.specs.ValuedMoves.{AreMoveLines, IsBestLine}
 use Rattle.dob_query.specs.Each.{AnswersEach}
 use Rattle.dob_query.specs.LooksEach.{AnswersLookEach}
 use Rattle.dob_query.specs.Migrations.{AreMigrateLines, IsMigrateFault}
@@ -37,7 +37,7 @@ AreLinesFor c (Check file is_watched) = IsCheckLine (c.before.has file.now)
 AreLinesFor c (Look file position) = IsLookLine (c.before.has file.now) position.now
 AreLinesFor c (LookEach file) = λ lines. ⊥
 AreLinesFor c (Show file picture position) = AreShowLines c (text_given file) (text_given picture) position.now
-AreLinesFor c (Moves file position) = AreChoiceLines (c.before.has file.now) position.now
+AreLinesFor c (Moves file position) = AreMoveLines (c.before.has file.now) position.now
 AreLinesFor c (Best file position) = IsBestLine (c.before.has file.now) position.now
 AreLinesFor c (Stats file is_csv) = AreStatsLines (IsFileOf (c.before.has file.now)) is_csv
 AreLinesFor c (Puzzles file plies count from seed is_numbered) =

@@ -10,7 +10,7 @@ use Rattle.dob_query.specs.Program.{AnswersValue}
 use Rattle.dob_query.specs.Sizes.{AnswersCount}
 use Rattle.dob_cli.specs.Builds.{AnswersBuild}
 use Rattle.dob_query.specs.Looks.{AnswersLook, AnswersLookRight}
-use Rattle.dob_query.specs.Choices.{AnswersBest, AnswersBestRight, AnswersMoves, AnswersMovesRight}
+use Rattle.dob_query.specs.ValuedMoves.{AnswersBest, AnswersBestRight, AnswersMoves, AnswersMovesRight}
 use Rattle.dob_query.specs.Each.{AnswersEach, AnswersEachRight}
 use Rattle.dob_query.specs.LooksEach.{AnswersLookEach, AnswersLookEachRight}
 use Rattle.dob_query.specs.Shows.{AnswersShow, AnswersShowRight}

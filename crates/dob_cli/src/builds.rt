@@ -7,9 +7,9 @@ ghost use Rattle.dob_run.specs.Built.{IsBuilt};
 ghost use Rattle.dob_run.specs.Faults.{AreWithin, HasBuildFault};
 ghost use Rattle.dob_cli.specs.Builds.{AreBuildLines, IsBuildFault};
 
+use dob_classes::count_classes;
 use dob_pieces::{Family, PieceSet, Profile};
 use dob_query::{Console, Fault, Progress, Shelf, keep_table, lines_of, tell_need};
-use dob_classes::count_classes;
 use dob_run::{BATCH, Built, CAPACITY, Gate, run_nodes};
 use std::alloc::Global;
 use std::sync::Wait;

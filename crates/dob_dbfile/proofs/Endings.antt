@@ -5,10 +5,10 @@ use Rattle.dob_dbfile.specs.declared.fault.Fault.{Fault}
 use Rattle.dob_dbfile.specs.declared.fault.Fault.TheVariants.{Truncated, Magic, SetByte, ClassCount, Trailing, Digest, Memory, Io, ProfileByte}
 use Rattle.dob_dbfile.specs.Devices.{Stream, after, whole}
 use Rattle.dob_dbfile.specs.Format.{code_bytes}
-use Rattle.dob_dbfile.specs.Reading.{TakesBytes, IsCut, ReadsCodes, IsDigest, EndsWith, HasDigestFault}
+use Rattle.dob_dbfile.specs.Reading.{TakesBytes, GivesFewer, ReadsCodes, IsDigest, EndsWith, HasDigestFault}
 
 -- a digest that is cut short
-pub digest_cut : (message : List ℕ) (before : ℕ) (stream : Stream) (fault : Fault) → IsCut 32 before stream fault → HasDigestFault message before stream fault
+pub digest_cut : (message : List ℕ) (before : ℕ) (stream : Stream) (fault : Fault) → GivesFewer 32 before stream fault → HasDigestFault message before stream fault
 digest_cut message before stream Truncated cut = cut
 digest_cut message before stream (Io count) cut = (omega (arith, cut.0), cut.1, cut.2)
 digest_cut message before stream Memory cut = tt

@@ -14,7 +14,7 @@ use Rattle.dob_dbfile.specs.Devices.{Stream, after, GivesFirst}
 use Rattle.dob_dbfile.specs.Faults.{count_place, header_len, HasTitle, NamesSet, HasHeader, SaysProfile, NamesFamily}
 use Rattle.dob_dbfile.specs.Faults.{CountsClasses, HasHeaderFault}
 use Rattle.dob_dbfile.specs.Looking.{HasFrontFault}
-use Rattle.dob_dbfile.specs.Reading.{IsCut, TakesBytes}
+use Rattle.dob_dbfile.specs.Reading.{GivesFewer, TakesBytes}
 use Rattle.dob_dbfile.proofs.Filled.{filled_more}
 
 -- the number of classes stands in the header's last eight bytes
@@ -132,7 +132,7 @@ front_refused stream (fault.Io count) wrong = absurd wrong
 
 -- a header that is cut short where its set is known
 pub front_cut : (stream : Stream) (format : Format) (set : PieceSet) (wanted : ℕ) (given : Fault) → NamesSet format set stream.bytes
-    → 20 + wanted ≡ header_len format → IsCut wanted 20 (after 20 stream) given → (given ≡ fault.Memory → ⊥) → HasFrontFault stream given
+    → 20 + wanted ≡ header_len format → GivesFewer wanted 20 (after 20 stream) given → (given ≡ fault.Memory → ⊥) → HasFrontFault stream given
 front_cut stream format set wanted fault.Truncated names fits cut known =
     let there : 20 ≤ length stream.bytes = names.0.0 in
     let none : ¬ HasHeader format set stream.bytes = λ has.

@@ -11,7 +11,7 @@ use Rattle.dob_dbfile.specs.declared.fault.Fault.{Fault}
 use Rattle.dob_dbfile.specs.declared.fault.Fault.TheVariants.{Truncated, Magic, SetByte, ClassCount, Trailing, Digest, Memory, Io, ProfileByte}
 use Rattle.dob_dbfile.specs.Devices.{Stream, after}
 use Rattle.dob_dbfile.specs.Format.{code_bytes}
-use Rattle.dob_dbfile.specs.Reading.{IsCut, ReadsCodes, HashesNext}
+use Rattle.dob_dbfile.specs.Reading.{GivesFewer, ReadsCodes, HashesNext}
 
 -- nothing has been read
 pub reads_none : (stream : Stream) (codes : List ℕ) → ReadsCodes stream 0 codes codes
@@ -52,7 +52,7 @@ hashes_more stream a b old mid new first second message holds =
 
 -- what is cut short after some bytes is cut short
 pub cut_later : (stream : Stream) (done wanted more before : ℕ) (fault : Fault) → done ≤ length stream.bytes → done + more ≤ wanted
-    → IsCut more (before + done) (after done stream) fault → IsCut wanted before stream fault
+    → GivesFewer more (before + done) (after done stream) fault → GivesFewer wanted before stream fault
 cut_later stream done wanted more before Truncated there upto cut = (omega (arith, cut.0, length-drop done stream.bytes), cut.1)
 cut_later stream done wanted more before (Io count) there upto cut =
     (omega (arith, cut.0, length-drop done stream.bytes), cut.1, omega (arith, cut.2, length-drop done stream.bytes))

@@ -9,7 +9,7 @@ use Rattle.std.proofs.Math.Bool.{or-false}
 use Rattle.std.proofs.lemmas.List.{length-append, take-append-le, take_at, drop_at}
 use Rattle.dob_dbfile.specs.declared.device.FailedAfter.{FailedAfter}
 use Rattle.dob_dbfile.specs.Writing.{StopsBehind}
-use Rattle.dob_dbfile.specs.Sinks.{AddsFlush, IsNotFlushed, IsSame, Puts, SinkState, StopsAfter, TakesPiece, Works, Writes, change}
+use Rattle.dob_dbfile.specs.Sinks.{AddsFlush, IsNotFlushed, IsSame, Puts, SinkState, StopsAfter, TakesPiece, SinkWorks, Writes, change}
 
 -- bytes after bytes
 pub Appends-append : (a b c : Option (List ℕ)) (xs ys : List ℕ) → Appends a b xs → Appends b c ys → Appends a c (xs ++ ys)
@@ -62,7 +62,7 @@ Appends-keep (Some a) (Some b) None xs p q = absurd q
 Appends-keep (Some a) (Some b) (Some c) xs p q = q ∙ p
 
 -- a call that doesn't fail after others that didn't
-pub works_on : (a b c : SinkState) → Works (change a b) → c.has_failed ≡ (b.has_failed || false) → Works (change a c)
+pub works_on : (a b c : SinkState) → SinkWorks (change a b) → c.has_failed ≡ (b.has_failed || false) → SinkWorks (change a c)
 works_on a b c works notes = notes ∙ or-false b.has_failed ∙ works
 
 -- a part of the bytes, and then a call that fails

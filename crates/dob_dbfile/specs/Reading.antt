@@ -14,11 +14,11 @@ pub record TakesBytes (stream : Stream) (room : List ℕ) : Type 0 where
   pub same : room ≡ take (length room) stream.bytes
 
 -- the stream gives fewer bytes than are wanted; what failed says after how many, those before it counted
-abbrev pub IsCut : ℕ → ℕ → Stream → Fault → Type 0
-IsCut wanted before stream Truncated = (length stream.bytes < wanted) × (stream.fails ≡ false)
-IsCut wanted before stream (Io count) = (length stream.bytes < wanted) × (stream.fails ≡ true) × (count ≡ before + length stream.bytes)
-IsCut wanted before stream Memory = Unit {0}
-IsCut wanted before stream _ = ⊥
+abbrev pub GivesFewer : ℕ → ℕ → Stream → Fault → Type 0
+GivesFewer wanted before stream Truncated = (length stream.bytes < wanted) × (stream.fails ≡ false)
+GivesFewer wanted before stream (Io count) = (length stream.bytes < wanted) × (stream.fails ≡ true) × (count ≡ before + length stream.bytes)
+GivesFewer wanted before stream Memory = Unit {0}
+GivesFewer wanted before stream _ = ⊥
 
 -- the next bytes of the stream, so many, are records, whose codes are new at the end of the codes
 pub record ReadsCodes (stream : Stream) (len : ℕ) (old new : List ℕ) : Type 0 where

@@ -30,8 +30,8 @@ abbrev pub IsSame : Change → Type 0
 IsSame c = c.after.writer ≡ c.before.writer
 
 -- no call failed
-abbrev pub Works : Change → Type 0
-Works c = c.after.has_failed ≡ c.before.has_failed
+abbrev pub SinkWorks : Change → Type 0
+SinkWorks c = c.after.has_failed ≡ c.before.has_failed
 
 -- just the bytes came in
 abbrev pub TakesPiece : Change → List ℕ → Type 0
@@ -49,14 +49,14 @@ AddsFlush received old new = (bytes : List ℕ) → received ≡ Some bytes → 
 pub record Writes (c : Change) (bytes : List ℕ) : Type 0 where
   pub all : TakesPiece c bytes
   pub unflushed : IsNotFlushed c
-  pub works : Works c
+  pub works : SinkWorks c
   pub same : IsSame c
 
 -- all the bytes came in, it was flushed once after them, and no call failed
 pub record Puts (c : Change) (bytes : List ℕ) : Type 0 where
   pub all : TakesPiece c bytes
   pub flushed : AddsFlush (append_known c.before.received bytes) c.before.flushes c.after.flushes
-  pub works : Works c
+  pub works : SinkWorks c
   pub same : IsSame c
 
 -- so many of the first bytes came in, it wasn't flushed, and a call failed

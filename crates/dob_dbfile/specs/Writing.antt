@@ -8,10 +8,10 @@ use Rattle.dob_dbfile.specs.declared.fault.Fault.TheVariants.{Memory, Io}
 use Rattle.dob_dbfile.specs.Sinks.{Change, IsUntouched, StopsAfter}
 
 -- a sink that fails has received just so many bytes of those, and where memory is refused nothing happens to it
-abbrev pub StopsAt : Change → List ℕ → Fault → Type 0
-StopsAt c bytes (Io count) = StopsAfter c bytes count
-StopsAt c bytes Memory = IsUntouched c
-StopsAt c bytes _ = ⊥
+abbrev pub WriteStopsAt : Change → List ℕ → Fault → Type 0
+WriteStopsAt c bytes (Io count) = StopsAfter c bytes count
+WriteStopsAt c bytes Memory = IsUntouched c
+WriteStopsAt c bytes _ = ⊥
 
 -- it has received just the first of those bytes, as many as the failure says where so many were counted before
 abbrev pub StopsBehind : Change → ℕ → List ℕ → FailedAfter → Type 0

@@ -20,7 +20,9 @@ pub(crate) struct Header {
 
 /// Reads the header into the front of the room.
 ///
-/// Errors: `Truncated`, `Magic`, `SetByte`, `ProfileByte`, `ClassCount`, `Io`.
+/// # Errors
+///
+/// `Truncated`, `Magic`, `SetByte`, `ProfileByte`, `ClassCount`, `Io`.
 pub(crate) fn read_header<R: Source>(source: &mut R, room: &mut [u8]) -> Result<Header, Fault>
     requires { length room.old ≡ 21 }
     ensures counted { (stream : Stream) → R.gives source.old stream

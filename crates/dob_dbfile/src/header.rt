@@ -10,8 +10,8 @@ ghost use Rattle.dob_dbfile.specs.Faults.{SaysProfile, NamesSet, NamesFamily, Ha
 
 use crate::fault::Fault;
 use byteorder::{ByteOrder, LittleEndian};
-use dob_pieces::{Family, Memory, PieceSet, Profile};
 use dob_classes::count_classes;
+use dob_pieces::{Family, Memory, PieceSet, Profile};
 
 /// How many bytes are read before anything is tested: the whole header of the first format.
 pub(crate) const FRONT_LEN: usize = 20;
@@ -71,7 +71,9 @@ fn profile_byte(profile: Profile) -> u8
 
 /// The format and the set that the first bytes name.
 ///
-/// Errors: `Magic`, `SetByte`.
+/// # Errors
+///
+/// `Magic`, `SetByte`.
 pub(crate) fn front_named(front: &[u8]) -> Result<(Format, PieceSet), Fault>
     requires { length front.now ≡ 20 }
     ensures named { IfOk result (λ named. NamesSet named.0 named.1 front.now) }
@@ -88,7 +90,9 @@ pub(crate) fn front_named(front: &[u8]) -> Result<(Format, PieceSet), Fault>
 
 /// The family of that set that the whole header names, where it has the number of its classes.
 ///
-/// Errors: `ProfileByte`, `ClassCount`.
+/// # Errors
+///
+/// `ProfileByte`, `ClassCount`.
 pub(crate) fn family_counted(format: Format, set: PieceSet, header: &[u8]) -> Result<Family, Fault>
     requires named { HasHeader format set header.now }
     requires long { length header.now ≡ header_len format }

@@ -14,14 +14,16 @@ use crate::fault::Fault;
 use crate::header::{FRONT_LEN, Format, family_counted, family_saying, front_named};
 use crate::read::DIGEST_LEN;
 use crate::records::{RECORD_LEN, value_in};
-use dob_pieces::Family;
 use dob_classes::count_classes;
+use dob_pieces::Family;
 use dob_value::Value;
 
 /// The format of a file and the family whose table it holds, by its header and by how many bytes there are. The digest isn't
 /// read.
 ///
-/// Errors, just where it is the first that holds: those of `read_table` but `Digest`, `Memory` and `Io`.
+/// # Errors
+///
+/// Just where it is the first that holds: those of `read_table` but `Digest`, `Memory` and `Io`.
 pub fn held_family(bytes: &[u8]) -> Result<(Format, Family), Fault>
     ensures named { IfOk result (λ held. IsNoLonger held.0 held.1 (whole bytes.now)) }
     ensures fault { (fault : AnyFault) → IsErrOf result fault ↔ (HasReadFault (whole bytes.now) fault × (fault ≢ Fault.Digest)) }
@@ -29,7 +31,7 @@ pub fn held_family(bytes: &[u8]) -> Result<(Format, Family), Fault>
     held_whole(bytes)
 }
 
-// The same, where a fault is one that holds.
+// As above, where a fault is one that holds.
 fn held_whole(bytes: &[u8]) -> Result<(Format, Family), Fault>
     ensures named { IfOk result (λ held. IsNoLonger held.0 held.1 (whole bytes.now)) }
     ensures fault { IfErr result (HasReadFault (whole bytes.now)) }

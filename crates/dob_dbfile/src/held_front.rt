@@ -12,7 +12,9 @@ use dob_pieces::Family;
 /// The format and the family of a file of `size` bytes that begins with those of `front`, the first 21 or all of a shorter file: what `held_family` tells of the
 /// whole.
 ///
-/// Errors: those of `held_family`.
+/// # Errors
+///
+/// Those of `held_family`.
 pub fn front_family(front: &[u8], size: u64) -> Result<(Format, Family), Fault>
     ensures named { (file : List ℕ) → IsFrontOf front.now size file → IfOk result (λ held. IsNoLonger held.0 held.1 (whole file)) }
     ensures fault { (file : List ℕ) → IsFrontOf front.now size file → IfErr result (HasReadFault (whole file)) }

@@ -17,7 +17,9 @@ use std::alloc::Global;
 
 /// The file's format, and the classes of the family that its header names. No more than the header is read.
 ///
-/// Errors, the first of these that holds: `Truncated`, fewer than 20 bytes, or `Io` where the source fails before them;
+/// # Errors
+///
+/// The first of these that holds: `Truncated`, fewer than 20 bytes, or `Io` where the source fails before them;
 /// `Magic`, `SetByte`, what these say; in the second format the same of byte 21, and `ProfileByte`; `ClassCount`. `Memory` where none of them holds. The source has lost what was read.
 pub fn read_classes<R: Source>(alloc: Global, source: &mut R) -> Result<(Format, Classes), Fault>
     requires { R.has_failed source.old ≡ false }
@@ -37,7 +39,9 @@ pub fn read_classes<R: Source>(alloc: Global, source: &mut R) -> Result<(Format,
 /// The value that the class's record says, in a file of that format, which is read by its place. Neither another record nor
 /// the digest is read, and the next record can be.
 ///
-/// Errors: `Truncated` where the source ends before the record's last byte; `Io` where it fails there or can't go to its
+/// # Errors
+///
+/// `Truncated` where the source ends before the record's last byte; `Io` where it fails there or can't go to its
 /// place, with how many bytes stand before that.
 pub fn read_value<R: PlacedSource>(
     source: &mut R,

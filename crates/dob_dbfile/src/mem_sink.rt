@@ -37,7 +37,7 @@ impl MemSink {
         }
     }
 
-    /// The same sink, which takes at most so many bytes in one call.
+    /// This sink, now taking at most so many bytes in one call.
     pub fn in_pieces(self, longest: usize) -> MemSink
         requires { 0 < longest }
         ensures bytes { result.bytes.items ≡ self.bytes.items }
@@ -65,7 +65,7 @@ impl MemSink {
         }
     }
 
-    /// The same sink, which fails in place of taking more than that many bytes from here on.
+    /// This sink, now failing in place of taking more than that many bytes from here on.
     pub fn failing_after(self, room: usize) -> MemSink
         ensures bytes { result.bytes.items ≡ self.bytes.items }
         ensures flushes { result.flushes.items ≡ self.flushes.items }
@@ -92,7 +92,7 @@ impl MemSink {
         }
     }
 
-    /// The same sink, which fails at each flush.
+    /// This sink, now failing at each flush.
     pub fn failing_at_flush(self) -> MemSink
         ensures bytes { result.bytes.items ≡ self.bytes.items }
         ensures flushes { result.flushes.items ≡ self.flushes.items }

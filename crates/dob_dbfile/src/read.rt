@@ -7,7 +7,7 @@ ghost use Rattle.sha2.specs.Hashers.{Holds256};
 ghost use Rattle.dob_dbfile.specs.Devices.{Stream, after, whole};
 ghost use Rattle.dob_dbfile.specs.Format.{IsFile};
 ghost use Rattle.dob_dbfile.specs.Faults.{is_io_error, NamesClasses, HasReadFault, PassesAll};
-ghost use Rattle.dob_dbfile.specs.Reading.{TakesBytes, IsCut, IsNoEnd, ReadsCodes, HashesNext, EndsWith, IsDigest, HasDigestFault, HasRestFault};
+ghost use Rattle.dob_dbfile.specs.Reading.{TakesBytes, GivesFewer, IsNoEnd, ReadsCodes, HashesNext, EndsWith, IsDigest, HasDigestFault, HasRestFault};
 
 use crate::device::{Failed, Source};
 use crate::fault::Fault;
@@ -15,9 +15,9 @@ use crate::front::read_header;
 use crate::header::HEADER_LEN;
 use crate::records::{PIECE_LEN, PIECE_RECORDS, RECORD_LEN, push_codes};
 use crate::transfer::read_full;
-use dob_pieces::Memory;
 use dob_classes::Classes;
 use dob_lists::{SegmentLength, Segments};
+use dob_pieces::Memory;
 use dob_value::Table;
 use sha2::{Digest, Sha256};
 use std::alloc::Global;
@@ -27,7 +27,9 @@ pub(crate) const DIGEST_LEN: usize = 32;
 
 /// Reads the table of a file: of just the bytes that are a file of it, in either format, up to the source's end.
 ///
-/// Errors, the first of these that holds: `Truncated`, fewer than 20 bytes; `Magic`, `SetByte`, what these say; in the
+/// # Errors
+///
+/// The first of these that holds: `Truncated`, fewer than 20 bytes; `Magic`, `SetByte`, what these say; in the
 /// second format `Truncated`, fewer than 21 bytes, and `ProfileByte`; `ClassCount`; `Truncated`, fewer bytes
 /// than the family's records and digest have; `Trailing`, a byte more; `Digest`. `Io` only where the source fails in this
 /// call, with how many bytes it gave before. `Memory`, in place of what is tested after `ClassCount`, or of the table. The
@@ -79,7 +81,7 @@ pub(crate) fn fill<R: Source>(source: &mut R, room: &mut [u8], before: usize) ->
     requires { before + length room.old < 2 ^ 64 }
     ensures taken { (stream : Stream) → R.gives source.old stream
         → OnOk result (TakesBytes stream room.new × R.gives source.new (after (length room.new) stream)) }
-    ensures cut { (stream : Stream) → R.gives source.old stream → IfErr result (IsCut (length room.new) before stream) }
+    ensures cut { (stream : Stream) → R.gives source.old stream → IfErr result (GivesFewer (length room.new) before stream) }
     ensures known { IfErr result (λ given. given ≢ Fault.Memory) }
     ensures shown { (stream : Stream) → R.shows source.old stream → R.shows source.new stream }
     ensures failed { R.has_failed source.new ≡ (R.has_failed source.old || is_io_error result) }
@@ -153,7 +155,7 @@ fn read_records<R: Source>(
     ensures codes { (stream : Stream) → R.gives source.old stream
         → IfOk result (λ codes. ReadsCodes stream (2 * count) [] codes × R.gives source.new (after (2 * count) stream)) }
     ensures hashed { (stream : Stream) → R.gives source.old stream → OnOk result (HashesNext stream (2 * count) hasher.old hasher.new) }
-    ensures cut { (stream : Stream) → R.gives source.old stream → IfErr result (IsCut (2 * count) before stream) }
+    ensures cut { (stream : Stream) → R.gives source.old stream → IfErr result (GivesFewer (2 * count) before stream) }
     ensures failed { R.has_failed source.new ≡ (R.has_failed source.old || is_io_error result) }
 {
     let mut codes = Segments::new(alloc, SegmentLength::longest());
@@ -188,7 +190,7 @@ fn read_piece<R: Source>(
     ensures codes { (stream : Stream) → R.gives source.old stream
         → OnOk result (ReadsCodes stream (length room.old) codes.old codes.new × R.gives source.new (after (length room.old) stream)) }
     ensures hashed { (stream : Stream) → R.gives source.old stream → OnOk result (HashesNext stream (length room.old) hasher.old hasher.new) }
-    ensures cut { (stream : Stream) → R.gives source.old stream → IfErr result (IsCut (length room.old) (before + 2 * length codes.old) stream) }
+    ensures cut { (stream : Stream) → R.gives source.old stream → IfErr result (GivesFewer (length room.old) (before + 2 * length codes.old) stream) }
     ensures failed { R.has_failed source.new ≡ (R.has_failed source.old || is_io_error result) }
 {
     fill(source, room, before + RECORD_LEN * codes.len() as usize)?;

@@ -6,8 +6,8 @@ ghost use Rattle.dob_value.specs.Follows.{IsEntry};
 ghost use Rattle.dob_dbfile.specs.Format.{code_bytes, records};
 
 use byteorder::{ByteOrder, LittleEndian};
-use dob_pieces::Memory;
 use dob_lists::Segments;
+use dob_pieces::Memory;
 use dob_value::{Table, Value, code_of_value, value_of_code};
 
 /// How many bytes a record has.

@@ -7,7 +7,9 @@ use crate::device::{Failed, FailedAfter, Sink, Source};
 
 /// Writes all the bytes, in as many pieces as the sink makes of them.
 ///
-/// Error: the sink failed, and has received just the first bytes, as many as the answer says.
+/// # Errors
+///
+/// The sink failed, and has received just the first bytes, as many as the answer says.
 pub fn write_all<W: Sink>(sink: &mut W, bytes: &[u8]) -> Result<(), FailedAfter>
     ensures done { OnOk result (Writes (change (W.state sink.old) (W.state sink.new)) bytes.now) }
     ensures part { IfErr result (λ failed. StopsAfter (change (W.state sink.old) (W.state sink.new)) bytes.now failed.bytes) }
@@ -24,7 +26,9 @@ pub fn write_all<W: Sink>(sink: &mut W, bytes: &[u8]) -> Result<(), FailedAfter>
 
 /// Writes all the bytes, and flushes the sink once after them.
 ///
-/// Error: the sink failed, and has received just the first bytes, as many as the answer says: all of them where it
+/// # Errors
+///
+/// The sink failed, and has received just the first bytes, as many as the answer says: all of them where it
 /// failed to flush.
 pub fn put_all<W: Sink>(sink: &mut W, bytes: &[u8]) -> Result<(), FailedAfter>
     ensures done { OnOk result (Puts (change (W.state sink.old) (W.state sink.new)) bytes.now) }
@@ -40,7 +44,9 @@ pub fn put_all<W: Sink>(sink: &mut W, bytes: &[u8]) -> Result<(), FailedAfter>
 /// Fills the room with the next bytes, in as many pieces as the source makes of them, and answers how many there are:
 /// fewer than there is room for only where the source comes to its end.
 ///
-/// Error: the source failed after that many bytes, which are fewer than there is room for.
+/// # Errors
+///
+/// The source failed after that many bytes, which are fewer than there is room for.
 pub fn read_full<R: Source>(source: &mut R, room: &mut [u8]) -> Result<usize, FailedAfter>
     ensures within { IfOk result (λ count. count ≤ length room.new) }
     ensures given { (stream : Stream) → R.gives source.old stream

@@ -7,7 +7,7 @@ ghost use Rattle.dob_dbfile.specs.Format.{bytes_of, header_in, records};
 ghost use Rattle.dob_dbfile.specs.declared.header.Format.TheVariants.{Second};
 ghost use Rattle.dob_dbfile.specs.Faults.{is_io_error};
 ghost use Rattle.dob_dbfile.specs.Sinks.{Puts, Writes, change};
-ghost use Rattle.dob_dbfile.specs.Writing.{Hashes, StopsAt, StopsBehind};
+ghost use Rattle.dob_dbfile.specs.Writing.{Hashes, WriteStopsAt, StopsBehind};
 
 use crate::device::{FailedAfter, Sink};
 use crate::fault::Fault;
@@ -20,12 +20,14 @@ use std::alloc::Global;
 
 /// Writes a table as a file of the second format, in pieces of a few kilobytes, and flushes the sink once at the end.
 ///
-/// Errors: `Memory`, before anything is written; `Io` where the sink fails in this call, which then has received just
+/// # Errors
+///
+/// `Memory`, before anything is written; `Io` where the sink fails in this call, which then has received just
 /// the first bytes of the file, as many as the fault says, and all of them where it failed to flush.
 pub fn write_table<W: Sink>(alloc: Global, table: &Table, sink: &mut W) -> Result<(), Fault>
     requires { (W.state sink.old).has_failed ≡ false }
     ensures written { OnOk result (Puts (change (W.state sink.old) (W.state sink.new)) (bytes_of table.now)) }
-    ensures stopped { IfErr result (StopsAt (change (W.state sink.old) (W.state sink.new)) (bytes_of table.now)) }
+    ensures stopped { IfErr result (WriteStopsAt (change (W.state sink.old) (W.state sink.new)) (bytes_of table.now)) }
     ensures failed { (W.state sink.new).has_failed ≡ is_io_error result }
 {
     let mut piece = Vec::with_capacity(alloc, PIECE_LEN)?;

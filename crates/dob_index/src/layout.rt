@@ -5,8 +5,8 @@ ghost use Rattle.dob_rank.specs.Runs.{run_kind, lion_pairs};
 ghost use Rattle.dob_index.specs.Layout.{mark_of, row_at, entries_in, run_words, where_mixed, words_of};
 ghost use Rattle.dob_index.specs.Index.{IsMarked};
 
-use dob_pieces::{Family, PieceSet, Profile};
 use dob_classes::{LIONS, RunKind, count_blocks, kind_of, run_size_in};
+use dob_pieces::{Family, PieceSet, Profile};
 
 /// How many places an entry stands for.
 pub(crate) const ENTRY_PLACES: u64 = 256;

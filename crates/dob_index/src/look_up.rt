@@ -7,8 +7,8 @@ ghost use Rattle.dob_rank.specs.Runs.{runs_in, run_size, run_start};
 ghost use Rattle.dob_index.specs.Index.{IsIndex};
 
 use crate::layout::{BEFORE, ENTRIES, ENTRY_PLACES, row_at, word};
-use dob_pieces::{Family, Position};
 use dob_classes::{LIONS, MixedRun, RunKind, classes_in_run, kind_of, representative, spot_of};
+use dob_pieces::{Family, Position};
 
 /// The number of the class of a position of the family by its index; some number by any others.
 pub fn class_by(family: Family, words: &[u64], position: &Position) -> u64

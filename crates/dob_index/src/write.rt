@@ -9,8 +9,10 @@ ghost use Rattle.dob_index.specs.Layout.{words_of, row_at, entries_at, entries_i
 ghost use Rattle.dob_index.specs.Index.{IsIndex, IsKeptBlock, IsKeptRun, AreEntriesFrom};
 
 use crate::layout::{BEFORE, ENTRIES, ENTRY_PLACES, entries_in, mark_of, row_at, run_words};
+use dob_classes::{
+    LIONS, MixedRun, RunKind, classes_in_run, count_blocks, count_runs, kind_of, run_size_in,
+};
 use dob_pieces::Family;
-use dob_classes::{LIONS, MixedRun, RunKind, classes_in_run, count_blocks, count_runs, kind_of, run_size_in};
 
 /// Writes the index of the family into the first of those numbers, as many as `index_words` says. Those behind stay as they were.
 pub fn write_index(family: Family, words: &mut [u64])

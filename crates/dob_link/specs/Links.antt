@@ -10,16 +10,16 @@ pub data Call : Type 0 where
   Nothing : Call
 
 -- The batches waiting before such a call and after it: a batch is taken in at the end, the first is handed out.
-abbrev pub Steps : List BatchView → Call → List BatchView → Type 0
-Steps old (Taken batch) new = new ≡ old ++ batch ∷ []
-Steps old (GivenBack batch) new = new ≡ old
-Steps old (Handed batch) new = old ≡ batch ∷ new
-Steps old Nothing new = (old ≡ []) × (new ≡ [])
+abbrev pub LinkSteps : List BatchView → Call → List BatchView → Type 0
+LinkSteps old (Taken batch) new = new ≡ old ++ batch ∷ []
+LinkSteps old (GivenBack batch) new = new ≡ old
+LinkSteps old (Handed batch) new = old ≡ batch ∷ new
+LinkSteps old Nothing new = (old ≡ []) × (new ≡ [])
 
 -- before and after such calls, one after another
 abbrev pub Runs : List BatchView → List Call → List BatchView → Type 0
 Runs old [] new = old ≡ new
-Runs old (call ∷ calls) new = (between : List BatchView) × Steps old call between × Runs between calls new
+Runs old (call ∷ calls) new = (between : List BatchView) × LinkSteps old call between × Runs between calls new
 
 -- the batches that were taken in, in order
 abbrev pub taken : List Call → List BatchView

@@ -1,7 +1,7 @@
 // What every link does.
 ghost use Rattle.std.specs.Prelude.{◌≡◌, ◌<◌, ◌≤◌, ℕ, List, length, OnOk, OnErr, IfErr, IfSome, IfNone};
 ghost use Rattle.dob_update.specs.Batches.{BatchView};
-ghost use Rattle.dob_link.specs.Links.{Taken, GivenBack, Handed, Nothing, Steps};
+ghost use Rattle.dob_link.specs.Links.{Taken, GivenBack, Handed, Nothing, LinkSteps};
 
 use dob_update::Batch;
 
@@ -22,15 +22,15 @@ pub trait Link {
     /// Takes the batch in behind those that wait. `Full` just where the link holds its capacity; then the batch comes
     /// back and nothing is changed.
     fn offer(&mut self, batch: Batch) -> Result<(), Full>
-        ensures ok { OnOk result (Steps (waiting self.old) (Taken batch) (waiting self.new)) }
-        ensures full { IfErr result (λ full. (full.batch ≡ batch) × Steps (waiting self.old) (GivenBack batch) (waiting self.new)) }
+        ensures ok { OnOk result (LinkSteps (waiting self.old) (Taken batch) (waiting self.new)) }
+        ensures full { IfErr result (λ full. (full.batch ≡ batch) × LinkSteps (waiting self.old) (GivenBack batch) (waiting self.new)) }
         ensures full_only_at_capacity { OnErr result (capacity self.old ≤ length (waiting self.old)) }
         ensures ok_only_below_it { OnOk result (length (waiting self.old) < capacity self.old) }
         ensures capacity { capacity self.new ≡ capacity self.old };
 
     /// Hands the first batch out, and `None` only where none waits.
     fn next(&mut self) -> Option<Batch>
-        ensures some { IfSome result (λ batch. Steps (waiting self.old) (Handed batch) (waiting self.new)) }
-        ensures none { IfNone result (Steps (waiting self.old) Nothing (waiting self.new)) }
+        ensures some { IfSome result (λ batch. LinkSteps (waiting self.old) (Handed batch) (waiting self.new)) }
+        ensures none { IfNone result (LinkSteps (waiting self.old) Nothing (waiting self.new)) }
         ensures capacity { capacity self.new ≡ capacity self.old };
 }

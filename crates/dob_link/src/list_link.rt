@@ -57,7 +57,7 @@ impl ListLink {
 
 impl Link for ListLink {
     ghost use Rattle.std.specs.Prelude.{◌≡◌, ◌<◌, ◌↔◌, length, IsOk, OnOk, OnErr, IfErr, IfSome, IfNone};
-    ghost use Rattle.dob_link.specs.Links.{Taken, GivenBack, Handed, Nothing, Steps};
+    ghost use Rattle.dob_link.specs.Links.{Taken, GivenBack, Handed, Nothing, LinkSteps};
 
     ghost waiting = { λ link. link.waiting };
 

@@ -75,7 +75,9 @@ impl<T> Segments<T> {
 impl<T: Copy> Segments<T> {
     /// A list of that many items, each the given one, in segments of that length, which are filled as a whole.
     ///
-    /// Error: `Memory`.
+    /// # Errors
+    ///
+    /// `Memory`.
     pub fn filled(
         alloc: Global,
         segment_length: SegmentLength,
@@ -113,7 +115,9 @@ impl<T: Copy> Segments<T> {
 
     /// Appends the items one after another.
     ///
-    /// Error: `Memory`, which may leave the list with the first of them.
+    /// # Errors
+    ///
+    /// `Memory`, which may leave the list with the first of them.
     pub fn append(&mut self, items: &[T]) -> Result<(), Memory>
         ensures appended { OnOk result (self.new ≡ self.old ++ items.now) }
         ensures begun { OnErr result ((count : ℕ) × (self.new ≡ self.old ++ take count items.now)) }
@@ -126,7 +130,9 @@ impl<T: Copy> Segments<T> {
 
     /// Appends the item.
     ///
-    /// Error: `Memory`, which leaves the list as it was.
+    /// # Errors
+    ///
+    /// `Memory`, which leaves the list as it was.
     pub fn push(&mut self, item: T) -> Result<(), Memory>
         ensures appended { OnOk result (self.new ≡ self.old ++ item ∷ []) }
         ensures unchanged { OnErr result (self.new ≡ self.old) }

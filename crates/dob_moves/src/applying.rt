@@ -12,20 +12,20 @@ use dob_pieces::{Hand, HandKind, Hands, Kind, Piece, Position, Setup, Side, Squa
 
 /// The position that a move leads to, seen from the side that moves next. The position must be open and the move
 /// one of its moves; nothing of it is tested when this runs.
-pub fn apply(position: &Position, choice: Move) -> Position
+pub fn apply(position: &Position, the_move: Move) -> Position
     requires open { HasStatus A position.now.setup Status.Open }
-    requires can_go { CanGo A position.now.setup choice }
-    ensures { HasOutcome position.now.setup choice result.setup }
+    requires can_go { CanGo A position.now.setup the_move }
+    ensures { HasOutcome position.now.setup the_move result.setup }
 {
-    Position::new(moved(position, choice).turned())
+    Position::new(moved(position, the_move).turned())
 }
 
 // What stands after a move, before the board is turned.
-fn moved(position: &Position, choice: Move) -> Setup
-    requires { CanGo A position.now.setup choice }
-    ensures { result ≡ moved position.now.setup choice }
+fn moved(position: &Position, the_move: Move) -> Setup
+    requires { CanGo A position.now.setup the_move }
+    ensures { result ≡ moved position.now.setup the_move }
 {
-    match choice {
+    match the_move {
         Move::Step {
             kind,
             from,

@@ -141,7 +141,7 @@ pub fn status_and_count(profile: Profile, position: &Position) -> (Status, u8)
     status_and_count_shown(profile, position, &masks, position.setup.hands.mover)
 }
 
-/// The same by the position's masks and the mover's hand. The position only says of what they are: a caller that makes it for
+/// Status and number of moves by the position's masks and the mover's hand. The position only says of what they are: a caller that makes it for
 /// this call alone doesn't make it when the program runs.
 #[inline(always)]
 pub fn status_and_count_shown(

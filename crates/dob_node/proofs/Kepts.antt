@@ -17,10 +17,10 @@ use Rattle.dob_share.specs.declared.news.Settlement.{Settlement}
 use Rattle.dob_share.specs.declared.news.Item.{Item}
 use Rattle.dob_share.specs.declared.share.Share.{Share}
 use Rattle.dob_share.specs.Owners.{owner_of}
-use Rattle.dob_share.specs.Cells.{Cell, SameCell, CanTake, KnowsLossWithin, changed}
+use Rattle.dob_share.specs.Cells.{Cell, SameCell, CellCanTake, KnowsLossWithin, changed}
 use Rattle.dob_share.specs.Shares.{places_of, IsOwn, status_at, cell_at, Fits, SameClasses, HasSettled}
 use Rattle.dob_node.specs.Stores.{HistoryView}
-use Rattle.dob_node.specs.TakenItems.{HasEntries, HasParities, AreKept, listed}
+use Rattle.dob_node.specs.TakenItems.{HasItemEntries, HasParities, AreKept, listed}
 use Rattle.dob_node.proofs.Parity.{parities_same, parities_changed, entry_now}
 
 -- ---- what is not refused fits
@@ -48,7 +48,7 @@ sure_within plies None sure = absurd (sure (λ none. none))
 sure_within plies (Some least) sure =
     let less : least < plies + 1 = sure_less least (plies + 1) (λ no. sure (λ yes. no (omega arith))) in omega arith
 
-sure_takes : (was now : Value) (cell : Cell) → ¬ ¬ CanTake was now cell → CanTake was now cell
+sure_takes : (was now : Value) (cell : Cell) → ¬ ¬ CellCanTake was now cell → CellCanTake was now cell
 sure_takes Draw (Win now) cell sure = sure_less 0 cell.left sure
 sure_takes Draw (Loss now) cell sure = sure_less 0 cell.left sure
 sure_takes (Win was) (Win now) cell sure =
@@ -99,7 +99,7 @@ same_owned old new same class own =
 -- ---- what is asked of a settlement
 
 module _ (family : Family) (n id : ℕ) (share after : Share) (history : HistoryView) (item : Item) (kept : AreKept family n id share history)
-    (entries : HasEntries item) (same : SameClasses share after) (fits : Fits share item)
+    (entries : HasItemEntries item) (same : SameClasses share after) (fits : Fits share item)
     (cell : SameCell (cell_at after item.to) (changed item.was item.now (cell_at share item.to)))
     (others : (class : ℕ) → IsOwn share class → class ≢ item.to → SameCell (cell_at after class) (cell_at share class)) where
   own : IsOwn share item.to

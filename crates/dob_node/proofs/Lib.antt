@@ -34,8 +34,8 @@ pub mod Parts  -- the values of a node's own classes, by their places
 pub mod ItemChanges  -- what an item that a share takes changes
 pub mod ShownValues  -- the values that classes show, and lists of them
 -- One node that owns all classes.
-pub mod Soles  -- the cells and history of the node, and an item that it applies
-pub mod SoleOpens  -- the node is lawful as it is opened
-pub mod SoleSteps  -- the node stays lawful, and makes one step more
-pub mod SoleStops  -- where the node stops, and when it has nothing left to do
-pub mod SoleEnds  -- the values that the node shows, and its end
+pub mod AloneParts  -- the cells and history of the node, and an item that it applies
+pub mod AloneOpens  -- the node is lawful as it is opened
+pub mod AloneSteps  -- the node stays lawful, and makes one step more
+pub mod AloneStops  -- where the node stops, and when it has nothing left to do
+pub mod AloneEnds  -- the values that the node shows, and its end

@@ -16,7 +16,7 @@ use Rattle.dob_share.specs.declared.news.Item.{Item}
 use Rattle.dob_share.specs.Owners.{owner_of}
 use Rattle.dob_update.specs.Items.{items_of}
 use Rattle.dob_update.specs.Batches.{BatchView, OutboxView, empty_outbox, added, IsCut}
-use Rattle.dob_node.specs.TakenItems.{HasEntries}
+use Rattle.dob_node.specs.TakenItems.{HasItemEntries}
 use Rattle.dob_node.specs.Outboxes.{outbox_in, IsOutboxTo, AreAdded, IsCutFrom}
 use Rattle.dob_node.proofs.Sounds.{entries_of}
 
@@ -108,13 +108,13 @@ addressed_still targets settlement n from k old mid so_far of low default =
 pub addressed_empty : (family : Family) (n from : ℕ) (xs : List OutboxView) → ((to : ℕ) → outbox_in family n from xs to ≡ empty_outbox family n from to) →
     (to : ℕ) → IsOutboxTo family n from to (outbox_in family n from xs to)
 addressed_empty family n from xs empty to = subst (λ (o : OutboxView). IsOutboxTo family n from to o) (sym (empty to))
-    (record { of = (refl, refl, refl, refl); entries = All-nil HasEntries })
+    (record { of = (refl, refl, refl, refl); entries = All-nil HasItemEntries })
 
 added_to : (family : Family) (n from to : ℕ) (o : OutboxView) (s : Settlement) (targets : List ℕ) → IsEntry s.was → IsEntry s.now →
     IsOutboxTo family n from to o → IsOutboxTo family n from to (added o s (items_of (λ _. targets) n to s))
 added_to family n from to o s targets was now is = record {
   of = is.of;
-  entries = All-append HasEntries o.items _ is.entries (entries_of s was now (filter (λ p. owner_of n p == to) targets));
+  entries = All-append HasItemEntries o.items _ is.entries (entries_of s was now (filter (λ p. owner_of n p == to) targets));
 }
 
 pub addressed_added : (family : Family) (targets : List ℕ) (s : Settlement) (n from : ℕ) (old new : List OutboxView) → IsEntry s.was → IsEntry s.now →
@@ -162,12 +162,12 @@ cut_to : (family : Family) (n from to size : ℕ) (batch : BatchView) (old new :
     IsOutboxTo family n from to new
 cut_to family n from to size batch old new cut is = record {
   of = (cut.same_link.0 ∙ is.of.0, cut.same_link.1 ∙ is.of.1, cut.same_link.2 ∙ is.of.2, cut.same_link.3 ∙ is.of.3);
-  entries = subst (λ xs. All HasEntries xs) (sym cut.left) (All-drop HasEntries size old.items is.entries);
+  entries = subst (λ xs. All HasItemEntries xs) (sym cut.left) (All-drop HasItemEntries size old.items is.entries);
 }
 
 pub cut_entries : (family : Family) (n from to size : ℕ) (batch : BatchView) (old new : OutboxView) → IsCut old size batch new → IsOutboxTo family n from to old →
-    All HasEntries batch.items
-cut_entries family n from to size batch old new cut is = subst (λ xs. All HasEntries xs) (sym cut.items) (All-take HasEntries size old.items is.entries)
+    All HasItemEntries batch.items
+cut_entries family n from to size batch old new cut is = subst (λ xs. All HasItemEntries xs) (sym cut.items) (All-take HasItemEntries size old.items is.entries)
 
 -- the batch is of the same link
 pub cut_of : (family : Family) (n from to size : ℕ) (batch : BatchView) (old new : OutboxView) → IsCut old size batch new → IsOutboxTo family n from to old →

@@ -15,7 +15,7 @@ use Rattle.dob_value.specs.Follows.{IsEntry}
 use Rattle.dob_rank.specs.Families.{classes_of}
 use Rattle.dob_update.specs.Items.{item_for}
 use Rattle.dob_node.specs.Stores.{HistoryView}
-use Rattle.dob_node.specs.TakenItems.{HasEntries, AreKept, IsTaken, listed}
+use Rattle.dob_node.specs.TakenItems.{HasItemEntries, AreKept, IsTaken, listed}
 
 -- by the share's own numbers
 pub kept_own : (family : Family) (n id : ℕ) (share : Share) (history : HistoryView) → AreKept family n id share history →
@@ -57,15 +57,15 @@ class_low family n id share history number s kept there =
     (kept.classes number s (slice_get_within history.settlements number s there))
 
 -- the items of a settlement have its values
-pub entries_of : (s : Settlement) → IsEntry s.was → IsEntry s.now → (targets : List ℕ) → All HasEntries (map (item_for s) targets)
-entries_of s was now [] = All-nil HasEntries
-entries_of s was now (to ∷ targets) = All-cons HasEntries (item_for s to) (map (item_for s) targets) (was, now) (entries_of s was now targets)
+pub entries_of : (s : Settlement) → IsEntry s.was → IsEntry s.now → (targets : List ℕ) → All HasItemEntries (map (item_for s) targets)
+entries_of s was now [] = All-nil HasItemEntries
+entries_of s was now (to ∷ targets) = All-cons HasItemEntries (item_for s to) (map (item_for s) targets) (was, now) (entries_of s was now targets)
 
 -- with them, the items to apply have such values
-pub entries_more : (s : Settlement) (own new items : List Item) (targets : List ℕ) → IsEntry s.was → IsEntry s.now → All HasEntries own →
-    items ≡ map (item_for s) targets → new ≡ own ++ items → All HasEntries new
-entries_more s own new items targets was now entries are is = subst (λ xs. All HasEntries xs) (sym (is ∙ ap (λ xs. own ++ xs) are))
-    (All-append HasEntries own (map (item_for s) targets) entries (entries_of s was now targets))
+pub entries_more : (s : Settlement) (own new items : List Item) (targets : List ℕ) → IsEntry s.was → IsEntry s.now → All HasItemEntries own →
+    items ≡ map (item_for s) targets → new ≡ own ++ items → All HasItemEntries new
+entries_more s own new items targets was now entries are is = subst (λ xs. All HasItemEntries xs) (sym (is ∙ ap (λ xs. own ++ xs) are))
+    (All-append HasItemEntries own (map (item_for s) targets) entries (entries_of s was now targets))
 
 -- ---- openings
 

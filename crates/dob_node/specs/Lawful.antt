@@ -15,7 +15,7 @@ use Rattle.dob_share.specs.declared.news.Settlement.{Settlement}
 use Rattle.dob_share.specs.declared.news.Item.{Item}
 use Rattle.dob_share.specs.Owners.{owner_of}
 use Rattle.dob_share.specs.Values.{NoWorse}
-use Rattle.dob_share.specs.Cells.{Cell, SameCell, CanTake, changed, CellValue, SumsUp}
+use Rattle.dob_share.specs.Cells.{Cell, SameCell, CellCanTake, changed, CellValue, SumsUp}
 use Rattle.dob_update.specs.Items.{items_from}
 use Rattle.dob_node.specs.Histories.{value_of, all_known, IsChained}
 use Rattle.dob_node.specs.Quiet.{FollowsAtStatus}
@@ -48,7 +48,7 @@ pub record CanApply (family : Family) (n j : ℕ) (cell : ℕ → Cell) (item : 
   pub below : item.to < classes_of family
   pub own : owner_of n item.to ≡ j
   pub is_open : HasStatus family.profile (class_setup family item.to) Open
-  pub takes : CanTake item.was item.now (cell item.to)
+  pub takes : CellCanTake item.was item.now (cell item.to)
 
 -- The cells after an item: that of its class is changed as the item says, and gives a value that is short and no worse;
 -- the others say what they said.

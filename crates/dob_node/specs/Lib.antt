@@ -11,4 +11,4 @@ pub mod SeenItems
 pub mod Outboxes
 pub mod OpeningLists
 pub mod Nodes
-pub mod Sole
+pub mod Alone

@@ -17,7 +17,7 @@ use Rattle.dob_update.specs.Batches.{BatchView, OutboxView, empty_outbox, added,
 use Rattle.dob_stops.specs.declared.cause.Cause.{Cause}
 use Rattle.dob_node.specs.declared.node.Node.{Node}
 use Rattle.dob_node.specs.OpeningLists.{opening_settlements, status_in}
-use Rattle.dob_node.specs.TakenItems.{HasEntries, AreKept, IsHistory, IsTaken, AreTaken, IsReason}
+use Rattle.dob_node.specs.TakenItems.{HasItemEntries, AreKept, IsHistory, IsTaken, AreTaken, IsReason}
 use Rattle.dob_node.specs.Outboxes.{outbox_in, IsOutboxTo}
 
 -- what the node has still to send to another
@@ -30,7 +30,7 @@ outbox_to node to = outbox_in node.family node.n node.id node.outboxes.items to
 pub record IsSound (node : Node) : Type 0 where
   pub kept : AreKept node.family node.n node.id node.share node.history
   pub emitted : node.expanded ≤ length node.history.settlements
-  pub entries : All HasEntries node.own.items
+  pub entries : All HasItemEntries node.own.items
   pub receivers : length node.outboxes.items ≡ node.n
   pub addressed : (to : ℕ) → IsOutboxTo node.family node.n node.id to (outbox_to node to)
   pub nothing_to_self : (outbox_to node node.id).items ≡ []
@@ -95,7 +95,7 @@ pub record HasTakenBefore (items : List Item) (old new : Node) (why : Cause) : T
 pub record HasCut (to size : ℕ) (batch : BatchView) (old new : Node) : Type 0 where
   pub of : (batch.family ≡ old.family) × (batch.n ≡ old.n) × (batch.from ≡ old.id) × (batch.to ≡ to)
   pub cut : IsCut (outbox_to old to) size batch (outbox_to new to)
-  pub entries : All HasEntries batch.items
+  pub entries : All HasItemEntries batch.items
   pub others : (other : ℕ) → other ≢ to → outbox_to new other ≡ outbox_to old other
   pub same : (new.family ≡ old.family) × (new.id ≡ old.id) × (new.n ≡ old.n) × (new.expanded ≡ old.expanded)
   pub kept : (new.share ≡ old.share) × (new.history ≡ old.history) × (new.own.items ≡ old.own.items)

@@ -6,7 +6,7 @@ use Rattle.dob_unmove.specs.Edges.{predecessors}
 use Rattle.dob_share.specs.declared.news.Settlement.{Settlement}
 use Rattle.dob_update.specs.Items.{items_of}
 use Rattle.dob_update.specs.Batches.{BatchView, OutboxView, empty_outbox, added, IsCut}
-use Rattle.dob_node.specs.TakenItems.{HasEntries}
+use Rattle.dob_node.specs.TakenItems.{HasItemEntries}
 
 -- the outbox for a node, among those of one of n nodes
 abbrev pub outbox_in : Family → ℕ → ℕ → List OutboxView → ℕ → OutboxView
@@ -15,7 +15,7 @@ outbox_in family n from outboxes to = slice_index_or outboxes to (empty_outbox f
 -- an outbox from one of n nodes to another, with items that have such values as a table can have
 pub record IsOutboxTo (family : Family) (n from to : ℕ) (outbox : OutboxView) : Type 0 where
   pub of : (outbox.family ≡ family) × (outbox.n ≡ n) × (outbox.from ≡ from) × (outbox.to ≡ to)
-  pub entries : All HasEntries outbox.items
+  pub entries : All HasItemEntries outbox.items
 
 -- Of the outboxes for the nodes below a number, each but one has the settlement more, with its items for that node,
 -- where `targets` are the classes with a move into the settled one; the others are the same.

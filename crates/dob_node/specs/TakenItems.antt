@@ -15,8 +15,8 @@ use Rattle.dob_stops.specs.declared.cause.Cause.{Cause}
 use Rattle.dob_stops.specs.declared.cause.Cause.TheVariants.{TooDeep, Contradiction, Memory, Held, Counts}
 
 -- the item's values are such as a table can have
-abbrev pub HasEntries : Item → Type 0
-HasEntries item = IsEntry item.was × IsEntry item.now
+abbrev pub HasItemEntries : Item → Type 0
+HasItemEntries item = IsEntry item.was × IsEntry item.now
 
 -- the cell counts wins in odd and knows a loss in an even number of plies
 pub record HasParities (cell : Cell) : Type 0 where

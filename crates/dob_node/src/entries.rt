@@ -2,7 +2,7 @@
 ghost use Rattle.std.specs.Prelude.{◌↔◌, IsTrue};
 ghost use Rattle.std.specs.List.{All};
 ghost use Rattle.dob_value.specs.Follows.{IsEntry};
-ghost use Rattle.dob_node.specs.TakenItems.{HasEntries};
+ghost use Rattle.dob_node.specs.TakenItems.{HasItemEntries};
 
 use dob_share::Item;
 use dob_value::{MAX_DISTANCE, Value};
@@ -10,7 +10,7 @@ use dob_value::{MAX_DISTANCE, Value};
 /// Whether the values of each item, before and after, are such as a table can have: a draw, or a win in an odd or a loss in an even
 /// number of plies, of at most `MAX_DISTANCE`. `Node::apply_batch` takes no other items.
 pub fn have_entries(items: &[Item]) -> bool
-    ensures { IsTrue result ↔ All HasEntries items.now }
+    ensures { IsTrue result ↔ All HasItemEntries items.now }
 {
     items
         .iter()

@@ -8,11 +8,11 @@ ghost use Rattle.dob_share.specs.declared.share.Seen.{Seen};
 ghost use Rattle.dob_share.specs.Shares.{Fits, GoesTooDeep, IsSeen};
 ghost use Rattle.dob_stops.specs.declared.cause.Cause.TheVariants as cause;
 ghost use Rattle.dob_node.specs.Stores.{settlements_from, starts_of};
-ghost use Rattle.dob_node.specs.TakenItems.{HasEntries, AreKept, IsHistory, IsTaken, IsReason};
+ghost use Rattle.dob_node.specs.TakenItems.{HasItemEntries, AreKept, IsHistory, IsTaken, IsReason};
 
 use crate::start_statuses::StartStatuses;
-use dob_pieces::Memory;
 use dob_lists::{SegmentLength, Segments};
+use dob_pieces::Memory;
 use dob_share::{Item, Seen, Settlement, Share};
 use dob_stops::Cause;
 use dob_value::{Value, code_of_value, value_of_code};
@@ -134,11 +134,13 @@ impl History {
     /// Applies the item to the share, and adds the settlement that it makes, if it makes one, for which there is room before
     /// the share changes.
     ///
-    /// Errors, which leave the share and the history as they were: `Memory`, but not where there is room; else `Contradiction` where the item doesn't fit,
+    /// # Errors
+    ///
+    /// Which leave the share and the history as they were: `Memory`, but not where there is room; else `Contradiction` where the item doesn't fit,
     /// else `TooDeep` where its class's value would be too deep.
     pub(crate) fn take_item(&mut self, share: &mut Share, item: Item) -> Result<(), Cause>
         requires kept { (family : Set) × AreKept family share.old.n share.old.id share.old self.old }
-        requires entries { HasEntries item }
+        requires entries { HasItemEntries item }
         ensures contradiction { result ≢ Err cause.Memory → (result ≡ Err (cause.Contradiction item.to)) ↔ (¬ Fits share.old item) }
         ensures too_deep { result ≢ Err cause.Memory → (result ≡ Err cause.TooDeep) ↔ (Fits share.old item × GoesTooDeep share.old item) }
         ensures why { IfErr result (λ why. IsReason item share.old why) }
@@ -154,7 +156,9 @@ impl History {
 
     /// Takes an item as `take_item` does, by what was seen of its class.
     ///
-    /// Errors: as of `take_item`.
+    /// # Errors
+    ///
+    /// As of `take_item`.
     pub(crate) fn take_seen(
         &mut self,
         share: &mut Share,
@@ -163,7 +167,7 @@ impl History {
     ) -> Result<(), Cause>
         requires seen { IsSeen share.old item.to seen }
         requires kept { (family : Set) × AreKept family share.old.n share.old.id share.old self.old }
-        requires entries { HasEntries item }
+        requires entries { HasItemEntries item }
         ensures contradiction { result ≢ Err cause.Memory → (result ≡ Err (cause.Contradiction item.to)) ↔ (¬ Fits share.old item) }
         ensures too_deep { result ≢ Err cause.Memory → (result ≡ Err cause.TooDeep) ↔ (Fits share.old item × GoesTooDeep share.old item) }
         ensures why { IfErr result (λ why. IsReason item share.old why) }

@@ -8,15 +8,15 @@ ghost use Rattle.dob_update.specs.Batches.{most_items};
 ghost use Rattle.dob_update.specs.Items.{items_of};
 ghost use Rattle.dob_stops.specs.declared.cause.Cause.TheVariants as cause;
 ghost use Rattle.dob_node.specs.Stores.{starts_of};
-ghost use Rattle.dob_node.specs.TakenItems.{HasEntries, StopsAt};
+ghost use Rattle.dob_node.specs.TakenItems.{HasItemEntries, StopsAt};
 
 use crate::history::History;
 use crate::outboxes::{add_for_others, are_empty, cut_at, empty_outboxes};
 use crate::start_statuses::StartStatuses;
 use crate::taking::take_items;
-use dob_pieces::{Family, Memory};
 use dob_classes::Classes;
 use dob_lists::{SegmentLength, Segments};
+use dob_pieces::{Family, Memory};
 use dob_share::{Item, Opening, Settlement, Share, owner};
 use dob_stops::Cause;
 use dob_unmove::back_into;
@@ -65,7 +65,9 @@ impl Node {
     /// The node of owner `id`, one of `n`, at most 16, before its first step. Its history has a settlement for each own
     /// class that is caught, tried or stuck, in the order of the classes. Its lists have segments as long as those of the openings.
     ///
-    /// Error: `Memory`.
+    /// # Errors
+    ///
+    /// `Memory`.
     pub fn open(
         alloc: Global,
         openings: &Segments<Opening>,
@@ -101,7 +103,9 @@ impl Node {
     /// Expands the first settlement of the history that isn't: its items for the own classes are to be applied, those for
     /// other nodes' classes are to be sent. False where there is none.
     ///
-    /// Error: `Memory`, by which the node fails and stays as it was.
+    /// # Errors
+    ///
+    /// `Memory`, by which the node fails and stays as it was.
     pub fn expand(&mut self, classes: &Classes) -> Result<bool, Cause>
         requires family { classes.now.family ≡ self.old.family }
         requires sound { IsSound self.old }
@@ -157,7 +161,9 @@ impl Node {
 
     /// Applies the first of the own items. False where there is none.
     ///
-    /// Errors, by which the node fails and stays as it was: `Memory`; else `Contradiction` where the item doesn't fit, else `TooDeep` where
+    /// # Errors
+    ///
+    /// By which the node fails and stays as it was: `Memory`; else `Contradiction` where the item doesn't fit, else `TooDeep` where
     /// its class's value would be too deep.
     pub fn apply_own(&mut self) -> Result<bool, Cause>
         requires sound { IsSound self.old }
@@ -200,14 +206,16 @@ impl Node {
     /// Applies the items of a batch in order. The batch has to be of the node's family and number of nodes, and its items have to have
     /// values that a table can have, which `have_entries` tests. An item for a class of another node doesn't fit. It makes its growths first.
     ///
-    /// Errors, by which the node fails: `Memory`, which leaves it as it was, and never comes where there is room for as many items
+    /// # Errors
+    ///
+    /// By which the node fails: `Memory`, which leaves it as it was, and never comes where there is room for as many items
     /// (`reserve`); after the others just the items before one are applied, as many as `taken` tells: `Contradiction` where it
     /// doesn't fit its class's cell then; `TooDeep` where it fits and its class's value would be too deep.
     pub fn apply_batch(&mut self, batch: &Batch) -> Result<(), Cause>
         requires sound { IsSound self.old }
         requires family { batch.now.family ≡ self.old.family }
         requires n { batch.now.n ≡ self.old.n }
-        requires entries { All HasEntries batch.now.items }
+        requires entries { All HasItemEntries batch.now.items }
         requires going { self.old.failed ≡ None }
         ensures taken { OnOk result (HasTaken batch.now.items self.old self.new) }
         ensures all { OnOk result (self.new.taken ≡ length batch.now.items) }
@@ -229,7 +237,7 @@ impl Node {
         requires sound { IsSound self.old }
         requires family { batch.now.family ≡ self.old.family }
         requires n { batch.now.n ≡ self.old.n }
-        requires entries { All HasEntries batch.now.items }
+        requires entries { All HasItemEntries batch.now.items }
         ensures taken { OnOk result (HasTaken batch.now.items self.old self.new) }
         ensures all { OnOk result (self.new.taken ≡ length batch.now.items) }
         ensures stopped { IfErr result (λ why. StopsAt batch.now.items self.old.share self.old.history why) }
@@ -247,7 +255,9 @@ impl Node {
 
     /// Makes the growths of an `apply_batch` of up to that many items, which then doesn't answer `Memory`.
     ///
-    /// Error: `Memory`, by which the node fails and stays as it was.
+    /// # Errors
+    ///
+    /// `Memory`, by which the node fails and stays as it was.
     pub fn reserve(&mut self, items: usize) -> Result<(), Cause>
         requires sound { IsSound self.old }
         requires going { self.old.failed ≡ None }
@@ -290,7 +300,9 @@ impl Node {
     /// Cuts a batch of at most `size` items, from 1 to 4096, of those that the node has to send to the node `to`. `None`
     /// where it has none.
     ///
-    /// Errors, by which the node fails and stays as it was: `Counts` where something is left to send and 2 to the power of 40 batches
+    /// # Errors
+    ///
+    /// By which the node fails and stays as it was: `Counts` where something is left to send and 2 to the power of 40 batches
     /// were cut for that node before; `Memory`.
     pub fn cut_for(&mut self, to: usize, size: usize) -> Result<Option<Batch>, Cause>
         requires sound { IsSound self.old }
@@ -416,7 +428,9 @@ impl Node {
 
     /// The values of the own classes. All else of the node is gone.
     ///
-    /// Error: `Memory`, which gives the node up.
+    /// # Errors
+    ///
+    /// `Memory`, which gives the node up.
     pub fn into_part(self) -> Result<Part, Memory>
         requires { IsSound self }
         ensures id { IfOk result (λ part. part.id ≡ self.id) }

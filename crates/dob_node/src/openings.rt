@@ -5,10 +5,10 @@ ghost use Rattle.dob_rank.specs.Families.{classes_of};
 ghost use Rattle.dob_rank.specs.Families.{class_setup};
 ghost use Rattle.dob_node.specs.Openings.{IsOpening, AreOpenings};
 
-use dob_moves::status_and_count_shown;
-use dob_pieces::{Memory, Profile, Side};
 use dob_classes::{Classes, Shown};
 use dob_lists::{SegmentLength, Segments};
+use dob_moves::status_and_count_shown;
+use dob_pieces::{Memory, Profile, Side};
 use dob_share::Opening;
 use std::alloc::Global;
 
@@ -42,7 +42,9 @@ pub fn opening_in(classes: &Classes, class: u64) -> Opening
 
 /// The status and the number of moves of each class, in the order of the classes, in segments of that length.
 ///
-/// Error: `Memory` where none was left for the list; nothing else is lost.
+/// # Errors
+///
+/// `Memory` where none was left for the list; nothing else is lost.
 #[tactic(auto, using(crate::proofs::Starts::openings_none, crate::proofs::Starts::openings_more))]
 pub fn opening(
     alloc: Global,

@@ -33,7 +33,9 @@ pub(crate) fn empty_outboxes(
 /// Adds a settlement to the outbox for each node but `from`, with its items for that node; `targets` are the classes
 /// with a move into the settled one.
 ///
-/// Error: `Memory`, which leaves the outboxes as they were.
+/// # Errors
+///
+/// `Memory`, which leaves the outboxes as they were.
 pub(crate) fn add_for_others(
     outboxes: &mut Vec<Outbox>,
     settlement: Settlement,
@@ -103,7 +105,9 @@ fn take_back_at(outboxes: &mut Vec<Outbox>, to: usize, count: usize)
 
 /// Cuts a batch of the first `size` items, from 1 to 4096, from the outbox for a node that has some.
 ///
-/// Error: `Memory`, which leaves the outboxes as they were.
+/// # Errors
+///
+/// `Memory`, which leaves the outboxes as they were.
 pub(crate) fn cut_at(
     outboxes: &mut Vec<Outbox>,
     to: usize,

@@ -3,7 +3,7 @@ ghost use Rattle.std.specs.Prelude.{◌≡◌, ◌<◌, ◌%◌, length, Err, If
 ghost use Rattle.std.specs.List.{All};
 ghost use Rattle.dob_pieces.specs.declared.profile.Family.{Family as Set};
 ghost use Rattle.dob_stops.specs.declared.cause.Cause.TheVariants as cause;
-ghost use Rattle.dob_node.specs.TakenItems.{HasEntries, AreKept, AreTaken, StopsAt, AreTakenBefore};
+ghost use Rattle.dob_node.specs.TakenItems.{HasItemEntries, AreKept, AreTaken, StopsAt, AreTakenBefore};
 ghost use Rattle.dob_node.specs.SeenItems.{AreSeen};
 
 use crate::history::History;
@@ -15,7 +15,9 @@ const AHEAD: usize = 16;
 
 /// Applies the items in order, as `History::take_item` does each, and tells how many.
 ///
-/// Errors, after which just those before an item are applied: what `History::take_item` says of the item; `Memory` only where
+/// # Errors
+///
+/// After which just those before an item are applied: what `History::take_item` says of the item; `Memory` only where
 /// the history hadn't room for as many settlements.
 pub(crate) fn take_items(
     share: &mut Share,
@@ -24,7 +26,7 @@ pub(crate) fn take_items(
     items: &[Item],
 ) -> Result<(), Cause>
     requires kept { (family : Set) × AreKept family share.old.n share.old.id share.old history.old }
-    requires entries { All HasEntries items.now }
+    requires entries { All HasItemEntries items.now }
     ensures stopped { IfErr result (λ why. StopsAt items.now share.old history.old why) }
     ensures before { IfErr result (λ why. AreTakenBefore items.now taken.new share.old share.new history.old history.new why) }
     ensures taken { OnOk result (AreTaken items.now share.old share.new history.old history.new) }

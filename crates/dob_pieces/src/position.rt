@@ -69,7 +69,7 @@ impl Position {
         self.setup.is_allowed(profile)
     }
 
-    /// The same seen from the other side, which may be no position.
+    /// The position seen from the other side, which may be no position.
     pub fn turned(&self) -> Setup
         ensures { result ≡ turned self.now.setup }
     {

@@ -27,7 +27,7 @@ impl Setup {
         self.board[square.index()]
     }
 
-    /// The same seen from the other side: the board by a half turn, the sides and the hands exchanged.
+    /// The setup seen from the other side: the board by a half turn, the sides and the hands exchanged.
     pub fn turned(&self) -> Setup
         ensures { result ≡ turned self.now }
     {

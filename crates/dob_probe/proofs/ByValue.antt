@@ -19,8 +19,8 @@ use Rattle.dob_value.specs.declared.value.Value.TheVariants.{Win, Loss, Draw}
 use Rattle.dob_value.specs.Values.{HasValue}
 use Rattle.dob_value.specs.Follows.{ClassTable, IsValueTable}
 use Rattle.dob_value.proofs.Successors.{moves_keep_the_family}
-use Rattle.dob_probe.specs.declared.choices.ValuedMove.{ValuedMove}
-use Rattle.dob_probe.specs.Choices.{seen_from_before, IsBetter, ComesBefore, HasMoveValue, AreValuedMoves}
+use Rattle.dob_probe.specs.declared.valued_moves.ValuedMove.{ValuedMove}
+use Rattle.dob_probe.specs.ValuedMoves.{seen_from_before, IsBetter, ComesBefore, HasMoveValue, AreValuedMoves}
 use Rattle.dob_probe.specs.Lines.{GivenBy}
 use Rattle.dob_probe.proofs.Best.{to_value, of_value}
 
@@ -78,7 +78,7 @@ compare (Loss a) (Loss b) = elim (cases_order a b) [
   ]
 ]
 
-comes_before : (x y : ValuedMove) → (¬ IsBetter y.value x.value) → place x.choice < place y.choice → ComesBefore x y
+comes_before : (x y : ValuedMove) → (¬ IsBetter y.value x.value) → place x.the_move < place y.the_move → ComesBefore x y
 comes_before x y no_better earlier = elim (compare x.value y.value) [
   | inl better ↦ inl better
   | inr others ↦ elim others [
@@ -121,7 +121,7 @@ module _ (xs : List ValuedMove) (i : ℕ) (y : ValuedMove) (within : i ≤ lengt
     ],
   )
 
-  pub insert_sorted : AllPairs ComesBefore xs → ((x : ValuedMove) → Contains xs x → place x.choice < place y.choice) →
+  pub insert_sorted : AllPairs ComesBefore xs → ((x : ValuedMove) → Contains xs x → place x.the_move < place y.the_move) →
       ((k : ℕ) (d : ValuedMove) → k < i → ¬ IsBetter y.value (get_or xs k d).value) →
       ((d : ValuedMove) → i < length xs → IsBetter y.value (get_or xs i d).value) → AllPairs ComesBefore (insert xs i y)
   insert_sorted ordered later before first a b d lt inside =
@@ -175,50 +175,50 @@ module _ (xs : List ValuedMove) (i : ℕ) (y : ValuedMove) (within : i ≤ lengt
             subst (λ n. IsBetter y.value (get_or xs n d).value) same (first d (omega arith))
       ]
 
--- ---- the moves of the first choices
+-- ---- the moves of the first the_moves
 
-pub record AreListed (profile : Profile) (Has : Setup → Value → Type 0) (p : Setup) (choices : List Move) (upto : ℕ) (list : List ValuedMove) : Type 0 where
+pub record AreListed (profile : Profile) (Has : Setup → Value → Type 0) (p : Setup) (the_moves : List Move) (upto : ℕ) (list : List ValuedMove) : Type 0 where
   pub sound : (valued : ValuedMove) → Contains list valued →
-      HasMoveValue profile Has p valued × ((index : ℕ) × (index < upto) × (slice_get choices index ≡ Some valued.choice))
-  pub whole : (index : ℕ) (valued : ValuedMove) → index < upto → slice_get choices index ≡ Some valued.choice → HasMoveValue profile Has p valued →
+      HasMoveValue profile Has p valued × ((index : ℕ) × (index < upto) × (slice_get the_moves index ≡ Some valued.the_move))
+  pub whole : (index : ℕ) (valued : ValuedMove) → index < upto → slice_get the_moves index ≡ Some valued.the_move → HasMoveValue profile Has p valued →
       Contains list valued
   pub ordered : AllPairs ComesBefore list
 
-pub listed_none : (profile : Profile) (Has : Setup → Value → Type 0) (p : Setup) (choices : List Move) → AreListed profile Has p choices 0 []
-listed_none profile Has p choices = record {
+pub listed_none : (profile : Profile) (Has : Setup → Value → Type 0) (p : Setup) (the_moves : List Move) → AreListed profile Has p the_moves 0 []
+listed_none profile Has p the_moves = record {
   sound = λ valued there. absurd (omega (arith, there.1));
   whole = λ index valued below there has. absurd (omega arith);
   ordered = λ i j d lt within. absurd (omega (arith, within));
 }
 
 -- each listed move stands before the next of the list of moves
-pub listed_earlier : (profile : Profile) (Has : Setup → Value → Type 0) (p : Setup) (choices : List Move) (upto : ℕ) (list : List ValuedMove) (choice : Move) →
-    AreMoves profile p choices → upto < length choices → slice_get choices upto ≡ Some choice → AreListed profile Has p choices upto list →
-    (valued : ValuedMove) → Contains list valued → place valued.choice < place choice
-listed_earlier profile Has p choices upto list choice are within here listed valued there =
+pub listed_earlier : (profile : Profile) (Has : Setup → Value → Type 0) (p : Setup) (the_moves : List Move) (upto : ℕ) (list : List ValuedMove) (the_move : Move) →
+    AreMoves profile p the_moves → upto < length the_moves → slice_get the_moves upto ≡ Some the_move → AreListed profile Has p the_moves upto list →
+    (valued : ValuedMove) → Contains list valued → place valued.the_move < place the_move
+listed_earlier profile Has p the_moves upto list the_move are within here listed valued there =
     let earlier = (listed.sound valued there).1 in
     let index : ℕ = earlier.0 in
     let below : index < upto = earlier.1 in
-    let first = read index valued.choice (omega arith) earlier.2 choice in
-    let last = read upto choice within here choice in
-    let rising : place (get_or choices index choice) < place (get_or choices upto choice) = are.ordered index upto choice below within in
+    let first = read index valued.the_move (omega arith) earlier.2 the_move in
+    let last = read upto the_move within here the_move in
+    let rising : place (get_or the_moves index the_move) < place (get_or the_moves upto the_move) = are.ordered index upto the_move below within in
     let low = ap place first in
     let high = ap place last in
     omega (arith, low, high, rising)
   where
-    read : (k : ℕ) (m : Move) → k < length choices → slice_get choices k ≡ Some m → (d : Move) → get_or choices k d ≡ m
-    read k m below stands d = same_Some (get_or choices k d) m (sym (slice_get-get_or choices k d below) ∙ stands)
+    read : (k : ℕ) (m : Move) → k < length the_moves → slice_get the_moves k ≡ Some m → (d : Move) → get_or the_moves k d ≡ m
+    read k m below stands d = same_Some (get_or the_moves k d) m (sym (slice_get-get_or the_moves k d below) ∙ stands)
 
-same_valued : (a b : ValuedMove) → a.choice ≡ b.choice → a.value ≡ b.value → a ≡ b
-same_valued a b choice value = λ i. record { choice = choice i; value = value i }
+same_valued : (a b : ValuedMove) → a.the_move ≡ b.the_move → a.value ≡ b.value → a ≡ b
+same_valued a b the_move value = λ i. record { the_move = the_move i; value = value i }
 
 -- where a position of the family has one value at most
 module _ (family : Family) (Has : Setup → Value → Type 0) (one : (q : Setup) (v w : Value) → IsPositionOf family q → Has q v → Has q w → v ≡ w)
-    (p : Setup) (member : IsPositionOf family p) (choices : List Move) where
-  pub listed_more : (upto : ℕ) (list new : List ValuedMove) (more : ValuedMove) (value : Value) → slice_get choices upto ≡ Some more.choice →
-      HasStatus family.profile p Open → CanGo family.profile p more.choice → ((q : Setup) → Goes family.profile p more.choice q → Has q value) →
+    (p : Setup) (member : IsPositionOf family p) (the_moves : List Move) where
+  pub listed_more : (upto : ℕ) (list new : List ValuedMove) (more : ValuedMove) (value : Value) → slice_get the_moves upto ≡ Some more.the_move →
+      HasStatus family.profile p Open → CanGo family.profile p more.the_move → ((q : Setup) → Goes family.profile p more.the_move q → Has q value) →
       more.value ≡ seen_from_before value → ((x : ValuedMove) → Contains new x ↔ (Contains list x ⊎ (x ≡ more))) → AllPairs ComesBefore new →
-      AreListed family.profile Has p choices upto list → AreListed family.profile Has p choices (upto + 1) new
+      AreListed family.profile Has p the_moves upto list → AreListed family.profile Has p the_moves (upto + 1) new
   listed_more upto list new more value here goes_on can_go given seen has ordered before = record {
     sound = λ valued there. elim ((has valued).0 there) [
       | inl earlier ↦
@@ -234,33 +234,33 @@ module _ (family : Family) (Has : Setup → Value → Type 0) (one : (q : Setup)
             has = given can_go.0 can_go.1;
             seen = seen;
           } in
-          subst (λ x. HasMoveValue family.profile Has p x × ((index : ℕ) × (index < upto + 1) × (slice_get choices index ≡ Some x.choice)))
+          subst (λ x. HasMoveValue family.profile Has p x × ((index : ℕ) × (index < upto + 1) × (slice_get the_moves index ≡ Some x.the_move)))
           (sym same) (this, (upto, omega arith, here))
     ];
     whole = λ index valued below there known. elim (cases_lt index upto) [
       | inl earlier ↦ (has valued).1 (inl (before.whole index valued earlier there known))
       | inr from ↦
           let same : upto ≡ index = omega arith in
-          let here_too : slice_get choices index ≡ Some more.choice = subst (λ k. slice_get choices k ≡ Some more.choice) same here in
-          let choice : valued.choice ≡ more.choice = same_Some valued.choice more.choice (sym there ∙ here_too) in
-          let goes : Goes family.profile p more.choice known.outcome = subst (λ m. Goes family.profile p m known.outcome) choice known.goes in
-          let inside = moves_keep_the_family family p valued.choice known.outcome member goes_on known.goes in
+          let here_too : slice_get the_moves index ≡ Some more.the_move = subst (λ k. slice_get the_moves k ≡ Some more.the_move) same here in
+          let the_move : valued.the_move ≡ more.the_move = same_Some valued.the_move more.the_move (sym there ∙ here_too) in
+          let goes : Goes family.profile p more.the_move known.outcome = subst (λ m. Goes family.profile p m known.outcome) the_move known.goes in
+          let inside = moves_keep_the_family family p valued.the_move known.outcome member goes_on known.goes in
           let one : known.value ≡ value = one known.outcome known.value value inside known.has (given known.outcome goes) in
-          (has valued).1 (inr (same_valued valued more choice (known.seen ∙ ap seen_from_before one ∙ sym seen)))
+          (has valued).1 (inr (same_valued valued more the_move (known.seen ∙ ap seen_from_before one ∙ sym seen)))
     ];
     ordered = ordered;
   }
 
-pub listed_all : (profile : Profile) (Has : Setup → Value → Type 0) (p : Setup) (choices : List Move) (upto : ℕ) (list : List ValuedMove) → (¬ CanCatch p) →
-    AreMoves profile p choices → length choices ≤ upto → AreListed profile Has p choices upto list → AreValuedMoves profile Has p list
-listed_all profile Has p choices upto list free are all listed = record {
+pub listed_all : (profile : Profile) (Has : Setup → Value → Type 0) (p : Setup) (the_moves : List Move) (upto : ℕ) (list : List ValuedMove) → (¬ CanCatch p) →
+    AreMoves profile p the_moves → length the_moves ≤ upto → AreListed profile Has p the_moves upto list → AreValuedMoves profile Has p list
+listed_all profile Has p the_moves upto list free are all listed = record {
   sound = λ valued there. inr (listed.sound valued there).0;
   caught = λ catch. absurd (free catch);
   whole = λ valued has.
-      let there = are.whole valued.choice has.goes_on (has.outcome, has.goes) in
-      let read : slice_get choices there.0 ≡ Some valued.choice = slice_get-get_or choices there.0 valued.choice there.1
+      let there = are.whole valued.the_move has.goes_on (has.outcome, has.goes) in
+      let read : slice_get the_moves there.0 ≡ Some valued.the_move = slice_get-get_or the_moves there.0 valued.the_move there.1
       ∙ ap (λ m. let o : Option Move = Some m in o) there.2 in
-      let within : there.0 < length choices = there.1 in
+      let within : there.0 < length the_moves = there.1 in
       listed.whole there.0 valued (omega arith) read has;
   ordered = listed.ordered;
 }
@@ -274,7 +274,7 @@ module _ (table : ClassTable) (right : IsValueTable table.family table.values) (
     outcome = has.outcome;
     goes = has.goes;
     value = has.value;
-    has = to_value table right has.outcome has.value (moves_keep_the_family table.family p valued.choice has.outcome is has.goes_on has.goes) has.has;
+    has = to_value table right has.outcome has.value (moves_keep_the_family table.family p valued.the_move has.outcome is has.goes_on has.goes) has.has;
     seen = has.seen;
   }
 
@@ -284,7 +284,7 @@ module _ (table : ClassTable) (right : IsValueTable table.family table.values) (
     outcome = has.outcome;
     goes = has.goes;
     value = has.value;
-    has = of_value table right has.outcome has.value (moves_keep_the_family table.family p valued.choice has.outcome is has.goes_on has.goes) has.has;
+    has = of_value table right has.outcome has.value (moves_keep_the_family table.family p valued.the_move has.outcome is has.goes_on has.goes) has.has;
     seen = has.seen;
   }
 

@@ -21,7 +21,7 @@ use Rattle.dob_probe.specs.Lines.{GivenBy, LeadsTo}
 use Rattle.dob_probe.specs.Puzzles.{ArePuzzles, IsOnlyTo, IsPuzzle, IsWalked, place_in}
 use Rattle.dob_probe.specs.Walks.{begin_at, class_on, first_class}
 use Rattle.dob_probe.specs.declared.walks.Walk.{Walk}
-use Rattle.dob_probe.specs.SoleMoves.{IsPuzzleOf, IsSoleMove}
+use Rattle.dob_probe.specs.SingleMoves.{IsPuzzleOf, IsSingleMove}
 use Rattle.dob_probe.proofs.Entries.{all_at}
 use Rattle.dob_probe.proofs.Walked.{begin_behind, behind_begin, class_only, first_below, place_below, place_class}
 use Rattle.dob_probe.proofs.Ways.{NoneBelow, none_below_more, none_leads}
@@ -29,35 +29,35 @@ use Rattle.dob_probe.proofs.Ways.{NoneBelow, none_below_more, none_leads}
 -- ---- the only move to a value
 
 -- of the moves below an index this one leads to the value, and no other one
-pub record IsOnlyBelow (profile : Profile) (Has : Setup → Value → Type 0) (p : Setup) (wanted : Value) (choices : List Move) (upto : ℕ) (sole : Move) : Type 0 where
+pub record IsOnlyBelow (profile : Profile) (Has : Setup → Value → Type 0) (p : Setup) (wanted : Value) (the_moves : List Move) (upto : ℕ) (single : Move) : Type 0 where
   pub index : ℕ
   pub below : index < upto
-  pub there : slice_get choices index ≡ Some sole
+  pub there : slice_get the_moves index ≡ Some single
   pub outcome : Setup
-  pub leads : LeadsTo profile Has p wanted sole outcome
-  pub only : (other : ℕ) (move : Move) (q : Setup) → other < upto → slice_get choices other ≡ Some move → LeadsTo profile Has p wanted move q → sole ≡ move
+  pub leads : LeadsTo profile Has p wanted single outcome
+  pub only : (other : ℕ) (move : Move) (q : Setup) → other < upto → slice_get the_moves other ≡ Some move → LeadsTo profile Has p wanted move q → single ≡ move
 
-abbrev pub IsSoleBelow : Profile → (Setup → Value → Type 0) → Setup → Value → List Move → ℕ → Option Move → Type 0
-IsSoleBelow profile Has p wanted choices upto None = NoneBelow profile Has p wanted choices upto
-IsSoleBelow profile Has p wanted choices upto (Some sole) = IsOnlyBelow profile Has p wanted choices upto sole
+abbrev pub IsSingleBelow : Profile → (Setup → Value → Type 0) → Setup → Value → List Move → ℕ → Option Move → Type 0
+IsSingleBelow profile Has p wanted the_moves upto None = NoneBelow profile Has p wanted the_moves upto
+IsSingleBelow profile Has p wanted the_moves upto (Some single) = IsOnlyBelow profile Has p wanted the_moves upto single
 
-module _ (profile : Profile) (Has : Setup → Value → Type 0) (p : Setup) (wanted : Value) (choices : List Move) where
-  pub sole_first : IsSoleBelow profile Has p wanted choices 0 None
-  sole_first = λ index move q below there leads. absurd (omega (arith, below))
+module _ (profile : Profile) (Has : Setup → Value → Type 0) (p : Setup) (wanted : Value) (the_moves : List Move) where
+  pub single_first : IsSingleBelow profile Has p wanted the_moves 0 None
+  single_first = λ index move q below there leads. absurd (omega (arith, below))
 
   -- which move stands at the index, where it isn't below it
-  here_is : (upto index : ℕ) (choice move : Move) → slice_get choices upto ≡ Some choice → index < upto + 1 → upto ≤ index →
-      slice_get choices index ≡ Some move → move ≡ choice
-  here_is upto index choice move here below later there =
+  here_is : (upto index : ℕ) (the_move move : Move) → slice_get the_moves upto ≡ Some the_move → index < upto + 1 → upto ≤ index →
+      slice_get the_moves index ≡ Some move → move ≡ the_move
+  here_is upto index the_move move here below later there =
       let same : upto ≡ index = omega (arith, below, later) in
-      same_Some move choice (sym there ∙ subst (λ k. slice_get choices k ≡ Some choice) same here)
+      same_Some move the_move (sym there ∙ subst (λ k. slice_get the_moves k ≡ Some the_move) same here)
 
   -- a move that leads elsewhere changes nothing
-  pub sole_skipped : (upto : ℕ) (choice : Move) (sole : Option Move) → slice_get choices upto ≡ Some choice →
-      ((q : Setup) → ¬ LeadsTo profile Has p wanted choice q) → IsSoleBelow profile Has p wanted choices upto sole →
-      IsSoleBelow profile Has p wanted choices (upto + 1) sole
-  sole_skipped upto choice None here elsewhere before = none_below_more profile Has p wanted choices upto choice here elsewhere before
-  sole_skipped upto choice (Some sole) here elsewhere before =
+  pub single_skipped : (upto : ℕ) (the_move : Move) (single : Option Move) → slice_get the_moves upto ≡ Some the_move →
+      ((q : Setup) → ¬ LeadsTo profile Has p wanted the_move q) → IsSingleBelow profile Has p wanted the_moves upto single →
+      IsSingleBelow profile Has p wanted the_moves (upto + 1) single
+  single_skipped upto the_move None here elsewhere before = none_below_more profile Has p wanted the_moves upto the_move here elsewhere before
+  single_skipped upto the_move (Some single) here elsewhere before =
       let below : before.index < upto = before.below in record {
         index = before.index;
         below = omega (arith, below);
@@ -67,15 +67,15 @@ module _ (profile : Profile) (Has : Setup → Value → Type 0) (p : Setup) (wan
         only = λ other move q within there leads. elim (cases_lt other upto) [
           | inl earlier ↦ before.only other move q earlier there leads
           | inr later ↦
-              let is : move ≡ choice = here_is upto other choice move here within later there in
+              let is : move ≡ the_move = here_is upto other the_move move here within later there in
               absurd (elsewhere q (subst (λ m. LeadsTo profile Has p wanted m q) is leads))
         ];
       }
 
   -- the first one that leads there
-  pub sole_found : (upto : ℕ) (choice : Move) (q : Setup) → slice_get choices upto ≡ Some choice → LeadsTo profile Has p wanted choice q →
-      NoneBelow profile Has p wanted choices upto → IsSoleBelow profile Has p wanted choices (upto + 1) (Some choice)
-  sole_found upto choice q here leads none = record {
+  pub single_found : (upto : ℕ) (the_move : Move) (q : Setup) → slice_get the_moves upto ≡ Some the_move → LeadsTo profile Has p wanted the_move q →
+      NoneBelow profile Has p wanted the_moves upto → IsSingleBelow profile Has p wanted the_moves (upto + 1) (Some the_move)
+  single_found upto the_move q here leads none = record {
     index = upto;
     below = omega arith;
     there = here;
@@ -83,48 +83,48 @@ module _ (profile : Profile) (Has : Setup → Value → Type 0) (p : Setup) (wan
     leads = leads;
     only = λ other move r within there leads_too. elim (cases_lt other upto) [
       | inl earlier ↦ absurd (none other move r earlier there leads_too)
-      | inr later ↦ sym (here_is upto other choice move here within later there)
+      | inr later ↦ sym (here_is upto other the_move move here within later there)
     ];
   }
 
-  read : (k : ℕ) (m : Move) → k < length choices → slice_get choices k ≡ Some m → (d : Move) → get_or choices k d ≡ m
-  read k m below there d = same_Some (get_or choices k d) m (sym (slice_get-get_or choices k d below) ∙ there)
+  read : (k : ℕ) (m : Move) → k < length the_moves → slice_get the_moves k ≡ Some m → (d : Move) → get_or the_moves k d ≡ m
+  read k m below there d = same_Some (get_or the_moves k d) m (sym (slice_get-get_or the_moves k d below) ∙ there)
 
   -- where a second one leads there too, none is the only one
-  pub sole_doubled : (upto : ℕ) (choice sole : Move) (q : Setup) → AreMoves profile p choices → upto < length choices → slice_get choices upto ≡ Some choice →
-      LeadsTo profile Has p wanted choice q → IsOnlyBelow profile Has p wanted choices upto sole → IsSoleMove profile Has p wanted None
-  sole_doubled upto choice sole q are within here leads before = λ move only.
-      let one : move ≡ sole = only.only sole before.outcome before.leads in
-      let other : move ≡ choice = only.only choice q leads in
+  pub single_doubled : (upto : ℕ) (the_move single : Move) (q : Setup) → AreMoves profile p the_moves → upto < length the_moves → slice_get the_moves upto ≡ Some the_move →
+      LeadsTo profile Has p wanted the_move q → IsOnlyBelow profile Has p wanted the_moves upto single → IsSingleMove profile Has p wanted None
+  single_doubled upto the_move single q are within here leads before = λ move only.
+      let one : move ≡ single = only.only single before.outcome before.leads in
+      let other : move ≡ the_move = only.only the_move q leads in
       let below : before.index < upto = before.below in
-      let rising : place (get_or choices before.index sole) < place (get_or choices upto sole) = are.ordered before.index upto sole below within in
-      let low = ap place (read before.index sole (omega (arith, below, within)) before.there sole) in
-      let high = ap place (read upto choice within here sole) in
-      let same : place sole ≡ place choice = ap place (sym one ∙ other) in
+      let rising : place (get_or the_moves before.index single) < place (get_or the_moves upto single) = are.ordered before.index upto single below within in
+      let low = ap place (read before.index single (omega (arith, below, within)) before.there single) in
+      let high = ap place (read upto the_move within here single) in
+      let same : place single ≡ place the_move = ap place (sym one ∙ other) in
       absurd (omega (arith, rising, low, high, same))
 
-  pub sole_twice : (upto : ℕ) (choice : Move) (sole : Option Move) (q : Setup) → is_some sole ≡ true → AreMoves profile p choices → upto < length choices →
-      slice_get choices upto ≡ Some choice → LeadsTo profile Has p wanted choice q → IsSoleBelow profile Has p wanted choices upto sole →
-      IsSoleMove profile Has p wanted None
-  sole_twice upto choice None q some are within here leads before = absurd (true≢false (sym some))
-  sole_twice upto choice (Some sole) q some are within here leads before = sole_doubled upto choice sole q are within here leads before
+  pub single_twice : (upto : ℕ) (the_move : Move) (single : Option Move) (q : Setup) → is_some single ≡ true → AreMoves profile p the_moves → upto < length the_moves →
+      slice_get the_moves upto ≡ Some the_move → LeadsTo profile Has p wanted the_move q → IsSingleBelow profile Has p wanted the_moves upto single →
+      IsSingleMove profile Has p wanted None
+  single_twice upto the_move None q some are within here leads before = absurd (true≢false (sym some))
+  single_twice upto the_move (Some single) q some are within here leads before = single_doubled upto the_move single q are within here leads before
 
-  pub sole_taken : (upto : ℕ) (choice : Move) (sole : Option Move) (q : Setup) → is_some sole ≡ false → slice_get choices upto ≡ Some choice →
-      LeadsTo profile Has p wanted choice q → IsSoleBelow profile Has p wanted choices upto sole → IsSoleBelow profile Has p wanted choices (upto + 1) (Some choice)
-  sole_taken upto choice None q none here leads before = sole_found upto choice q here leads before
-  sole_taken upto choice (Some sole) q none here leads before = absurd (true≢false none)
+  pub single_taken : (upto : ℕ) (the_move : Move) (single : Option Move) (q : Setup) → is_some single ≡ false → slice_get the_moves upto ≡ Some the_move →
+      LeadsTo profile Has p wanted the_move q → IsSingleBelow profile Has p wanted the_moves upto single → IsSingleBelow profile Has p wanted the_moves (upto + 1) (Some the_move)
+  single_taken upto the_move None q none here leads before = single_found upto the_move q here leads before
+  single_taken upto the_move (Some single) q none here leads before = absurd (true≢false none)
 
-  pub sole_all : (upto : ℕ) (sole : Option Move) → AreMoves profile p choices → length choices ≤ upto → IsSoleBelow profile Has p wanted choices upto sole →
-      IsSoleMove profile Has p wanted sole
-  sole_all upto None are all none = λ move only. none_leads profile Has p wanted choices upto are all none move only.outcome only.leads
-  sole_all upto (Some sole) are all before = record {
+  pub single_all : (upto : ℕ) (single : Option Move) → AreMoves profile p the_moves → length the_moves ≤ upto → IsSingleBelow profile Has p wanted the_moves upto single →
+      IsSingleMove profile Has p wanted single
+  single_all upto None are all none = λ move only. none_leads profile Has p wanted the_moves upto are all none move only.outcome only.leads
+  single_all upto (Some single) are all before = record {
     outcome = before.outcome;
     leads = before.leads;
     only = λ other r leads.
         let there = are.whole other leads.goes_on (r, leads.goes) in
-        let within : there.0 < length choices = there.1 in
+        let within : there.0 < length the_moves = there.1 in
         before.only there.0 other r (omega (arith, within, all))
-        (slice_get-get_or choices there.0 other there.1 ∙ ap (λ m. let o : Option Move = Some m in o) there.2) leads;
+        (slice_get-get_or the_moves there.0 other there.1 ∙ ap (λ m. let o : Option Move = Some m in o) there.2) leads;
   }
 
 -- ---- the puzzles of the classes
@@ -132,7 +132,7 @@ module _ (profile : Profile) (Has : Setup → Value → Type 0) (p : Setup) (wan
 module _ (table : ClassTable) (plies : ℕ) where
   -- what is found for a class's representative is found for the class
   pub puzzle_found : (puzzle : Puzzle) (class : ℕ) (representative : Setup) → puzzle.class ≡ class → HasEntry table class representative (Win plies) →
-      IsOnlyTo table.family.profile (GivenBy table) representative (Loss (plies - 1)) puzzle.choice → IsPuzzleOf table plies class (Some puzzle)
+      IsOnlyTo table.family.profile (GivenBy table) representative (Loss (plies - 1)) puzzle.the_move → IsPuzzleOf table plies class (Some puzzle)
   puzzle_found puzzle class representative is has only = (
     is,
     record {
@@ -143,12 +143,12 @@ module _ (table : ClassTable) (plies : ℕ) where
   )
 
   pub puzzle_missing : (class : ℕ) (representative : Setup) → HasEntry table class representative (Win plies) →
-      IsSoleMove table.family.profile (GivenBy table) representative (Loss (plies - 1)) None → IsPuzzleOf table plies class None
+      IsSingleMove table.family.profile (GivenBy table) representative (Loss (plies - 1)) None → IsPuzzleOf table plies class None
   puzzle_missing class representative has none = λ puzzle is given.
       let won = subst (λ k. HasEntry table k given.representative (Win plies)) is given.won in
       let same = one_of_class table.family given.representative representative class won.represents has.represents won.number has.number in
-      none puzzle.choice
-      (subst (λ p. IsOnlyTo table.family.profile (GivenBy table) p (Loss (plies - 1)) puzzle.choice) same given.solved)
+      none puzzle.the_move
+      (subst (λ p. IsOnlyTo table.family.profile (GivenBy table) p (Loss (plies - 1)) puzzle.the_move) same given.solved)
 
   -- of a class with another entry there is none
   pub not_won : (class : ℕ) (value : Value) → slice_get table.values class ≡ Some value → ¬ (value ≡ Win plies) → IsPuzzleOf table plies class None
@@ -160,9 +160,9 @@ module _ (table : ClassTable) (plies : ℕ) where
   one_puzzle a b is of_a of_b =
       let won = subst (λ k. HasEntry table k of_a.representative (Win plies)) is of_a.won in
       let same = one_of_class table.family of_b.representative of_a.representative b.class of_b.won.represents won.represents of_b.won.number won.number in
-      let solved = subst (λ p. IsOnlyTo table.family.profile (GivenBy table) p (Loss (plies - 1)) b.choice) same of_b.solved in
-      let choice = of_a.solved.only b.choice solved.outcome solved.leads in
-      ap₂ (λ (k : ℕ) (m : Move). let x : Puzzle = record { class = k; choice = m } in x) is choice
+      let solved = subst (λ p. IsOnlyTo table.family.profile (GivenBy table) p (Loss (plies - 1)) b.the_move) same of_b.solved in
+      let the_move = of_a.solved.only b.the_move solved.outcome solved.leads in
+      ap₂ (λ (k : ℕ) (m : Move). let x : Puzzle = record { class = k; the_move = m } in x) is the_move
 
 module _ (table : ClassTable) (plies : ℕ) (walk : Walk) where
   -- the first place of the walk

@@ -3,7 +3,7 @@ use Rattle.std.proofs.Common.{◌≡◌, ◌⊎◌, ℕ, ◌+◌, ◌-◌, ◌�
 use Rattle.std.proofs.lemmas.Bool.{cases_lt, le-ltb, lt-ltb}
 use Rattle.dob_probe.specs.Walks.{IsBehind, begin_at, class_on, first_class, place_from}
 
--- a choice by a comparison
+-- a the_move by a comparison
 if_less : (a b x y : ℕ) → a < b → cond (nat_lt a b) x y ≡ x
 if_less a b x y less = ap (λ (t : Bool). cond {A = ℕ} t x y) (lt-ltb a b less)
 

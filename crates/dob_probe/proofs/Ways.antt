@@ -39,65 +39,65 @@ module _ (profile : Profile) (Has : Setup → Value → Type 0) where
 
 -- no move below an index leads to the value
 abbrev pub NoneBelow : Profile → (Setup → Value → Type 0) → Setup → Value → List Move → ℕ → Type 0
-NoneBelow profile Has p wanted choices upto = (index : ℕ) (move : Move) (q : Setup) → index < upto → slice_get choices index ≡ Some move →
+NoneBelow profile Has p wanted the_moves upto = (index : ℕ) (move : Move) (q : Setup) → index < upto → slice_get the_moves index ≡ Some move →
     ¬ LeadsTo profile Has p wanted move q
 
-module _ (profile : Profile) (Has : Setup → Value → Type 0) (p : Setup) (wanted : Value) (choices : List Move) where
-  pub none_below_more : (upto : ℕ) (choice : Move) → slice_get choices upto ≡ Some choice →
-      ((q : Setup) → ¬ LeadsTo profile Has p wanted choice q) → NoneBelow profile Has p wanted choices upto → NoneBelow profile Has p wanted choices (upto + 1)
-  none_below_more upto choice here other before = λ index move q below there leads. elim (cases_lt index upto) [
+module _ (profile : Profile) (Has : Setup → Value → Type 0) (p : Setup) (wanted : Value) (the_moves : List Move) where
+  pub none_below_more : (upto : ℕ) (the_move : Move) → slice_get the_moves upto ≡ Some the_move →
+      ((q : Setup) → ¬ LeadsTo profile Has p wanted the_move q) → NoneBelow profile Has p wanted the_moves upto → NoneBelow profile Has p wanted the_moves (upto + 1)
+  none_below_more upto the_move here other before = λ index move q below there leads. elim (cases_lt index upto) [
     | inl earlier ↦ before index move q earlier there leads
     | inr later ↦
         let same : upto ≡ index = omega arith in
-        let here_too : slice_get choices index ≡ Some choice = subst (λ k. slice_get choices k ≡ Some choice) same here in
-        let is_choice : move ≡ choice = same_Some move choice (sym there ∙ here_too) in
-        other q (subst (λ m. LeadsTo profile Has p wanted m q) is_choice leads)
+        let here_too : slice_get the_moves index ≡ Some the_move = subst (λ k. slice_get the_moves k ≡ Some the_move) same here in
+        let is_the_move : move ≡ the_move = same_Some move the_move (sym there ∙ here_too) in
+        other q (subst (λ m. LeadsTo profile Has p wanted m q) is_the_move leads)
   ]
 
   -- where a move of the list stands
-  found_at : (move : Move) → Contains choices move → (index : ℕ) × (index < length choices) × (slice_get choices index ≡ Some move)
+  found_at : (move : Move) → Contains the_moves move → (index : ℕ) × (index < length the_moves) × (slice_get the_moves index ≡ Some move)
   found_at move there = (
     there.0,
     there.1,
-    slice_get-get_or choices there.0 move there.1 ∙ ap (λ m. let o : Option Move = Some m in o) there.2,
+    slice_get-get_or the_moves there.0 move there.1 ∙ ap (λ m. let o : Option Move = Some m in o) there.2,
   )
 
-  pub first_found : (index : ℕ) (choice : Move) (q : Setup) → AreMoves profile p choices → index < length choices →
-      slice_get choices index ≡ Some choice → NoneBelow profile Has p wanted choices index → LeadsTo profile Has p wanted choice q →
-      IsFirstTo profile Has p wanted choice q
-  first_found index choice q are within here none leads = record {
+  pub first_found : (index : ℕ) (the_move : Move) (q : Setup) → AreMoves profile p the_moves → index < length the_moves →
+      slice_get the_moves index ≡ Some the_move → NoneBelow profile Has p wanted the_moves index → LeadsTo profile Has p wanted the_move q →
+      IsFirstTo profile Has p wanted the_move q
+  first_found index the_move q are within here none leads = record {
     leads = leads;
     first = λ other r leads_too.
         let there = found_at other (are.whole other leads_too.goes_on (r, leads_too.goes)) in
         elim (cases_order there.0 index) [
           | inl same ↦
-              let here_too : slice_get choices there.0 ≡ Some choice = subst (λ k. slice_get choices k ≡ Some choice) (sym same) here in
-              inl (same_Some choice other (sym here_too ∙ there.2))
+              let here_too : slice_get the_moves there.0 ≡ Some the_move = subst (λ k. slice_get the_moves k ≡ Some the_move) (sym same) here in
+              inl (same_Some the_move other (sym here_too ∙ there.2))
           | inr order ↦ elim order [
             | inl before ↦ absurd (none there.0 other r before there.2 leads_too)
-            | inr after ↦ inr (in_order index there.0 choice other after there.1 here there.2 are)
+            | inr after ↦ inr (in_order index there.0 the_move other after there.1 here there.2 are)
           ]
         ];
   }
     where
-      read : (k : ℕ) (m : Move) → k < length choices → slice_get choices k ≡ Some m → (d : Move) → get_or choices k d ≡ m
-      read k m below there d = same_Some (get_or choices k d) m (sym (slice_get-get_or choices k d below) ∙ there)
+      read : (k : ℕ) (m : Move) → k < length the_moves → slice_get the_moves k ≡ Some m → (d : Move) → get_or the_moves k d ≡ m
+      read k m below there d = same_Some (get_or the_moves k d) m (sym (slice_get-get_or the_moves k d below) ∙ there)
 
-      in_order : (i j : ℕ) (a b : Move) → i < j → j < length choices → slice_get choices i ≡ Some a → slice_get choices j ≡ Some b →
-          AreMoves profile p choices → place a < place b
+      in_order : (i j : ℕ) (a b : Move) → i < j → j < length the_moves → slice_get the_moves i ≡ Some a → slice_get the_moves j ≡ Some b →
+          AreMoves profile p the_moves → place a < place b
       in_order i j a b below within at_i at_j are =
           let first = read i a (omega arith) at_i a in
           let later = read j b within at_j a in
-          let rising : place (get_or choices i a) < place (get_or choices j a) = are.ordered i j a below within in
+          let rising : place (get_or the_moves i a) < place (get_or the_moves j a) = are.ordered i j a below within in
           let low = ap place first in
           let high = ap place later in
           omega (arith, low, high, rising)
 
-  pub none_leads : (upto : ℕ) → AreMoves profile p choices → length choices ≤ upto → NoneBelow profile Has p wanted choices upto →
+  pub none_leads : (upto : ℕ) → AreMoves profile p the_moves → length the_moves ≤ upto → NoneBelow profile Has p wanted the_moves upto →
       (move : Move) (q : Setup) → ¬ LeadsTo profile Has p wanted move q
   none_leads upto are all none move q leads =
       let there = found_at move (are.whole move leads.goes_on (q, leads.goes)) in
-      let below : there.0 < length choices = there.1 in
+      let below : there.0 < length the_moves = there.1 in
       none there.0 move q (omega arith) there.2 leads
 
 -- ---- lines and breaks exclude each other

@@ -1,10 +1,10 @@
 pub mod Lines
 pub mod Checks
 pub mod Sums
-pub mod Choices
+pub mod ValuedMoves
 pub mod Walks
 pub mod Puzzles
-pub mod SoleMoves
+pub mod SingleMoves
 pub mod Statistics
 pub mod Slots
 pub mod Faults

@@ -23,7 +23,7 @@ pub record IsOnlyTo (profile : Profile) (Has : Setup → Value → Type 0) (p : 
 pub record IsPuzzle (table : ClassTable) (plies : ℕ) (puzzle : Puzzle) : Type 0 where
   pub representative : Setup
   pub won : HasEntry table puzzle.class representative (Win plies)
-  pub solved : IsOnlyTo table.family.profile (GivenBy table) representative (Loss (plies - 1)) puzzle.choice
+  pub solved : IsOnlyTo table.family.profile (GivenBy table) representative (Loss (plies - 1)) puzzle.the_move
 
 -- the place of a class in the walk's order
 abbrev pub place_in : ClassTable → Walk → ℕ → ℕ

@@ -12,7 +12,9 @@ use std::alloc::Global;
 /// Passes the table just where each class's value follows from its status and its successors' values, so only where it
 /// is the value table. The classes are looked at one after the other, in the calling thread.
 ///
-/// Errors: `Inconsistent` with the least class whose value doesn't follow; `Memory`.
+/// # Errors
+///
+/// `Inconsistent` with the least class whose value doesn't follow; `Memory`.
 pub fn check(alloc: Global, table: &Table) -> Result<(), Fault>
     ensures consistent { IfOk result (λ _. IsConsistent table.now.family table.now.values) }
     ensures right { IfOk result (λ _. IsValueTable table.now.family table.now.values) }
@@ -29,7 +31,9 @@ pub fn check(alloc: Global, table: &Table) -> Result<(), Fault>
 /// Passes the class just where its value follows from its status and its successors' values. The room is for lists of moves:
 /// what it holds before and after plays no part.
 ///
-/// Errors: `Inconsistent` with the class where its value doesn't follow; `Memory`.
+/// # Errors
+///
+/// `Inconsistent` with the class where its value doesn't follow; `Memory`.
 pub fn check_class(room: &mut Vec<Move>, table: &Table, class: u64) -> Result<(), Fault>
     requires { class < length table.now.values }
     ensures { IsVerdict table.now class result }

@@ -21,7 +21,9 @@ pub struct Group {
 /// What is counted of each code among the classes from `first` on, before `end`, as a list in their order: nothing, or the group of its classes, whose
 /// first one is told by its place in that list. It takes some 32 bytes for each distance up to the greatest.
 ///
-/// Error: `Memory`.
+/// # Errors
+///
+/// `Memory`.
 pub fn slots_between(
     alloc: Global,
     table: &Table,
@@ -91,7 +93,9 @@ fn with_class(slot: Option<Group>, value: Value, class: u64) -> Group
 /// Adds what is counted of some classes to what is counted of those before them, of which there are so many. Both together fit where one list can
 /// have them all.
 ///
-/// Error: `Memory`, and the first slots are as good as before.
+/// # Errors
+///
+/// `Memory`, and the first slots are as good as before.
 pub fn add_slots(
     slots: &mut Vec<Option<Group>>,
     more: &[Option<Group>],
@@ -130,7 +134,9 @@ fn both_slots(slot: Option<Group>, more: Option<Group>, classes: u64) -> Option<
 /// The groups of the slots that have one: the draws first, where there are any, and then by ascending distance, so odd ones of wins and even ones
 /// of losses. The last win and the last loss are the longest.
 ///
-/// Error: `Memory`.
+/// # Errors
+///
+/// `Memory`.
 pub fn groups_of(alloc: Global, slots: &[Option<Group>]) -> Result<Vec<Group>, Memory>
     ensures { IfOk result (λ groups. (values : List Valued) → All IsEntry values → AreSlots values slots.now → AreGroups values groups.items) }
 {

@@ -3,7 +3,6 @@
 #![tactic(auto)]
 
 mod checks;
-mod choices;
 mod fault;
 mod groups;
 pub mod laws;
@@ -12,14 +11,15 @@ mod members;
 mod probes;
 mod puzzles;
 mod successors;
+mod the_moves;
 mod walks;
 
 pub use checks::{check, check_class};
-pub use choices::{ValuedMove, insert_by_value, value_seen, valued_moves};
 pub use fault::Fault;
 pub use groups::{Group, add_slots, groups_of, slots_between};
 pub use lines::line;
 pub use members::check_member;
 pub use probes::probe;
 pub use puzzles::{Puzzle, first_puzzles};
+pub use the_moves::{ValuedMove, insert_by_value, value_seen, valued_moves};
 pub use walks::Walk;

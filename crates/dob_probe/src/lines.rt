@@ -19,7 +19,9 @@ use std::alloc::Global;
 /// of the other side in one ply less, and from a loss the first to a win in one ply less, and so on. It is empty at a
 /// draw, and where the mover has lost already. By a table that `check` passes it is the best line.
 ///
-/// Errors: `FarChick` just where the table's profile doesn't allow the position; `OtherSet` just where it does, and the position
+/// # Errors
+///
+/// `FarChick` just where the table's profile doesn't allow the position; `OtherSet` just where it does, and the position
 /// isn't of the table's set; `Inconsistent` with the class at which the line goes on by the table, but no move leads to the
 /// value that it needs; `Memory`.
 pub fn line(alloc: Global, table: &Table, position: &Position) -> Result<Vec<Move>, Fault>
@@ -61,8 +63,8 @@ fn line_from(
         let Some(wanted) = value_wanted(value) else {
             return Ok(line);
         };
-        let (choice, next) = first_to(alloc, table, &position, wanted)?;
-        line.push(choice)?;
+        let (the_move, next) = first_to(alloc, table, &position, wanted)?;
+        line.push(the_move)?;
         position = next;
         value = wanted;
     }
@@ -93,11 +95,11 @@ fn first_to(
     ensures found { IfOk result (λ found. IsFirstTo table.now.family.profile (GivenBy table.now) position.now.setup wanted found.0 found.1.setup) }
     ensures missing { IfErr result (IsGap table.now position.now.setup wanted) }
 {
-    let choices = moves(alloc, table.family().profile, position)?;
-    for choice in &choices {
-        let next = apply(position, *choice);
+    let the_moves = moves(alloc, table.family().profile, position)?;
+    for the_move in &the_moves {
+        let next = apply(position, *the_move);
         if table.value_of(&next) == wanted {
-            return Ok((*choice, next));
+            return Ok((*the_move, next));
         }
     }
     Err(Fault::Inconsistent(table.classes().class_of(position)))

@@ -8,7 +8,9 @@ use dob_pieces::{Family, Position};
 
 /// Passes the positions of the family.
 ///
-/// Errors: `FarChick` just where the family's profile doesn't allow the position, whatever its pieces; `OtherSet` just where
+/// # Errors
+///
+/// `FarChick` just where the family's profile doesn't allow the position, whatever its pieces; `OtherSet` just where
 /// it does, and its pieces aren't those of the family's set.
 pub fn check_member(family: Family, position: &Position) -> Result<(), Fault>
     ensures member { OnOk result (IsPositionOf family position.now.setup) }

@@ -13,7 +13,9 @@ use dob_value::{Table, Value};
 
 /// The value that the table gives the position's class. By a table that `check` passes it is the position's value.
 ///
-/// Errors: `FarChick` just where the table's profile doesn't allow the position; `OtherSet` just where it does, and the position
+/// # Errors
+///
+/// `FarChick` just where the table's profile doesn't allow the position; `OtherSet` just where it does, and the position
 /// isn't of the table's set.
 pub fn probe(table: &Table, position: &Position) -> Result<Value, Fault>
     ensures value { IfOk result (λ value. GivenBy table.now position.now.setup value) }

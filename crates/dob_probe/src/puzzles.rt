@@ -6,7 +6,7 @@ ghost use Rattle.dob_value.specs.Follows.{IsTable};
 ghost use Rattle.dob_value.specs.declared.value.Value.TheVariants.{Loss};
 ghost use Rattle.dob_probe.specs.Lines.{GivenBy};
 ghost use Rattle.dob_probe.specs.Puzzles.{ArePuzzles};
-ghost use Rattle.dob_probe.specs.SoleMoves.{IsPuzzleOf, IsSoleMove};
+ghost use Rattle.dob_probe.specs.SingleMoves.{IsPuzzleOf, IsSingleMove};
 
 use crate::successors::{list_moves, value_to};
 use crate::walks::{Walk, begin_at, class_on, first_class};
@@ -19,14 +19,16 @@ use std::alloc::Global;
 #[derive(Clone, Copy, Debug, PartialEq, Eq)]
 pub struct Puzzle {
     pub class: u64,
-    pub choice: Move,
+    pub the_move: Move,
 }
 
 /// The first classes of the walk, at most so many, that the table says are won in so many plies and of whose representative just one
 /// move leads to a position lost in one ply less, each with that move, in the walk's order. The classes are looked at up to the last one
 /// listed, and all of the walk where there are fewer; one room is kept for lists of moves.
 ///
-/// Error: `Memory`.
+/// # Errors
+///
+/// `Memory`.
 pub fn first_puzzles(
     alloc: Global,
     table: &Table,
@@ -45,7 +47,7 @@ pub fn first_puzzles(
     list_puzzles(alloc, table, walk, plies as u16, count)
 }
 
-// The same of a distance that a table may have.
+// The puzzle of a class, of a distance that a table may have.
 //
 // Error: `Memory`.
 fn list_puzzles(
@@ -92,27 +94,32 @@ fn puzzle_of(
     }
     let position = table.classes().class_at(class);
     list_moves(room, table, &position)?;
-    match sole_move(table, &position, room, Value::Loss(plies - 1)) {
-        Some(choice) => Ok(Some(Puzzle { class, choice })),
+    match single_move(table, &position, room, Value::Loss(plies - 1)) {
+        Some(the_move) => Ok(Some(Puzzle { class, the_move })),
         None => Ok(None),
     }
 }
 
 // The only one of the position's moves that leads to a position of that value; `None` where there is no such move or
 // more than one.
-fn sole_move(table: &Table, position: &Position, choices: &[Move], wanted: Value) -> Option<Move>
+fn single_move(
+    table: &Table,
+    position: &Position,
+    the_moves: &[Move],
+    wanted: Value,
+) -> Option<Move>
     requires member { IsPositionOf table.now.family position.now.setup }
-    requires choices { AreMoves table.now.family.profile position.now.setup choices.now }
-    ensures { IsSoleMove table.now.family.profile (GivenBy table.now) position.now.setup wanted result }
+    requires the_moves { AreMoves table.now.family.profile position.now.setup the_moves.now }
+    ensures { IsSingleMove table.now.family.profile (GivenBy table.now) position.now.setup wanted result }
 {
-    let mut sole = None;
-    for choice in choices {
-        if value_to(table, position, *choice) == wanted {
-            if sole.is_some() {
+    let mut single = None;
+    for the_move in the_moves {
+        if value_to(table, position, *the_move) == wanted {
+            if single.is_some() {
                 return None;
             }
-            sole = Some(*choice);
+            single = Some(*the_move);
         }
     }
-    sole
+    single
 }

@@ -95,7 +95,9 @@ fn greater(greatest: Option<u16>, plies: u16) -> u16
 /// The value that follows from the position's status and from those that the table gives its successors. The moves are
 /// listed in the room, whatever is in it.
 ///
-/// Error: `Memory`.
+/// # Errors
+///
+/// `Memory`.
 pub(crate) fn value_that_follows(
     room: &mut Vec<Move>,
     table: &Table,
@@ -127,25 +129,25 @@ pub(crate) fn list_moves(
 }
 
 // The values of the positions to which the moves lead.
-fn successors_of(table: &Table, position: &Position, choices: &[Move]) -> Successors
+fn successors_of(table: &Table, position: &Position, the_moves: &[Move]) -> Successors
     requires member { IsPositionOf table.now.family position.now.setup }
-    requires choices { AreMoves table.now.family.profile position.now.setup choices.now }
+    requires the_moves { AreMoves table.now.family.profile position.now.setup the_moves.now }
     ensures { (values : List Valued) × AreSuccessors table.now.family.profile (λ v q. GivenBy table.now q v) position.now.setup values × AreSummed values result }
 {
     let mut kept = Successors::none();
-    for choice in choices {
-        let value = value_to(table, position, *choice);
+    for the_move in the_moves {
+        let value = value_to(table, position, *the_move);
         kept = kept.with(value);
     }
     kept
 }
 
 // The value of the position to which the move leads.
-pub(crate) fn value_to(table: &Table, position: &Position, choice: Move) -> Value
+pub(crate) fn value_to(table: &Table, position: &Position, the_move: Move) -> Value
     requires member { IsPositionOf table.now.family position.now.setup }
     requires open { HasStatus table.now.family.profile position.now.setup Status.Open }
-    requires can_go { CanGo table.now.family.profile position.now.setup choice }
-    ensures { (q : Setup) → Goes table.now.family.profile position.now.setup choice q → GivenBy table.now q result }
+    requires can_go { CanGo table.now.family.profile position.now.setup the_move }
+    ensures { (q : Setup) → Goes table.now.family.profile position.now.setup the_move q → GivenBy table.now q result }
 {
-    table.value_of(&apply(position, choice))
+    table.value_of(&apply(position, the_move))
 }

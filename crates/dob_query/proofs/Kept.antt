@@ -10,7 +10,7 @@ use Rattle.dob_dbfile.specs.declared.fault.Fault as file
 use Rattle.dob_dbfile.specs.declared.fault.Fault.TheVariants as file_fault
 use Rattle.dob_dbfile.specs.Format.{bytes_of}
 use Rattle.dob_dbfile.specs.Sinks.{Change}
-use Rattle.dob_dbfile.specs.Writing.{StopsAt}
+use Rattle.dob_dbfile.specs.Writing.{WriteStopsAt}
 use Rattle.dob_query.specs.declared.tally.Tally.{Tally}
 use Rattle.dob_query.specs.declared.fault.Fault.TheVariants.{File}
 use Rattle.dob_query.specs.Shelves.{HasJust, ShelfChange}
@@ -58,7 +58,7 @@ received_all old new bytes e h = go new (subst (λ (o : Option (List ℕ)). Appe
 module _ (c : ShelfChange) (name : List ℕ) (table : ClassTable) where
   -- the file was made, and writing it stopped
   pub stopped_keeping : (sink : Change) (fault : file.Fault) → (IsTrue c.before.tells → HasJust name [] c.after.has)
-      → StopsAt sink (bytes_of table) fault
+      → WriteStopsAt sink (bytes_of table) fault
       → IsKeepingFault c name table (File fault)
   stopped_keeping sink file_fault.Memory empty stops = empty
   stopped_keeping sink (file_fault.Io count) empty stops = (stops.within, empty)

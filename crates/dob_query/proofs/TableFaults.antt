@@ -9,7 +9,7 @@ use Rattle.dob_value.specs.Follows.{ClassTable, IsValueTable}
 use Rattle.dob_dbfile.proofs.Written.{same_files}
 use Rattle.dob_probe.specs.declared.fault.Fault as probing
 use Rattle.dob_probe.specs.declared.fault.Fault.TheVariants as table_fault
-use Rattle.dob_probe.specs.Choices.{AreValuedMoves}
+use Rattle.dob_probe.specs.ValuedMoves.{AreValuedMoves}
 use Rattle.dob_probe.proofs.ByValue.{valued_rightly}
 use Rattle.dob_probe.specs.Faults.{IsFaultOfCheck, IsFaultOfLine, IsFaultOfMoves, IsRefusal}
 use Rattle.dob_query.specs.declared.fault.Fault.{Fault}
@@ -21,8 +21,8 @@ use Rattle.dob_query.specs.declared.shelf.ShelfFault.TheVariants as shelf_fault
 use Rattle.dob_query.specs.Endings.{Answers, AnswersOver, Ending}
 use Rattle.dob_query.specs.Each.{IsGivenTo}
 use Rattle.dob_query.specs.Program.{IsValueLineOf, IsValueOf}
-use Rattle.dob_query.specs.Choices.{AnswersBest, AnswersBestRight, AnswersMoves, AnswersMovesRight, AreChoicesOf, AreRightChoicesOf, TellsChoices, best_line, choice_lines}
-use Rattle.dob_probe.specs.declared.choices.ValuedMove.{ValuedMove}
+use Rattle.dob_query.specs.ValuedMoves.{AnswersBest, AnswersBestRight, AnswersMoves, AnswersMovesRight, AreMovesOf, AreRightMovesOf, TellsMoves, best_line, move_lines}
+use Rattle.dob_probe.specs.declared.valued_moves.ValuedMove.{ValuedMove}
 use Rattle.dob_query.specs.Tables.{AnswersProbe, AnswersProbeRight, HasValueFile, IsCheckFault, IsFileOf, IsOpeningFault, IsPositionFault, IsProbingFault, IsShut}
 use Rattle.dob_query.specs.Tables.{IsProbeLine, IsTextOf}
 
@@ -40,12 +40,12 @@ module _ (Has : List ℕ → Type 0) (table : ClassTable) (file : IsFileOf Has t
   line_fault_holds words position (table_fault.Inconsistent class) named holds = (position, named, (table, file, holds.1))
   line_fault_holds words position table_fault.Memory named holds = (position, named, tt)
 
-  pub choice_fault_holds : (words : List ℕ) (position : Setup) (fault : probing.Fault) → IsTextOf words position →
+  pub moves_fault_holds : (words : List ℕ) (position : Setup) (fault : probing.Fault) → IsTextOf words position →
       IsFaultOfMoves table position fault → IsPositionFault Has words (Table fault)
-  choice_fault_holds words position table_fault.FarChick named holds = (position, named, (table, file, holds))
-  choice_fault_holds words position table_fault.OtherSet named holds = (position, named, (table, file, holds))
-  choice_fault_holds words position (table_fault.Inconsistent class) named holds = absurd holds
-  choice_fault_holds words position table_fault.Memory named holds = (position, named, tt)
+  moves_fault_holds words position table_fault.FarChick named holds = (position, named, (table, file, holds))
+  moves_fault_holds words position table_fault.OtherSet named holds = (position, named, (table, file, holds))
+  moves_fault_holds words position (table_fault.Inconsistent class) named holds = absurd holds
+  moves_fault_holds words position table_fault.Memory named holds = (position, named, tt)
 
   -- a position that the table refuses
   pub refusal_probes : (position : Setup) (fault : probing.Fault) → IsRefusal table.family position fault → IsProbingFault Has position (Table fault)
@@ -107,13 +107,13 @@ module _ (Has : List ℕ → Type 0) (profile : Profile) (file : HasValueFile Ha
       (told.value, value_right told.table told.file words told.value (told.position, told.named, told.given), told.same)
 
   -- and the moves have the values told by definition
-  choices_right : (words : List ℕ) (choices : List ValuedMove) → AreChoicesOf Has words choices → AreRightChoicesOf profile words choices
-  choices_right words choices told =
+  the_moves_right : (words : List ℕ) (the_moves : List ValuedMove) → AreMovesOf Has words the_moves → AreRightMovesOf profile words the_moves
+  the_moves_right words the_moves told =
       let is = right_table told.table told.file in record {
         position = told.position;
         named = told.named;
-        valued = subst (λ (p : Profile). AreValuedMoves p (HasValue p) told.position choices) is.1
-            (valued_rightly told.table is.0 told.position told.member choices told.valued);
+        valued = subst (λ (p : Profile). AreValuedMoves p (HasValue p) told.position the_moves) is.1
+            (valued_rightly told.table is.0 told.position told.member the_moves told.valued);
       }
 
 -- where lines of one kind are of another one
@@ -134,22 +134,22 @@ probe_right c profile file words e right =
     (λ lines told. (line_right (c.before.has file) profile right words lines told.0, told.1))
 
 -- of moves with their values, however they are told
-choices_answered : (c : ShelfChange) (profile : Profile) (file words : List ℕ) (tell : List ValuedMove → List ℕ) (e : Ending)
+valued_moves_answered : (c : ShelfChange) (profile : Profile) (file words : List ℕ) (tell : List ValuedMove → List ℕ) (e : Ending)
     → HasValueFile (c.before.has file) profile
-    → AnswersOver c (TellsChoices (AreChoicesOf (c.before.has file) words) tell) (IsPositionFault (c.before.has file) words) e
-    → AnswersOver c (TellsChoices (AreRightChoicesOf profile words) tell) (IsPositionFault (c.before.has file) words) e
-choices_answered c profile file words tell e right =
-    answers_weaker (λ lines. TellsChoices (AreChoicesOf (c.before.has file) words) tell lines × FailsWhere c false)
-    (λ lines. TellsChoices (AreRightChoicesOf profile words) tell lines × FailsWhere c false)
+    → AnswersOver c (TellsMoves (AreMovesOf (c.before.has file) words) tell) (IsPositionFault (c.before.has file) words) e
+    → AnswersOver c (TellsMoves (AreRightMovesOf profile words) tell) (IsPositionFault (c.before.has file) words) e
+valued_moves_answered c profile file words tell e right =
+    answers_weaker (λ lines. TellsMoves (AreMovesOf (c.before.has file) words) tell lines × FailsWhere c false)
+    (λ lines. TellsMoves (AreRightMovesOf profile words) tell lines × FailsWhere c false)
     (λ fault. IsPositionFault (c.before.has file) words fault × FailsWhere c (is_io fault)) e
-    (λ lines told. ((told.0.0, choices_right (c.before.has file) profile right words told.0.0 told.0.1, told.0.2), told.1))
+    (λ lines told. ((told.0.0, the_moves_right (c.before.has file) profile right words told.0.0 told.0.1, told.0.2), told.1))
 
 pub moves_right : (c : ShelfChange) (profile : Profile) (file words : List ℕ) (e : Ending) → HasValueFile (c.before.has file) profile
     → AnswersMoves c file words e → AnswersMovesRight c profile file words e
 moves_right c profile file words e right =
-    choices_answered c profile file words choice_lines e right
+    valued_moves_answered c profile file words move_lines e right
 
 pub best_right : (c : ShelfChange) (profile : Profile) (file words : List ℕ) (e : Ending) → HasValueFile (c.before.has file) profile
     → AnswersBest c file words e → AnswersBestRight c profile file words e
 best_right c profile file words e right =
-    choices_answered c profile file words best_line e right
+    valued_moves_answered c profile file words best_line e right

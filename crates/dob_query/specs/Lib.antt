@@ -6,7 +6,7 @@ pub mod Tables
 pub mod Each
 pub mod Looks
 pub mod Shows
-pub mod Choices
+pub mod ValuedMoves
 pub mod Sizes
 pub mod Keeping
 pub mod Progress

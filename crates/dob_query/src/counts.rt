@@ -3,8 +3,8 @@ ghost use Rattle.std.specs.Prelude.{◌≡◌, IfOk, IfErr, string_bytes};
 ghost use Rattle.dob_query.specs.Sizes.{AreCountLinesOf, HasCounts, IsCountFaultOf, count_lines};
 
 use crate::fault::Fault;
-use dob_pieces::{Family, PieceSet, Profile};
 use dob_classes::count_classes;
+use dob_pieces::{Family, PieceSet, Profile};
 use dob_rank::size;
 use std::alloc::{AllocError, Global};
 

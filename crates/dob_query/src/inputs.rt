@@ -13,7 +13,9 @@ const ROOM: usize = 4096;
 
 /// The bytes that the source still has, all of them up to its end, which may be none.
 ///
-/// Error: the source failed before its end; or memory for the bytes was refused.
+/// # Errors
+///
+/// The source failed before its end; or memory for the bytes was refused.
 pub(crate) fn read_all<R: Source>(alloc: Global, source: &mut R) -> Result<Vec<u8>, ShelfFault>
     ensures given { (bytes : List ℕ) → R.gives source.old (whole bytes)
         → MatchResult result (λ read. read.items ≡ bytes) (λ fault. fault ≡ ShelfFault.Memory) }

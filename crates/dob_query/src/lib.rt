@@ -1,7 +1,6 @@
 // What the program answers by database files and by definition: the lines of each query, over shelves of files.
 #![tactic(auto)]
 
-mod choices;
 mod counts;
 mod disk;
 mod each;
@@ -18,9 +17,9 @@ mod shows;
 mod stats;
 mod tables;
 mod tally;
+mod the_moves;
 mod values;
 
-pub use choices::{answer_best, answer_moves};
 pub use counts::answer_count;
 pub use disk::{DiskFile, DiskShelf};
 pub use each::{LineAnswers, answer_each};
@@ -35,4 +34,5 @@ pub use shelf::{MemShelf, Shelf, ShelfFault};
 pub use shows::answer_show;
 pub use stats::answer_stats;
 pub use tables::{answer_check, answer_line, answer_probe};
+pub use the_moves::{answer_best, answer_moves};
 pub use values::answer_value;

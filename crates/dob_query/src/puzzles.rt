@@ -117,7 +117,7 @@ fn puzzle_text(
 ) -> Result<String, Memory>
     ensures { IfOk result (λ line. string_bytes line ≡ puzzle_text is_numbered position.now.setup puzzle) }
 {
-    let line = puzzle_line(alloc, position, puzzle.choice)?;
+    let line = puzzle_line(alloc, position, puzzle.the_move)?;
     if is_numbered {
         Ok(numbered_line(alloc, puzzle.class, line.as_str())?)
     } else {
@@ -133,17 +133,17 @@ fn numbered_line(alloc: Global, number: u64, line: &str) -> Result<String, Alloc
 }
 
 // The line of that position and that move.
-fn puzzle_line(alloc: Global, position: &Position, choice: Move) -> Result<String, Memory>
-    ensures { IfOk result (λ line. string_bytes line ≡ puzzle_line position.now.setup choice) }
+fn puzzle_line(alloc: Global, position: &Position, the_move: Move) -> Result<String, Memory>
+    ensures { IfOk result (λ line. string_bytes line ≡ puzzle_line position.now.setup the_move) }
 {
     let text = write_position(alloc, position)?;
-    let told = write_move(alloc, choice, false)?;
+    let told = write_move(alloc, the_move, false)?;
     Ok(joined_line(alloc, text.as_str(), told.as_str())?)
 }
 
 // Both texts on a line, with two spaces between them.
-fn joined_line(alloc: Global, text: &str, choice: &str) -> Result<String, AllocError>
-    ensures { IfOk result (λ line. string_bytes line ≡ text.now ++ (codes "  " ++ (choice.now ++ line_feed ∷ []))) }
+fn joined_line(alloc: Global, text: &str, the_move: &str) -> Result<String, AllocError>
+    ensures { IfOk result (λ line. string_bytes line ≡ text.now ++ (codes "  " ++ (the_move.now ++ line_feed ∷ []))) }
 {
-    format!(in alloc; "{text}  {choice}\n")
+    format!(in alloc; "{text}  {the_move}\n")
 }

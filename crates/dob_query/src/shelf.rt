@@ -51,7 +51,9 @@ pub trait Shelf {
 
     /// A source of the bytes of the file of that name, from the first on. The files keep their bytes.
     ///
-    /// Error: there is no such file, or it can't be opened; or memory for it was refused.
+    /// # Errors
+    ///
+    /// There is no such file, or it can't be opened; or memory for it was refused.
     fn find(&mut self, name: &str) -> Result<Self::Src, ShelfFault>
         ensures working { IfOk result (λ source. Self.Src.has_failed source ≡ false) }
         ensures found { (bytes : List ℕ) → (state self.old).has name.now bytes
@@ -72,7 +74,9 @@ pub trait Shelf {
 
     /// An empty sink for the bytes of a file of that name, which has no bytes from here on. Other files keep their bytes.
     ///
-    /// Error: the file isn't made, and nothing has changed.
+    /// # Errors
+    ///
+    /// The file isn't made, and nothing has changed.
     fn make(&mut self, name: &str) -> Result<Self::Dst, ShelfFault>
         ensures working { IfOk result (λ sink. (Self.Dst.state sink).has_failed ≡ false) }
         ensures empty { IfOk result (λ sink. IsTrue (state self.old).tells → (Self.Dst.state sink).received ≡ Some []) }
@@ -105,7 +109,9 @@ pub trait Shelf {
 
     /// The bytes that standard input still has, all of them up to its end. The files keep their bytes.
     ///
-    /// Error: it failed before its end; or memory for its bytes was refused.
+    /// # Errors
+    ///
+    /// It failed before its end; or memory for its bytes was refused.
     fn input(&mut self) -> Result<Vec<u8>, ShelfFault>
         ensures read { (bytes : List ℕ) → (state self.old).input ≡ Some bytes
             → MatchResult result (λ input. input.items ≡ bytes) (λ fault. fault ≡ ShelfFault.Memory) }

@@ -166,7 +166,7 @@ fn longest_of(groups: &[Group]) -> Longest
     longest
 }
 
-// The same with one group more.
+// The lines with one group more.
 fn with_group(longest: Longest, group: Group) -> Longest
     ensures { result ≡ with_group longest group }
 {

@@ -129,7 +129,7 @@ fn moves_lines(
     }
 }
 
-// The same, of some moves.
+// The lines of some moves.
 fn played_lines(alloc: Global, is_numbered: bool, moves: &[Move]) -> Result<String, Memory>
     ensures { IfOk result (λ lines. string_bytes lines
         ≡ (if is_numbered then numbered_text moves.now else moves_text false moves.now ++ line_feed ∷ [])) }
@@ -179,13 +179,13 @@ fn push_moves(alloc: Global, line: &mut String, moves: &[Move]) -> Result<(), Me
 fn push_move(
     alloc: Global,
     line: &mut String,
-    choice: Move,
+    the_move: Move,
     second: bool,
     rest: &[Move],
 ) -> Result<(), Memory>
-    ensures { OnOk result (string_bytes line.new ≡ string_bytes line.old ++ (move_text choice second ++ space_before rest.now)) }
+    ensures { OnOk result (string_bytes line.new ≡ string_bytes line.old ++ (move_text the_move second ++ space_before rest.now)) }
 {
-    let text = write_move(alloc, choice, second)?;
+    let text = write_move(alloc, the_move, second)?;
     line.push_str(text.as_str())?;
     line.push_str(space_before(rest))?;
     Ok(())

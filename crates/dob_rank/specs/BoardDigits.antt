@@ -6,7 +6,7 @@ use Rattle.dob_pieces.specs.declared.setup.Setup.{Setup}
 use Rattle.dob_pieces.specs.Setups.{IsLegal}
 use Rattle.dob_rank.specs.declared.layers.Layer.TheVariants.{Chicks, Elephants, Giraffes}
 use Rattle.dob_rank.specs.declared.masks.Masks.{Masks}
-use Rattle.dob_rank.specs.BoardMasks.{AreMasks}
+use Rattle.dob_rank.specs.BoardMasks.{AreMasksOfBoard}
 use Rattle.dob_rank.specs.Numbers.{order, forms_number, on_board, digits}
 use Rattle.dob_rank.specs.Order.{IsPositionOfSet}
 
@@ -19,7 +19,7 @@ forms_in setup =
 pub record ArePartsOf (hand : Hand) (masks : Masks) (numbers forms : List ℕ) (setup : Setup) : Type 0 where
   pub legal : IsLegal setup
   pub hand_is : hand ≡ setup.hands.mover
-  pub masks_are : AreMasks setup.board masks
+  pub masks_are : AreMasksOfBoard setup.board masks
   pub numbers_are : numbers ≡ on_board setup
   pub forms_are : forms ≡ forms_in setup
 

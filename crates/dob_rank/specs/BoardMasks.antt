@@ -6,7 +6,7 @@ use Rattle.dob_rank.specs.declared.masks.Masks.{Masks}
 use Rattle.dob_rank.specs.Numbers.{order, layer}
 use Rattle.dob_rank.specs.Masks.{layer_mask}
 
-pub record AreMasks (board : List Cell) (masks : Masks) : Type 0 where
+pub record AreMasksOfBoard (board : List Cell) (masks : Masks) : Type 0 where
   pub own_lion : masks.own_lion ≡ layer_mask (order OwnLion) (map layer board)
   pub enemy_lion : masks.enemy_lion ≡ layer_mask (order EnemyLion) (map layer board)
   pub chicks : masks.chicks ≡ layer_mask (order Chicks) (map layer board)

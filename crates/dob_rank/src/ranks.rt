@@ -4,7 +4,7 @@
 ghost use Rattle.std.specs.Prelude.{◌≡◌, ◌<◌, ◌≤◌, ◌+◌, ◌*◌, ◌/◌, ◌%◌, ◌^◌, map, slice_index};
 ghost use Rattle.dob_pieces.specs.Profiles.{IsAllowed};
 ghost use Rattle.dob_pieces.specs.declared.profile.Profile.TheVariants.{B};
-ghost use Rattle.dob_rank.specs.BoardMasks.{AreMasks};
+ghost use Rattle.dob_rank.specs.BoardMasks.{AreMasksOfBoard};
 ghost use Rattle.dob_pieces.specs.declared.setup.Setup.{Setup};
 ghost use Rattle.dob_rank.specs.Families.{family_of, IsPositionOf, HasSize, HasRank, IsRanked, is_present, size_of, rank_of};
 ghost use Rattle.dob_rank.specs.Marks.{marks_below};
@@ -138,7 +138,7 @@ fn far_rank(position: &Position) -> u64
 fn far_place(set: PieceSet, position: &Position, masks: Masks, on_board: &EachKind) -> u64
     requires allowed { IsAllowed B position.now.setup }
     requires position { IsPositionOfSet set position.now.setup }
-    requires masks { AreMasks position.now.setup.board masks }
+    requires masks { AreMasksOfBoard position.now.setup.board masks }
     requires on_board { on_board.now ≡ on_board_of position.now.setup }
     ensures { marks_below (is_present (family_of set B)) (start_of set (block_of set position.now.setup)) + result ≡ rank_of (family_of set B) position.now.setup }
 {

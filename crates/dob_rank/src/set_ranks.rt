@@ -4,7 +4,7 @@ ghost use Rattle.std.specs.Prelude.{◌≡◌, ◌<◌, ◌≤◌, ◌+◌, ◌*
 ghost use Rattle.dob_pieces.specs.Setups.{total};
 ghost use Rattle.dob_pieces.specs.declared.setup.Setup.{Setup};
 ghost use Rattle.dob_rank.specs.BoardDigits.{ArePartsOf, AreNumbersOf};
-ghost use Rattle.dob_rank.specs.BoardMasks.{AreMasks};
+ghost use Rattle.dob_rank.specs.BoardMasks.{AreMasksOfBoard};
 ghost use Rattle.dob_rank.specs.Order.{IsPositionOfSet};
 ghost use Rattle.dob_rank.specs.Numbers.{size_of_set, rank_of_set, product, number_of, block_bases, block_of};
 ghost use Rattle.dob_rank.specs.Numbers.{HasBlock, bases_by, on_board as on_board_of, digits as all_digits_of, setup_by, hands_by, HasDigits, digits_of};
@@ -59,10 +59,10 @@ pub fn spot_of(set: PieceSet, position: &Position) -> (u64, Spot)
     spot_by(set, position, masks::masks_of(&position.setup.board))
 }
 
-/// The same by the masks of the position.
+/// Block and spot by the masks of the position.
 pub fn spot_by(set: PieceSet, position: &Position, masks: Masks) -> (u64, Spot)
     requires position { IsPositionOfSet set position.now.setup }
-    requires masks { AreMasks position.now.setup.board masks }
+    requires masks { AreMasksOfBoard position.now.setup.board masks }
     ensures block { result.0 ≡ block_of set position.now.setup }
     ensures run { result.1.run ≡ run_of set position.now.setup }
     ensures local { result.1.local ≡ local_of position.now.setup }
@@ -70,10 +70,10 @@ pub fn spot_by(set: PieceSet, position: &Position, masks: Masks) -> (u64, Spot)
     spot_with(set, position, masks, &numbers_on_board(position, masks))
 }
 
-/// The same by the masks of the position and the numbers on its board.
+/// Block and spot by the masks of the position and the numbers on its board.
 fn spot_with(set: PieceSet, position: &Position, masks: Masks, on_board: &EachKind) -> (u64, Spot)
     requires position { IsPositionOfSet set position.now.setup }
-    requires masks { AreMasks position.now.setup.board masks }
+    requires masks { AreMasksOfBoard position.now.setup.board masks }
     requires on_board { on_board.now ≡ on_board_of position.now.setup }
     ensures block { result.0 ≡ block_of set position.now.setup }
     ensures run { result.1.run ≡ run_of set position.now.setup }
@@ -82,7 +82,7 @@ fn spot_with(set: PieceSet, position: &Position, masks: Masks, on_board: &EachKi
     spot_from(set, on_board, &digits_of(position, masks, on_board))
 }
 
-/// The same by the position's numbers on the board and its digits.
+/// Block and spot by the position's numbers on the board and its digits.
 pub fn spot_from(set: PieceSet, on_board: &EachKind, digits: &[u64; DIGITS]) -> (u64, Spot)
     requires { (setup : Setup) × AreNumbersOf set on_board.now digits.now setup }
     ensures block { (setup : Setup) → AreNumbersOf set on_board.now digits.now setup → result.0 ≡ block_of set setup }
@@ -143,15 +143,15 @@ pub fn position_by(set: PieceSet, on_board: &EachKind, choices: &EachKind, spot:
 
 /// How many chicks, elephants and giraffes stand on the board.
 pub fn numbers_on_board(position: &Position, masks: Masks) -> EachKind
-    requires { AreMasks position.now.setup.board masks }
+    requires { AreMasksOfBoard position.now.setup.board masks }
     ensures { result ≡ on_board_of position.now.setup }
 {
     numbers_in(masks)
 }
 
-/// The same by the masks alone.
+/// The numbers on the board by the masks alone.
 pub fn numbers_in(masks: Masks) -> EachKind
-    ensures { (setup : Setup) → AreMasks setup.board masks → result ≡ on_board_of setup }
+    ensures { (setup : Setup) → AreMasksOfBoard setup.board masks → result ≡ on_board_of setup }
 {
     [
         masks::count(masks.chicks),
@@ -162,7 +162,7 @@ pub fn numbers_in(masks: Masks) -> EachKind
 
 /// The digits of a position in its block.
 pub fn digits_of(position: &Position, masks: Masks, on_board: &EachKind) -> [u64; DIGITS]
-    requires masks { AreMasks position.now.setup.board masks }
+    requires masks { AreMasksOfBoard position.now.setup.board masks }
     requires on_board { on_board.now ≡ on_board_of position.now.setup }
     ensures { result ≡ all_digits_of position.now.setup }
 {

@@ -8,7 +8,7 @@ use Rattle.dob_share.specs.declared.news.Item.{Item}
 use Rattle.dob_update.specs.Batches.{BatchView, items_of_batches}
 use Rattle.dob_update.proofs.BatchItems.{items_in_more}
 use Rattle.dob_node.specs.declared.node.Node.{Node}
-use Rattle.dob_run.specs.declared.hands.Inlet.{Inlet}
+use Rattle.dob_run.specs.declared.slots.Inlet.{Inlet}
 use Rattle.dob_chan.specs.Inboxes.{batches_of}
 use Rattle.dob_chan.proofs.Deliveries.{own_more as batch_more, others_more}
 use Rattle.dob_run.specs.Links.{worked, worked_from}

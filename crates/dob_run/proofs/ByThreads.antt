@@ -11,15 +11,15 @@ use Rattle.dob_stops.specs.declared.cause.Cause.{Cause}
 use Rattle.dob_stops.specs.declared.fault.Fault.{Fault}
 use Rattle.dob_stops.specs.declared.fault.Fault.TheVariants.{Nodes, Sizes, Stopped, Memory}
 use Rattle.dob_run.specs.declared.build_end.Built.{Built}
-use Rattle.dob_run.specs.declared.hands.Outlet.{Outlet}
+use Rattle.dob_run.specs.declared.slots.Outlet.{Outlet}
 use Rattle.dob_run.specs.declared.runner.Runner.{Runner}
 use Rattle.dob_run.specs.declared.bounded_run.Turned.{Turned}
 use Rattle.dob_run.specs.declared.turn_loop.Until.{Until}
 use Rattle.dob_run.specs.declared.turn_loop.Until.TheVariants as until
 use Rattle.dob_run.specs.Built.{IsBuilt}
 use Rattle.dob_run.specs.CrewClose.{IsCrew}
-use Rattle.dob_run.specs.Hands.{in_hand, worked_of}
-use Rattle.dob_run.specs.declared.hands.Inlet.{Inlet}
+use Rattle.dob_run.specs.Slots.{in_slot, worked_of}
+use Rattle.dob_run.specs.declared.slots.Inlet.{Inlet}
 use Rattle.dob_run.specs.Links.{offered, worked}
 use Rattle.dob_run.proofs.Senders.{few_of}
 use Rattle.dob_run.specs.BuildEnd.{HaveStopped, IsFailureOf}
@@ -111,9 +111,9 @@ module _ (No : ℕ → Type 0) (turns : ℕ) (family : Family) (n size capacity 
         arith,
         few.into,
         ap length old.last,
-        length-append (worked_of old.end old.hand) (in_hand old.hand),
+        length-append (worked_of old.end old.slot) (in_slot old.slot),
         ap length none.0,
-        ap (λ (h : Option BatchView). length (in_hand h)) none.1,
+        ap (λ (h : Option BatchView). length (in_slot h)) none.1,
       )
 
   carried : (turned : Turned) → HasLeft board.nodes ended turned → CarriesFew board.nodes turns turned
@@ -140,7 +140,7 @@ module _ (No : ℕ → Type 0) (turns : ℕ) (family : Family) (n size capacity 
                 few_of i (worked inlet),
                 few_taken j to.0 to.1,
                 ap length inlet.last,
-                length-append (worked_of inlet.end inlet.hand) (in_hand inlet.hand),
+                length-append (worked_of inlet.end inlet.slot) (in_slot inlet.slot),
               ),
             );
         links = λ i j low_i low_j.
@@ -155,7 +155,7 @@ module _ (No : ℕ → Type 0) (turns : ℕ) (family : Family) (n size capacity 
                 arith,
                 link.2.sent,
                 few_offered i j from.0 outlet.0 from.1 outlet.1,
-                length-append (sent_by outlet.0.end) (in_hand outlet.0.hand),
+                length-append (sent_by outlet.0.end) (in_slot outlet.0.slot),
               ),
               omega (arith, link.2.received, few_of i (taken_by inlet.end), few_taken j to.0 to.1),
             );

@@ -6,7 +6,7 @@ use Rattle.std.proofs.lemmas.Bool.{cases_eq}
 use Rattle.dob_pieces.proofs.Elements.{get_set_other}
 use Rattle.dob_update.specs.Batches.{BatchView}
 use Rattle.dob_chan.specs.Ends.{place_of}
-use Rattle.dob_run.specs.declared.hands.Outlet.{Outlet}
+use Rattle.dob_run.specs.declared.slots.Outlet.{Outlet}
 use Rattle.dob_run.specs.Endpoints.{AreCounts, AreOwn}
 
 pub there_set : {L : Type 0} → (xs : List L) (k : ℕ) (new x : L) → slice_get (set xs k new) k ≡ Some x → new ≡ x

@@ -31,11 +31,11 @@ use Rattle.dob_node.proofs.Ends.{lawful_is_right}
 use Rattle.dob_node.specs.declared.node.Node.{Node}
 use Rattle.dob_node.specs.Nodes.{IsIdle}
 use Rattle.dob_chan.specs.Ends.{sent_by, taken_of}
-use Rattle.dob_run.specs.declared.hands.Outlet.{Outlet}
-use Rattle.dob_run.specs.declared.hands.Inlet.{Inlet}
+use Rattle.dob_run.specs.declared.slots.Outlet.{Outlet}
+use Rattle.dob_run.specs.declared.slots.Inlet.{Inlet}
 use Rattle.dob_run.specs.declared.endpoint.Endpoint.{Endpoint}
 use Rattle.dob_run.specs.declared.runner.Runner.{Runner}
-use Rattle.dob_run.specs.Hands.{in_hand, held_from}
+use Rattle.dob_run.specs.Slots.{in_slot, held_from}
 use Rattle.dob_run.specs.Links.{offered, worked_from}
 use Rattle.dob_run.specs.Endpoints.{AreOut}
 use Rattle.dob_run.specs.Knows.{CanHaveMade, KnowsRight}
@@ -105,13 +105,13 @@ nothing_of [] none = refl
 nothing_of (x ∷ xs) none = absurd (omega (arith, none))
 
 -- as much of it was worked in as was offered, so that it is the same
-pub link_done : (outlet : Outlet) (inlet : Inlet) (i : ℕ) (waiting : List BatchView) → outlet.hand ≡ None →
+pub link_done : (outlet : Outlet) (inlet : Inlet) (i : ℕ) (waiting : List BatchView) → outlet.slot ≡ None →
     sent_by outlet.end ≡ taken_of inlet.end i ++ waiting → length (worked_from inlet i) ≡ length (offered outlet) → worked_from inlet i ≡ offered outlet
 link_done outlet inlet i waiting empty sent long =
     let done : List BatchView = worked_from inlet i in
-    let held : List BatchView = in_hand (held_from inlet.hand i) in
+    let held : List BatchView = in_slot (held_from inlet.slot i) in
     let is : offered outlet ≡ (done ++ held) ++ waiting =
-    ap (λ (hand : Option BatchView). sent_by outlet.end ++ in_hand hand) empty ∙ append-nil (sent_by outlet.end) ∙ sent ∙ ap (λ xs. xs ++ waiting) (parts inlet i) in
+    ap (λ (slot : Option BatchView). sent_by outlet.end ++ in_slot slot) empty ∙ append-nil (sent_by outlet.end) ∙ sent ∙ ap (λ xs. xs ++ waiting) (parts inlet i) in
     let count : length (offered outlet) ≡ length done + length held + length waiting =
     omega (arith, ap length is, length-append (done ++ held) waiting, length-append done held) in
     let none : waiting ≡ [] = nothing_of waiting (omega (arith, count, long)) in

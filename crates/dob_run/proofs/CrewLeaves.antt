@@ -18,16 +18,16 @@ use Rattle.dob_chan.specs.declared.ends.Rejoined.{Rejoined}
 use Rattle.dob_chan.specs.Ends.{sent_by, taken_of}
 use Rattle.dob_node.specs.declared.node.Node.{Node}
 use Rattle.dob_node.specs.Nodes.{outbox_to}
-use Rattle.dob_run.specs.declared.hands.Outlet.{Outlet}
-use Rattle.dob_run.specs.declared.hands.Inlet.{Inlet}
+use Rattle.dob_run.specs.declared.slots.Outlet.{Outlet}
+use Rattle.dob_run.specs.declared.slots.Inlet.{Inlet}
 use Rattle.dob_run.specs.declared.endpoint.Endpoint.{Endpoint}
 use Rattle.dob_run.specs.declared.runner.Runner.{Runner}
 use Rattle.dob_run.specs.declared.crew_close.ClosedCrew.{ClosedCrew}
 use Rattle.dob_run.specs.declared.bounded_run.Worker.{Worker}
 use Rattle.dob_run.specs.declared.bounded_run.Turned.{Turned}
-use Rattle.dob_run.specs.CrewClose.{AreLinked, seat_in, IsCrew, row_of, hands_out, hands_in, AreClosed}
-use Rattle.dob_run.specs.InboxClose.{outlet_hand, IsJoined}
-use Rattle.dob_run.specs.Hands.{in_hand, held_from}
+use Rattle.dob_run.specs.CrewClose.{AreLinked, seat_in, IsCrew, row_of, slots_out, slots_in, AreClosed}
+use Rattle.dob_run.specs.InboxClose.{outlet_slot, IsJoined}
+use Rattle.dob_run.specs.Slots.{in_slot, held_from}
 use Rattle.dob_run.specs.Knows.{KnowsRight}
 use Rattle.dob_run.specs.Links.{offered, worked_from}
 use Rattle.dob_run.specs.CrewRunners.{endpoint_of, node_of, AreRunnersFor}
@@ -41,7 +41,7 @@ use Rattle.dob_run.proofs.Places.{at_row, each_more, none_at, get_map, map_got, 
 
 -- ---- workers, one by one
 
--- So many nodes have their hands, and these nodes and rows of hands are left.
+-- So many nodes have their slots, and these nodes and rows of slots are left.
 pub record IsJoining {Y Z : Type 0} (nodes : List Node) (sending : List (Vec (Option BatchView) Y)) (taking : List (Vec (Option BatchView) Z)) (nodes_left : List Node)
     (sending_left : List (Vec (Option BatchView) Y)) (taking_left : List (Vec (Option BatchView) Z)) (workers : List Worker) : Type 0 where
   pub done : ℕ
@@ -105,15 +105,15 @@ left_by n runners nodes endpoints ended turned nodes_is endpoints_is ended_is wo
       let got = workers.each k worker at in
       let runner = map_got node_of runners k worker.node (ap (λ (l : List Node). slice_get l k) (sym nodes_is) ∙ got.0) in
       let endpoint_at : slice_get endpoints k ≡ Some runner.0.endpoint = ap (λ (l : List Endpoint). slice_get l k) endpoints_is ∙ get_map endpoint_of runners k runner.0 runner.1 in
-      let out : slice_get (map row_of ended.sending.items) k ≡ Some (hands_out runner.0.endpoint) =
-      ap (λ (l : List (List (Option BatchView))). slice_get l k) ended_is.sending ∙ get_map hands_out endpoints k runner.0.endpoint endpoint_at in
-      let into : slice_get (map row_of ended.taking.items) k ≡ Some (hands_in runner.0.endpoint) =
-      ap (λ (l : List (List (Option BatchView))). slice_get l k) ended_is.taking ∙ get_map hands_in endpoints k runner.0.endpoint endpoint_at in (
+      let out : slice_get (map row_of ended.sending.items) k ≡ Some (slots_out runner.0.endpoint) =
+      ap (λ (l : List (List (Option BatchView))). slice_get l k) ended_is.sending ∙ get_map slots_out endpoints k runner.0.endpoint endpoint_at in
+      let into : slice_get (map row_of ended.taking.items) k ≡ Some (slots_in runner.0.endpoint) =
+      ap (λ (l : List (List (Option BatchView))). slice_get l k) ended_is.taking ∙ get_map slots_in endpoints k runner.0.endpoint endpoint_at in (
         runner.0,
         runner.1,
         sym runner.2,
-        same_Some worker.sending.items (hands_out runner.0.endpoint) (sym got.1 ∙ out),
-        same_Some worker.taking.items (hands_in runner.0.endpoint) (sym got.2 ∙ into),
+        same_Some worker.sending.items (slots_out runner.0.endpoint) (sym got.1 ∙ out),
+        same_Some worker.taking.items (slots_in runner.0.endpoint) (sym got.2 ∙ into),
       );
   words = subst (λ (p : List Endpoint × Closed). AreWords n (map seat_in p.0) p.1.words.items) (λ q. (endpoints_is q, (sym closed) q)) ended_is.words;
   links_count = ap (λ (v : Vec Rejoined Global). length v.items) links ∙ ended_is.count;
@@ -192,7 +192,7 @@ module _ (board : Board) (family : Family) (size : ℕ) (runners : List Runner) 
       ∙ applied_else to.node to.endpoint.inlet i (λ same. apart (same ∙ (lawful_at j to at).of.1 ∙ (seat_at board runners crew j to at).node))
 
   link_is : (i j : ℕ) (sender taker : Worker) (from to : Runner) (outlet : Outlet) (link : Rejoined) → slice_get runners i ≡ Some from →
-      slice_get runners j ≡ Some to → sender.node ≡ from.node → sender.sending.items ≡ hands_out from.endpoint → taker.taking.items ≡ hands_in to.endpoint →
+      slice_get runners j ≡ Some to → sender.node ≡ from.node → sender.sending.items ≡ slots_out from.endpoint → taker.taking.items ≡ slots_in to.endpoint →
       slice_get from.endpoint.outlets.items j ≡ Some outlet → IsJoined i outlet.end to.endpoint.inlet.end link →
       IsLink board.nodes size turned.closed.words.items i j sender taker (applied_by (slice_get runners j) i) link
   link_is i j sender taker from to outlet link at_i at_j node_is out_is into_is out joined =
@@ -203,10 +203,10 @@ module _ (board : Board) (family : Family) (size : ℕ) (runners : List Runner) 
       record {
         sent = sent_by outlet.end;
         received = taken_of inlet.end i;
-        sending = outlet.hand;
-        taking = held_from inlet.hand i;
-        sending_is = ap (λ (l : List (Option BatchView)). slice_get l j) out_is ∙ get_map outlet_hand from.endpoint.outlets.items j outlet out;
-        taking_is = ap (λ (l : List (Option BatchView)). slice_get l i) into_is ∙ at_row to.endpoint.seat.nodes i inlet.hand low;
+        sending = outlet.slot;
+        taking = held_from inlet.slot i;
+        sending_is = ap (λ (l : List (Option BatchView)). slice_get l j) out_is ∙ get_map outlet_slot from.endpoint.outlets.items j outlet out;
+        taking_is = ap (λ (l : List (Option BatchView)). slice_get l i) into_is ∙ at_row to.endpoint.seat.nodes i inlet.slot low;
         sent_count = joined.sent;
         received_count = joined.received;
         lawful = joined.lawful;
@@ -214,7 +214,7 @@ module _ (board : Board) (family : Family) (size : ℕ) (runners : List Runner) 
           arith,
           left.words.posted i j from.endpoint.seat (seat_there runners i from at_i) low_j,
           from.endpoint.posted j outlet out,
-          length-append (sent_by outlet.end) (in_hand outlet.hand),
+          length-append (sent_by outlet.end) (in_slot outlet.slot),
           joined.sent,
         );
         taken = omega (
@@ -222,10 +222,10 @@ module _ (board : Board) (family : Family) (size : ℕ) (runners : List Runner) 
           left.words.taken j i to.endpoint.seat (seat_there runners j to at_j) low_i,
           to.endpoint.taken i low,
           ap length (parts inlet i),
-          length-append (worked_from inlet i) (in_hand (held_from inlet.hand i)),
+          length-append (worked_from inlet i) (in_slot (held_from inlet.slot i)),
           joined.received,
         );
-        planned_is = λ apart. subst (λ (node : Node). planned node j ≡ items_of_batches (sent_by outlet.end ++ in_hand outlet.hand) ++ (outbox_to node j).items) (sym node_is)
+        planned_is = λ apart. subst (λ (node : Node). planned node j ≡ items_of_batches (sent_by outlet.end ++ in_slot outlet.slot) ++ (outbox_to node j).items) (sym node_is)
             (sends_at i j from outlet at_i out apart).items;
         small = λ apart k batch at. (sends_at i j from outlet at_i out apart).small k batch at;
         applied_is = λ apart. applied_of i j to at_j apart ∙ ap (λ (bs : List BatchView). items_of_batches bs) (sym (front inlet i));

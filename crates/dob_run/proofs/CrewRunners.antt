@@ -9,8 +9,8 @@ use Rattle.dob_pieces.proofs.Elements.{some_at}
 use Rattle.dob_board.specs.declared.board.Board.{Board}
 use Rattle.dob_board.specs.Seats.{IsSeatOf}
 use Rattle.dob_chan.specs.Ends.{IsEndOf}
-use Rattle.dob_run.specs.declared.hands.Outlet.{Outlet}
-use Rattle.dob_run.specs.declared.hands.Inlet.{Inlet}
+use Rattle.dob_run.specs.declared.slots.Outlet.{Outlet}
+use Rattle.dob_run.specs.declared.slots.Inlet.{Inlet}
 use Rattle.dob_run.specs.declared.endpoint.Endpoint.{Endpoint}
 use Rattle.dob_run.specs.declared.runner.Runner.{Runner}
 use Rattle.dob_run.specs.Links.{KeepsInlet}

@@ -25,12 +25,12 @@ use Rattle.dob_share.specs.declared.share.Share.{Share}
 use Rattle.dob_node.specs.Nodes.{IsIdle}
 use Rattle.dob_stops.specs.declared.fault.Fault.{Fault}
 use Rattle.dob_stops.specs.declared.fault.Fault.TheVariants.{Nodes, Sizes, Stopped, Memory}
-use Rattle.dob_run.specs.declared.hands.Outlet.{Outlet}
-use Rattle.dob_run.specs.declared.hands.Inlet.{Inlet}
+use Rattle.dob_run.specs.declared.slots.Outlet.{Outlet}
+use Rattle.dob_run.specs.declared.slots.Inlet.{Inlet}
 use Rattle.dob_run.specs.declared.runner.Runner.{Runner}
 use Rattle.dob_run.specs.declared.crew_close.ClosedCrew.{ClosedCrew as Left}
 use Rattle.dob_run.specs.declared.build_end.Built.{Built}
-use Rattle.dob_run.specs.Hands.{in_hand, held_from}
+use Rattle.dob_run.specs.Slots.{in_slot, held_from}
 use Rattle.dob_run.specs.Links.{offered, worked_from}
 use Rattle.dob_run.proofs.Senders.{parts}
 use Rattle.dob_run.specs.Endpoints.{AreOut}
@@ -39,7 +39,7 @@ use Rattle.dob_run.specs.InboxClose.{IsJoined}
 use Rattle.dob_run.specs.CrewRunners.{endpoint_of, node_of}
 use Rattle.dob_run.specs.BoundedRun.{IsFirstFailed}
 use Rattle.dob_run.specs.LawfulRunners.{IsLawfulRunner}
-use Rattle.dob_run.specs.Built.{needed, IsDone, IsBuilt}
+use Rattle.dob_run.specs.Built.{needed, IsLinkDone, IsBuilt}
 use Rattle.dob_run.specs.Finished.{AreJoinedBy, AreFinished, AreShown}
 use Rattle.dob_run.specs.BuildEnd.{HaveStopped, IsFailure, IsFailureOf, failed_of, share_in, IsOwner, AreOwners, AreShownBelow}
 use Rattle.dob_run.proofs.CrewFinished.{nothing_of, finished_right}
@@ -186,7 +186,7 @@ module _ (board : Board) (family : Family) (size : ℕ) (runners : List Runner) 
 
       link_is : (values : List Value) → AreShown family board.nodes runners values →
           (i j : ℕ) (sender taker : Runner) (outlet : Outlet) (inlet : Inlet) (link : Rejoined) → AreJoinedBy runners i j sender taker outlet inlet →
-          IsJoined i outlet.end inlet.end link → IsDone family board.nodes size words values i j link
+          IsJoined i outlet.end inlet.end link → IsLinkDone family board.nodes size words values i j link
       link_is values shown i j sender taker outlet inlet link joined is = record {
         posted = posted;
         taken = sym (are.all_taken ended i j low_i low_j) ∙ posted;
@@ -204,12 +204,12 @@ module _ (board : Board) (family : Family) (size : ℕ) (runners : List Runner) 
           low_j : j < board.nodes
           low_j = crew_low board runners crew j taker joined.takes
 
-          -- nothing lies in the sending hand
-          empty : outlet.hand ≡ None
+          -- nothing lies in the sending slot
+          empty : outlet.slot ≡ None
           empty = (rest i sender joined.sends).1 j outlet joined.out
 
           offered_is : offered outlet ≡ sent_by outlet.end
-          offered_is = ap (λ (hand : Option BatchView). sent_by outlet.end ++ in_hand hand) empty ∙ append-nil (sent_by outlet.end)
+          offered_is = ap (λ (slot : Option BatchView). sent_by outlet.end ++ in_slot slot) empty ∙ append-nil (sent_by outlet.end)
 
           is_sent : link.sent ≡ length (offered outlet)
           is_sent = is.sent ∙ ap length (sym offered_is)
@@ -228,7 +228,7 @@ module _ (board : Board) (family : Family) (size : ℕ) (runners : List Runner) 
           sent = ap length is.lawful ∙ length-append (taken_of inlet.end i) link.waiting.items
 
           took : length (worked_from inlet i) ≤ length (taken_of inlet.end i)
-          took = omega (arith, ap length (parts inlet i), length-append (worked_from inlet i) (in_hand (held_from inlet.hand i)))
+          took = omega (arith, ap length (parts inlet i), length-append (worked_from inlet i) (in_slot (held_from inlet.slot i)))
 
       pub built_is : (shares : List Share) (built : Built) → shares ≡ map share_in (map node_of runners) → built.table.family ≡ family →
           AreShownBelow (length shares) (classes_of family) shares built.table.values → built.closed ≡ left.closed → built.links ≡ left.links →
@@ -254,7 +254,7 @@ module _ (board : Board) (family : Family) (size : ℕ) (runners : List Runner) 
                 let link = has.links i j outlet.0 inlet (are_linked runners i j from.0 to.0 outlet.0 inlet from.1 to.1 outlet.1 refl) in (
                   link.0,
                   ap (λ (v : Vec Rejoined Global). slice_get v.items (i * board.nodes + j)) links ∙ link.1,
-                  subst (λ (l : List ℕ). IsDone family board.nodes size l values i j link.0) items
+                  subst (λ (l : List ℕ). IsLinkDone family board.nodes size l values i j link.0) items
                       (link_is values by_runners i j from.0 to.0 outlet.0 inlet link.0 joined link.2),
                 );
           }

@@ -11,13 +11,13 @@ use Rattle.dob_chan.specs.declared.ends.SendEnd.{SendEnd}
 use Rattle.dob_chan.specs.declared.ends.TakeEnd.{TakeEnd}
 use Rattle.dob_chan.specs.declared.ends.Rejoined.{Rejoined}
 use Rattle.dob_chan.specs.Ends.{IsEndOf, senders_of}
-use Rattle.dob_run.specs.declared.hands.Outlet.{Outlet}
-use Rattle.dob_run.specs.declared.hands.Inlet.{Inlet}
+use Rattle.dob_run.specs.declared.slots.Outlet.{Outlet}
+use Rattle.dob_run.specs.declared.slots.Inlet.{Inlet}
 use Rattle.dob_run.specs.declared.endpoint.Endpoint.{Endpoint}
 use Rattle.dob_run.specs.declared.crew_close.Parts.{Parts}
 use Rattle.dob_run.specs.Rows.{StandsAt, AreDealt}
 use Rattle.dob_run.specs.InboxClose.{outlet_end, IsJoined, AreEnds, AreJoined}
-use Rattle.dob_run.specs.CrewClose.{AreLinked, seat_in, IsCrew, row_of, ends_out, end_in, hands_out, hands_in, HasRowMore, HasAdded, ArePartsOf}
+use Rattle.dob_run.specs.CrewClose.{AreLinked, seat_in, IsCrew, row_of, ends_out, end_in, slots_out, slots_in, HasRowMore, HasAdded, ArePartsOf}
 use Rattle.dob_run.proofs.Places.{get_map, map_got}
 
 map_end : {A B : Type 0} → (f : A → B) (xs : List A) (x : A) → map f (xs ++ x ∷ []) ≡ map f xs ++ f x ∷ []
@@ -57,8 +57,8 @@ parts_more n endpoints endpoint old new are added wide =
       };
       sends = sends_more n endpoints endpoint old new are dealt;
       takes = added.takes ∙ ap (λ l. l ++ end_in endpoint ∷ []) are.takes ∙ sym (map_end end_in endpoints endpoint);
-      sending = rows_more hands_out endpoints endpoint old.sending.items new.sending.items are.sending added.sending;
-      taking = rows_more hands_in endpoints endpoint old.taking.items new.taking.items are.taking added.taking;
+      sending = rows_more slots_out endpoints endpoint old.sending.items new.sending.items are.sending added.sending;
+      taking = rows_more slots_in endpoints endpoint old.taking.items new.taking.items are.taking added.taking;
     }
 
 -- Of all endpoints some are taken apart, and these are left.

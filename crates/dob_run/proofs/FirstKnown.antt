@@ -28,10 +28,10 @@ use Rattle.dob_node.specs.Nodes.{IsSound, IsOpened}
 use Rattle.dob_node.proofs.ValuesFollow.{SumsUp-same}
 use Rattle.dob_node.proofs.Totals.{start_sums}
 use Rattle.dob_node.proofs.ItemChanges.{one_value}
-use Rattle.dob_node.proofs.SoleOpens.{listed_opening}
+use Rattle.dob_node.proofs.AloneOpens.{listed_opening}
 use Rattle.dob_node.proofs.Nodes.{kept_sound}
 use Rattle.dob_node.proofs.Beginnings.{or_else, opened_value, opened_chained, opened_entries}
-use Rattle.dob_run.specs.Knows.{AreSummed, KnowsRight}
+use Rattle.dob_run.specs.Knows.{AreCellsSummed, KnowsRight}
 use Rattle.dob_run.proofs.Summing.{is_sum}
 use Rattle.dob_run.proofs.Knowing.{known_by}
 
@@ -71,7 +71,7 @@ module _ (family : Family) (n id : ℕ) (openings : List Opening) (node : Node) 
       within = subst (λ (m : ℕ). m < length openings) (sym place_is) (subst (λ (m : ℕ). class < m) (sym are.whole) low)
 
   module _ (applied : ℕ → List Item) (none : (k : ℕ) → applied k ≡ []) where
-    summed : AreSummed family n id node.share applied
+    summed : AreCellsSummed family n id node.share applied
     summed histories could class low own at_open =
         is_sum (known_by family n histories applied class) (cell_at node.share class)
         (SumsUp-same (known_by family n histories applied class) (cell_at node.share class) (fresh (length (moves_of family.profile (class_setup family class))))

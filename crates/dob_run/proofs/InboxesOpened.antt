@@ -8,8 +8,8 @@ use Rattle.dob_chan.specs.declared.ends.SendEnd.{SendEnd}
 use Rattle.dob_chan.specs.declared.ends.TakeEnd.{TakeEnd}
 use Rattle.dob_chan.specs.Ends.{taken_by, senders_of, IsEndOf, AreEndsOf, AreOpened}
 use Rattle.dob_pieces.proofs.Elements.{at_end}
-use Rattle.dob_run.specs.declared.hands.Outlet.{Outlet}
-use Rattle.dob_run.specs.declared.hands.Inlet.{Inlet}
+use Rattle.dob_run.specs.declared.slots.Outlet.{Outlet}
+use Rattle.dob_run.specs.declared.slots.Inlet.{Inlet}
 use Rattle.dob_run.specs.Rows.{StandsAt, AreRows, AreDealt}
 use Rattle.dob_run.specs.InboxOpen.{AreOutlets, IsLaid, IsUntaken, IsOneLaid, AreLaidUpto}
 use Rattle.dob_run.proofs.Places.{each_more, none_at, next_is, then_left, gone_all}
@@ -23,7 +23,7 @@ pub record AreMaking (sends left : List SendEnd) (outlets : List Outlet) : Type 
   pub within : done ≤ length sends
   pub left_are : left ≡ drop done sends
   pub count : length outlets ≡ done
-  pub each : (k : ℕ) (outlet : Outlet) → slice_get outlets k ≡ Some outlet → (slice_get sends k ≡ Some outlet.end) × (outlet.hand ≡ None)
+  pub each : (k : ℕ) (outlet : Outlet) → slice_get outlets k ≡ Some outlet → (slice_get sends k ≡ Some outlet.end) × (outlet.slot ≡ None)
 
 pub making_begins : (sends left : List SendEnd) (outlets : List Outlet) → left ≡ sends → outlets ≡ [] → AreMaking sends left outlets
 making_begins sends left outlets all none = record {
@@ -35,16 +35,16 @@ making_begins sends left outlets all none = record {
 }
 
 pub making_goes_on : (sends left after : List SendEnd) (send : SendEnd) (outlets more : List Outlet) (outlet : Outlet) → AreMaking sends left outlets →
-    left ≡ send ∷ after → outlet.end ≡ send → outlet.hand ≡ None → more ≡ outlets ++ outlet ∷ [] → AreMaking sends after more
-making_goes_on sends left after send outlets more outlet on is end hand grown =
+    left ≡ send ∷ after → outlet.end ≡ send → outlet.slot ≡ None → more ≡ outlets ++ outlet ∷ [] → AreMaking sends after more
+making_goes_on sends left after send outlets more outlet on is end slot grown =
     let at = next_is sends after send on.done (sym on.left_are ∙ is) in
     record {
       done = on.done + 1;
       within = omega (arith, slice_get_within sends on.done send at);
       left_are = then_left sends after send on.done (sym on.left_are ∙ is);
       count = omega (arith, ap length grown, length-append outlets (outlet ∷ []), on.count);
-      each = each_more (λ (k : ℕ) (o : Outlet). (slice_get sends k ≡ Some o.end) × (o.hand ≡ None)) outlets more outlet on.done on.count grown on.each
-          (at ∙ ap Some (sym end), hand);
+      each = each_more (λ (k : ℕ) (o : Outlet). (slice_get sends k ≡ Some o.end) × (o.slot ≡ None)) outlets more outlet on.done on.count grown on.each
+          (at ∙ ap Some (sym end), slot);
     }
 
 pub all_made : (sends left : List SendEnd) (outlets : List Outlet) → AreMaking sends left outlets → length left ≡ 0 → AreOutlets sends outlets
@@ -53,8 +53,8 @@ all_made sends left outlets on none = record { count = on.count ∙ gone_all sen
 -- ---- one inbox
 
 pub one_laid : (capacity n : ℕ) (sends : List SendEnd) (take : TakeEnd) (outlets : List Outlet) (inlet : Inlet) → senders_of take ≡ n → AreEndsOf take sends →
-    AreOpened take.pass capacity n sends → taken_by take ≡ [] → AreOutlets sends outlets → inlet.end ≡ take → inlet.hand ≡ None → IsOneLaid capacity n outlets inlet
-one_laid capacity n sends take outlets inlet many ends opened nothing are end hand = record {
+    AreOpened take.pass capacity n sends → taken_by take ≡ [] → AreOutlets sends outlets → inlet.end ≡ take → inlet.slot ≡ None → IsOneLaid capacity n outlets inlet
+one_laid capacity n sends take outlets inlet many ends opened nothing are end slot = record {
   count = are.count ∙ ends.0 ∙ many;
   laid = λ i outlet at.
       let is = are.each i outlet at in
@@ -68,7 +68,7 @@ one_laid capacity n sends take outlets inlet many ends opened nothing are end ha
   untaken = record {
     senders = ap (λ (t : TakeEnd). senders_of t) end ∙ many;
     nothing = ap (λ (t : TakeEnd). taken_by t) end ∙ nothing;
-    empty = hand;
+    empty = slot;
   };
 }
 

@@ -27,15 +27,15 @@ use Rattle.dob_node.specs.Nodes.{outbox_to, HasItemFault, IsUnchanged}
 use Rattle.dob_chan.specs.declared.ends.SendEnd.{SendEnd}
 use Rattle.dob_chan.specs.declared.ends.TakeEnd.{TakeEnd}
 use Rattle.dob_chan.specs.Ends.{sent_by, taken_by, SendsToSame, TakesFromSame}
-use Rattle.dob_run.specs.declared.hands.Outlet.{Outlet}
-use Rattle.dob_run.specs.declared.hands.Inlet.{Inlet}
+use Rattle.dob_run.specs.declared.slots.Outlet.{Outlet}
+use Rattle.dob_run.specs.declared.slots.Inlet.{Inlet}
 use Rattle.dob_run.specs.declared.endpoint.Endpoint.{Endpoint}
 use Rattle.dob_run.specs.declared.runner.Runner.{Runner}
 use Rattle.dob_run.specs.Links.{KeepsOutlet, KeepsInlet}
 use Rattle.dob_run.specs.LawfulRunners.{IsSpared}
 use Rattle.dob_run.specs.Endpoints.{KeepsEach, AreOut}
 use Rattle.dob_run.specs.Keeps.{KeepsEndpoint, HasSameLinks}
-use Rattle.dob_run.specs.Runners.{KeepsRunner, GoesOn, HasFailed, HasBroken, HasRefused, HasCutAll, IsReasonFor, IsReasoned, IsAsked, no_gate, StepsBy}
+use Rattle.dob_run.specs.Runners.{KeepsRunner, GoesOn, HasFailed, HasBroken, HasRefused, HasCutAll, IsReasonFor, IsReasoned, GateIsAsked, no_gate, StepsBy}
 use Rattle.dob_run.specs.Turns.{HasTurned, HasSameWork}
 use Rattle.dob_run.proofs.Counted.{there_set}
 
@@ -272,9 +272,9 @@ work_same r = record { node = refl; links = record { seat = seat_same r.endpoint
 pub failed_after : (a b c : Runner) (why : Cause) → KeepsRunner a b → HasFailed b c why → HasFailed a c why
 failed_after a b c why kept failed = record { keeps = runner_trans a b c kept failed.keeps; cause = failed.cause; stopped = failed.stopped }
 
--- hands that were empty are
+-- slots that were empty are
 pub out_still : (old new : Endpoint) → new.seat.nodes ≡ old.seat.nodes →
-    ((j : ℕ) (before after : Outlet) → slice_get old.outlets.items j ≡ Some before → slice_get new.outlets.items j ≡ Some after → before.hand ≡ None → after.hand ≡ None) →
+    ((j : ℕ) (before after : Outlet) → slice_get old.outlets.items j ≡ Some before → slice_get new.outlets.items j ≡ Some after → before.slot ≡ None → after.slot ≡ None) →
     AreOut old.outlets.items → AreOut new.outlets.items
 out_still old new nodes each out j after at =
     let before = there_is new.outlets.items old.outlets.items j after (omega (arith, new.outlets_len, old.outlets_len, nodes)) at in
@@ -324,11 +324,11 @@ reason_on {A} No c r why is reason =
 
 -- the gate's answer, where the node wasn't held back, and where it was
 pub asked_yes : {A : Type 0} (Says : ℕ → Bool → Type 0) (node : ℕ) (answer : Bool) (r : Result A Cause) → Says node answer → answer ≡ true → r ≢ Err Held →
-    IsAsked Says node r
+    GateIsAsked Says node r
 asked_yes Says node answer r said is unheld = (answer, said, (λ no'. absurd (let both = sym is ∙ no' in cc), λ held. absurd (unheld held)))
 
 pub asked_no : {A : Type 0} (Says : ℕ → Bool → Type 0) (node : ℕ) (answer : Bool) (r : Result A Cause) → Says node answer → answer ≡ false → r ≡ Err Held →
-    IsAsked Says node r
+    GateIsAsked Says node r
 asked_no Says node answer r said is held = (answer, said, (λ no'. held, λ held'. is))
 
 -- a runner that has made a turn, or failed in one, has a reason where it failed

@@ -23,7 +23,7 @@ use Rattle.dob_share.proofs.Applied.{CellValue-same}
 use Rattle.dob_update.specs.Items.{items_from}
 use Rattle.dob_node.specs.Histories.{value_of, all_known, IsNext, IsChained}
 use Rattle.dob_node.specs.Stores.{HistoryView}
-use Rattle.dob_node.specs.TakenItems.{HasEntries, AreKept, IsTaken, AreTaken, listed}
+use Rattle.dob_node.specs.TakenItems.{HasItemEntries, AreKept, IsTaken, AreTaken, listed}
 use Rattle.dob_node.proofs.Splits.{IsMade, IsFrom, split, made_from}
 use Rattle.dob_node.proofs.Learns.{learnt, nothing_learnt}
 use Rattle.dob_node.proofs.Settles.{chained_more, value_of-more}
@@ -32,7 +32,7 @@ use Rattle.dob_node.proofs.Kepts.{fits_own, now_is, kept_still}
 use Rattle.dob_node.proofs.ItemChanges.{one_value, fits_open, value_elsewhere}
 use Rattle.dob_node.proofs.Rises.{same_back}
 use Rattle.dob_node.proofs.ValuesFollow.{SumsUp-same}
-use Rattle.dob_run.specs.Knows.{sum_of, CanHaveMade, AreSummed, KnowsRight}
+use Rattle.dob_run.specs.Knows.{sum_of, CanHaveMade, AreCellsSummed, KnowsRight}
 use Rattle.dob_run.proofs.Summing.{sums_by, is_sum}
 
 abbrev pub known_by : Family → ℕ → (ℕ → List Settlement) → (ℕ → List Item) → ℕ → List Value
@@ -113,7 +113,7 @@ module _ (family : Family) (n id : ℕ) (histories : ℕ → List Settlement) (a
 
 module _ (family : Family) (n id : ℕ) (share mid : Share) (history longer : HistoryView) (applied after : ℕ → List Item) (i : ℕ) (low : i < n) (item : Item)
     (grown : after i ≡ applied i ++ item ∷ []) (same_else : (k : ℕ) → k ≢ i → after k ≡ applied k) (kept : AreKept family n id share history)
-    (entries : HasEntries item) (taken : IsTaken item share mid history longer) (knows : KnowsRight family n id share history.settlements applied) where
+    (entries : HasItemEntries item) (taken : IsTaken item share mid history longer) (knows : KnowsRight family n id share history.settlements applied) where
   abbrev h : List Settlement
   h = history.settlements
 
@@ -126,7 +126,7 @@ module _ (family : Family) (n id : ℕ) (share mid : Share) (history longer : Hi
   is_open : status_at share item.to ≡ Open
   is_open = fits_open share item taken.fits
 
-  sums_after : AreSummed family n id mid after
+  sums_after : AreCellsSummed family n id mid after
   sums_after histories could class low_class own at_open = elim (cases_eq class item.to) [
     | inl same ↦ subst (λ k. SameCell (cell_at mid k) (sum_of (known_by family n histories after k))) (sym same)
         (summed_here family n id histories applied after i low item could grown same_else (cell_at share item.to) (cell_at mid item.to)
@@ -215,7 +215,7 @@ abbrev with_one : (ℕ → List Item) → ℕ → Item → ℕ → List Item
 with_one applied i item k = cond (eqb k i) (applied i ++ item ∷ []) (applied k)
 
 pub taken_all : (family : Family) (n id : ℕ) (i : ℕ) → i < n → (items : List Item) (share after : Share) (history grown : HistoryView) (applied later : ℕ → List Item) →
-    AreKept family n id share history → All HasEntries items → AreTaken items share after history grown → later i ≡ applied i ++ items →
+    AreKept family n id share history → All HasItemEntries items → AreTaken items share after history grown → later i ≡ applied i ++ items →
     ((k : ℕ) → k ≢ i → later k ≡ applied k) → KnowsRight family n id share history.settlements applied → KnowsRight family n id after grown.settlements later
 taken_all family n id i low [] share after history grown applied later kept entries taken more same knows =
     subst (λ (x : HistoryView). KnowsRight family n id after x.settlements later) (sym taken.1)
@@ -228,10 +228,10 @@ taken_all family n id i low [] share after history grown applied later kept entr
       | inr other ↦ same k other
     ]
 taken_all family n id i low (item ∷ items) share after history grown applied later kept entries taken more same knows =
-    taken_all family n id i low items taken.0 after taken.1 grown (with_one applied i item) later kept_between (All-tail HasEntries item items entries) taken.3
+    taken_all family n id i low items taken.0 after taken.1 grown (with_one applied i item) later kept_between (All-tail HasItemEntries item items entries) taken.3
     (more ∙ sym (append_assoc (applied i) (item ∷ []) items) ∙ ap (λ xs. xs ++ items) (sym one_more))
     (λ k other. same k other ∙ sym (elsewhere k other))
-    (taken_one family n id share taken.0 history taken.1 applied (with_one applied i item) i low item one_more elsewhere kept (All-head HasEntries item items entries) taken.2 knows)
+    (taken_one family n id share taken.0 history taken.1 applied (with_one applied i item) i low item one_more elsewhere kept (All-head HasItemEntries item items entries) taken.2 knows)
   where
     one_more : with_one applied i item i ≡ applied i ++ item ∷ []
     one_more = ap (λ b. cond b (applied i ++ item ∷ []) (applied i)) (eq-eqb i i refl)
@@ -242,5 +242,5 @@ taken_all family n id i low (item ∷ items) share after history grown applied l
     kept_between : AreKept family n id taken.0 taken.1
     kept_between =
         let step = taken.2 in
-        kept_still family n id share taken.0 history item kept (All-head HasEntries item items entries) step.classes step.fits step.cell step.others
+        kept_still family n id share taken.0 history item kept (All-head HasItemEntries item items entries) step.classes step.fits step.cell step.others
         step.settled.0 step.settled.1 taken.1 step.settled.2

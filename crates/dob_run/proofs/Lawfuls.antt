@@ -17,12 +17,12 @@ use Rattle.dob_update.specs.Batches.{BatchView, OutboxView, empty_outbox, items_
 use Rattle.dob_update.proofs.BatchItems.{items_in_more}
 use Rattle.dob_node.specs.Stores.{HistoryView}
 use Rattle.dob_node.specs.declared.node.Node.{Node}
-use Rattle.dob_node.specs.TakenItems.{HasEntries, listed}
+use Rattle.dob_node.specs.TakenItems.{HasItemEntries, listed}
 use Rattle.dob_node.specs.Nodes.{outbox_to, IsSound, IsIdle, IsExpanded, HasApplied, HasTaken, HasCut, IsUnchanged}
 use Rattle.dob_node.proofs.Settles.{emitted_more, emitted_grown}
 use Rattle.dob_node.proofs.Nodes.{outbox_same}
-use Rattle.dob_run.specs.declared.hands.Outlet.{Outlet}
-use Rattle.dob_run.specs.declared.hands.Inlet.{Inlet}
+use Rattle.dob_run.specs.declared.slots.Outlet.{Outlet}
+use Rattle.dob_run.specs.declared.slots.Inlet.{Inlet}
 use Rattle.dob_run.specs.declared.endpoint.Endpoint.{Endpoint}
 use Rattle.dob_run.specs.Knows.{KnowsRight}
 use Rattle.dob_chan.specs.Inboxes.{batches_of}
@@ -112,7 +112,7 @@ unchanged_failed family size old new endpoint now law same sound links colour =
 pub offered_again : (family : Family) (size to : ℕ) (node : Node) (old new : Endpoint) → IsLawfulRunner family size node old → new.seat ≡ old.seat →
     HasChangedOne (λ (before after : Outlet). KeepsOutlet before after × (offered after ≡ offered before)) to old.outlets.items new.outlets.items →
     new.inlet ≡ old.inlet → (AreOut old.outlets.items → AreOut new.outlets.items) → IsLawfulRunner family size node new
-offered_again family size to node old new law seat one inlet hands = record {
+offered_again family size to node old new law seat one inlet slots = record {
   of = (law.of.0, law.of.1 ∙ sym (ap (λ s. s.node) seat), law.of.2 ∙ sym (ap (λ s. s.nodes) seat));
   sound = law.sound;
   sends = λ j outlet apart at. there j outlet (subst (λ os. slice_get os j ≡ Some outlet) one.4 at) (λ e. apart (e ∙ sym (ap (λ s. s.node) seat)));
@@ -120,7 +120,7 @@ offered_again family size to node old new law seat one inlet hands = record {
       (ap (λ s. slice_get new.outlets.items s.node) (sym seat) ∙ at)) refl;
   own = law.own;
   knows = worked_still node old new (same_inlet old new inlet) law.knows;
-  white = λ is. (let rest = law.white (sym (ap (λ s. s.black) seat) ∙ is) in (rest.0, hands rest.1));
+  white = λ is. (let rest = law.white (sym (ap (λ s. s.black) seat) ∙ is) in (rest.0, slots rest.1));
 }
   where
     there : (j : ℕ) (outlet : Outlet) → slice_get (slice_set old.outlets.items to one.1) j ≡ Some outlet → j ≢ old.seat.node → SendsRight node size j (offered outlet)
@@ -171,7 +171,7 @@ applied_own family size old new endpoint law step sound =
           (taken_one old.family old.n old.id old.share new.share old.history new.history (applied_from old endpoint.inlet) (applied_from new endpoint.inlet)
           old.id law.sound.kept.one_of_n step.item
           (one_more (ap (λ i. planned new i) step.same.1 ∙ plan old.id)) (λ k other. elsewhere k other) law.sound.kept
-          (All-head HasEntries step.item new.own.items (subst (λ xs. All HasEntries xs) step.first law.sound.entries)) step.taken law.knows);
+          (All-head HasItemEntries step.item new.own.items (subst (λ xs. All HasItemEntries xs) step.first law.sound.entries)) step.taken law.knows);
       white = λ is. absurd (nothing_first old.own.items step.item new.own.items ((law.white is).0.applied) step.first);
     }
   where
@@ -190,7 +190,7 @@ applied_own family size old new endpoint law step sound =
 
 -- a batch of another node was counted as worked in, which blackens the seat, and applied
 pub applied_batch : (family : Family) (size from : ℕ) (batch : BatchView) (node after : Node) (old new : Endpoint) → IsLawfulRunner family size node old →
-    from < old.seat.nodes → from ≢ old.seat.node → All HasEntries batch.items → HasTaken batch.items node after → IsSound after →
+    from < old.seat.nodes → from ≢ old.seat.node → All HasItemEntries batch.items → HasTaken batch.items node after → IsSound after →
     new.seat.node ≡ old.seat.node → new.seat.nodes ≡ old.seat.nodes → new.seat.black ≡ true → new.outlets.items ≡ old.outlets.items →
     ((k : ℕ) → k ≢ from → items_worked new.inlet k ≡ items_worked old.inlet k) →
     items_worked new.inlet from ≡ items_worked old.inlet from ++ batch.items → IsLawfulRunner family size after new
@@ -277,7 +277,7 @@ expanded_one family size old new endpoint law step sound = record {
           small = sends.small;
         }
 
--- ---- a batch was cut and put into the hand of an outlet
+-- ---- a batch was cut and put into the slot of an outlet
 
 pub cut_one : (family : Family) (size to : ℕ) (batch : BatchView) (node after : Node) (old new : Endpoint) → IsLawfulRunner family size node old →
     to ≢ old.seat.node → HasCut to size batch node after → IsSound after → new.seat.node ≡ old.seat.node → new.seat.nodes ≡ old.seat.nodes → new.seat.black ≡ true →

@@ -6,13 +6,13 @@ use Rattle.std.proofs.lemmas.Bool.{cases_eq}
 use Rattle.std.proofs.lemmas.Option.{same_Some, slice_get_within}
 use Rattle.dob_chan.specs.Ends.{taken_by}
 use Rattle.dob_stops.specs.declared.cause.Cause.{Cause}
-use Rattle.dob_run.specs.declared.hands.Outlet.{Outlet}
-use Rattle.dob_run.specs.declared.hands.Inlet.{Inlet}
+use Rattle.dob_run.specs.declared.slots.Outlet.{Outlet}
+use Rattle.dob_run.specs.declared.slots.Inlet.{Inlet}
 use Rattle.dob_run.specs.declared.endpoint.Endpoint.{Endpoint}
 use Rattle.dob_run.specs.declared.runner.Runner.{Runner}
 use Rattle.dob_run.specs.Keeps.{KeepsEndpoint}
 use Rattle.dob_run.specs.Links.{offered}
-use Rattle.dob_run.specs.TurnRounds.{TakesBatch, SendsAll, AddsFew, Works}
+use Rattle.dob_run.specs.TurnRounds.{RunnerTakesBatch, SendsAll, AddsFew, Works}
 use Rattle.dob_run.specs.Runners.{GoesOn, HasFailed, StepsBy}
 use Rattle.dob_run.proofs.Keeping.{there_is}
 
@@ -33,7 +33,7 @@ adds_more count a b c kept few one = record {
 }
 
 -- one where batches were taken, and then others were sent
-pub adds_one : (a b d e : Runner) (small took sent : Bool) → TakesBatch a b took → d.endpoint ≡ b.endpoint → SendsAll small d e sent → AddsFew 1 a.endpoint e.endpoint
+pub adds_one : (a b d e : Runner) (small took sent : Bool) → RunnerTakesBatch a b took → d.endpoint ≡ b.endpoint → SendsAll small d e sent → AddsFew 1 a.endpoint e.endpoint
 adds_one a b d e small took sent takes same sends = record {
   out = λ j before after was is.
       let there : slice_get d.endpoint.outlets.items j ≡ Some before =

@@ -5,7 +5,7 @@ use Rattle.std.proofs.lemmas.List.{append-nil}
 use Rattle.std.specs.Prelude.{slice_get}
 use Rattle.std.specs.List.{range_with_len}
 use Rattle.dob_update.specs.Batches.{BatchView}
-use Rattle.dob_run.specs.Hands.{held_from, hand_row}
+use Rattle.dob_run.specs.Slots.{held_from, slot_row}
 use Rattle.std.specs.declared.vec.Vec.{Vec}
 use Rattle.std.proofs.lemmas.Option.{slice_get_within, same_Some}
 use Rattle.dob_pieces.proofs.Elements.{at_end}
@@ -118,18 +118,18 @@ at_spread f a (suc n) zero low = let same : a ≡ a + 0 = omega arith in ap (λ 
 at_spread f a (suc n) (suc k) low =
     let same : (a + 1) + k ≡ a + suc k = omega arith in at_spread f (a + 1) n k (omega (arith, low)) ∙ ap (λ (j : ℕ). Some (f j)) same
 
--- what stands at a sender's place in the row of a hand
-pub at_row : (n k : ℕ) (hand : Option BatchView) → k < n → slice_get (hand_row n hand) k ≡ Some (held_from hand k)
-at_row n k hand low = let same : 0 + k ≡ k = omega arith in at_spread (held_from hand) 0 n k low ∙ ap (λ (j : ℕ). Some (held_from hand j)) same
+-- what stands at a sender's place in the row of a slot
+pub at_row : (n k : ℕ) (slot : Option BatchView) → k < n → slice_get (slot_row n slot) k ≡ Some (held_from slot k)
+at_row n k slot low = let same : 0 + k ≡ k = omega arith in at_spread (held_from slot) 0 n k low ∙ ap (λ (j : ℕ). Some (held_from slot j)) same
 
-pub row_grows : (n : ℕ) (hand : Option BatchView) (hands : List (Option BatchView)) (next : Option BatchView) → hands ≡ hand_row n hand →
-    next ≡ held_from hand n → hands ++ next ∷ [] ≡ hand_row (n + 1) hand
-row_grows n hand hands next so_far is =
+pub row_grows : (n : ℕ) (slot : Option BatchView) (slots : List (Option BatchView)) (next : Option BatchView) → slots ≡ slot_row n slot →
+    next ≡ held_from slot n → slots ++ next ∷ [] ≡ slot_row (n + 1) slot
+row_grows n slot slots next so_far is =
     let one : suc n ≡ n + 1 = omega arith in
     let same : n ≡ 0 + n = omega arith in
-    let last : next ≡ held_from hand (0 + n) = is ∙ ap (λ (j : ℕ). held_from hand j) same in
-    let both : hands ++ next ∷ [] ≡ hand_row n hand ++ held_from hand (0 + n) ∷ [] = λ i. so_far i ++ last i ∷ [] in
-    both ∙ sym (spread_more (held_from hand) 0 n) ∙ ap (λ (k : ℕ). hand_row k hand) one
+    let last : next ≡ held_from slot (0 + n) = is ∙ ap (λ (j : ℕ). held_from slot j) same in
+    let both : slots ++ next ∷ [] ≡ slot_row n slot ++ held_from slot (0 + n) ∷ [] = λ i. so_far i ++ last i ∷ [] in
+    both ∙ sym (spread_more (held_from slot) 0 n) ∙ ap (λ (k : ℕ). slot_row k slot) one
 
 -- behind the first list
 pub behind : {A : Type 0} (xs ys : List A) (k : ℕ) → slice_get (xs ++ ys) (length xs + k) ≡ slice_get ys k

@@ -16,10 +16,10 @@ use Rattle.dob_board.specs.Seats.{AreSeats, IsSeatOf, stand_of}
 use Rattle.dob_board.proofs.Halting.{same_halt}
 use Rattle.dob_chan.specs.Inboxes.{batches_of}
 use Rattle.dob_chan.specs.Ends.{IsEndOf}
-use Rattle.dob_run.specs.declared.hands.Outlet.{Outlet}
-use Rattle.dob_run.specs.declared.hands.Inlet.{Inlet}
+use Rattle.dob_run.specs.declared.slots.Outlet.{Outlet}
+use Rattle.dob_run.specs.declared.slots.Inlet.{Inlet}
 use Rattle.dob_run.specs.declared.endpoint.Endpoint.{Endpoint}
-use Rattle.dob_run.specs.Hands.{in_hand}
+use Rattle.dob_run.specs.Slots.{in_slot}
 use Rattle.dob_run.specs.Links.{offered, worked}
 use Rattle.dob_run.specs.Rows.{StandsAt}
 use Rattle.dob_run.specs.InboxOpen.{IsLaid, IsUntaken, AreLaid}
@@ -103,11 +103,11 @@ none_taken zero = refl
 none_taken (suc m) = refl
 
 new_out : (capacity from : ℕ) (outlet : Outlet) (inlet : Inlet) → IsLaid capacity from outlet inlet → offered outlet ≡ []
-new_out capacity from outlet inlet laid = (λ i. laid.nothing i ++ in_hand (laid.empty i))
+new_out capacity from outlet inlet laid = (λ i. laid.nothing i ++ in_slot (laid.empty i))
 
 new_in : (n : ℕ) (inlet : Inlet) → IsUntaken n inlet → worked inlet ≡ []
 new_in n inlet are =
-    ap (λ (l : List BatchView). take (length l - length (in_hand inlet.hand)) l) are.nothing ∙ none_taken (0 - length (in_hand inlet.hand))
+    ap (λ (l : List BatchView). take (length l - length (in_slot inlet.slot)) l) are.nothing ∙ none_taken (0 - length (in_slot inlet.slot))
 
 module _ {Z : Type 0} (capacity n : ℕ) (rows : List (Vec Outlet Z)) (inlets : List Inlet) where
   -- an outlet, with the inlet of the inbox to which it sends
@@ -154,7 +154,7 @@ module _ {Z : Type 0} (capacity n : ℕ) (rows : List (Vec Outlet Z)) (inlets : 
           unsent = λ to outlet there.
               let laid = out_laid are k to outlet (got.1, got.4, ap (λ (l : List Outlet). slice_get l to) (sym is.outlets) ∙ there) in
               (new_out capacity k outlet laid.0 laid.1, laid.1.empty, laid.1.room);
-          untaken = (ap worked is.inlet_is ∙ new_in n got.2 bare, ap (λ (i : Inlet). i.hand) is.inlet_is ∙ bare.empty);
+          untaken = (ap worked is.inlet_is ∙ new_in n got.2 bare, ap (λ (i : Inlet). i.slot) is.inlet_is ∙ bare.empty);
         }
 
     pub new_paired : (endpoints : List Endpoint) → AreSeated n seats rows inlets endpoints →

@@ -10,10 +10,10 @@ use Rattle.dob_chan.specs.declared.ends.SendEnd.{SendEnd}
 use Rattle.dob_chan.specs.Ends.{sent_by}
 use Rattle.dob_stops.specs.declared.cause.Cause.{Cause}
 use Rattle.dob_node.specs.Nodes.{outbox_to, HasCut}
-use Rattle.dob_run.specs.declared.hands.Outlet.{Outlet}
+use Rattle.dob_run.specs.declared.slots.Outlet.{Outlet}
 use Rattle.dob_run.specs.declared.endpoint.Endpoint.{Endpoint}
 use Rattle.dob_run.specs.declared.runner.Runner.{Runner}
-use Rattle.dob_run.specs.Hands.{in_hand}
+use Rattle.dob_run.specs.Slots.{in_slot}
 use Rattle.dob_run.specs.Keeps.{KeepsEndpoint}
 use Rattle.dob_run.specs.Links.{offered, KeepsOutlet, IsFull}
 use Rattle.dob_run.specs.Endpoints.{HasChangedOne}
@@ -146,7 +146,7 @@ cut_more to size batch old new goes cut offer inlet some = (
   (λ never. absurd (cc), λ empty. absurd (some empty)),
 )
 
--- what is cut fills the hand that was to be filled
+-- what is cut fills the slot that was to be filled
 pub fills_of : (to : ℕ) (small : Bool) (old new : Runner) (r : Result Bool Cause) → IsToFill old to small → StepsBy (CutsLeft to) old new r →
     StepsBy (FillsFor to small) old new r
 fills_of to small old new (Ok did) fill cuts = (
@@ -179,12 +179,12 @@ own_unsent small r to unfailed is = record {
 abbrev pub IsSameOut : Outlet → Outlet → Type 0
 IsSameOut before after = KeepsOutlet before after × (offered after ≡ offered before)
 
-filled_hand : (hand : Option BatchView) → hand ≢ None → (batch : BatchView) × (hand ≡ Some batch)
-filled_hand None full = absurd (full refl)
-filled_hand (Some batch) full = (batch, refl)
+filled_slot : (slot : Option BatchView) → slot ≢ None → (batch : BatchView) × (slot ≡ Some batch)
+filled_slot None full = absurd (full refl)
+filled_slot (Some batch) full = (batch, refl)
 
 module _ (to : ℕ) (small : Bool) (old mid : Runner) (any : Bool) (apart : to ≢ old.endpoint.seat.node) (fills : FillsFor to small old mid any) where
-  -- what was offered, after the hand was filled or not
+  -- what was offered, after the slot was filled or not
   few_filled : (before between : Outlet) → slice_get old.endpoint.outlets.items to ≡ Some before → slice_get mid.endpoint.outlets.items to ≡ Some between →
       (between.end ≡ before.end) × (length (offered between) ≤ length (offered before) + 1)
   few_filled before between was is = elim (cases_Bool any) [
@@ -197,9 +197,9 @@ module _ (to : ℕ) (small : Bool) (old mid : Runner) (any : Bool) (apart : to �
         (ap (λ (o : Outlet). o.end) (sym same), omega (arith, ap (λ (o : Outlet). length (offered o)) same))
   ]
 
-  -- the hand is empty where it wasn't filled
+  -- the slot is empty where it wasn't filled
   unfilled : (before between : Outlet) → slice_get old.endpoint.outlets.items to ≡ Some before → slice_get mid.endpoint.outlets.items to ≡ Some between →
-      between.hand ≡ None → any ≡ false
+      between.slot ≡ None → any ≡ false
   unfilled before between was is out = elim (cases_Bool any) [
     | inl did ↦
         let one = fills.0.one did in
@@ -208,9 +208,9 @@ module _ (to : ℕ) (small : Bool) (old mid : Runner) (any : Bool) (apart : to �
           arith,
           ap length more.1,
           length-append (offered before) (one.0 ∷ []),
-          length-append (sent_by before.end) (in_hand before.hand),
-          length-append (sent_by between.end) (in_hand between.hand),
-          ap (λ (h : Option BatchView). length (in_hand h)) out,
+          length-append (sent_by before.end) (in_slot before.slot),
+          length-append (sent_by between.end) (in_slot between.slot),
+          ap (λ (h : Option BatchView). length (in_slot h)) out,
           ap (λ (e : SendEnd). length (sent_by e)) more.0,
         ))
     | inr none ↦ none
@@ -222,8 +222,8 @@ module _ (to : ℕ) (small : Bool) (old mid : Runner) (any : Bool) (apart : to �
     | inr none ↦ ap (λ (m : Endpoint). slice_get m.outlets.items j) (fills.0.nothing none).1
   ]
 
-  -- nothing lies in the hand
-  pub sends_none : ((outlet : Outlet) → slice_get mid.endpoint.outlets.items to ≡ Some outlet → outlet.hand ≡ None) → SendsTo to small old mid false
+  -- nothing lies in the slot
+  pub sends_none : ((outlet : Outlet) → slice_get mid.endpoint.outlets.items to ≡ Some outlet → outlet.slot ≡ None) → SendsTo to small old mid false
   sends_none out = record {
     goes = fills.0.goes;
     itself = λ is. absurd (apart is);
@@ -249,11 +249,11 @@ module _ (to : ℕ) (small : Bool) (old mid : Runner) (any : Bool) (apart : to �
 
   -- one does, and was offered to the inbox
   module _ (new : Runner) (goes : GoesOn old new) (node : new.node ≡ mid.node) (inlet : new.endpoint.inlet ≡ mid.endpoint.inlet)
-      (full : (outlet : Outlet) → slice_get mid.endpoint.outlets.items to ≡ Some outlet → outlet.hand ≢ None)
+      (full : (outlet : Outlet) → slice_get mid.endpoint.outlets.items to ≡ Some outlet → outlet.slot ≢ None)
       (offer : HasChangedOne IsSameOut to mid.endpoint.outlets.items new.endpoint.outlets.items)
       (tried : (before after : Outlet) → slice_get mid.endpoint.outlets.items to ≡ Some before → slice_get new.endpoint.outlets.items to ≡ Some after →
-      (after.hand ≡ before.hand) ⊎ (after.hand ≡ None))
-      (was_full : (after : Outlet) → slice_get new.endpoint.outlets.items to ≡ Some after → after.hand ≢ None → IsFull after) where
+      (after.slot ≡ before.slot) ⊎ (after.slot ≡ None))
+      (was_full : (after : Outlet) → slice_get new.endpoint.outlets.items to ≡ Some after → after.slot ≢ None → IsFull after) where
     same_offer : (after : Outlet) → slice_get new.endpoint.outlets.items to ≡ Some after → offered after ≡ offered offer.0
     same_offer after is = (changed_at IsSameOut mid.endpoint.outlets.items new.endpoint.outlets.items to offer offer.0 after offer.2 is).1
 
@@ -264,23 +264,23 @@ module _ (to : ℕ) (small : Bool) (old mid : Runner) (any : Bool) (apart : to �
     else_where : (j : ℕ) → j ≢ to → slice_get new.endpoint.outlets.items j ≡ slice_get old.endpoint.outlets.items j
     else_where j other = changed_else IsSameOut mid.endpoint.outlets.items new.endpoint.outlets.items to j offer other ∙ others j other
 
-    took_it : (before after : Outlet) → slice_get old.endpoint.outlets.items to ≡ Some before → slice_get new.endpoint.outlets.items to ≡ Some after → after.hand ≡ None →
-        (batch : BatchView) × (sent_by after.end ≡ sent_by before.end ++ batch ∷ []) × (after.hand ≡ None)
+    took_it : (before after : Outlet) → slice_get old.endpoint.outlets.items to ≡ Some before → slice_get new.endpoint.outlets.items to ≡ Some after → after.slot ≡ None →
+        (batch : BatchView) × (sent_by after.end ≡ sent_by before.end ++ batch ∷ []) × (after.slot ≡ None)
     took_it before after was is out =
-        let held = filled_hand offer.0.hand (full offer.0 offer.2) in (
+        let held = filled_slot offer.0.slot (full offer.0 offer.2) in (
           held.0,
-          sym (append-nil (sent_by after.end)) ∙ sym (ap (λ (h : Option BatchView). sent_by after.end ++ in_hand h) out) ∙ same_offer after is
-              ∙ ap (λ (h : Option BatchView). sent_by offer.0.end ++ in_hand h) held.1
+          sym (append-nil (sent_by after.end)) ∙ sym (ap (λ (h : Option BatchView). sent_by after.end ++ in_slot h) out) ∙ same_offer after is
+              ∙ ap (λ (h : Option BatchView). sent_by offer.0.end ++ in_slot h) held.1
               ∙ ap (λ (e : SendEnd). sent_by e ++ held.0 ∷ []) (few_filled before offer.0 was offer.2).0,
           out,
         )
 
-    left_it : (before after : Outlet) → slice_get old.endpoint.outlets.items to ≡ Some before → slice_get new.endpoint.outlets.items to ≡ Some after → after.hand ≢ None →
+    left_it : (before after : Outlet) → slice_get old.endpoint.outlets.items to ≡ Some before → slice_get new.endpoint.outlets.items to ≡ Some after → after.slot ≢ None →
         sent_by after.end ≡ sent_by before.end
     left_it before after was is unsent = elim (tried offer.0 after offer.2 is) [
       | inl same ↦
-          append_cancel_right (sent_by after.end) (sent_by offer.0.end) (in_hand offer.0.hand)
-          (ap (λ (h : Option BatchView). sent_by after.end ++ in_hand h) (sym same) ∙ same_offer after is)
+          append_cancel_right (sent_by after.end) (sent_by offer.0.end) (in_slot offer.0.slot)
+          (ap (λ (h : Option BatchView). sent_by after.end ++ in_slot h) (sym same) ∙ same_offer after is)
           ∙ ap (λ (e : SendEnd). sent_by e) (few_filled before offer.0 was offer.2).0
       | inr out ↦ absurd (unsent out)
     ]
@@ -291,14 +291,14 @@ module _ (to : ℕ) (small : Bool) (old mid : Runner) (any : Bool) (apart : to �
       | inr none ↦ (offer.0, ap (λ (m : Endpoint). slice_get m.outlets.items to) (sym (fills.0.nothing none).1) ∙ offer.2)
     ]
 
-    one_more : (after : Outlet) → slice_get new.endpoint.outlets.items to ≡ Some after → after.hand ≡ None → HasSentOne to old.endpoint.outlets.items new.endpoint.outlets.items
+    one_more : (after : Outlet) → slice_get new.endpoint.outlets.items to ≡ Some after → after.slot ≡ None → HasSentOne to old.endpoint.outlets.items new.endpoint.outlets.items
     one_more after is out =
         let took = took_it was_there.0 after was_there.1 is out in
         (was_there.0, after, was_there.1, is, omega (arith, ap length took.1, length-append (sent_by was_there.0.end) (took.0 ∷ [])))
 
     -- it still lies there, or not
-    pub sends_offered : (still : Bool) → (still ≡ true → (outlet : Outlet) → slice_get new.endpoint.outlets.items to ≡ Some outlet → outlet.hand ≢ None) →
-        (still ≡ false → (outlet : Outlet) → slice_get new.endpoint.outlets.items to ≡ Some outlet → outlet.hand ≡ None) → SendsTo to small old new (not still)
+    pub sends_offered : (still : Bool) → (still ≡ true → (outlet : Outlet) → slice_get new.endpoint.outlets.items to ≡ Some outlet → outlet.slot ≢ None) →
+        (still ≡ false → (outlet : Outlet) → slice_get new.endpoint.outlets.items to ≡ Some outlet → outlet.slot ≡ None) → SendsTo to small old new (not still)
     sends_offered true unsent out = record {
       goes = goes;
       itself = λ is. absurd (apart is);

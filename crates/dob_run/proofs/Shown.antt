@@ -19,7 +19,7 @@ use Rattle.dob_node.proofs.Kept.{last_now-entry}
 use Rattle.dob_node.proofs.Rest.{below_owner}
 use Rattle.dob_run.specs.declared.endpoint.Endpoint.{Endpoint}
 use Rattle.dob_run.specs.LawfulRunners.{IsLawfulRunner}
-use Rattle.dob_run.specs.BuildEnd.{IsOwner, AreOwners, IsShown, IsCodeShown, AreShownBelow}
+use Rattle.dob_run.specs.BuildEnd.{IsOwner, AreOwners, IsShownByOwner, IsCodeShown, AreShownBelow}
 use Rattle.dob_run.specs.Scans.{AreFrom}
 use Rattle.dob_run.proofs.Places.{map_got}
 
@@ -39,7 +39,7 @@ owner_is family size n k node endpoint law id_is n_is = record {
 
 -- what a class's owner shows is such a value as a table can have
 pub shown_entry : (family : Family) (shares : List Share) (class : ℕ) (value : Value) → 0 < length shares → AreOwners family (length shares) shares →
-    class < classes_of family → IsShown (length shares) shares class value → IsEntry value
+    class < classes_of family → IsShownByOwner (length shares) shares class value → IsEntry value
 shown_entry family shares class value some owners low shown =
     let owner = some_at shares (owner_of (length shares) class) (below_owner (length shares) class some) in
     (owners (owner_of (length shares) class) owner.0 owner.1).entries class value low refl (shown owner.0 owner.1)
@@ -55,5 +55,5 @@ module _ (n count : ℕ) (shares : List Share) (codes : List ℕ) (are : AreFrom
     each = λ class value at.
         let got = map_got value_of_code codes class value at in
         let here : 0 + class ≡ class = omega arith in
-        subst (λ (p : ℕ × Value). IsShown n shares p.0 p.1) (λ i. (here i, got.2 i)) (are.each class got.0 got.1).1;
+        subst (λ (p : ℕ × Value). IsShownByOwner n shares p.0 p.1) (λ i. (here i, got.2 i)) (are.each class got.0 got.1).1;
   }

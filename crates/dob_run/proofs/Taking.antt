@@ -8,7 +8,7 @@ use Rattle.dob_pieces.specs.declared.profile.Family.{Family}
 use Rattle.dob_update.specs.Batches.{BatchView}
 use Rattle.dob_node.specs.declared.node.Node.{Node}
 use Rattle.dob_node.specs.Nodes.{IsUnchanged}
-use Rattle.dob_run.specs.declared.hands.Inlet.{Inlet}
+use Rattle.dob_run.specs.declared.slots.Inlet.{Inlet}
 use Rattle.dob_chan.specs.declared.ends.TakeEnd.{TakeEnd}
 use Rattle.dob_chan.specs.Ends.{taken_by}
 use Rattle.dob_run.specs.declared.endpoint.Endpoint.{Endpoint}
@@ -16,7 +16,7 @@ use Rattle.dob_run.specs.declared.runner.Runner.{Runner}
 use Rattle.dob_run.specs.Batches.{IsBatchFor}
 use Rattle.dob_run.specs.Links.{worked, HoldsFor}
 use Rattle.dob_run.specs.Endpoints.{HasChangedOne}
-use Rattle.dob_run.specs.TurnRounds.{IsReceived, IsWorkedIn, IsUnwanted, TakesBatch}
+use Rattle.dob_run.specs.TurnRounds.{IsReceived, IsWorkedIn, IsUnwanted, RunnerTakesBatch}
 use Rattle.dob_run.specs.Runners.{GoesOn}
 
 -- ---- one of several links
@@ -34,10 +34,10 @@ changed_at {L} R xs ys k one before after was is =
 pub changed_else : {L : Type 0} (R : L → L → Type 0) (xs ys : List L) (k j : ℕ) → HasChangedOne R k xs ys → j ≢ k → slice_get ys j ≡ slice_get xs j
 changed_else {L} R xs ys k j one other = ap (λ (l : List L). slice_get l j) one.4 ∙ get_set_other xs k j one.1 other
 
--- ---- the batch in the hand
+-- ---- the batch in the slot
 
 -- the batch that is handed out is the one that was tested
-module _ (family : Family) (n from to : ℕ) (inlet : Inlet) (batch : BatchView) (tested : HoldsFor family n from to inlet) (held : inlet.hand ≡ Some batch) where
+module _ (family : Family) (n from to : ℕ) (inlet : Inlet) (batch : BatchView) (tested : HoldsFor family n from to inlet) (held : inlet.slot ≡ Some batch) where
   same_batch : tested.batch ≡ batch
   same_batch = same_Some tested.batch batch (sym tested.held ∙ held)
 
@@ -58,7 +58,7 @@ unchanged_same node = record { same = (refl, refl, refl, refl); kept = (refl, re
 module _ (old new : Runner) (mid : Endpoint) (goes : GoesOn old new) (received : worked mid.inlet ≡ worked old.endpoint.inlet)
     (asked : IsReceived old.endpoint.inlet mid.inlet) (outlets : new.endpoint.outlets.items ≡ old.endpoint.outlets.items) where
   -- none came, or it isn't worked in
-  pub takes_none : new.endpoint.inlet ≡ mid.inlet → IsUnchanged old.node new.node → IsUnwanted old new → TakesBatch old new false
+  pub takes_none : new.endpoint.inlet ≡ mid.inlet → IsUnchanged old.node new.node → IsUnwanted old new → RunnerTakesBatch old new false
   takes_none same unchanged unwanted = record {
     goes = goes;
     taken = subst (λ i. IsWorkedIn false old.endpoint.inlet i) (sym same) (record {
@@ -73,7 +73,7 @@ module _ (old new : Runner) (mid : Endpoint) (goes : GoesOn old new) (received :
   }
 
   -- one is
-  pub takes_one : (batch : BatchView) → new.endpoint.inlet.end ≡ mid.inlet.end → worked new.endpoint.inlet ≡ worked mid.inlet ++ batch ∷ [] → TakesBatch old new true
+  pub takes_one : (batch : BatchView) → new.endpoint.inlet.end ≡ mid.inlet.end → worked new.endpoint.inlet ≡ worked mid.inlet ++ batch ∷ [] → RunnerTakesBatch old new true
   takes_one batch end more = record {
     goes = goes;
     taken = record {

@@ -13,7 +13,7 @@ use Rattle.dob_run.specs.declared.runner.Runner.{Runner}
 use Rattle.dob_run.specs.declared.threads.Started.{Started}
 use Rattle.dob_run.specs.declared.threads.Started.TheVariants.{Runs, GaveUp}
 use Rattle.dob_run.specs.Turns.{HasTurned}
-use Rattle.dob_run.specs.Runners.{KeepsRunner, GoesOn, HasFailed, IsAsked, IsReasonFor, IsReasoned, says_no}
+use Rattle.dob_run.specs.Runners.{KeepsRunner, GoesOn, HasFailed, GateIsAsked, IsReasonFor, IsReasoned, says_no}
 use Rattle.dob_run.specs.declared.turn_loop.Until.{Until}
 use Rattle.dob_run.specs.declared.turn_loop.Until.TheVariants.{Turns, Halted}
 use Rattle.dob_run.specs.Started.{IsStartOf, IsEndOf}
@@ -83,7 +83,7 @@ let_failed Says Halted old new why failed = λ going unfailed. absurd (let both 
 
 -- where it makes a turn and doesn't fail the gate lets it on
 pub let_by_turn : (Says : ℕ → Bool → Type 0) (a b : Runner) (r : Result Halt Cause) → MatchResult r (HasTurned a b) (HasFailed a b) →
-    IsAsked Says a.endpoint.seat.node r → b.failed ≡ None → Says b.endpoint.seat.node true
+    GateIsAsked Says a.endpoint.seat.node r → b.failed ≡ None → Says b.endpoint.seat.node true
 let_by_turn Says a b (Ok halt) turned asked unfailed = elim (cases_Bool asked.0) [
   | inl said ↦ subst (λ (p : ℕ × Bool). Says p.0 p.1) (λ i. (sym turned.keeps.endpoint.seat.node i, said i)) asked.1
   | inr none ↦ absurd (let held = asked.2.0 none in cc)

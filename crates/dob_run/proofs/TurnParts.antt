@@ -9,7 +9,7 @@ use Rattle.dob_run.specs.declared.runner.Runner.{Runner}
 use Rattle.dob_run.specs.TurnRounds.{IsHeldUp, ExpandsOne, ExpandsSome, AppliesOne}
 use Rattle.dob_run.specs.Runners.{GoesOn}
 use Rattle.dob_run.specs.TurnToken.{HasLooked, HandsOn, MovesToken}
-use Rattle.dob_run.specs.Turns.{HasSameWork, IsTold}
+use Rattle.dob_run.specs.Turns.{HasSameWork, GateIsTold}
 
 -- ---- answers
 
@@ -79,6 +79,6 @@ one_applied old new did k all one count low = elim (cases_Bool did) [
 
 -- what was told of the work is told of the turn, since its look and its rest expand nothing
 pub told_of : (Told : ℕ → ℕ → Type 0) (old seen worked new : Runner) → HasSameWork old seen →
-    Told seen.endpoint.seat.node (worked.node.expanded - seen.node.expanded) → new.node ≡ worked.node → IsTold Told old new
+    Told seen.endpoint.seat.node (worked.node.expanded - seen.node.expanded) → new.node ≡ worked.node → GateIsTold Told old new
 told_of Told old seen worked new same told node = inr (subst (λ (p : ℕ × ℕ × ℕ). Told p.0 (p.1 - p.2))
     (λ q. (same.links.seat.node q, sym (ap (λ (n : Node). n.expanded) node) q, ap (λ (n : Node). n.expanded) same.node q)) told)

@@ -13,14 +13,14 @@ use Rattle.dob_node.specs.declared.node.Node.{Node}
 use Rattle.dob_node.specs.Nodes.{outbox_to}
 use Rattle.dob_stops.specs.declared.fault.Fault.{Fault}
 use Rattle.dob_stops.specs.declared.fault.Fault.TheVariants.{Nodes, Sizes, Stopped, Memory}
-use Rattle.dob_run.specs.declared.hands.Outlet.{Outlet}
-use Rattle.dob_run.specs.declared.hands.Inlet.{Inlet}
+use Rattle.dob_run.specs.declared.slots.Outlet.{Outlet}
+use Rattle.dob_run.specs.declared.slots.Inlet.{Inlet}
 use Rattle.dob_run.specs.declared.runner.Runner.{Runner}
 use Rattle.dob_run.specs.declared.bounded_run.Worker.{Worker}
 use Rattle.dob_run.specs.declared.bounded_run.Turned.{Turned}
-use Rattle.dob_run.specs.CrewClose.{AreLinked, seat_in, hands_out, hands_in}
+use Rattle.dob_run.specs.CrewClose.{AreLinked, seat_in, slots_out, slots_in}
 use Rattle.dob_run.specs.InboxClose.{IsJoined}
-use Rattle.dob_run.specs.Hands.{in_hand}
+use Rattle.dob_run.specs.Slots.{in_slot}
 use Rattle.dob_run.specs.Knows.{KnowsRight}
 use Rattle.dob_run.specs.declared.turn_loop.Until.{Until}
 use Rattle.dob_run.specs.CrewRunners.{endpoint_of}
@@ -35,10 +35,10 @@ pub record IsWorker (family : Family) (n i : ℕ) (applied : ℕ → List Item) 
   pub knows : KnowsRight family n i worker.node.share worker.node.history.settlements applied
 
 -- The link from one worker's node to another's: what was sent is what was received and then what waits; the counts are those
--- of the lists; the posted word counts what was sent and what lies in the sending hand, and the taken word what was received
--- without what lies in the taking hand; what the sender's node planned is, in order, what was sent, what lies in the hand, and
+-- of the lists; the posted word counts what was sent and what lies in the sending slot, and the taken word what was received
+-- without what lies in the taking slot; what the sender's node planned is, in order, what was sent, what lies in the slot, and
 -- what is left in the outbox, in batches of at most that size; and the taker's node has applied the items of the batches
--- received, without what lies in the taking hand.
+-- received, without what lies in the taking slot.
 pub record IsLink (n size : ℕ) (words : List ℕ) (i j : ℕ) (sender taker : Worker) (applied : List Item) (link : Rejoined) : Type 0 where
   pub sent : List BatchView
   pub received : List BatchView
@@ -49,11 +49,11 @@ pub record IsLink (n size : ℕ) (words : List ℕ) (i j : ℕ) (sender taker : 
   pub sent_count : link.sent ≡ length sent
   pub received_count : link.received ≡ length received
   pub lawful : IsLawfulInbox sent received link.waiting.items
-  pub posted : slice_index words (posted_word n i j) ≡ link.sent + length (in_hand sending)
-  pub taken : slice_index words (taken_word n i j) + length (in_hand taking) ≡ link.received
-  pub planned_is : i ≢ j → planned sender.node j ≡ items_of_batches (sent ++ in_hand sending) ++ (outbox_to sender.node j).items
-  pub small : i ≢ j → (k : ℕ) (batch : BatchView) → slice_get (sent ++ in_hand sending) k ≡ Some batch → length batch.items ≤ size
-  pub applied_is : i ≢ j → applied ≡ items_of_batches (take (length received - length (in_hand taking)) received)
+  pub posted : slice_index words (posted_word n i j) ≡ link.sent + length (in_slot sending)
+  pub taken : slice_index words (taken_word n i j) + length (in_slot taking) ≡ link.received
+  pub planned_is : i ≢ j → planned sender.node j ≡ items_of_batches (sent ++ in_slot sending) ++ (outbox_to sender.node j).items
+  pub small : i ≢ j → (k : ℕ) (batch : BatchView) → slice_get (sent ++ in_slot sending) k ≡ Some batch → length batch.items ≤ size
+  pub applied_is : i ≢ j → applied ≡ items_of_batches (take (length received - length (in_slot taking)) received)
 
 -- n workers of the family, and a link from each to each, by the items of each that each has applied
 pub record IsTurned (family : Family) (n size : ℕ) (turned : Turned) : Type 0 where
@@ -106,17 +106,17 @@ IsUnheld Nodes = ⊤
 IsUnheld Sizes = ⊤
 IsUnheld Memory = ⊤
 
--- The first workers have the nodes and the rows of hands that stand at their places.
+-- The first workers have the nodes and the rows of slots that stand at their places.
 pub record AreWorkers (upto : ℕ) (nodes : List Node) (sending taking : List (List (Option BatchView))) (workers : List Worker) : Type 0 where
   pub count : length workers ≡ upto
   pub each : (k : ℕ) (worker : Worker) → slice_get workers k ≡ Some worker →
       (slice_get nodes k ≡ Some worker.node) × (slice_get sending k ≡ Some worker.sending.items) × (slice_get taking k ≡ Some worker.taking.items)
 
--- The workers of a crew's runners: each has its runner's node and hands; and the rest is what their endpoints leave.
+-- The workers of a crew's runners: each has its runner's node and slots; and the rest is what their endpoints leave.
 pub record HasLeft (n : ℕ) (runners : List Runner) (turned : Turned) : Type 0 where
   pub count : length turned.workers.items ≡ length runners
   pub workers : (k : ℕ) (worker : Worker) → slice_get turned.workers.items k ≡ Some worker → (runner : Runner) × (slice_get runners k ≡ Some runner)
-      × (worker.node ≡ runner.node) × (worker.sending.items ≡ hands_out runner.endpoint) × (worker.taking.items ≡ hands_in runner.endpoint)
+      × (worker.node ≡ runner.node) × (worker.sending.items ≡ slots_out runner.endpoint) × (worker.taking.items ≡ slots_in runner.endpoint)
   pub words : AreWords n (map seat_in (map endpoint_of runners)) turned.closed.words.items
   pub links_count : length turned.links.items ≡ n * n
   pub links : (i j : ℕ) (outlet : Outlet) (inlet : Inlet) → AreLinked (map endpoint_of runners) i j outlet inlet →

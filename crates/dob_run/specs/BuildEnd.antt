@@ -67,13 +67,13 @@ abbrev pub AreOwners : Family → ℕ → List Share → Type 0
 AreOwners family n shares = (k : ℕ) (share : Share) → slice_get shares k ≡ Some share → IsOwner family n k share
 
 -- the value is one that the class's owner, of n nodes, shows for it
-abbrev pub IsShown : ℕ → List Share → ℕ → Value → Type 0
-IsShown n shares class value = (share : Share) → slice_get shares (owner_of n class) ≡ Some share → HasValueNow share class value
+abbrev pub IsShownByOwner : ℕ → List Share → ℕ → Value → Type 0
+IsShownByOwner n shares class value = (share : Share) → slice_get shares (owner_of n class) ≡ Some share → HasValueNow share class value
 
 -- the code is one of 16 bits, of a value that the class's owner shows
 abbrev pub IsCodeShown : ℕ → List Share → ℕ → ℕ → Type 0
-IsCodeShown n shares class code = (code < 65536) × IsShown n shares class (value_of_code code)
+IsCodeShown n shares class code = (code < 65536) × IsShownByOwner n shares class (value_of_code code)
 
 -- the values of the classes below a number are those that their owners show
 abbrev pub AreShownBelow : ℕ → ℕ → List Share → List Value → Type 0
-AreShownBelow n upto shares values = AreGiven (IsShown n shares) upto values
+AreShownBelow n upto shares values = AreGiven (IsShownByOwner n shares) upto values

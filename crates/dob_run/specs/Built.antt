@@ -24,7 +24,7 @@ needed family n values i j = sum_by (λ class. cond (owner_of n class == i) (con
 
 -- The link from node i to node j is done: the batches posted, taken, sent and received are one number, nothing waits, and in
 -- so many batches of that size there was room for all that i had to tell j.
-pub record IsDone (family : Family) (n size : ℕ) (words : List ℕ) (values : List Value) (i j : ℕ) (link : Rejoined) : Type 0 where
+pub record IsLinkDone (family : Family) (n size : ℕ) (words : List ℕ) (values : List Value) (i j : ℕ) (link : Rejoined) : Type 0 where
   pub posted : slice_index words (posted_word n i j) ≡ link.sent
   pub taken : slice_index words (taken_word n i j) ≡ link.sent
   pub received : link.received ≡ link.sent
@@ -40,4 +40,4 @@ pub record IsBuilt (family : Family) (n size : ℕ) (built : Built) : Type 0 whe
   pub ended : slice_index built.closed.words.items 2 ≡ 1
   pub count : length built.links.items ≡ n * n
   pub links : (i j : ℕ) → i < n → j < n → (link : Rejoined) × (slice_get built.links.items (i * n + j) ≡ Some link)
-      × IsDone family n size built.closed.words.items built.table.values i j link
+      × IsLinkDone family n size built.closed.words.items built.table.values i j link

@@ -9,14 +9,14 @@ use Rattle.dob_chan.specs.declared.ends.SendEnd.{SendEnd}
 use Rattle.dob_chan.specs.declared.ends.TakeEnd.{TakeEnd}
 use Rattle.dob_chan.specs.declared.ends.Rejoined.{Rejoined}
 use Rattle.dob_chan.specs.Ends.{IsEndOf}
-use Rattle.dob_run.specs.declared.hands.Outlet.{Outlet}
-use Rattle.dob_run.specs.declared.hands.Inlet.{Inlet}
+use Rattle.dob_run.specs.declared.slots.Outlet.{Outlet}
+use Rattle.dob_run.specs.declared.slots.Inlet.{Inlet}
 use Rattle.dob_run.specs.declared.endpoint.Endpoint.{Endpoint}
 use Rattle.dob_run.specs.declared.crew_close.ClosedCrew.{ClosedCrew}
 use Rattle.dob_run.specs.declared.crew_close.Parts.{Parts}
 use Rattle.dob_run.specs.Rows.{StandsAt, AreRows, AreDealt}
-use Rattle.dob_run.specs.Hands.{hand_row}
-use Rattle.dob_run.specs.InboxClose.{outlet_end, outlet_hand, IsJoined}
+use Rattle.dob_run.specs.Slots.{slot_row}
+use Rattle.dob_run.specs.InboxClose.{outlet_end, outlet_slot, IsJoined}
 
 -- the outlet of i for j and the inlet of j
 pub record AreLinked (endpoints : List Endpoint) (i j : ℕ) (outlet : Outlet) (inlet : Inlet) : Type 0 where
@@ -45,11 +45,11 @@ ends_out endpoint = map outlet_end endpoint.outlets.items
 abbrev pub end_in : Endpoint → TakeEnd
 end_in endpoint = endpoint.inlet.end
 
-abbrev pub hands_out : Endpoint → List (Option BatchView)
-hands_out endpoint = map outlet_hand endpoint.outlets.items
+abbrev pub slots_out : Endpoint → List (Option BatchView)
+slots_out endpoint = map outlet_slot endpoint.outlets.items
 
-abbrev pub hands_in : Endpoint → List (Option BatchView)
-hands_in endpoint = hand_row endpoint.seat.nodes endpoint.inlet.hand
+abbrev pub slots_in : Endpoint → List (Option BatchView)
+slots_in endpoint = slot_row endpoint.seat.nodes endpoint.inlet.slot
 
 -- a row with those things is the last one more
 abbrev pub HasRowMore : {X Z : Type 0} → List (Vec X Z) → List X → List (Vec X Z) → Type 0
@@ -60,8 +60,8 @@ pub record HasAdded (old : Parts) (endpoint : Endpoint) (new : Parts) : Type 0 w
   pub seats : new.seats.items ≡ old.seats.items ++ endpoint.seat ∷ []
   pub sends : AreDealt (length endpoint.outlets.items) (ends_out endpoint) old.sends.items new.sends.items
   pub takes : new.takes.items ≡ old.takes.items ++ end_in endpoint ∷ []
-  pub sending : HasRowMore old.sending.items (hands_out endpoint) new.sending.items
-  pub taking : HasRowMore old.taking.items (hands_in endpoint) new.taking.items
+  pub sending : HasRowMore old.sending.items (slots_out endpoint) new.sending.items
+  pub taking : HasRowMore old.taking.items (slots_in endpoint) new.taking.items
 
 -- These are the parts of the endpoints of so many nodes. Each sending end stands in the row of the node to which it sends, at the
 -- place of its own node.
@@ -71,15 +71,15 @@ pub record ArePartsOf (n : ℕ) (endpoints : List Endpoint) (parts : Parts) : Ty
   pub sends : (j i : ℕ) (end : SendEnd) → StandsAt parts.sends.items j i end →
       (endpoint : Endpoint) × (slice_get endpoints i ≡ Some endpoint) × (slice_get (ends_out endpoint) j ≡ Some end)
   pub takes : parts.takes.items ≡ map end_in endpoints
-  pub sending : map row_of parts.sending.items ≡ map hands_out endpoints
-  pub taking : map row_of parts.taking.items ≡ map hands_in endpoints
+  pub sending : map row_of parts.sending.items ≡ map slots_out endpoints
+  pub taking : map row_of parts.taking.items ≡ map slots_in endpoints
 
 -- The endpoints of n nodes are closed: the words are what their seats counted; what went over each link stands in the row
--- of its sender at the place of its taker; and what lay in their hands is there.
+-- of its sender at the place of its taker; and what lay in their slots is there.
 pub record AreClosed (n : ℕ) (endpoints : List Endpoint) (ended : ClosedCrew) : Type 0 where
   pub words : AreWords n (map seat_in endpoints) ended.closed.words.items
   pub count : length ended.links.items ≡ n * n
   pub links : (i j : ℕ) (outlet : Outlet) (inlet : Inlet) → AreLinked endpoints i j outlet inlet →
       (link : Rejoined) × (slice_get ended.links.items (i * n + j) ≡ Some link) × IsJoined i outlet.end inlet.end link
-  pub sending : map row_of ended.sending.items ≡ map hands_out endpoints
-  pub taking : map row_of ended.taking.items ≡ map hands_in endpoints
+  pub sending : map row_of ended.sending.items ≡ map slots_out endpoints
+  pub taking : map row_of ended.taking.items ≡ map slots_in endpoints

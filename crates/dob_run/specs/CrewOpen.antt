@@ -2,7 +2,7 @@
 use Rattle.std.specs.Prelude.{◌≡◌, ℕ, List, [], Some, None, true, slice_get}
 use Rattle.dob_board.specs.declared.halt.Halt.TheVariants.{Running}
 use Rattle.dob_chan.specs.Ends.{capacity_of}
-use Rattle.dob_run.specs.declared.hands.Outlet.{Outlet}
+use Rattle.dob_run.specs.declared.slots.Outlet.{Outlet}
 use Rattle.dob_run.specs.declared.endpoint.Endpoint.{Endpoint}
 use Rattle.dob_run.specs.Links.{offered, worked}
 
@@ -10,8 +10,8 @@ use Rattle.dob_run.specs.Links.{offered, worked}
 pub record IsNewEndpoint (capacity : ℕ) (endpoint : Endpoint) : Type 0 where
   pub black : endpoint.seat.black ≡ true
   pub running : endpoint.seat.halt ≡ Running
-  pub unsent : (to : ℕ) (outlet : Outlet) → slice_get endpoint.outlets.items to ≡ Some outlet → (offered outlet ≡ []) × (outlet.hand ≡ None) × (capacity_of outlet.end ≡ capacity)
-  pub untaken : (worked endpoint.inlet ≡ []) × (endpoint.inlet.hand ≡ None)
+  pub unsent : (to : ℕ) (outlet : Outlet) → slice_get endpoint.outlets.items to ≡ Some outlet → (offered outlet ≡ []) × (outlet.slot ≡ None) × (capacity_of outlet.end ≡ capacity)
+  pub untaken : (worked endpoint.inlet ≡ []) × (endpoint.inlet.slot ≡ None)
 
 abbrev pub AreNewEndpoints : ℕ → List Endpoint → Type 0
 AreNewEndpoints capacity endpoints = (k : ℕ) (endpoint : Endpoint) → slice_get endpoints k ≡ Some endpoint → IsNewEndpoint capacity endpoint

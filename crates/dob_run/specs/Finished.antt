@@ -10,8 +10,8 @@ use Rattle.dob_share.specs.Shares.{HasValueNow}
 use Rattle.dob_update.specs.Batches.{BatchView}
 use Rattle.dob_node.specs.Openings.{AreOpenings}
 use Rattle.dob_chan.specs.Ends.{sent_by, taken_of}
-use Rattle.dob_run.specs.declared.hands.Outlet.{Outlet}
-use Rattle.dob_run.specs.declared.hands.Inlet.{Inlet}
+use Rattle.dob_run.specs.declared.slots.Outlet.{Outlet}
+use Rattle.dob_run.specs.declared.slots.Inlet.{Inlet}
 use Rattle.dob_run.specs.declared.runner.Runner.{Runner}
 use Rattle.dob_run.specs.LawfulRunners.{IsLawfulRunner}
 

@@ -7,14 +7,14 @@ use Rattle.dob_chan.specs.declared.ends.TakeEnd.{TakeEnd}
 use Rattle.dob_chan.specs.declared.ends.Rejoined.{Rejoined}
 use Rattle.dob_chan.specs.Inboxes.{IsLawfulInbox}
 use Rattle.dob_chan.specs.Ends.{sent_by, taken_of, AreEndsOf}
-use Rattle.dob_run.specs.declared.hands.Outlet.{Outlet}
+use Rattle.dob_run.specs.declared.slots.Outlet.{Outlet}
 use Rattle.dob_run.specs.Rows.{StandsAt, AreRows}
 
 abbrev pub outlet_end : Outlet → SendEnd
 outlet_end outlet = outlet.end
 
-abbrev pub outlet_hand : Outlet → Option BatchView
-outlet_hand outlet = outlet.hand
+abbrev pub outlet_slot : Outlet → Option BatchView
+outlet_slot outlet = outlet.slot
 
 -- The link has the counts of the sender's end and of the taking end for it, and what is left of what was sent.
 pub record IsJoined (from : ℕ) (send : SendEnd) (take : TakeEnd) (link : Rejoined) : Type 0 where

@@ -3,27 +3,27 @@ use Rattle.std.specs.Prelude.{◌≡◌, ℕ, List, [], None, Some, length, slic
 use Rattle.std.specs.declared.vec.Vec.{Vec}
 use Rattle.dob_chan.specs.declared.ends.SendEnd.{SendEnd}
 use Rattle.dob_chan.specs.Ends.{sent_by, taken_by, senders_of, capacity_of, IsEndOf}
-use Rattle.dob_run.specs.declared.hands.Outlet.{Outlet}
-use Rattle.dob_run.specs.declared.hands.Inlet.{Inlet}
+use Rattle.dob_run.specs.declared.slots.Outlet.{Outlet}
+use Rattle.dob_run.specs.declared.slots.Inlet.{Inlet}
 use Rattle.dob_run.specs.Rows.{StandsAt, AreRows}
 
--- an outlet with each of the ends, whose hand is empty
+-- an outlet with each of the ends, whose slot is empty
 pub record AreOutlets (sends : List SendEnd) (outlets : List Outlet) : Type 0 where
   pub count : length outlets ≡ length sends
-  pub each : (k : ℕ) (outlet : Outlet) → slice_get outlets k ≡ Some outlet → (slice_get sends k ≡ Some outlet.end) × (outlet.hand ≡ None)
+  pub each : (k : ℕ) (outlet : Outlet) → slice_get outlets k ≡ Some outlet → (slice_get sends k ≡ Some outlet.end) × (outlet.slot ≡ None)
 
--- The outlet sends to the inbox of the inlet as that sender; the inbox has that capacity, nothing was sent, and the hand is empty.
+-- The outlet sends to the inbox of the inlet as that sender; the inbox has that capacity, nothing was sent, and the slot is empty.
 pub record IsLaid (capacity from : ℕ) (outlet : Outlet) (inlet : Inlet) : Type 0 where
   pub paired : IsEndOf inlet.end from outlet.end
   pub room : capacity_of outlet.end ≡ capacity
   pub nothing : sent_by outlet.end ≡ []
-  pub empty : outlet.hand ≡ None
+  pub empty : outlet.slot ≡ None
 
--- The inbox of the inlet is for n senders, nothing was taken, and the hand is empty.
+-- The inbox of the inlet is for n senders, nothing was taken, and the slot is empty.
 pub record IsUntaken (n : ℕ) (inlet : Inlet) : Type 0 where
   pub senders : senders_of inlet.end ≡ n
   pub nothing : taken_by inlet.end ≡ []
-  pub empty : inlet.hand ≡ None
+  pub empty : inlet.slot ≡ None
 
 -- the outlets of n nodes to one inbox, and its inlet
 pub record IsOneLaid (capacity n : ℕ) (outlets : List Outlet) (inlet : Inlet) : Type 0 where

@@ -42,8 +42,8 @@ pub record CanHaveMade (family : Family) (n id : ℕ) (histories : ℕ → List 
 
 -- Whichever histories can have made the items applied, the cell of each own open class is the sum of what the copies of its
 -- moves know by them.
-abbrev pub AreSummed : Family → ℕ → ℕ → Share → (ℕ → List Item) → Type 0
-AreSummed family n id share applied = (histories : ℕ → List Settlement) → CanHaveMade family n id histories applied →
+abbrev pub AreCellsSummed : Family → ℕ → ℕ → Share → (ℕ → List Item) → Type 0
+AreCellsSummed family n id share applied = (histories : ℕ → List Settlement) → CanHaveMade family n id histories applied →
     (class : ℕ) → class < classes_of family → owner_of n class ≡ id → status_at share class ≡ Open →
     SameCell (cell_at share class) (sum_of (all_known (predecessors family) (classes_of family) n histories applied class))
 
@@ -56,4 +56,4 @@ pub record KnowsRight (family : Family) (n id : ℕ) (share : Share) (history : 
       status_at share class ≡ status
   pub values : (class : ℕ) (value : Value) → class < classes_of family → owner_of n class ≡ id → HasValueNow share class value →
       value ≡ value_of history class
-  pub sums : AreSummed family n id share applied
+  pub sums : AreCellsSummed family n id share applied

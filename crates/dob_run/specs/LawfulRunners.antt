@@ -9,8 +9,8 @@ use Rattle.dob_stops.specs.declared.cause.Cause.{Cause}
 use Rattle.dob_stops.specs.declared.cause.Cause.TheVariants.{TooDeep, Contradiction, Memory, Held, Counts}
 use Rattle.dob_node.specs.declared.node.Node.{Node}
 use Rattle.dob_node.specs.Nodes.{outbox_to, IsSound, IsIdle}
-use Rattle.dob_run.specs.declared.hands.Outlet.{Outlet}
-use Rattle.dob_run.specs.declared.hands.Inlet.{Inlet}
+use Rattle.dob_run.specs.declared.slots.Outlet.{Outlet}
+use Rattle.dob_run.specs.declared.slots.Inlet.{Inlet}
 use Rattle.dob_run.specs.declared.endpoint.Endpoint.{Endpoint}
 use Rattle.dob_run.specs.Links.{offered, worked_from}
 use Rattle.dob_run.specs.Endpoints.{AreOut}
@@ -55,7 +55,7 @@ IsSpared (Some Counts) = ⊤
 -- The runner of a node is lawful: its node is that of the seat and of the family; what it planned for other nodes is on
 -- its way or left in its outboxes, and what it planned for itself and hasn't applied is in its own list; it knows what the
 -- items that it has applied say; nothing was offered to itself; and where its seat is white it has nothing to expand, to
--- apply or to send, and no batch in a sending hand.
+-- apply or to send, and no batch in a sending slot.
 pub record IsLawfulRunner (family : Family) (size : ℕ) (node : Node) (endpoint : Endpoint) : Type 0 where
   pub of : (node.family ≡ family) × (node.id ≡ endpoint.seat.node) × (node.n ≡ endpoint.seat.nodes)
   pub sound : IsSound node

@@ -5,7 +5,7 @@ pub mod InboxClose
 pub mod Faults
 pub mod Finished
 pub mod BuildEnd
-pub mod Hands
+pub mod Slots
 pub mod Keeps
 pub mod Knows
 pub mod InboxOpen

@@ -5,26 +5,26 @@ use Rattle.dob_pieces.specs.Lists.{IsBeginning}
 use Rattle.dob_update.specs.Batches.{BatchView}
 use Rattle.dob_chan.specs.Inboxes.{batches_of}
 use Rattle.dob_chan.specs.Ends.{sent_by, taken_by, place_of, senders_beside, capacity_of, send_told, WasFull, SendsToSame, TakesFromSame}
-use Rattle.dob_run.specs.declared.hands.Outlet.{Outlet}
-use Rattle.dob_run.specs.declared.hands.Inlet.{Inlet}
+use Rattle.dob_run.specs.declared.slots.Outlet.{Outlet}
+use Rattle.dob_run.specs.declared.slots.Inlet.{Inlet}
 use Rattle.dob_run.specs.Batches.{IsBatchFor}
-use Rattle.dob_run.specs.Hands.{in_hand, worked_of}
+use Rattle.dob_run.specs.Slots.{in_slot, worked_of}
 
--- the batches that the inbox took, and then the one in the hand
+-- the batches that the inbox took, and then the one in the slot
 abbrev pub offered : Outlet → List BatchView
-offered outlet = sent_by outlet.end ++ in_hand outlet.hand
+offered outlet = sent_by outlet.end ++ in_slot outlet.slot
 
--- the batches that came out of the inbox, without the one in the hand, and those of one sender
+-- the batches that came out of the inbox, without the one in the slot, and those of one sender
 abbrev pub worked : Inlet → List BatchView
-worked inlet = worked_of inlet.end inlet.hand
+worked inlet = worked_of inlet.end inlet.slot
 
 abbrev pub worked_from : Inlet → ℕ → List BatchView
 worked_from inlet from = batches_of from (worked inlet)
 
--- In the hand lies a batch of the node `from`, which is for the node `to`, another one, of that family and one of n.
+-- In the slot lies a batch of the node `from`, which is for the node `to`, another one, of that family and one of n.
 pub record HoldsFor (family : Family) (n from to : ℕ) (inlet : Inlet) : Type 0 where
   pub batch : BatchView
-  pub held : inlet.hand ≡ Some batch
+  pub held : inlet.slot ≡ Some batch
   pub sender : batch.from ≡ from
   pub other : from ≢ to
   pub fits : IsBatchFor family n from to batch

@@ -23,14 +23,14 @@ use Rattle.dob_update.specs.Batches.{BatchView, OutboxView}
 use Rattle.dob_node.specs.Histories.{IsNext, IsChained}
 use Rattle.dob_node.specs.declared.node.Node.{Node}
 use Rattle.dob_node.specs.Stores.{HistoryView}
-use Rattle.dob_node.specs.TakenItems.{HasEntries, HasParities, AreKept}
+use Rattle.dob_node.specs.TakenItems.{HasItemEntries, HasParities, AreKept}
 use Rattle.dob_node.specs.Outboxes.{IsOutboxTo}
 use Rattle.dob_node.specs.Nodes.{outbox_to, IsSound, IsIdle}
-use Rattle.dob_run.specs.declared.hands.Outlet.{Outlet}
+use Rattle.dob_run.specs.declared.slots.Outlet.{Outlet}
 use Rattle.dob_run.specs.declared.endpoint.Endpoint.{Endpoint}
 use Rattle.dob_run.specs.Links.{offered}
 use Rattle.dob_run.specs.Endpoints.{AreOut}
-use Rattle.dob_run.specs.Knows.{AreSummed, KnowsRight}
+use Rattle.dob_run.specs.Knows.{AreCellsSummed, KnowsRight}
 use Rattle.dob_run.specs.LawfulRunners.{SendsRight, IsLawfulRunner, applied_from}
 
 ℕ-set : IsSet ℕ
@@ -39,8 +39,8 @@ use Rattle.dob_run.specs.LawfulRunners.{SendsRight, IsLawfulRunner, applied_from
 items_set : IsSet (List Item)
 items_set = Coded-set (coded_list item_row.the_row.coded)
 
-hand_set : IsSet (Option BatchView)
-hand_set = Coded-set (coded_option batch_row.the_row.coded)
+slot_set : IsSet (Option BatchView)
+slot_set = Coded-set (coded_option batch_row.the_row.coded)
 
 family_set : IsSet Family
 family_set = Coded-set family_row.the_row.coded
@@ -53,7 +53,7 @@ IsEntry-prop (Win plies) = ×_prop (ℕ-set _ _) le_prop
 IsEntry-prop (Loss plies) = ×_prop (ℕ-set _ _) le_prop
 IsEntry-prop Draw = Unit-prop
 
-HasEntries-prop : (item : Item) → IsProp (HasEntries item)
+HasEntries-prop : (item : Item) → IsProp (HasItemEntries item)
 HasEntries-prop item = ×_prop (IsEntry-prop item.was) (IsEntry-prop item.now)
 
 IsOwn-prop : (share : Share) (class : ℕ) → IsProp (IsOwn share class)
@@ -81,14 +81,14 @@ AreKept-prop family n id share history a b = λ i. record {
 IsOutboxTo-prop : (family : Family) (n from to : ℕ) (outbox : OutboxView) → IsProp (IsOutboxTo family n from to outbox)
 IsOutboxTo-prop family n from to outbox a b = λ i. record {
   of = (family_set _ _ a.of.0 b.of.0 i, ℕ-set _ _ a.of.1 b.of.1 i, ℕ-set _ _ a.of.2 b.of.2 i, ℕ-set _ _ a.of.3 b.of.3 i);
-  entries = All-prop HasEntries HasEntries-prop outbox.items a.entries b.entries i;
+  entries = All-prop HasItemEntries HasEntries-prop outbox.items a.entries b.entries i;
 }
 
 pub IsSound-prop : (node : Node) → IsProp (IsSound node)
 IsSound-prop node a b = λ i. record {
   kept = AreKept-prop node.family node.n node.id node.share node.history a.kept b.kept i;
   emitted = le_prop a.emitted b.emitted i;
-  entries = All-prop HasEntries HasEntries-prop node.own.items a.entries b.entries i;
+  entries = All-prop HasItemEntries HasEntries-prop node.own.items a.entries b.entries i;
   receivers = ℕ-set _ _ a.receivers b.receivers i;
   addressed = Π_prop (λ to. IsOutboxTo-prop node.family node.n node.id to (outbox_to node to)) a.addressed b.addressed i;
   nothing_to_self = items_set _ _ a.nothing_to_self b.nothing_to_self i;
@@ -109,7 +109,7 @@ SendsRight-prop node size to batches a b = λ i. record {
 }
 
 AreOut-prop : (outlets : List Outlet) → IsProp (AreOut outlets)
-AreOut-prop outlets = Π_prop (λ to. Π_prop (λ outlet. Π_prop (λ _. hand_set _ _)))
+AreOut-prop outlets = Π_prop (λ to. Π_prop (λ outlet. Π_prop (λ _. slot_set _ _)))
 
 status_set : IsSet Status
 status_set = Coded-set status_row.the_row.coded
@@ -153,7 +153,7 @@ SameCell-prop x y a b = λ i. record {
   least = least_set _ _ a.least b.least i;
 }
 
-AreSummed-prop : (family : Family) (n id : ℕ) (share : Share) (applied : ℕ → List Item) → IsProp (AreSummed family n id share applied)
+AreSummed-prop : (family : Family) (n id : ℕ) (share : Share) (applied : ℕ → List Item) → IsProp (AreCellsSummed family n id share applied)
 AreSummed-prop family n id share applied =
     Π_prop (λ histories. Π_prop (λ _. Π_prop (λ class. Π_prop (λ _. Π_prop (λ _. Π_prop (λ _. SameCell-prop _ _))))))
 

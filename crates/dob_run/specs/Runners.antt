@@ -10,7 +10,7 @@ use Rattle.dob_node.specs.declared.node.Node.{Node}
 use Rattle.dob_node.specs.Openings.{AreOpenings}
 use Rattle.dob_node.specs.Nodes.{outbox_to, HasItemFault, HasTakenBefore, IsIdle, IsSound, IsOpened}
 use Rattle.dob_update.specs.Batches.{BatchView}
-use Rattle.dob_run.specs.declared.hands.Outlet.{Outlet}
+use Rattle.dob_run.specs.declared.slots.Outlet.{Outlet}
 use Rattle.dob_run.specs.declared.endpoint.Endpoint.{Endpoint}
 use Rattle.dob_run.specs.Batches.{IsBatchFor}
 use Rattle.dob_run.specs.Links.{offered, worked}
@@ -84,8 +84,8 @@ abbrev pub says_no : (ℕ → Bool → Type 0) → ℕ → Type 0
 says_no Says node = Says node false
 
 -- The gate was asked of the node, and the answer is that it was held back just where the gate said no.
-abbrev pub IsAsked : {A : Type 0} → (ℕ → Bool → Type 0) → ℕ → Result A Cause → Type 0
-IsAsked {A} Says node result = (yes : Bool) × Says node yes × ((yes ≡ false) ↔ (result ≡ Err Held))
+abbrev pub GateIsAsked : {A : Type 0} → (ℕ → Bool → Type 0) → ℕ → Result A Cause → Type 0
+GateIsAsked {A} Says node result = (yes : Bool) × Says node yes × ((yes ≡ false) ↔ (result ≡ Err Held))
 
 -- its node has failed for that cause, with a reason of its own; and it didn't move the token or announce the end
 pub record HasBroken (old new : Runner) (why : Cause) : Type 0 where
@@ -103,11 +103,11 @@ pub record IsHeldBack (old new : Runner) : Type 0 where
 abbrev pub StepsBy : {A : Type 0} → (Runner → Runner → A → Type 0) → Runner → Runner → Result A Cause → Type 0
 StepsBy {A} Did old new result = MatchResult result (λ answer. Did old new answer) (λ why. HasBroken old new why)
 
--- The runner has nothing to expand, to apply or to send, and no batch in a hand.
+-- The runner has nothing to expand, to apply or to send, and no batch in a slot.
 pub record IsAtRest (runner : Runner) : Type 0 where
   pub idle : IsIdle runner.node
   pub sent : AreOut runner.endpoint.outlets.items
-  pub worked : runner.endpoint.inlet.hand ≡ None
+  pub worked : runner.endpoint.inlet.slot ≡ None
 
 -- The node was opened for the family and has made no step, and nothing has gone over the endpoint of its seat.
 pub record IsNew (family : Family) (node : Node) (endpoint : Endpoint) : Type 0 where

@@ -3,11 +3,11 @@ use Rattle.std.specs.Prelude.{◌≡◌, ℕ, List, Some, length, slice_get}
 use Rattle.std.specs.declared.vec.Vec.{Vec}
 use Rattle.dob_board.specs.declared.seat.NodeSeat.{NodeSeat}
 use Rattle.dob_chan.specs.Ends.{senders_of}
-use Rattle.dob_run.specs.declared.hands.Outlet.{Outlet}
-use Rattle.dob_run.specs.declared.hands.Inlet.{Inlet}
+use Rattle.dob_run.specs.declared.slots.Outlet.{Outlet}
+use Rattle.dob_run.specs.declared.slots.Inlet.{Inlet}
 use Rattle.dob_run.specs.declared.endpoint.Endpoint.{Endpoint}
 use Rattle.dob_run.specs.Links.{offered}
-use Rattle.dob_run.specs.Endpoints.{AreCounts, AreTaken, AreOwn}
+use Rattle.dob_run.specs.Endpoints.{AreCounts, AreBatchesTaken, AreOwn}
 
 -- the row and the inlet are of the seat's size, the row is for its node, and it has counted their batches
 pub record CanSeat (seat : NodeSeat) (outlets : List Outlet) (inlet : Inlet) : Type 0 where
@@ -15,7 +15,7 @@ pub record CanSeat (seat : NodeSeat) (outlets : List Outlet) (inlet : Inlet) : T
   pub senders : senders_of inlet.end ≡ seat.nodes
   pub own : AreOwn seat.node outlets
   pub posted : AreCounts offered seat.posted.items outlets
-  pub taken : AreTaken seat.nodes seat.taken.items inlet
+  pub taken : AreBatchesTaken seat.nodes seat.taken.items inlet
 
 -- each seat has a row and an inlet
 pub record CanSeatAll {Z : Type 0} (seats : List NodeSeat) (rows : List (Vec Outlet Z)) (inlets : List Inlet) : Type 0 where

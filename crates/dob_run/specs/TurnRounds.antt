@@ -4,8 +4,8 @@ use Rattle.dob_update.specs.Batches.{BatchView}
 use Rattle.dob_board.specs.Seats.{TakesNone}
 use Rattle.dob_chan.specs.Ends.{sent_by, taken_by, take_told, WasEmpty}
 use Rattle.dob_node.specs.Nodes.{outbox_to, IsExpanded, HasApplied, IsUnchanged}
-use Rattle.dob_run.specs.declared.hands.Outlet.{Outlet}
-use Rattle.dob_run.specs.declared.hands.Inlet.{Inlet}
+use Rattle.dob_run.specs.declared.slots.Outlet.{Outlet}
+use Rattle.dob_run.specs.declared.slots.Inlet.{Inlet}
 use Rattle.dob_run.specs.declared.endpoint.Endpoint.{Endpoint}
 use Rattle.dob_run.specs.declared.runner.Runner.{Runner}
 use Rattle.dob_run.specs.Links.{offered, worked, HoldsFor, IsFull}
@@ -16,7 +16,7 @@ use Rattle.dob_run.specs.Runners.{GoesOn}
 pub record HoldsUp (runner : Runner) (to : ℕ) : Type 0 where
   pub outlet : Outlet
   pub at : slice_get runner.endpoint.outlets.items to ≡ Some outlet
-  pub unsent : outlet.hand ≢ None
+  pub unsent : outlet.slot ≢ None
   pub whole : runner.size ≤ length (outbox_to runner.node to).items
 
 -- so it is for some node
@@ -48,7 +48,7 @@ pub record AppliesOne (old new : Runner) (did : Bool) : Type 0 where
   pub nothing : did ≡ false → new.node ≡ old.node
 
 -- It has applied all its own items, and none is left; whether there was any.
-pub record AppliesAll (old new : Runner) (did : Bool) : Type 0 where
+pub record AppliesAllOwn (old new : Runner) (did : Bool) : Type 0 where
   pub goes : GoesOn old new
   pub endpoint : new.endpoint ≡ old.endpoint
   pub done : (did ≡ false) ↔ (old.node.own.items ≡ [])
@@ -56,19 +56,19 @@ pub record AppliesAll (old new : Runner) (did : Bool) : Type 0 where
 
 -- ---- taking
 
--- The inbox gave at most one batch, and the hand is empty only where the inbox was.
+-- The inbox gave at most one batch, and the slot is empty only where the inbox was.
 pub record IsReceived (before after : Inlet) : Type 0 where
   pub few : length (taken_by after.end) ≤ length (taken_by before.end) + 1
-  pub empty : after.hand ≡ None → WasEmpty (taken_by after.end) (take_told after.end)
+  pub empty : after.slot ≡ None → WasEmpty (taken_by after.end) (take_told after.end)
 
--- The inbox gave at most one batch. One more was worked in; or none was, and the hand is empty only where the inbox was.
+-- The inbox gave at most one batch. One more was worked in; or none was, and the slot is empty only where the inbox was.
 pub record IsWorkedIn (did : Bool) (before after : Inlet) : Type 0 where
   pub few : length (taken_by after.end) ≤ length (taken_by before.end) + 1
   pub one : did ≡ true → (batch : BatchView) × (worked after ≡ worked before ++ batch ∷ [])
   pub none : did ≡ false → worked after ≡ worked before
-  pub empty : did ≡ false → after.hand ≡ None → WasEmpty (taken_by after.end) (take_told after.end)
+  pub empty : did ≡ false → after.slot ≡ None → WasEmpty (taken_by after.end) (take_told after.end)
 
--- Why a batch wasn't worked in: what lies in the hand, if anything, is none that another node cut for this one; or it is one, and
+-- Why a batch wasn't worked in: what lies in the slot, if anything, is none that another node cut for this one; or it is one, and
 -- the board doesn't say that it was posted.
 abbrev pub IsUnwanted : Runner → Runner → Type 0
 IsUnwanted old new = let seat = old.endpoint.seat in
@@ -77,14 +77,14 @@ IsUnwanted old new = let seat = old.endpoint.seat in
 
 -- It has taken from its inbox, and nothing has changed of what it sends; where nothing was worked in its node is as it was, and
 -- there is a reason.
-pub record TakesBatch (old new : Runner) (did : Bool) : Type 0 where
+pub record RunnerTakesBatch (old new : Runner) (did : Bool) : Type 0 where
   pub goes : GoesOn old new
   pub taken : IsWorkedIn did old.endpoint.inlet new.endpoint.inlet
   pub outlets : new.endpoint.outlets.items ≡ old.endpoint.outlets.items
   pub nothing : did ≡ false → IsUnchanged old.node new.node
   pub unwanted : did ≡ false → IsUnwanted old new
 
--- No memory was found for a batch that is for the node: it lies in the taking hand, nothing was worked in, nothing has changed of
+-- No memory was found for a batch that is for the node: it lies in the taking slot, nothing was worked in, nothing has changed of
 -- what it sends, and its node is as it was.
 pub record LeavesBatch (old new : Runner) : Type 0 where
   pub from : ℕ
@@ -100,11 +100,11 @@ abbrev pub HasToSend : Runner → ℕ → Bool → Type 0
 HasToSend runner to small =
     ((outbox_to runner.node to).items ≢ []) × ((runner.size ≤ length (outbox_to runner.node to).items) ⊎ (small ≡ true))
 
--- and nothing lies in the hand for it
+-- and nothing lies in the slot for it
 abbrev pub IsToFill : Runner → ℕ → Bool → Type 0
-IsToFill runner to small = HasToSend runner to small × ((outlet : Outlet) → slice_get runner.endpoint.outlets.items to ≡ Some outlet → outlet.hand ≡ None)
+IsToFill runner to small = HasToSend runner to small × ((outlet : Outlet) → slice_get runner.endpoint.outlets.items to ≡ Some outlet → outlet.slot ≡ None)
 
--- the batch was offered behind the others, and lies in the hand
+-- the batch was offered behind the others, and lies in the slot
 abbrev pub IsMoreOut : BatchView → Outlet → Outlet → Type 0
 IsMoreOut batch before after = (after.end ≡ before.end) × (offered after ≡ offered before ++ batch ∷ [])
 
@@ -121,18 +121,18 @@ pub record CutsFor (to : ℕ) (old new : Runner) (did : Bool) : Type 0 where
 abbrev pub CutsLeft : ℕ → Runner → Runner → Bool → Type 0
 CutsLeft to old new did = CutsFor to old new did × ((did ≡ false) ↔ ((outbox_to old.node to).items ≡ []))
 
--- it has, just where the hand was to be filled
+-- it has, just where the slot was to be filled
 abbrev pub FillsFor : ℕ → Bool → Runner → Runner → Bool → Type 0
 FillsFor to small old new did = CutsFor to old new did × ((did ≡ true) ↔ IsToFill old to small)
 
--- At most one batch more was offered to the outlet's inbox, which took one, and then the hand is empty, or none; and then the
--- hand is empty only where the runner has nothing to send to the node, and else the inbox was full.
+-- At most one batch more was offered to the outlet's inbox, which took one, and then the slot is empty, or none; and then the
+-- slot is empty only where the runner has nothing to send to the node, and else the inbox was full.
 pub record IsSent (small : Bool) (to : ℕ) (runner : Runner) (did : Bool) (before after : Outlet) : Type 0 where
   pub few : length (offered after) ≤ length (offered before) + 1
-  pub one : did ≡ true → (batch : BatchView) × (sent_by after.end ≡ sent_by before.end ++ batch ∷ []) × (after.hand ≡ None)
+  pub one : did ≡ true → (batch : BatchView) × (sent_by after.end ≡ sent_by before.end ++ batch ∷ []) × (after.slot ≡ None)
   pub none : did ≡ false → sent_by after.end ≡ sent_by before.end
-  pub spent : did ≡ false → after.hand ≡ None → ¬ HasToSend runner to small
-  pub full : did ≡ false → after.hand ≢ None → IsFull after
+  pub spent : did ≡ false → after.slot ≡ None → ¬ HasToSend runner to small
+  pub full : did ≡ false → after.slot ≢ None → IsFull after
 
 -- one batch more went into the inbox of that node
 abbrev pub HasSentOne : ℕ → List Outlet → List Outlet → Type 0
@@ -190,9 +190,9 @@ pub record Works (old new : Runner) (did : Bool) : Type 0 where
   pub taker : Runner
   pub expander : Runner
   pub sender : Runner
-  pub takes : TakesBatch old taker took
+  pub takes : RunnerTakesBatch old taker took
   pub expands : ExpandsSome taker expander expanded
-  pub applies : AppliesAll expander sender applied
+  pub applies : AppliesAllOwn expander sender applied
   pub sends : SendsAll small sender new sent
   pub is_small : IsTrue small ↔ ((took ≡ false) × (sender.node.expanded ≡ length sender.node.history.settlements))
   pub is_done : did ≡ (took || expanded || applied || sent)

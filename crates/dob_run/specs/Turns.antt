@@ -62,6 +62,6 @@ pub record HasTurned (old new : Runner) (halt : Halt) : Type 0 where
   pub went : looked.halt ≡ Running → HasWorked before new
 
 -- what the node has expanded, if anything, a gate was told that may be told so
-abbrev pub IsTold : (ℕ → ℕ → Type 0) → Runner → Runner → Type 0
-IsTold Told old new =
+abbrev pub GateIsTold : (ℕ → ℕ → Type 0) → Runner → Runner → Type 0
+GateIsTold Told old new =
     (new.node.expanded ≡ old.node.expanded) ⊎ Told old.endpoint.seat.node (new.node.expanded - old.node.expanded)

@@ -23,7 +23,7 @@ use std::alloc::Global;
 use std::sync::Wait;
 use std::thread::Threads;
 
-/// What a node's worker leaves: the node, and what lies in its hands, one place a node.
+/// What a node's worker leaves: the node, and what lies in its slots, one place a node.
 #[derive(Drop)]
 pub struct Worker {
     pub node: Node,
@@ -45,7 +45,9 @@ pub struct Turned {
 /// start of each turn. At most one batch a turn goes over each link. One that fails ends, and the others make their turns. Its
 /// promises hold if it returns.
 ///
-/// Errors: those of `run_nodes`, but `Stopped` with the least node that failed and its cause.
+/// # Errors
+///
+/// Those of `run_nodes`, but `Stopped` with the least node that failed and its cause.
 pub fn run_turns<R: Threads + Wait + Sync, G: Gate + Sync>(
     rt: &R,
     alloc: Global,
@@ -117,7 +119,9 @@ fn close_crew<R: Wait>(
 
 /// The node and the endpoint of each runner.
 ///
-/// Error: `Memory`, which gives the runners up.
+/// # Errors
+///
+/// `Memory`, which gives the runners up.
 pub(crate) fn part_runners(
     alloc: Global,
     runners: Vec<Runner>,
@@ -135,7 +139,7 @@ pub(crate) fn part_runners(
     Ok((nodes, endpoints))
 }
 
-// Each node with its hands.
+// Each node with its slots.
 fn workers_of(
     alloc: Global,
     nodes: Vec<Node>,

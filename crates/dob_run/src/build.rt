@@ -21,7 +21,9 @@ use std::thread::Threads;
 /// and inboxes that hold at most `capacity` batches: each asks the gate at the start of each turn, and the gate let each go on
 /// at least once. Its promises hold if it returns.
 ///
-/// Errors, tested in this order: `Nodes` where `n` isn't 1 to 16; `Sizes` where `batch` isn't 1 to 4096 or `capacity` not 1 to
+/// # Errors
+///
+/// Tested in this order: `Nodes` where `n` isn't 1 to 16; `Sizes` where `batch` isn't 1 to 4096 or `capacity` not 1 to
 /// 1024; `Stopped` with the node that failed first and its cause, which is `Held` only where the gate said no to it, and
 /// `Memory` where no thread could be made for it; `Memory`.
 pub fn run_nodes<R: Threads + Wait + Sync, G: Gate + Sync>(

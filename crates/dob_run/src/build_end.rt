@@ -11,7 +11,7 @@ ghost use Rattle.dob_run.specs.CrewRunners.{endpoint_of, node_of};
 ghost use Rattle.dob_run.specs.CrewClose.{IsCrew, AreClosed};
 ghost use Rattle.dob_run.specs.Built.{IsBuilt};
 ghost use Rattle.dob_run.specs.BoundedRun.{AreUnfailed};
-ghost use Rattle.dob_run.specs.BuildEnd.{HaveStopped, IsFailureOf, AreOwners, IsShown, IsCodeShown, AreShownBelow, failed_of, share_in};
+ghost use Rattle.dob_run.specs.BuildEnd.{HaveStopped, IsFailureOf, AreOwners, IsShownByOwner, IsCodeShown, AreShownBelow, failed_of, share_in};
 ghost use Rattle.dob_run.specs.Scans.{AreFrom};
 
 use crate::bounded_run::{find_failed, part_runners};
@@ -20,10 +20,10 @@ use crate::runner::Runner;
 use crate::scans::AT_A_TIME;
 use dob_board::{Board, Closed, Halt};
 use dob_chan::Rejoined;
-use dob_node::{Cause, Node};
-use dob_pieces::{Family, Memory};
 use dob_classes::Classes;
 use dob_lists::{SegmentLength, Segments};
+use dob_node::{Cause, Node};
+use dob_pieces::{Family, Memory};
 use dob_share::{Share, owner};
 use dob_stops::Fault;
 use dob_value::{Table, Value, code_of_value};
@@ -45,7 +45,9 @@ pub struct Built {
 /// nodes show, which is the value table, with the words of the board and what went over the links. Its promises hold if it
 /// returns.
 ///
-/// Errors: `Stopped` where the run failed, with the node that failed it and that node's cause, and where a runner failed only
+/// # Errors
+///
+/// `Stopped` where the run failed, with the node that failed it and that node's cause, and where a runner failed only
 /// after the end was announced, with the least such node and its cause; `Memory`, which gives the crew up.
 pub fn finish<R: Threads + Wait + Sync>(
     rt: &R,
@@ -205,7 +207,7 @@ fn code_of(shares: &[Share], class: u64) -> u16
 fn value_of(shares: &[Share], class: u64) -> Value
     requires some { 0 < length shares.now }
     requires own { (share : Shower) → slice_get shares.now (owner_of (length shares.now) class) ≡ Some share → IsOwn share class }
-    ensures { IsShown (length shares.now) shares.now class result }
+    ensures { IsShownByOwner (length shares.now) shares.now class result }
 {
     let node = owner(class, shares.len());
     shares[node].value(class)

@@ -3,9 +3,9 @@ ghost use Rattle.std.specs.Prelude.{◌≡◌, ℕ, Some, IfOk, OnOk, slice_get,
 ghost use Rattle.dob_run.specs.CrewClose.{IsCrew, HasAdded, ArePartsOf, AreClosed};
 
 use crate::endpoint::Endpoint;
-use crate::hands::Inlet;
-use crate::inbox_close::{part_outlets, rejoin_all, spread_hand};
+use crate::inbox_close::{part_outlets, rejoin_all, spread_slot};
 use crate::rows::{deal, empty_rows};
+use crate::slots::Inlet;
 use dob_board::{Board, Closed, NodeSeat};
 use dob_chan::{Rejoined, SendEnd, TakeEnd};
 use dob_pieces::Memory;
@@ -14,7 +14,7 @@ use std::alloc::Global;
 use std::sync::Wait;
 
 /// What the endpoints of a crew leave: the words of its board, what went over each link, by sender and then by receiver, and what
-/// lies in the hands of each node, one place a node.
+/// lies in the slots of each node, one place a node.
 #[derive(Drop)]
 pub(crate) struct ClosedCrew {
     pub(crate) closed: Closed,
@@ -35,7 +35,9 @@ struct Parts {
 
 /// Closes a crew's endpoints with its board. Its promises hold if it returns.
 ///
-/// Error: `Memory`, which gives the crew up.
+/// # Errors
+///
+/// `Memory`, which gives the crew up.
 pub(crate) fn close_endpoints<R: Wait>(
     rt: &R,
     alloc: Global,
@@ -99,8 +101,8 @@ impl Parts {
             outlets,
             inlet,
         } = endpoint;
-        let Inlet { end: take, hand } = inlet;
-        let taking = spread_hand(alloc, hand, seat.nodes)?;
+        let Inlet { end: take, slot } = inlet;
+        let taking = spread_slot(alloc, slot, seat.nodes)?;
         self.seats.push(seat)?;
         let (sends, sending) = part_outlets(alloc, outlets)?;
         deal(sends, &mut self.sends)?;

@@ -14,15 +14,15 @@ ghost use Rattle.dob_run.specs.Seating.{AreSeated, CanSeat, CanSeatAll};
 ghost use Rattle.dob_update.specs.Batches.{most_items};
 
 use crate::endpoint::Endpoint;
-use crate::hands::{Inlet, Outlet};
 use crate::inbox_open::lay;
 use crate::limits::size_passed;
 use crate::runner::Runner;
+use crate::slots::{Inlet, Outlet};
 use dob_board::{Board, NodeSeat};
-use dob_node::{Node, Opening, opening};
-use dob_pieces::{Family, Memory};
 use dob_classes::Classes;
 use dob_lists::{SegmentLength, Segments};
+use dob_node::{Node, Opening, opening};
+use dob_pieces::{Family, Memory};
 use dob_stops::Fault;
 use rayon::prelude::*;
 use std::alloc::Global;
@@ -31,7 +31,9 @@ use std::thread::Threads;
 /// A board, and the runner of each of `n` nodes that own the classes, in order, before their first turn. They cut batches of
 /// at most `batch` items, and each one's inbox holds at most `capacity` batches. The nodes are opened by threads, side by side.
 ///
-/// Errors, tested in this order: `Nodes` where `n` isn't 1 to 16; `Sizes` where `batch` isn't 1 to 4096 or `capacity` not 1
+/// # Errors
+///
+/// Tested in this order: `Nodes` where `n` isn't 1 to 16; `Sizes` where `batch` isn't 1 to 4096 or `capacity` not 1
 /// to 1024; `Memory`.
 pub fn crew(
     rt: &(impl Threads + Sync),
@@ -72,7 +74,9 @@ fn open_crew(
 
 /// A crew as above, by what was found of each class of the family, which is given up.
 ///
-/// Error: `Memory`.
+/// # Errors
+///
+/// `Memory`.
 pub(crate) fn crew_of(
     rt: &(impl Threads + Sync),
     alloc: Global,
@@ -148,7 +152,9 @@ fn open_runner(
 /// A board of `n` nodes, 1 to 16, and the endpoint of each of them, in order, with inboxes that hold at most `capacity`
 /// batches. Nothing is posted or sent yet.
 ///
-/// Error: `Memory`.
+/// # Errors
+///
+/// `Memory`.
 pub(crate) fn open_endpoints(
     alloc: Global,
     n: usize,

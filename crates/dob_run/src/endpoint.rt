@@ -8,9 +8,9 @@ ghost use Rattle.dob_board.specs.Seats.{IsSameSeat, TakesOne, TakesNone, MovesNo
 ghost use Rattle.dob_chan.specs.Ends.{senders_of};
 ghost use Rattle.dob_update.specs.Batches.{BatchView};
 ghost use Rattle.dob_run.specs.Links.{offered, worked, HoldsFor, IsFull, KeepsOutlet, KeepsInlet};
-ghost use Rattle.dob_run.specs.Endpoints.{AreCounts, AreTaken, AreOwn, HasChangedOne};
+ghost use Rattle.dob_run.specs.Endpoints.{AreCounts, AreBatchesTaken, AreOwn, HasChangedOne};
 
-use crate::hands::{Inlet, Outlet};
+use crate::slots::{Inlet, Outlet};
 use dob_board::NodeSeat;
 use dob_pieces::Family;
 use dob_update::Batch;
@@ -27,7 +27,7 @@ pub(crate) struct Endpoint {
     ghost senders: { senders_of inlet.end ≡ seat.nodes },
     ghost own: { AreOwn seat.node outlets.items },
     ghost posted: { AreCounts offered seat.posted.items outlets.items },
-    ghost taken: { AreTaken seat.nodes seat.taken.items inlet },
+    ghost taken: { AreBatchesTaken seat.nodes seat.taken.items inlet },
 }
 
 impl Endpoint {
@@ -41,7 +41,7 @@ impl Endpoint {
         requires senders { senders_of inlet.end ≡ seat.nodes }
         requires own { AreOwn seat.node outlets.items }
         requires posted { AreCounts offered seat.posted.items outlets.items }
-        requires taken { AreTaken seat.nodes seat.taken.items inlet }
+        requires taken { AreBatchesTaken seat.nodes seat.taken.items inlet }
         ensures seat { result.seat ≡ seat }
         ensures outlets { result.outlets ≡ outlets }
         ensures inlet { result.inlet ≡ inlet }
@@ -53,7 +53,7 @@ impl Endpoint {
         }
     }
 
-    /// Counts a batch of the node for another one on the board and puts it into the hand for that node, which is empty. The
+    /// Counts a batch of the node for another one on the board and puts it into the slot for that node, which is empty. The
     /// node is black, and has counted fewer than 2^40 batches for the other one.
     pub(crate) fn post(&mut self, to: usize, batch: Batch)
         requires node { to < self.old.seat.nodes }
@@ -61,7 +61,7 @@ impl Endpoint {
         requires black { self.old.seat.black ≡ true }
         requires few { slice_index self.old.seat.posted.items to < 2 ^ 40 }
         requires own { batch.from ≡ self.old.seat.node }
-        requires empty { (outlet : Outlet) → slice_get self.old.outlets.items to ≡ Some outlet → outlet.hand ≡ None }
+        requires empty { (outlet : Outlet) → slice_get self.old.outlets.items to ≡ Some outlet → outlet.slot ≡ None }
         ensures counted { stand_of self.new.seat ≡ posts_more (stand_of self.old.seat) to }
         ensures same { IsSameSeat self.old.seat self.new.seat }
         ensures event { MakesEvent self.old.seat.nodes self.old.seat.node (Post self.old.seat.node to)
@@ -74,32 +74,32 @@ impl Endpoint {
         self.outlets[to].hold(batch);
     }
 
-    /// Whether a batch lies in the hand for the node `to`.
+    /// Whether a batch lies in the slot for the node `to`.
     pub(crate) fn is_full(&self, to: usize) -> bool
         requires { to < self.now.seat.nodes }
-        ensures full { result ≡ true → (outlet : Outlet) → slice_get self.now.outlets.items to ≡ Some outlet → outlet.hand ≢ None }
-        ensures empty { result ≡ false → (outlet : Outlet) → slice_get self.now.outlets.items to ≡ Some outlet → outlet.hand ≡ None }
+        ensures full { result ≡ true → (outlet : Outlet) → slice_get self.now.outlets.items to ≡ Some outlet → outlet.slot ≢ None }
+        ensures empty { result ≡ false → (outlet : Outlet) → slice_get self.now.outlets.items to ≡ Some outlet → outlet.slot ≡ None }
     {
         self.outlets[to].is_full()
     }
 
-    /// Offers the batch in the hand for the node `to` to its inbox; tries once. Its promises hold if it returns.
+    /// Offers the batch in the slot for the node `to` to its inbox; tries once. Its promises hold if it returns.
     pub(crate) fn offer<R: Wait>(&mut self, rt: &R, to: usize)
         requires { to < self.old.seat.nodes }
         ensures seat { self.new.seat ≡ self.old.seat }
         ensures offered { HasChangedOne (λ old new. KeepsOutlet old new × (offered new ≡ offered old)) to self.old.outlets.items self.new.outlets.items }
         ensures inlet { self.new.inlet ≡ self.old.inlet }
-        ensures hands { (j : ℕ) (before after : Outlet) → slice_get self.old.outlets.items j ≡ Some before →
-            slice_get self.new.outlets.items j ≡ Some after → before.hand ≡ None → after.hand ≡ None }
+        ensures slots { (j : ℕ) (before after : Outlet) → slice_get self.old.outlets.items j ≡ Some before →
+            slice_get self.new.outlets.items j ≡ Some after → before.slot ≡ None → after.slot ≡ None }
         ensures tried { (before after : Outlet) → slice_get self.old.outlets.items to ≡ Some before → slice_get self.new.outlets.items to ≡ Some after →
-            (after.hand ≡ before.hand) ⊎ (after.hand ≡ None) }
-        ensures full { (after : Outlet) → slice_get self.new.outlets.items to ≡ Some after → after.hand ≢ None → IsFull after }
+            (after.slot ≡ before.slot) ⊎ (after.slot ≡ None) }
+        ensures full { (after : Outlet) → slice_get self.new.outlets.items to ≡ Some after → after.slot ≢ None → IsFull after }
         ensures keeps { KeepsEndpoint self.old self.new }
     {
         self.outlets[to].offer(rt);
     }
 
-    /// Takes the next batch of the inbox into the hand, if that is empty; tries once. The hand is empty afterwards only where the
+    /// Takes the next batch of the inbox into the slot, if that is empty; tries once. The slot is empty afterwards only where the
     /// inbox was. Its promises hold if it returns.
     pub(crate) fn receive<R: Wait>(&mut self, rt: &R)
         ensures seat { self.new.seat ≡ self.old.seat }
@@ -111,14 +111,14 @@ impl Endpoint {
         self.inlet.receive(rt);
     }
 
-    /// How many items the batch in the taking hand has, 0 where it is empty.
+    /// How many items the batch in the taking slot has, 0 where it is empty.
     pub(crate) fn held_items(&self) -> usize
-        ensures { (batch : BatchView) → self.now.inlet.hand ≡ Some batch → result ≡ length batch.items }
+        ensures { (batch : BatchView) → self.now.inlet.slot ≡ Some batch → result ≡ length batch.items }
     {
         self.inlet.held_items()
     }
 
-    /// The sender of the batch in the taking hand, if that is one of the family from another node to this one. Any other
+    /// The sender of the batch in the taking slot, if that is one of the family from another node to this one. Any other
     /// batch is none of the node's.
     pub(crate) fn sender(&self, family: Family) -> Option<usize>
         ensures { MatchOption result ((from : ℕ) → ¬ HoldsFor family self.now.seat.nodes from self.now.seat.node self.now.inlet)
@@ -128,13 +128,13 @@ impl Endpoint {
             .sender_for(family, self.seat.nodes, self.seat.node)
     }
 
-    /// The batch in the taking hand, which is one of the node `from`, another one, if the board says that it was posted: it is
-    /// counted on the board, which blackens the node, and now it is the node's to work in. Otherwise it stays in the hand,
+    /// The batch in the taking slot, which is one of the node `from`, another one, if the board says that it was posted: it is
+    /// counted on the board, which blackens the node, and now it is the node's to work in. Otherwise it stays in the slot,
     /// uncounted.
     pub(crate) fn accept(&mut self, from: usize) -> Option<Batch>
         requires other { from ≢ self.old.seat.node }
-        requires held { (batch : BatchView) × (self.old.inlet.hand ≡ Some batch) × (batch.from ≡ from) }
-        ensures held { IfSome result (λ batch. self.old.inlet.hand ≡ Some batch) }
+        requires held { (batch : BatchView) × (self.old.inlet.slot ≡ Some batch) × (batch.from ≡ from) }
+        ensures held { IfSome result (λ batch. self.old.inlet.slot ≡ Some batch) }
         ensures within { IfSome result (λ batch. batch.from < self.old.seat.nodes) }
         ensures same { IsSameSeat self.old.seat self.new.seat }
         ensures outlets { self.new.outlets ≡ self.old.outlets }

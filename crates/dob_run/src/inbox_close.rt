@@ -2,74 +2,80 @@
 ghost use Rattle.std.specs.Prelude.{◌≡◌, ◌≢◌, ◌<◌, ℕ, IfOk, Some, map, vec_len};
 ghost use Rattle.dob_update.specs.Batches.{BatchView};
 ghost use Rattle.dob_chan.specs.Ends.{taken_by, AreEndsOf, AreRejoined};
-ghost use Rattle.dob_run.specs.Hands.{held_from, hand_row};
-ghost use Rattle.dob_run.specs.InboxClose.{outlet_end, outlet_hand, AreEnds, AreJoined};
+ghost use Rattle.dob_run.specs.Slots.{held_from, slot_row};
+ghost use Rattle.dob_run.specs.InboxClose.{outlet_end, outlet_slot, AreEnds, AreJoined};
 
-use crate::hands::Outlet;
 use crate::rows::{deal, empty_rows, join};
+use crate::slots::Outlet;
 use dob_chan::{Rejoined, SendEnd, TakeEnd, rejoin_inbox};
 use dob_pieces::Memory;
 use dob_update::Batch;
 use std::alloc::Global;
 use std::sync::Wait;
 
-/// The ends of a node's outlets, and what is in their hands.
+/// The ends of a node's outlets, and what is in their slots.
 ///
-/// Error: `Memory`.
+/// # Errors
+///
+/// `Memory`.
 pub(crate) fn part_outlets(
     alloc: Global,
     outlets: Vec<Outlet>,
 ) -> Result<(Vec<SendEnd>, Vec<Option<Batch>>), Memory>
     ensures ends { IfOk result (λ parts. parts.0.items ≡ map outlet_end outlets.items) }
-    ensures hands { IfOk result (λ parts. parts.1.items ≡ map outlet_hand outlets.items) }
+    ensures slots { IfOk result (λ parts. parts.1.items ≡ map outlet_slot outlets.items) }
 {
     let mut ends = Vec::with_capacity(alloc, outlets.len())?;
-    let mut hands = Vec::with_capacity(alloc, outlets.len())?;
+    let mut slots = Vec::with_capacity(alloc, outlets.len())?;
     for outlet in outlets {
-        let Outlet { end, hand } = outlet;
+        let Outlet { end, slot } = outlet;
         ends.push(end)?;
-        hands.push(hand)?;
+        slots.push(slot)?;
     }
-    Ok((ends, hands))
+    Ok((ends, slots))
 }
 
-/// What is in a node's taking hand, at the place of its sender among all `n` nodes.
+/// What is in a node's taking slot, at the place of its sender among all `n` nodes.
 ///
-/// Error: `Memory`.
-pub(crate) fn spread_hand(
+/// # Errors
+///
+/// `Memory`.
+pub(crate) fn spread_slot(
     alloc: Global,
-    hand: Option<Batch>,
+    slot: Option<Batch>,
     n: usize,
 ) -> Result<Vec<Option<Batch>>, Memory>
-    ensures { IfOk result (λ hands. hands.items ≡ hand_row n hand) }
+    ensures { IfOk result (λ slots. slots.items ≡ slot_row n slot) }
 {
-    let mut left = hand;
-    let mut hands = Vec::with_capacity(alloc, n)?;
+    let mut left = slot;
+    let mut slots = Vec::with_capacity(alloc, n)?;
     for from in 0..n {
-        hands.push(take_of(&mut left, from))?;
+        slots.push(take_of(&mut left, from))?;
     }
-    Ok(hands)
+    Ok(slots)
 }
 
-// What is in the hand, if it is of that sender.
-fn take_of(hand: &mut Option<Batch>, from: usize) -> Option<Batch>
-    ensures taken { result ≡ held_from hand.old from }
-    ensures others { (k : ℕ) → k ≢ from → held_from hand.new k ≡ held_from hand.old k }
+// What is in the slot, if it is of that sender.
+fn take_of(slot: &mut Option<Batch>, from: usize) -> Option<Batch>
+    ensures taken { result ≡ held_from slot.old from }
+    ensures others { (k : ℕ) → k ≢ from → held_from slot.new k ≡ held_from slot.old k }
 {
-    let is_of = match hand {
+    let is_of = match slot {
         Some(batch) => batch.from() == from,
         None => false,
     };
     if !is_of {
         return None;
     }
-    hand.take()
+    slot.take()
 }
 
 /// Ends the inboxes: the ends that send to each stand in the row of its place, and its taking end at that place. What went
 /// through each, by sender and then by receiver. Its promises hold if it returns.
 ///
-/// Error: `Memory`, which gives the inboxes up.
+/// # Errors
+///
+/// `Memory`, which gives the inboxes up.
 pub(crate) fn rejoin_all<R: Wait>(
     rt: &R,
     alloc: Global,

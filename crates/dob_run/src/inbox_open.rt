@@ -3,8 +3,8 @@ ghost use Rattle.std.specs.Prelude.{◌≡◌, ◌<◌, ◌≤◌, IfOk, length}
 ghost use Rattle.dob_safra.specs.Laws.{IsSize};
 ghost use Rattle.dob_run.specs.InboxOpen.{AreOutlets, IsOneLaid, AreLaid};
 
-use crate::hands::{Inlet, Outlet};
 use crate::rows::{deal, empty_rows};
+use crate::slots::{Inlet, Outlet};
 use dob_chan::{SendEnd, inbox};
 use dob_pieces::Memory;
 use std::alloc::Global;
@@ -12,7 +12,9 @@ use std::alloc::Global;
 /// The outlets of `n` nodes, 1 to 16, in rows, and their inlets: the outlet of node i for node j sends to the inbox from which
 /// the inlet of node j takes, as the sender i. Each inbox holds at most `capacity` batches.
 ///
-/// Error: `Memory`.
+/// # Errors
+///
+/// `Memory`.
 pub(crate) fn lay(
     alloc: Global,
     n: usize,

@@ -3,7 +3,7 @@
 // turns each runner, until the board says that the run has ended or that a node failed it; then the crew is closed, and
 // what its nodes show is the table.
 //
-// The files: `crew_*` open and close a crew and `inbox_*` its inboxes; `endpoint`, `hands` and `hand_steps` are what a runner
+// The files: `crew_*` open and close a crew and `inbox_*` its inboxes; `endpoint`, `slots` and `slot_steps` are what a runner
 // sends and takes by; `turn*` are its turns; `threads` has a thread for each; `build*` is a whole build and `bounded_run` a run
 // of so many turns.
 #![tactic(auto)]
@@ -16,8 +16,6 @@ mod crew_close;
 mod crew_open;
 mod endpoint;
 mod gate;
-mod hand_steps;
-mod hands;
 mod inbox_close;
 mod inbox_open;
 mod laws;
@@ -25,6 +23,8 @@ mod limits;
 mod rows;
 mod runner;
 mod scans;
+mod slot_steps;
+mod slots;
 mod threads;
 mod turn;
 mod turn_loop;

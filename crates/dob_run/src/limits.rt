@@ -2,8 +2,8 @@
 ghost use Rattle.std.specs.Prelude.{◌≡◌, IfSome, IfNone, IfOk, IfErr, OnOk};
 ghost use Rattle.dob_run.specs.Faults.{AreWithin, HasSizeFault, HasCrewFault};
 
-use dob_pieces::Family;
 use dob_classes::Classes;
+use dob_pieces::Family;
 use dob_safra::is_size;
 use dob_stops::Fault;
 use dob_update::are_sizes;
@@ -34,7 +34,9 @@ pub(crate) fn size_passed(n: usize, batch: usize, capacity: usize) -> Option<Fau
 
 /// The classes of the family, where a crew of these sizes may own them.
 ///
-/// Errors, tested in this order: the limit that the sizes pass; `Memory`.
+/// # Errors
+///
+/// Tested in this order: the limit that the sizes pass; `Memory`.
 pub(crate) fn classes_within(
     alloc: Global,
     family: Family,

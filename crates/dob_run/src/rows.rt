@@ -7,7 +7,9 @@ use std::alloc::Global;
 
 /// So many rows without things.
 ///
-/// Error: `Memory`.
+/// # Errors
+///
+/// `Memory`.
 pub(crate) fn empty_rows<T: Drop>(alloc: Global, count: usize) -> Result<Vec<Vec<T>>, Memory>
     ensures { IfOk result (λ rows. AreRows count 0 rows.items) }
 {
@@ -20,7 +22,9 @@ pub(crate) fn empty_rows<T: Drop>(alloc: Global, count: usize) -> Result<Vec<Vec
 
 /// Puts each thing at the end of the row of its place.
 ///
-/// Error: `Memory`.
+/// # Errors
+///
+/// `Memory`.
 pub(crate) fn deal<T: Drop>(things: Vec<T>, rows: &mut Vec<Vec<T>>) -> Result<(), Memory>
     requires { vec_len things ≡ vec_len rows.old }
     ensures { OnOk result (AreDealt (vec_len things) things.items rows.old.items rows.new.items) }
@@ -37,7 +41,9 @@ pub(crate) fn deal<T: Drop>(things: Vec<T>, rows: &mut Vec<Vec<T>>) -> Result<()
 
 /// The things of all rows, row by row, of which each has `width`.
 ///
-/// Error: `Memory`.
+/// # Errors
+///
+/// `Memory`.
 pub(crate) fn join<T: Drop>(
     alloc: Global,
     rows: Vec<Vec<T>>,

@@ -5,10 +5,10 @@ ghost use Rattle.dob_rank.specs.Families.{class_setup};
 ghost use Rattle.dob_node.specs.Openings.{IsOpening, AreOpenings};
 ghost use Rattle.dob_run.specs.Scans.{AreOpeningsFrom};
 
-use dob_node::{Opening, opening_in};
-use dob_pieces::Memory;
 use dob_classes::Classes;
 use dob_lists::{SegmentLength, Segments};
+use dob_node::{Opening, opening_in};
+use dob_pieces::Memory;
 use rayon::prelude::*;
 use std::alloc::Global;
 use std::thread::Threads;
@@ -20,7 +20,9 @@ pub(crate) const AT_A_TIME: u64 = 1 << 20;
 /// The status and the number of moves of each class, in the order of the classes: the list that `opening` gives, made by as
 /// many threads as there are processors.
 ///
-/// Error: `Memory`.
+/// # Errors
+///
+/// `Memory`.
 pub fn scan(
     rt: &(impl Threads + Sync),
     alloc: Global,
@@ -41,7 +43,7 @@ pub fn scan(
     Ok(openings)
 }
 
-// The same of the classes from `first` on, before `end`.
+// The openings of the classes from `first` on, before `end`.
 fn scan_part(
     rt: &(impl Threads + Sync),
     alloc: Global,

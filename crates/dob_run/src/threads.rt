@@ -13,10 +13,10 @@ use crate::runner::Runner;
 use crate::scans::scan;
 use crate::turn_loop::Until;
 use dob_board::Board;
-use dob_node::Cause;
-use dob_pieces::{Family, Memory};
 use dob_classes::Classes;
 use dob_lists::SegmentLength;
+use dob_node::Cause;
+use dob_pieces::{Family, Memory};
 use dob_stops::Fault;
 use std::alloc::Global;
 use std::snapshot::Snapshot;
@@ -48,7 +48,9 @@ pub(crate) enum Started<G: Gate> {
 /// batches, and lets its runners make their turns as below. Threads find what is known of each class; that is given up before
 /// the first turn. The board, and what became of each runner. Its promises hold if it returns.
 ///
-/// Errors: those of `classes_within`; `Memory`, which gives the crew up.
+/// # Errors
+///
+/// Those of `classes_within`; `Memory`, which gives the crew up.
 pub(crate) fn run_crew<R: Threads + Wait + Sync, G: Gate + Sync>(
     rt: &R,
     alloc: Global,

@@ -3,9 +3,9 @@ ghost use Rattle.std.specs.Prelude.{◌≡◌, ◌≢◌, ◌↔◌, ◌<◌, �
 ghost use Rattle.dob_board.specs.declared.halt.Halt.TheVariants.{Running};
 ghost use Rattle.dob_board.specs.Seats.{MovesNothing};
 ghost use Rattle.dob_stops.specs.declared.cause.Cause.TheVariants.{Held};
-ghost use Rattle.dob_run.specs.Runners.{StepsBy, GoesRound, HasFailed, IsHeldBack, IsNew, IsAsked, IsReasonFor, says_no};
+ghost use Rattle.dob_run.specs.Runners.{StepsBy, GoesRound, HasFailed, IsHeldBack, IsNew, GateIsAsked, IsReasonFor, says_no};
 ghost use Rattle.dob_run.specs.TurnRounds.{Works};
-ghost use Rattle.dob_run.specs.Turns.{HasTurned, HasSeen, EndsTurn, IsTold};
+ghost use Rattle.dob_run.specs.Turns.{HasTurned, HasSeen, EndsTurn, GateIsTold};
 ghost use Rattle.dob_update.specs.Batches.{most_items};
 
 use crate::endpoint::Endpoint;
@@ -13,9 +13,9 @@ use crate::gate::Gate;
 use crate::runner::Runner;
 use crossbeam_utils::Backoff;
 use dob_board::Halt;
+use dob_classes::Classes;
 use dob_node::{Cause, Node};
 use dob_pieces::Family;
-use dob_classes::Classes;
 use std::sync::Wait;
 
 impl Runner {
@@ -63,7 +63,9 @@ impl Runner {
     /// One turn: a runner that the gate lets pass and whose run goes on does a turn's work for its node, of which the gate is told,
     /// and if there was none it looks for the token, or pauses. The answer is the halt that its seat knows.
     ///
-    /// Errors, after which the run has failed, if it hadn't ended or failed before, and before which the runner moved no token: `Held`
+    /// # Errors
+    ///
+    /// After which the run has failed, if it hadn't ended or failed before, and before which the runner moved no token: `Held`
     /// just where the gate says no, and then the runner has done nothing: its node and what went over its links are as they were;
     /// else the cause of the node: an item that can't be applied, too many batches, or lack of memory.
     pub fn turn<R: Wait, G: Gate>(
@@ -75,11 +77,11 @@ impl Runner {
         requires running { self.old.endpoint.seat.halt ≡ Running }
         requires family { classes.now.family ≡ self.old.family }
         ensures turned { MatchResult result (HasTurned self.old self.new) (HasFailed self.old self.new) }
-        ensures asked { IsAsked (G.says gate.now) self.old.endpoint.seat.node result }
+        ensures asked { GateIsAsked (G.says gate.now) self.old.endpoint.seat.node result }
         ensures reason { IfErr result (IsReasonFor (says_no (G.says gate.now)) self.new) }
         ensures held { result ≡ Err Held → IsHeldBack self.old self.new }
         ensures still { IfErr result (λ _. MovesNothing self.old.endpoint.seat self.new.endpoint.seat) }
-        ensures told { IsTold (G.told gate.now) self.old self.new }
+        ensures told { GateIsTold (G.told gate.now) self.old self.new }
     {
         if !gate.enter(self.endpoint.seat.node) {
             self.abandon(Cause::Held);

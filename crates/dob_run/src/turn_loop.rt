@@ -3,14 +3,14 @@ ghost use Rattle.std.specs.Prelude.{◌≡◌, ◌≢◌, true, Err, None, IfErr
 ghost use Rattle.dob_board.specs.declared.halt.Halt.TheVariants.{Running};
 ghost use Rattle.dob_board.specs.Seats.{MovesNothing};
 ghost use Rattle.dob_stops.specs.declared.cause.Cause.TheVariants.{Held};
-ghost use Rattle.dob_run.specs.Runners.{HasFailed, KeepsRunner, IsHeldBack, IsAsked, IsReasonFor, IsReasoned, says_no};
+ghost use Rattle.dob_run.specs.Runners.{HasFailed, KeepsRunner, IsHeldBack, GateIsAsked, IsReasonFor, IsReasoned, says_no};
 ghost use Rattle.dob_run.specs.TurnRounds.{AddsFew, Works};
-ghost use Rattle.dob_run.specs.Turns.{IsTold};
+ghost use Rattle.dob_run.specs.Turns.{GateIsTold};
 
 use crate::gate::Gate;
 use crate::runner::Runner;
-use dob_node::Cause;
 use dob_classes::Classes;
+use dob_node::Cause;
 use std::sync::Wait;
 
 /// How long a runner makes turns: so many, without the halt word and the token, or until its seat has seen that the run ended
@@ -87,11 +87,11 @@ impl Runner {
         requires unfailed { self.old.failed ≡ None }
         requires family { classes.now.family ≡ self.old.family }
         ensures works { MatchResult result (Works self.old self.new) (HasFailed self.old self.new) }
-        ensures asked { IsAsked (G.says gate.now) self.old.endpoint.seat.node result }
+        ensures asked { GateIsAsked (G.says gate.now) self.old.endpoint.seat.node result }
         ensures reason { IfErr result (IsReasonFor (says_no (G.says gate.now)) self.new) }
         ensures held { result ≡ Err Held → IsHeldBack self.old self.new }
         ensures still { IfErr result (λ _. MovesNothing self.old.endpoint.seat self.new.endpoint.seat) }
-        ensures told { IsTold (G.told gate.now) self.old self.new }
+        ensures told { GateIsTold (G.told gate.now) self.old self.new }
     {
         if !gate.enter(self.endpoint.seat.node) {
             self.abandon(Cause::Held);

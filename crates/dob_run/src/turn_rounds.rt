@@ -1,11 +1,11 @@
 // The rounds of a runner's turn: over all nodes, and over what there is to expand and to apply.
 ghost use Rattle.std.specs.Prelude.{◌≡◌, ◌↔◌, ◌<◌, IsTrue, None};
 ghost use Rattle.dob_run.specs.Runners.{StepsBy};
-ghost use Rattle.dob_run.specs.TurnRounds.{HoldsUp, IsHeldUp, ExpandsSome, AppliesAll, SendsAll};
+ghost use Rattle.dob_run.specs.TurnRounds.{HoldsUp, IsHeldUp, ExpandsSome, AppliesAllOwn, SendsAll};
 
 use crate::runner::Runner;
-use dob_node::Cause;
 use dob_classes::Classes;
+use dob_node::Cause;
 use std::sync::Wait;
 
 impl Runner {
@@ -39,7 +39,7 @@ impl Runner {
     /// Applies all own items. Whether there was any.
     pub(crate) fn apply_all(&mut self) -> Result<bool, Cause>
         requires { self.old.failed ≡ None }
-        ensures { StepsBy AppliesAll self.old self.new result }
+        ensures { StepsBy AppliesAllOwn self.old self.new result }
     {
         let count = self.node.left_for_itself();
         for _ in 0..count {

@@ -2,24 +2,26 @@
 ghost use Rattle.std.specs.Prelude.{◌≡◌, ◌≢◌, ◌↔◌, ◌<◌, IsTrue, Err, Some, None, slice_get};
 ghost use Rattle.dob_stops.specs.declared.cause.Cause.TheVariants.{Memory};
 ghost use Rattle.dob_run.specs.Runners.{StepsBy};
-ghost use Rattle.dob_run.specs.TurnRounds.{TakesBatch, LeavesBatch, ExpandsOne, AppliesOne, HasToSend, CutsLeft, FillsFor, SendsTo};
+ghost use Rattle.dob_run.specs.TurnRounds.{RunnerTakesBatch, LeavesBatch, ExpandsOne, AppliesOne, HasToSend, CutsLeft, FillsFor, SendsTo};
 
-use crate::hands::Outlet;
 use crate::runner::Runner;
-use dob_node::Cause;
+use crate::slots::Outlet;
 use dob_classes::Classes;
+use dob_node::Cause;
 use std::sync::Wait;
 
 impl Runner {
-    /// Takes the batch in the taking hand, else the next of the inbox, if it is one for the node that the board knows of, and
-    /// applies its items. False where there is none. A batch that isn't for the node stays in the hand; for any other one the
+    /// Takes the batch in the taking slot, else the next of the inbox, if it is one for the node that the board knows of, and
+    /// applies its items. False where there is none. A batch that isn't for the node stays in the slot; for any other one the
     /// node makes room before it is counted.
     ///
-    /// Errors: `Memory` for that room, which leaves the batch in the hand, uncounted, and the node as it was; else the cause of
+    /// # Errors
+    ///
+    /// `Memory` for that room, which leaves the batch in the slot, uncounted, and the node as it was; else the cause of
     /// an item that can't be applied.
     pub(crate) fn take_one<R: Wait>(&mut self, rt: &R) -> Result<bool, Cause>
         requires { self.old.failed ≡ None }
-        ensures step { StepsBy TakesBatch self.old self.new result }
+        ensures step { StepsBy RunnerTakesBatch self.old self.new result }
         ensures refused { result ≡ Err Memory → LeavesBatch self.old self.new }
     {
         self.endpoint.receive(rt);
@@ -78,13 +80,13 @@ impl Runner {
         }
     }
 
-    /// Cuts a batch for the node `to`, another one for which no batch lies in the hand, counts it on the board and puts it
-    /// into the hand. False where nothing is left to send to that node.
+    /// Cuts a batch for the node `to`, another one for which no batch lies in the slot, counts it on the board and puts it
+    /// into the slot. False where nothing is left to send to that node.
     fn cut_for(&mut self, to: usize) -> Result<bool, Cause>
         requires unfailed { self.old.failed ≡ None }
         requires node { to < self.old.endpoint.seat.nodes }
         requires other { to ≢ self.old.endpoint.seat.node }
-        requires empty { (outlet : Outlet) → slice_get self.old.endpoint.outlets.items to ≡ Some outlet → outlet.hand ≡ None }
+        requires empty { (outlet : Outlet) → slice_get self.old.endpoint.outlets.items to ≡ Some outlet → outlet.slot ≡ None }
         ensures { StepsBy (CutsLeft to) self.old self.new result }
     {
         let cut = match self.node.cut_for(to, self.size) {
@@ -118,7 +120,7 @@ impl Runner {
         left >= self.size
     }
 
-    /// Cuts a batch for the node `to`, another one, as above, if none lies in the hand and a whole one is left to send, or
+    /// Cuts a batch for the node `to`, another one, as above, if none lies in the slot and a whole one is left to send, or
     /// anything where small ones are asked for.
     fn fill_for(&mut self, to: usize, small: bool) -> Result<bool, Cause>
         requires unfailed { self.old.failed ≡ None }
@@ -135,7 +137,7 @@ impl Runner {
         self.cut_for(to)
     }
 
-    /// Offers a batch for the node `to`, if that is another one, to its inbox: the one in the hand or a new one. Whether it
+    /// Offers a batch for the node `to`, if that is another one, to its inbox: the one in the slot or a new one. Whether it
     /// was sent.
     pub(crate) fn send_to<R: Wait>(&mut self, rt: &R, to: usize, small: bool) -> Result<bool, Cause>
         requires unfailed { self.old.failed ≡ None }

@@ -8,14 +8,14 @@ ghost use Rattle.dob_run.specs.Turns.{HasSameWork, SeeksToken, Rests};
 use crate::runner::Runner;
 
 impl Runner {
-    /// Whether it has nothing to expand, to apply or to send, and no batch in a hand.
+    /// Whether it has nothing to expand, to apply or to send, and no batch in a slot.
     pub(crate) fn is_idle(&self) -> bool
         ensures { IsTrue result ↔ IsAtRest self.now }
     {
         if !self.node.is_idle() {
             return false;
         }
-        self.endpoint.is_out_of_hand()
+        self.endpoint.has_empty_slots()
     }
 
     /// Looks for the token if it is idle, and pauses if it isn't or hasn't got it.

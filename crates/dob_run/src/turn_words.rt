@@ -7,7 +7,7 @@ ghost use Rattle.dob_run.specs.Keeps.{HasSameLinks};
 ghost use Rattle.dob_run.specs.TurnToken.{HasLooked, HasPassed};
 
 use crate::endpoint::Endpoint;
-use crate::hands::Outlet;
+use crate::slots::Outlet;
 use dob_board::Halt;
 
 impl Endpoint {
@@ -81,15 +81,15 @@ impl Endpoint {
         self.seat.halted()
     }
 
-    /// Whether no batch lies in a hand.
-    pub(crate) fn is_out_of_hand(&self) -> bool
-        ensures { IsTrue result ↔ (AreOut self.now.outlets.items × (self.now.inlet.hand ≡ None)) }
+    /// Whether no batch lies in a slot.
+    pub(crate) fn has_empty_slots(&self) -> bool
+        ensures { IsTrue result ↔ (AreOut self.now.outlets.items × (self.now.inlet.slot ≡ None)) }
     {
         are_out(&self.outlets) && !self.inlet.is_full()
     }
 }
 
-// Whether each sending hand is empty.
+// Whether each sending slot is empty.
 fn are_out(outlets: &[Outlet]) -> bool
     ensures { IsTrue result ↔ AreOut outlets.now }
 {

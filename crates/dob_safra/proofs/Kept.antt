@@ -12,7 +12,7 @@ use Rattle.dob_safra.specs.declared.event.RingEvent.TheVariants.{Post, Take, Pas
 use Rattle.dob_safra.specs.Tokens.{passed_on, new_probe}
 use Rattle.dob_safra.specs.Rings.{Ring, sum_below, counter, counters_below, in_flight, Reason, counted, positive, black_node, black_token, IsLawfulRing, AllWhite}
 use Rattle.dob_safra.specs.Rings.{Raises, CountsStay, ColoursStay, Colours, Posts, Takes, Passes, Announces, Moved}
-use Rattle.dob_safra.specs.Laws.{IsSize, HasFew, IsQuiet, Fits}
+use Rattle.dob_safra.specs.Laws.{IsSize, HasFew, IsRingQuiet, Fits}
 use Rattle.dob_safra.proofs.Counts.{flipped, posted_below, taken_below, counters_are, rows_stay, flipped_stay, rows_before, rows_raised, flipped_raises}
 use Rattle.dob_safra.proofs.Counts.{flight_is, flight_at_least, posted_bound, taken_bound}
 use Rattle.dob_safra.proofs.Quiet.{quiet, none_in_flight}
@@ -288,7 +288,7 @@ announced_reason n old new token at posted taken colours (black_token is_black) 
 
 announces_kept : (n : ℕ) (old new : Ring) → IsSize n → IsLawfulRing n old → Announces n old new → IsLawfulRing n new
 announces_kept n old new size lawful announces =
-    let end : IsQuiet n old = quiet n old true size lawful announces.announceable in
+    let end : IsRingQuiet n old = quiet n old true size lawful announces.announceable in
     record {
       in_order = λ k l k_in l_in. omega (arith, announces.posted k l k_in l_in, announces.taken k l k_in l_in, lawful.in_order k l k_in l_in);
       few = λ k l k_in l_in. omega (arith, announces.posted k l k_in l_in, lawful.few k l k_in l_in);
@@ -326,7 +326,7 @@ few_stay n old new (Pass node) lawful ended moved i j i_in j_in = omega (arith, 
 few_stay n old new Announce lawful ended moved i j i_in j_in = omega (arith, moved.posted i j i_in j_in, lawful.few i j i_in j_in)
 
 pub end_stays : (n : ℕ) (old new : Ring) (event : RingEvent) → IsSize n → IsLawfulRing n old → old.announced ≡ true → Moved n old event new →
-    (new.announced ≡ true) × IsQuiet n new
+    (new.announced ≡ true) × IsRingQuiet n new
 end_stays n old new event size lawful ended moved =
     let still : new.announced ≡ true = announced_stays n old new event ended moved in
     let kept : IsLawfulRing n new = moved_kept n old new event size lawful moved (few_stay n old new event lawful ended moved) in (

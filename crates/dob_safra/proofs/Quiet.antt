@@ -5,7 +5,7 @@ use Rattle.std.proofs.lemmas.Int.{ints}
 use Rattle.std.proofs.lemmas.Bool.{cases_lt}
 use Rattle.dob_safra.specs.Rings.{Ring, sum_below, counter, counters_below, in_flight, Reason, counted, positive, black_node, black_token, IsLawfulRing, AllWhite}
 use Rattle.dob_safra.specs.Rings.{AllTaken, IsAnnounceable}
-use Rattle.dob_safra.specs.Laws.{IsSize, IsQuiet}
+use Rattle.dob_safra.specs.Laws.{IsSize, IsRingQuiet}
 use Rattle.dob_safra.proofs.Sums.{sum_same, sum_zeros, sum_zero}
 use Rattle.dob_safra.proofs.Counts.{counters_are, flight_is}
 
@@ -39,7 +39,7 @@ only_counted n ring idle some may (black_token is_black) =
     absurd (cc)
 
 -- Where a lawful state is announceable, no batch is in flight.
-pub quiet : (n : ℕ) (ring : Ring) (idle : Bool) → IsSize n → IsLawfulRing n ring → IsAnnounceable n ring idle → IsQuiet n ring
+pub quiet : (n : ℕ) (ring : Ring) (idle : Bool) → IsSize n → IsLawfulRing n ring → IsAnnounceable n ring idle → IsRingQuiet n ring
 quiet n ring idle size lawful may =
     let found : AllWhite n ring × (counters_below n ring n ≡ pos 0) = only_counted n ring idle size.0 may lawful.reason in
     let none : in_flight n ring ≡ 0 = omega (arith, ints, found.1, counters_are n ring n, flight_is n ring lawful.in_order) in

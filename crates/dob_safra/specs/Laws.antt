@@ -33,17 +33,17 @@ abbrev pub LawfulFits : Type 0
 LawfulFits = (n : ℕ) (ring : Ring) → IsSize n → IsLawfulRing n ring → Fits n ring
 
 -- each node is white, and each batch posted is taken, so that none is in flight
-pub record IsQuiet (n : ℕ) (ring : Ring) : Type 0 where
+pub record IsRingQuiet (n : ℕ) (ring : Ring) : Type 0 where
   pub all_white : AllWhite n ring
   pub all_taken : AllTaken n ring
   pub none_in_flight : in_flight n ring ≡ 0
 
 abbrev pub AnnounceableIsQuiet : Type 0
-AnnounceableIsQuiet = (n : ℕ) (ring : Ring) (idle : Bool) → IsSize n → IsLawfulRing n ring → IsAnnounceable n ring idle → IsQuiet n ring
+AnnounceableIsQuiet = (n : ℕ) (ring : Ring) (idle : Bool) → IsSize n → IsLawfulRing n ring → IsAnnounceable n ring idle → IsRingQuiet n ring
 
 abbrev pub EndStays : Type 0
 EndStays = (n : ℕ) (old new : Ring) (event : RingEvent) → IsSize n → IsLawfulRing n old → old.announced ≡ true → Moved n old event new →
-    (new.announced ≡ true) × IsQuiet n new
+    (new.announced ≡ true) × IsRingQuiet n new
 
 abbrev pub EndIsSilent : Type 0
 EndIsSilent = (n : ℕ) (old new : Ring) (from to : ℕ) → IsLawfulRing n old → old.announced ≡ true →

@@ -7,7 +7,7 @@ use Rattle.dob_value.specs.declared.value.Value.TheVariants.{Win, Loss, Draw}
 use Rattle.dob_share.specs.declared.cells.Slot.{Slot}
 use Rattle.dob_share.specs.declared.fault.Fault.{Fault}
 use Rattle.dob_share.specs.declared.fault.Fault.TheVariants.{TooDeep, Contradiction}
-use Rattle.dob_share.specs.Cells.{Cell, CellValue, SameCell, CanTake, changed}
+use Rattle.dob_share.specs.Cells.{Cell, CellValue, SameCell, CellCanTake, changed}
 use Rattle.dob_share.specs.Pools.{ChangesRun}
 use Rattle.dob_share.specs.Slots.{beyond, slot_at, start_at, room_at, least_of, cell_by, cell_in, IsShortCell, ArePooled}
 use Rattle.dob_share.specs.Steps.{IsChange, IsApplied, IsTooDeep}
@@ -70,7 +70,7 @@ refused to was now place slots pool slot fault pooled step = record {
 }
 
 pub unfitting : (to : ℕ) (was now : Value) (place : ℕ) (slots : List Slot) (pool : List ℕ) →
-    ArePooled slots pool → (CanTake was now (cell_in slots pool place) → ⊥) →
+    ArePooled slots pool → (CellCanTake was now (cell_in slots pool place) → ⊥) →
     IsApplied to was now place slots pool slots pool (Err (Contradiction to))
 unfitting to was now place slots pool pooled not =
     refused to was now place slots pool (slot_at slots (length pool) place) (Contradiction to) pooled
@@ -152,8 +152,8 @@ module _ (slots : List Slot) (pool : List ℕ) (place : ℕ) (slot : Slot)
       same_cell = subst (λ c. SameCell c (changed was now (cell_in slots pool place))) cell_after
           (subst (λ c. SameCell (cell_by next new_pool) (changed was now c)) cell_same same_after)
 
-      takes_here : CanTake was now (cell_in slots pool place)
-      takes_here = subst (λ c. CanTake was now c) cell_same (step.fits next refl).0
+      takes_here : CellCanTake was now (cell_in slots pool place)
+      takes_here = subst (λ c. CellCanTake was now c) cell_same (step.fits next refl).0
 
       pooled_after : ArePooled (set slots place next) new_pool
       pooled_after =

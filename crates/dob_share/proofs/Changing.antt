@@ -8,7 +8,7 @@ use Rattle.dob_value.specs.Distances.{lesser_of, greater_of}
 use Rattle.dob_share.specs.declared.cells.Slot.{Slot}
 use Rattle.dob_share.specs.declared.fault.Fault.{Fault}
 use Rattle.dob_share.specs.declared.fault.Fault.TheVariants.{TooDeep, Contradiction}
-use Rattle.dob_share.specs.Cells.{Cell, CellValue, CanTake, changed, more_at, less_at, IsGreatest, IsGreatestIn, KnowsLossWithin}
+use Rattle.dob_share.specs.Cells.{Cell, CellValue, CellCanTake, changed, more_at, less_at, IsGreatest, IsGreatestIn, KnowsLossWithin}
 use Rattle.dob_share.specs.Slots.{least_of, cell_of, IsShortCell}
 use Rattle.dob_share.specs.Steps.{IsTooDeep}
 use Rattle.dob_share.proofs.Tallies.{more_at-same, more_at-other, less_at-same, less_at-other}
@@ -36,14 +36,14 @@ not_too_deep cell short deep = deep.2 (short_value cell deep.0 short deep.1)
 
 -- The slot after an item to a class, or its fault: that the item doesn't fit comes before that the value is too deep.
 pub record IsStep (to : ℕ) (was now : Value) (cell : Cell) (slot : Slot) (result : Result Slot Fault) : Type 0 where
-  pub misfit : (result ≡ Err (Contradiction to)) ↔ (CanTake was now cell → ⊥)
-  pub deep : (result ≡ Err TooDeep) ↔ (CanTake was now cell × IsTooDeep (changed was now cell))
+  pub misfit : (result ≡ Err (Contradiction to)) ↔ (CellCanTake was now cell → ⊥)
+  pub deep : (result ≡ Err TooDeep) ↔ (CellCanTake was now cell × IsTooDeep (changed was now cell))
   pub named : (class : ℕ) → result ≡ Err (Contradiction class) → class ≡ to
-  pub fits : (next : Slot) → result ≡ Ok next → CanTake was now cell × IsShortCell (changed was now cell)
+  pub fits : (next : Slot) → result ≡ Ok next → CellCanTake was now cell × IsShortCell (changed was now cell)
   pub made : (next : Slot) → result ≡ Ok next → (next.start ≡ slot.start)
       × (next.left ≡ (changed was now cell).left) × (least_of next.win ≡ (changed was now cell).least)
 
-pub misfits : (to : ℕ) (was now : Value) (cell : Cell) (slot : Slot) → (CanTake was now cell → ⊥) →
+pub misfits : (to : ℕ) (was now : Value) (cell : Cell) (slot : Slot) → (CellCanTake was now cell → ⊥) →
     IsStep to was now cell slot (Err (Contradiction to))
 misfits to was now cell slot misfit = record {
   misfit = (λ _. misfit, λ _. refl);
@@ -53,7 +53,7 @@ misfits to was now cell slot misfit = record {
   made = λ next e. absurd (cc);
 }
 
-pub goes_deep : (to : ℕ) (was now : Value) (cell : Cell) (slot : Slot) → CanTake was now cell → IsTooDeep (changed was now cell) →
+pub goes_deep : (to : ℕ) (was now : Value) (cell : Cell) (slot : Slot) → CellCanTake was now cell → IsTooDeep (changed was now cell) →
     IsStep to was now cell slot (Err TooDeep)
 goes_deep to was now cell slot takes deep = record {
   misfit = (λ e. absurd (cc), λ misfit. absurd (misfit takes));
@@ -63,7 +63,7 @@ goes_deep to was now cell slot takes deep = record {
   made = λ next e. absurd (cc);
 }
 
-pub stepped : (to : ℕ) (was now : Value) (cell : Cell) (slot next : Slot) → CanTake was now cell → IsShortCell (changed was now cell) →
+pub stepped : (to : ℕ) (was now : Value) (cell : Cell) (slot next : Slot) → CellCanTake was now cell → IsShortCell (changed was now cell) →
     next.start ≡ slot.start → next.left ≡ (changed was now cell).left →
     least_of next.win ≡ (changed was now cell).least → IsStep to was now cell slot (Ok next)
 stepped to was now cell slot next takes short start left least = record {

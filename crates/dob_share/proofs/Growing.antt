@@ -5,7 +5,7 @@ use Rattle.dob_value.specs.declared.value.Value.{Value}
 use Rattle.dob_value.specs.declared.value.Value.TheVariants.{Win, Loss, Draw}
 use Rattle.dob_value.specs.Distances.{lesser_of}
 use Rattle.dob_share.specs.Values.{NoWorse}
-use Rattle.dob_share.specs.Cells.{Cell, CellValue, CanTake, changed, more_at, less_at, KnowsLossWithin}
+use Rattle.dob_share.specs.Cells.{Cell, CellValue, CellCanTake, changed, more_at, less_at, KnowsLossWithin}
 use Rattle.dob_share.proofs.Changing.{more_cases, less_some, more_here}
 
 some_none : {P : Type 0} (x : Option ℕ) (a : ℕ) → x ≡ Some a → x ≡ None → P
@@ -27,7 +27,7 @@ lesser_win x a b plies p q e f g h =
     let same : lesser_of x plies ≡ b = cc in
     no_later p q (omega arith)
 
-pub no_worse : (was now : Value) (cell : Cell) (v w : Value) → CanTake was now cell → CellValue cell v → CellValue (changed was now cell) w → NoWorse v w
+pub no_worse : (was now : Value) (cell : Cell) (v w : Value) → CellCanTake was now cell → CellValue cell v → CellValue (changed was now cell) w → NoWorse v w
 no_worse Draw Draw cell v w takes is then = absurd takes
 no_worse Draw (Win p) cell (Win a) (Win b) takes is then = same_win cell.least is.0 then.0 a b is.1 then.1 is.2 then.2
 no_worse Draw (Win p) cell (Win a) (Loss b) takes is then = some_none cell.least is.0 is.1 then.0

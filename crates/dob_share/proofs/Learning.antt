@@ -10,7 +10,7 @@ use Rattle.dob_value.specs.declared.value.Value.TheVariants.{Win, Loss, Draw}
 use Rattle.dob_value.specs.Entries.{is_draw}
 use Rattle.dob_value.specs.Distances.{IsLeastLoss}
 use Rattle.dob_share.specs.Values.{Better, is_win_in}
-use Rattle.dob_share.specs.Cells.{Cell, CanTake, KnowsLossWithin, SumsUp, Changes}
+use Rattle.dob_share.specs.Cells.{Cell, CellCanTake, KnowsLossWithin, SumsUp, Changes}
 
 -- ---- what is counted is there, and what is there is counted
 
@@ -56,7 +56,7 @@ least_within known (Some least) plies is there = is.1 plies there
 
 -- a cell that sums up what is known takes what one copy learns next
 pub takes_next : (known after : List Value) (was now : Value) (cell : Cell) → Better was now → Changes known after was now → SumsUp known cell →
-    CanTake was now cell
+    CellCanTake was now cell
 takes_next known after Draw (Win plies) cell better change sums =
     let some = counts is_draw known Draw (was_known known after Draw (Win plies) change) refl in
     let left = sums.left in

@@ -10,7 +10,7 @@ use Rattle.dob_share.specs.declared.cells.Slot.{Slot}
 use Rattle.dob_share.specs.declared.share.Seen.{Seen}
 use Rattle.dob_share.specs.declared.share.Share.{Share}
 use Rattle.dob_share.specs.Values.{Better}
-use Rattle.dob_share.specs.Cells.{Cell, CellValue, SameCell, CanTake, changed, fresh}
+use Rattle.dob_share.specs.Cells.{Cell, CellValue, SameCell, CellCanTake, changed, fresh}
 use Rattle.dob_share.specs.Slots.{start_at, cell_in, IsShortCell}
 use Rattle.dob_share.specs.Steps.{IsTooDeep}
 use Rattle.dob_share.specs.Shares.{places_of, IsOwn, IsOwnOpen, IsSeen, status_at, number_of, cell_where, cell_at, IsValue, HasValueNow, Fits, GoesTooDeep, SameClasses}
@@ -113,11 +113,11 @@ where_same zero x y low same = same_itself (fresh 0)
 where_same (suc zero) x y low same = same refl
 where_same (suc (suc b)) x y low same = absurd (omega arith)
 
-fits_there : (share : Share) (item : Item) → IsOwnOpen share item.to → CanTake item.was item.now (cell_at share item.to) → Fits share item
+fits_there : (share : Share) (item : Item) → IsOwnOpen share item.to → CellCanTake item.was item.now (cell_at share item.to) → Fits share item
 unfolding IsOwnOpen Fits
 fits_there share item open_here takes = (open_here.0, open_here.1, takes)
 
-takes_there : (share : Share) (item : Item) → Fits share item → CanTake item.was item.now (cell_at share item.to)
+takes_there : (share : Share) (item : Item) → Fits share item → CellCanTake item.was item.now (cell_at share item.to)
 unfolding Fits
 takes_there share item fits = fits.2
 
@@ -152,23 +152,23 @@ unfolding IsOwnOpen IsOwn
 open_id share class own = own.0.0
 
 module _ (old : Share) (item : Item) (place : ℕ) (open_here : IsOwnOpen old item.to) (is : place ≡ number_of old item.to) where
-  pub misfit_here : {A : Type 0} (r : Result A Fault) → ((r ≡ Err (Contradiction item.to)) ↔ (CanTake item.was item.now (cell_in old.slots old.pool place) → ⊥)) →
+  pub misfit_here : {A : Type 0} (r : Result A Fault) → ((r ≡ Err (Contradiction item.to)) ↔ (CellCanTake item.was item.now (cell_in old.slots old.pool place) → ⊥)) →
       ((r ≡ Err (Contradiction item.to)) ↔ (Fits old item → ⊥))
   misfit_here r h = (
-    λ e fits. h.0 e (subst (λ c. CanTake item.was item.now c) (sym (cell_there old item.to place open_here is)) (takes_there old item fits)),
-    λ not. h.1 (λ takes. not (fits_there old item open_here (subst (λ c. CanTake item.was item.now c) (cell_there old item.to place open_here is) takes))),
+    λ e fits. h.0 e (subst (λ c. CellCanTake item.was item.now c) (sym (cell_there old item.to place open_here is)) (takes_there old item fits)),
+    λ not. h.1 (λ takes. not (fits_there old item open_here (subst (λ c. CellCanTake item.was item.now c) (cell_there old item.to place open_here is) takes))),
   )
 
   pub deep_here : {A : Type 0} (r : Result A Fault) →
-      ((r ≡ Err TooDeep) ↔ (CanTake item.was item.now (cell_in old.slots old.pool place) × IsTooDeep (changed item.was item.now (cell_in old.slots old.pool place)))) →
+      ((r ≡ Err TooDeep) ↔ (CellCanTake item.was item.now (cell_in old.slots old.pool place) × IsTooDeep (changed item.was item.now (cell_in old.slots old.pool place)))) →
       ((r ≡ Err TooDeep) ↔ (Fits old item × GoesTooDeep old item))
   deep_here r h = (
     λ e. let both = h.0 e in (
-      fits_there old item open_here (subst (λ c. CanTake item.was item.now c) (cell_there old item.to place open_here is) both.0),
+      fits_there old item open_here (subst (λ c. CellCanTake item.was item.now c) (cell_there old item.to place open_here is) both.0),
       deep_there old item (subst (λ c. IsTooDeep (changed item.was item.now c)) (cell_there old item.to place open_here is) both.1),
     ),
     λ both. h.1 (
-      subst (λ c. CanTake item.was item.now c) (sym (cell_there old item.to place open_here is)) (takes_there old item both.0),
+      subst (λ c. CellCanTake item.was item.now c) (sym (cell_there old item.to place open_here is)) (takes_there old item both.0),
       subst (λ c. IsTooDeep (changed item.was item.now c)) (sym (cell_there old item.to place open_here is)) (deep_back old item both.1),
     ),
   )
@@ -239,7 +239,7 @@ seen_kept old new id_same n_same same starts class (Some seen) is =
     (was.1 ∙ sym (number_same old new n_same same class)) (was.2 ∙ sym (starts seen.place))
 
 -- a value that has changed is better
-pub improved : (was now : Value) (cell after : Cell) (v w : Value) → CanTake was now cell → SameCell after (changed was now cell) →
+pub improved : (was now : Value) (cell after : Cell) (v w : Value) → CellCanTake was now cell → SameCell after (changed was now cell) →
     CellValue cell v → CellValue after w → (v ≡ w → ⊥) → Better v w
 improved was now cell after v w takes same is then differs =
     elim (no_worse was now cell v w takes is (CellValue-same (changed was now cell) after w (record { left = sym same.left; wins = λ plies. sym (same.wins plies); least = sym same.least }) then)) [

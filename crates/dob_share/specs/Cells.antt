@@ -39,12 +39,12 @@ KnowsLossWithin plies None = ⊥
 KnowsLossWithin plies (Some least) = least ≤ plies
 
 -- a change that fits the cell
-abbrev pub CanTake : Value → Value → Cell → Type 0
-CanTake Draw (Win _) cell = 0 < cell.left
-CanTake Draw (Loss _) cell = 0 < cell.left
-CanTake (Win was) (Win now) cell = (now < was) × (0 < cell.wins was)
-CanTake (Loss was) (Loss now) cell = (now < was) × KnowsLossWithin was cell.least
-CanTake _ _ _ = ⊥
+abbrev pub CellCanTake : Value → Value → Cell → Type 0
+CellCanTake Draw (Win _) cell = 0 < cell.left
+CellCanTake Draw (Loss _) cell = 0 < cell.left
+CellCanTake (Win was) (Win now) cell = (now < was) × (0 < cell.wins was)
+CellCanTake (Loss was) (Loss now) cell = (now < was) × KnowsLossWithin was cell.least
+CellCanTake _ _ _ = ⊥
 
 -- the greatest distance that is counted
 abbrev pub IsGreatest : (ℕ → ℕ) → ℕ → Type 0

@@ -9,7 +9,7 @@ use Rattle.dob_share.specs.declared.news.Settlement.{Settlement}
 use Rattle.dob_share.specs.Values.{Better}
 use Rattle.dob_share.specs.declared.share.Seen.{Seen}
 use Rattle.dob_share.specs.declared.share.Share.{Share}
-use Rattle.dob_share.specs.Cells.{Cell, CellValue, CanTake, changed, fresh}
+use Rattle.dob_share.specs.Cells.{Cell, CellValue, CellCanTake, changed, fresh}
 use Rattle.dob_share.specs.Slots.{start_at, cell_in}
 use Rattle.dob_share.specs.Statuses.{open_at, opens_below, status_in}
 use Rattle.dob_share.specs.Steps.{IsTooDeep}
@@ -52,7 +52,7 @@ HasValueNow share class value = IsValue (status_at share class) (cell_at share c
 
 -- the item fits: it goes to an open class of the share's own, whose cell takes the change
 unfoldable pub Fits : Share → Item → Type 0
-Fits share item = IsOwn share item.to × (status_at share item.to ≡ Open) × CanTake item.was item.now (cell_at share item.to)
+Fits share item = IsOwn share item.to × (status_at share item.to ≡ Open) × CellCanTake item.was item.now (cell_at share item.to)
 
 -- the item would give the class a value whose distance is above the greatest that is kept
 unfoldable pub GoesTooDeep : Share → Item → Type 0

@@ -5,7 +5,7 @@ use Rattle.dob_value.specs.Codes.{IsShort}
 use Rattle.dob_share.specs.declared.cells.Slot.{Slot}
 use Rattle.dob_share.specs.declared.fault.Fault.{Fault}
 use Rattle.dob_share.specs.declared.fault.Fault.TheVariants.{TooDeep, Contradiction}
-use Rattle.dob_share.specs.Cells.{Cell, CellValue, SameCell, CanTake, changed}
+use Rattle.dob_share.specs.Cells.{Cell, CellValue, SameCell, CellCanTake, changed}
 use Rattle.dob_share.specs.Slots.{start_at, cell_in, ArePooled}
 
 -- the cell's value has a distance above the greatest that is kept
@@ -21,16 +21,16 @@ IsChange old new (Some values) = CellValue old values.0 × CellValue new values.
 -- the value is too deep; a fault leaves all as it was, and no item touches another cell.
 pub record IsApplied (to : ℕ) (was now : Value) (place : ℕ) (old_slots : List Slot) (old_pool : List ℕ)
     (slots : List Slot) (pool : List ℕ) (result : Result (Option (Value × Value)) Fault) : Type 0 where
-  pub misfit : (result ≡ Err (Contradiction to)) ↔ (¬ CanTake was now (cell_in old_slots old_pool place))
+  pub misfit : (result ≡ Err (Contradiction to)) ↔ (¬ CellCanTake was now (cell_in old_slots old_pool place))
   pub deep : (result ≡ Err TooDeep)
-      ↔ (CanTake was now (cell_in old_slots old_pool place) × IsTooDeep (changed was now (cell_in old_slots old_pool place)))
+      ↔ (CellCanTake was now (cell_in old_slots old_pool place) × IsTooDeep (changed was now (cell_in old_slots old_pool place)))
   pub named : (class : ℕ) → result ≡ Err (Contradiction class) → class ≡ to
   pub unchanged : (fault : Fault) → result ≡ Err fault → (slots ≡ old_slots) × (pool ≡ old_pool)
   pub pooled : ArePooled slots pool
   pub places : length slots ≡ length old_slots
   pub starts : (other : ℕ) → start_at slots (length pool) other ≡ start_at old_slots (length old_pool) other
   pub others : (other : ℕ) → other ≢ place → SameCell (cell_in slots pool other) (cell_in old_slots old_pool other)
-  pub takes : (change : Option (Value × Value)) → result ≡ Ok change → CanTake was now (cell_in old_slots old_pool place)
+  pub takes : (change : Option (Value × Value)) → result ≡ Ok change → CellCanTake was now (cell_in old_slots old_pool place)
   pub cell : (change : Option (Value × Value)) → result ≡ Ok change →
       SameCell (cell_in slots pool place) (changed was now (cell_in old_slots old_pool place))
   pub values : (change : Option (Value × Value)) → result ≡ Ok change →

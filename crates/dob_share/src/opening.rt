@@ -2,8 +2,8 @@
 ghost use Rattle.std.specs.Prelude.{◌≡◌, ◌<◌, length};
 ghost use Rattle.dob_share.specs.Openings.{opening_of};
 
-use dob_moves::Status;
 use dob_lists::Segments;
+use dob_moves::Status;
 
 /// A class's status and its number of moves.
 #[derive(Clone, Copy, Debug, PartialEq, Eq)]

@@ -15,9 +15,9 @@ use crate::news::{Item, Settlement};
 use crate::opening::{Opening, opening_at};
 use crate::statuses::Statuses;
 use crate::steps::{apply_at, value_in};
+use dob_lists::Segments;
 use dob_moves::Status;
 use dob_pieces::Memory;
-use dob_lists::Segments;
 use dob_value::Value;
 use std::alloc::Global;
 
@@ -55,7 +55,9 @@ impl Share {
     /// The share of owner `id` among `n`, at most 16, of the classes that are listed, with what each is at the start. Only open
     /// classes have cells. It makes all the room that `apply` will need, in segments as long as those of the list.
     ///
-    /// Error: `Memory`, also where 2 to the power of 32 classes or more are listed, where its open classes have as many moves, or one
+    /// # Errors
+    ///
+    /// `Memory`, also where 2 to the power of 32 classes or more are listed, where its open classes have as many moves, or one
     /// of them more than 63.
     pub fn open(
         alloc: Global,
@@ -108,7 +110,9 @@ impl Share {
 
     /// The statuses of its classes, which it goes on to hold too.
     ///
-    /// Error: `Memory`.
+    /// # Errors
+    ///
+    /// `Memory`.
     pub fn statuses(&self) -> Result<Statuses, Memory>
         ensures { IfOk result (λ statuses. statuses ≡ self.now.statuses) }
     {
@@ -149,7 +153,9 @@ impl Share {
     /// Applies an item: a change of what one of its class's moves leads to. It answers the settlement of the class
     /// where the item changes its value.
     ///
-    /// Errors, which leave the share as it was: `Contradiction` where the item doesn't fit, else `TooDeep` where the
+    /// # Errors
+    ///
+    /// Which leave the share as it was: `Contradiction` where the item doesn't fit, else `TooDeep` where the
     /// class's value would have a distance above `MAX_DISTANCE`.
     pub fn apply(&mut self, item: Item) -> Result<Option<Settlement>, Fault>
         requires numbers { self.old.settled < 2 ^ 63 }
@@ -168,7 +174,9 @@ impl Share {
 
     /// Applies an item as `apply` does, by what was seen of its class.
     ///
-    /// Errors: as of `apply`.
+    /// # Errors
+    ///
+    /// As of `apply`.
     pub fn apply_seen(
         &mut self,
         item: Item,

@@ -6,9 +6,9 @@ ghost use Rattle.dob_share.specs.Owners.{class_of_place};
 ghost use Rattle.dob_share.specs.Statuses.{bit, bits_below, opens, catches, tries, status_of_bits, IsStatusOf, status_listed, word_of, open_at, status_in, opens_below, AreCounted};
 
 use crate::opening::{Opening, opening_at};
+use dob_lists::Segments;
 use dob_moves::Status;
 use dob_pieces::Memory;
-use dob_lists::Segments;
 use std::alloc::Global;
 use std::marker::Model;
 use std::sync::Arc;
@@ -44,7 +44,9 @@ impl Model for Statuses {
 impl Statuses {
     /// Those that are listed of the classes of owner `id` among `n`.
     ///
-    /// Error: `Memory`.
+    /// # Errors
+    ///
+    /// `Memory`.
     pub(crate) fn open(
         alloc: Global,
         openings: &Segments<Opening>,
@@ -65,7 +67,9 @@ impl Statuses {
 
     /// The same statuses, for one more who holds them.
     ///
-    /// Error: `Memory`.
+    /// # Errors
+    ///
+    /// `Memory`.
     pub(crate) fn share(&self) -> Result<Statuses, Memory>
         ensures { IfOk result (λ statuses. statuses ≡ self.now) }
     {

@@ -35,7 +35,9 @@ pub(crate) fn value_in(pool: &Segments<u16>, slot: Slot) -> Value
 /// Applies an item to the class `to`, whose cell is at that place; it answers the cell's value before and after, where
 /// they differ.
 ///
-/// Errors, which leave the cells as they were: `Contradiction` where the change doesn't fit the cell, else `TooDeep`
+/// # Errors
+///
+/// Which leave the cells as they were: `Contradiction` where the change doesn't fit the cell, else `TooDeep`
 /// where the cell's value would have a distance above `MAX_DISTANCE`.
 pub(crate) fn apply_at(
     slots: &mut Segments<Slot>,

@@ -6,11 +6,11 @@ mod segments;
 
 use crate::openings::listed;
 use crate::sets::{classes_of, family_of, is_same_table};
+use dob_classes::Classes;
+use dob_lists::SegmentLength;
 use dob_moves::{Status, status_and_count};
 use dob_node::{Node, Opening, alone, opening};
 use dob_pieces::{Family, Hand, Hands, Kind, Piece, Position, Profile, Side};
-use dob_classes::Classes;
-use dob_lists::SegmentLength;
 use dob_share::{Fault, Item, Share};
 use dob_update::Batch;
 use dob_value::{Value, sweep_table};

@@ -2,8 +2,8 @@
 ghost use Rattle.std.specs.Prelude.{◌≡◌, OnOk};
 
 use crate::sets::classes_of;
-use dob_pieces::Memory;
 use dob_classes::Classes;
+use dob_pieces::Memory;
 use dob_share::Settlement;
 use dob_unmove::back;
 use dob_update::{Outbox, push_items};

@@ -1,6 +1,6 @@
 // Families of profile A by the names of their sets, their classes, and whether two tables are one.
-use dob_pieces::{Family, PieceSet, Profile};
 use dob_classes::Classes;
+use dob_pieces::{Family, PieceSet, Profile};
 use dob_value::Table;
 use std::alloc::Global;
 use std::process::Abort;

@@ -2,9 +2,9 @@
 ghost use Rattle.std.specs.Prelude.{◌<◌, ◌≤◌};
 
 use crate::openings::listed;
+use dob_lists::{SegmentLength, Segments};
 use dob_moves::Status;
 use dob_pieces::Memory;
-use dob_lists::{SegmentLength, Segments};
 use dob_share::{Fault, Item, Opening, Share, owner};
 use dob_value::Value;
 use std::alloc::Global;

@@ -5,8 +5,8 @@ ghost use Rattle.dob_update.specs.Batches.{OutboxView};
 
 use crate::outboxes::{add, filled, won};
 use crate::sets::classes_of;
-use dob_pieces::Memory;
 use dob_classes::Classes;
+use dob_pieces::Memory;
 use dob_share::Settlement;
 use dob_unmove::back;
 use dob_update::{Batch, Outbox, count_items, push_items};

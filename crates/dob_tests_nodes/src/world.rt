@@ -1,6 +1,6 @@
 // Worlds by values known from outside.
 ghost use Rattle.std.specs.Prelude.{◌≡◌, ◌<◌, None};
-ghost use Rattle.dob_world.specs.Standing.{IsStanding, IsKept};
+ghost use Rattle.dob_world.specs.Standing.{IsStanding, StandsOrStopped};
 
 mod ring;
 mod schedules;
@@ -23,7 +23,7 @@ const SIZES: [(usize, usize); 4] = [(1, 1), (1, 64), (256, 1), (256, 64)];
 // A world of so many nodes over lions alone, whose batches hold one item and whose links one batch.
 fn opened(rt: &impl Abort, alloc: Global, n: usize) -> World
     ensures standing { IsStanding result }
-    ensures kept { IsKept result }
+    ensures kept { StandsOrStopped result }
     ensures going { result.failed ≡ None }
     ensures n { result.n ≡ n }
 {
@@ -39,7 +39,7 @@ fn world_of(
     capacity: usize,
 ) -> World
     ensures standing { IsStanding result }
-    ensures kept { IsKept result }
+    ensures kept { StandsOrStopped result }
     ensures going { result.failed ≡ None }
     ensures n { result.n ≡ n }
 {
@@ -51,9 +51,9 @@ fn world_of(
 
 // Makes the event, and says whether it was done.
 fn make(rt: &impl Abort, world: &mut World, event: Event) -> bool
-    requires { IsKept world.old }
+    requires { StandsOrStopped world.old }
     ensures standing { IsStanding world.new }
-    ensures kept { IsKept world.new }
+    ensures kept { StandsOrStopped world.new }
     ensures going { world.new.failed ≡ None }
     ensures n { world.new.n ≡ world.old.n }
 {
@@ -67,9 +67,9 @@ fn make(rt: &impl Abort, world: &mut World, event: Event) -> bool
 
 // The event is done.
 fn does(rt: &impl Abort, world: &mut World, event: Event)
-    requires { IsKept world.old }
+    requires { StandsOrStopped world.old }
     ensures standing { IsStanding world.new }
-    ensures kept { IsKept world.new }
+    ensures kept { StandsOrStopped world.new }
     ensures n { world.new.n ≡ world.old.n }
 {
     assert!(rt; make(rt, world, event), "{event:?}");
@@ -77,9 +77,9 @@ fn does(rt: &impl Abort, world: &mut World, event: Event)
 
 // The event is skipped.
 fn skips(rt: &impl Abort, world: &mut World, event: Event)
-    requires { IsKept world.old }
+    requires { StandsOrStopped world.old }
     ensures standing { IsStanding world.new }
-    ensures kept { IsKept world.new }
+    ensures kept { StandsOrStopped world.new }
     ensures n { world.new.n ≡ world.old.n }
 {
     assert!(rt; !make(rt, world, event), "{event:?}");

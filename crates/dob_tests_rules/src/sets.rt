@@ -2,8 +2,8 @@
 ghost use Rattle.std.specs.Prelude.{◌≡◌};
 ghost use Rattle.dob_pieces.specs.declared.profile.Profile.TheVariants.{A};
 
-use dob_pieces::{Family, PieceSet, Profile};
 use dob_classes::Classes;
+use dob_pieces::{Family, PieceSet, Profile};
 use std::alloc::Global;
 use std::process::Abort;
 

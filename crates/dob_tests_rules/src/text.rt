@@ -246,8 +246,8 @@ fn is_written_back(rt: &impl Abort, alloc: Global, text: &str) {
 }
 
 /// The move is written so.
-pub(crate) fn writes(rt: &impl Abort, alloc: Global, choice: Move, second: bool, text: &str) {
-    let written = write_move(alloc, choice, second).expect(rt, "memory");
+pub(crate) fn writes(rt: &impl Abort, alloc: Global, the_move: Move, second: bool, text: &str) {
+    let written = write_move(alloc, the_move, second).expect(rt, "memory");
     assert!(rt; written.as_str() == text, "{text}");
 }
 
@@ -263,14 +263,14 @@ fn writes_step(
 ) {
     let (from, to) = (Square::new(squares.0 % 12), Square::new(squares.1 % 12));
     let (catch, grows) = signs;
-    let choice = Move::Step {
+    let the_move = Move::Step {
         kind,
         from,
         to,
         catch,
         grows,
     };
-    writes(rt, alloc, choice, second, text);
+    writes(rt, alloc, the_move, second, text);
 }
 
 /// The drop is written so.

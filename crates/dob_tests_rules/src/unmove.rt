@@ -7,9 +7,9 @@ mod plain_rules;
 mod plain_walk;
 
 use crate::sets::classes_of;
+use dob_classes::Classes;
 use dob_moves::{Move, apply, moves};
 use dob_pieces::{Hand, Hands, Kind, Memory, Piece, Position, Profile, Side, Square};
-use dob_classes::Classes;
 use dob_unmove::{back, back_into};
 use std::alloc::Global;
 use std::process::Abort;
@@ -167,12 +167,12 @@ fn push_made(
     classes: &Classes,
     class: u64,
     position: &Position,
-    choices: &[Move],
+    the_moves: &[Move],
 ) -> Result<(), Memory>
-    requires { AreMoves A position.now.setup choices.now }
+    requires { AreMoves A position.now.setup the_moves.now }
 {
-    for choice in choices {
-        let after = class_in(rt, classes, &apply(position, *choice));
+    for the_move in the_moves {
+        let after = class_in(rt, classes, &apply(position, *the_move));
         pairs.push((after, class))?;
     }
     Ok(())
@@ -187,8 +187,8 @@ fn pairs_made(
     let mut pairs = Vec::new(alloc);
     for class in 0..classes.class_count() {
         let position = classes.class_at(class);
-        let choices = moves(alloc, Profile::A, &position)?;
-        push_made(rt, &mut pairs, classes, class, &position, &choices)?;
+        let the_moves = moves(alloc, Profile::A, &position)?;
+        push_made(rt, &mut pairs, classes, class, &position, &the_moves)?;
     }
     pairs.sort_unstable();
     Ok(pairs)

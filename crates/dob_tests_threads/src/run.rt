@@ -166,10 +166,10 @@ fn is_unused(link: &Rejoined) -> bool {
     link.sent() == 0 && link.received() == 0 && link.waiting().is_empty()
 }
 
-// Whether the worker's hands are empty.
+// Whether the worker's slots are empty.
 fn is_empty_handed(worker: &Worker) -> bool {
-    worker.sending.iter().all(|hand| hand.is_none())
-        && worker.taking.iter().all(|hand| hand.is_none())
+    worker.sending.iter().all(|slot| slot.is_none())
+        && worker.taking.iter().all(|slot| slot.is_none())
 }
 
 // Whether all words but those of the number of nodes and of the token are 0.
@@ -182,7 +182,7 @@ fn are_first_words(words: &[u64], n: usize) -> bool
         && words[2..].iter().all(|word| *word == 0)
 }
 
-// Whether nothing is left of `n` nodes that made no turn: their hands are empty, no link was used, and all words but those of
+// Whether nothing is left of `n` nodes that made no turn: their slots are empty, no link was used, and all words but those of
 // the number of nodes and of the token are 0.
 fn is_nothing(turned: &Turned, n: usize) -> bool
     requires { IsSize n }

@@ -1,6 +1,6 @@
 // The classes of families of profile A, by the names of their sets.
-use dob_pieces::{Family, PieceSet, Profile};
 use dob_classes::Classes;
+use dob_pieces::{Family, PieceSet, Profile};
 use std::alloc::Global;
 use std::process::Abort;
 

@@ -7,7 +7,7 @@ use Rattle.std.proofs.lemmas.List.Quantifiers.{position-Some}
 use Rattle.std.proofs.lemmas.List.Sums.{position_or_len_is}
 use Rattle.std.proofs.lemmas.Bool.Decides.{nat_tests}
 use Rattle.dob_pieces.proofs.Lists.{append-same}
-use Rattle.dob_text.specs.PositionText.{is_space, IsWord, AreWords, AreParts, HasShape}
+use Rattle.dob_text.specs.PositionText.{is_space, IsWord, AreTwoWords, AreParts, HasShape}
 
 -- the first space stands behind a front that has none
 pub space_at : (a x : List ℕ) → All (λ byte. byte ≢ 32) a → position_or_len is_space (a ++ 32 ∷ x) ≡ length a
@@ -38,7 +38,7 @@ same_parts a b x y p q size none_x none_y joined =
     (front.0, words.0, words.1)
 
 -- the two words are what stands before the first space and after it
-pub words_are : (text mover enemy : List ℕ) → AreWords text mover enemy → (position_or_len is_space text ≡ length mover)
+pub words_are : (text mover enemy : List ℕ) → AreTwoWords text mover enemy → (position_or_len is_space text ≡ length mover)
     × (before_first is_space text ≡ mover) × (after_first is_space text ≡ enemy)
 words_are text mover enemy words =
     let at : position_or_len is_space text ≡ length mover = ap (position_or_len is_space) words.joined ∙ space_at mover enemy words.first.whole in (
@@ -49,19 +49,19 @@ words_are text mover enemy words =
     )
 
 -- the place of the first space is known
-pub space_is : (text mover enemy : List ℕ) → AreWords text mover enemy → position is_space text ≡ Some (length mover)
+pub space_is : (text mover enemy : List ℕ) → AreTwoWords text mover enemy → position is_space text ≡ Some (length mover)
 space_is text mover enemy words =
     let at : position_or_len is_space text ≡ length mover = (words_are text mover enemy words).0 in
     let size : length text ≡ length mover + length (32 ∷ enemy) = ap length words.joined ∙ length-append mover (32 ∷ enemy) in
     grind (arith, nat_tests)
 
 -- with no space there are no two words
-pub no_space : (text : List ℕ) → None ≡ position is_space text → (mover enemy : List ℕ) → ¬ AreWords text mover enemy
+pub no_space : (text : List ℕ) → None ≡ position is_space text → (mover enemy : List ℕ) → ¬ AreTwoWords text mover enemy
 no_space text none mover enemy words = let e : None ≡ Some (length mover) = none ∙ space_is text mover enemy words in cc
 
 -- what stands before the first space and after it are the words
 pub words_found : (text mover enemy : List ℕ) (space : ℕ) → Some space ≡ position is_space text → mover ≡ take space text
-    → enemy ≡ drop (space + 1) text → IsWord mover → IsWord enemy → AreWords text mover enemy
+    → enemy ≡ drop (space + 1) text → IsWord mover → IsWord enemy → AreTwoWords text mover enemy
 words_found text mover enemy space found is_mover is_enemy first second =
     let at : (space < length text) × (is_space (get_or text space 0) ≡ true) × ((k : ℕ) → k < space → is_space (get_or text k 0) ≡ false)
     = position-Some is_space text space 0 (sym found) in
@@ -77,7 +77,7 @@ words_found text mover enemy space found is_mover is_enemy first second =
 
 -- and no others
 pub words_only : (text mover enemy first second : List ℕ) (space : ℕ) → Some space ≡ position is_space text → mover ≡ take space text
-    → enemy ≡ drop (space + 1) text → AreWords text first second → IsWord mover × IsWord enemy
+    → enemy ≡ drop (space + 1) text → AreTwoWords text first second → IsWord mover × IsWord enemy
 words_only text mover enemy first second space found is_mover is_enemy words =
     let at : space ≡ length first = (let e : Some space ≡ Some (length first) = found ∙ space_is text first second words in cc) in
     let w : (position_or_len is_space text ≡ length first) × (before_first is_space text ≡ first) × (after_first is_space text ≡ second)
@@ -89,7 +89,7 @@ words_only text mover enemy first second space found is_mover is_enemy words =
 
 -- behind the board there are no two words
 pub no_parts : (text rest words : List ℕ) → rest ≡ drop 15 text → words ≡ drop 1 rest
-    → ((mover enemy : List ℕ) → ¬ AreWords words mover enemy) → ¬ HasShape text
+    → ((mover enemy : List ℕ) → ¬ AreTwoWords words mover enemy) → ¬ HasShape text
 no_parts text rest words is_rest is_words none shape =
     let grid : List ℕ = shape.1 in
     let mover : List ℕ = shape.2 in

@@ -63,7 +63,7 @@ pub record IsGrid (grid : List ℕ) : Type 0 where
   pub spaces : All (λ byte. byte ≢ space) grid
 
 -- two words with a space between them
-pub record AreWords (text mover enemy : List ℕ) : Type 0 where
+pub record AreTwoWords (text mover enemy : List ℕ) : Type 0 where
   pub joined : text ≡ mover ++ space ∷ enemy
   pub first : IsWord mover
   pub second : IsWord enemy

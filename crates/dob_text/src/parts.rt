@@ -1,6 +1,6 @@
 // The parts of a position's text: fifteen bytes of board and two words.
 ghost use Rattle.std.specs.Prelude.{◌≡◌, ◌↔◌, ℕ, List, length, position, MatchOption, IsTrue, IsAscii};
-ghost use Rattle.dob_text.specs.PositionText.{is_space, IsWord, IsGrid, AreWords, AreParts, HasShape};
+ghost use Rattle.dob_text.specs.PositionText.{is_space, IsWord, IsGrid, AreTwoWords, AreParts, HasShape};
 
 /// How many bytes the board takes.
 const GRID_LEN: usize = 15;
@@ -38,8 +38,8 @@ fn first_space(text: &[u8]) -> Option<usize>
 /// The two words of a text that is two words with a space between them.
 fn words_of(text: &[u8]) -> Option<(&[u8], &[u8])>
     ensures { MatchOption result
-        ((mover enemy : List ℕ) → ¬ AreWords text.now mover enemy)
-        (λ words. AreWords text.now words.0.now words.1.now) }
+        ((mover enemy : List ℕ) → ¬ AreTwoWords text.now mover enemy)
+        (λ words. AreTwoWords text.now words.0.now words.1.now) }
 {
     let space = first_space(text)?;
     let mover = &text[..space];

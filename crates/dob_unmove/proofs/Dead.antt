@@ -20,7 +20,7 @@ use Rattle.dob_unmove.specs.declared.predecessors.Walk.{Walk}
 use Rattle.dob_unmove.specs.declared.undo.Undo.{Undo}
 use Rattle.dob_unmove.specs.declared.undo.Undo.TheVariants.{Unstep, Unput}
 use Rattle.dob_unmove.specs.declared.ways.Ways.{Ways}
-use Rattle.dob_unmove.specs.Classes.{IsTurned}
+use Rattle.dob_unmove.specs.Classes.{IsSeenTurned}
 use Rattle.dob_unmove.specs.Undoes.{arrives_at, earlier, CanUndo, CanUnstep}
 use Rattle.dob_unmove.specs.Threats.{elsewhere, stood_before}
 use Rattle.dob_unmove.specs.Walks.{stands, uncatch, unsteps_between, unsteps_from, unsteps, undoes_at}
@@ -51,7 +51,7 @@ module _ (walk : Walk) (w : CanWalk walk) where
   abbrev threat : Threat
   threat = walk.ways.now.threat
 
-  legal : IsTurned IsLegal after
+  legal : IsSeenTurned IsLegal after
   legal = legal_turned family after w.of_set
 
   abbrev Dead : Undo → Type 0

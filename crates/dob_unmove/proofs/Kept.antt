@@ -20,7 +20,7 @@ use Rattle.dob_classes.proofs.OfFamilies.FamilyNumbers.{IsPositionOf-mirrored}
 use Rattle.dob_unmove.specs.declared.undo.Undo.{Undo}
 use Rattle.dob_unmove.specs.declared.undo.Undo.TheVariants.{Unstep, Unput}
 use Rattle.dob_unmove.specs.Undoes.{choice, earlier, may_give_back, CanUndo}
-use Rattle.dob_unmove.specs.Classes.{IsTurned}
+use Rattle.dob_unmove.specs.Classes.{IsSeenTurned}
 use Rattle.dob_unmove.proofs.Allowed.{IsAllowed-earlier, gives_back}
 use Rattle.dob_unmove.proofs.Undone.{HasOutcome-from_undo}
 
@@ -52,7 +52,7 @@ module _ (q : Setup) (u : Undo) (twelve : length q.board ≡ 12) (can : CanUndo 
   }
 
 -- what stood before a move that led to a position is one too, unless the mover's lion stood on row 4
-pub legal_before : (after s : Setup) (u : Undo) → CanUndo after u → IsTurned IsLegal after → s ≡ earlier after u → HasLionOffFarRow s → IsLegal s
+pub legal_before : (after s : Setup) (u : Undo) → CanUndo after u → IsSeenTurned IsLegal after → s ≡ earlier after u → HasLionOffFarRow s → IsLegal s
 legal_before after s u can t e home =
     let before : s ≡ earlier (turned t.0) u = e ∙ ap (λ (x : Setup). earlier x u) t.2 in
     subst IsLegal (sym before)
@@ -60,7 +60,7 @@ legal_before after s u can t e home =
 
 -- and it has the same pieces, and the profile allows it where the piece that was caught may stand again
 pub position_before : (family : Family) (after p : Setup) (u : Undo) → CanUndo after u → may_give_back family.profile u ≡ true →
-    IsTurned (IsPositionOf family) after → p ≡ earlier after u → IsLegal p → IsPositionOf family p
+    IsSeenTurned (IsPositionOf family) after → p ≡ earlier after u → IsLegal p → IsPositionOf family p
 position_before family after p u can may t e legal =
     let before : p ≡ earlier (turned t.0) u = e ∙ ap (λ (x : Setup). earlier x u) t.2 in
     let can_there = subst (λ (x : Setup). CanUndo x u) t.2 can in
@@ -74,25 +74,25 @@ position_before family after p u can may t e legal =
     }
 
 -- where the piece that was caught may not stand again no position of the family stood before
-pub barred : (family : Family) (after : Setup) (u : Undo) → CanUndo after u → IsTurned (IsPositionOf family) after →
+pub barred : (family : Family) (after : Setup) (u : Undo) → CanUndo after u → IsSeenTurned (IsPositionOf family) after →
     may_give_back family.profile u ≡ false → ¬ IsPositionOf family (earlier after u)
 barred family after u can t isnt is =
     let there = subst (λ (x : Setup). IsPositionOf family (earlier x u)) t.2 is in
     let may = gives_back family.profile t.0 t.1.of_set.legal.squares u (subst (λ (x : Setup). CanUndo x u) t.2 can) there.of_set.legal.squares there.allowed in
     true≢false (sym may ∙ isnt)
 
-pub squares_turned : (after : Setup) → IsTurned IsLegal after → length after.board ≡ 12
+pub squares_turned : (after : Setup) → IsSeenTurned IsLegal after → length after.board ≡ 12
 squares_turned after t = ap (λ (s : Setup). length s.board) t.2 ∙ length-turned t.0
 
-pub few_turned : (after : Setup) → IsTurned IsLegal after → HasFewPieces after
+pub few_turned : (after : Setup) → IsSeenTurned IsLegal after → HasFewPieces after
 few_turned after t = subst HasFewPieces (sym t.2) (HasFewPieces-turned t.0 t.1.squares t.1.few)
 
-pub legal_turned : (family : Family) (after : Setup) → IsTurned (IsPositionOf family) after → IsTurned IsLegal after
+pub legal_turned : (family : Family) (after : Setup) → IsSeenTurned (IsPositionOf family) after → IsSeenTurned IsLegal after
 legal_turned family after t = (t.0, t.1.of_set.legal, t.2)
 
 -- what sets of squares show of it
 pub shown_before : (family : Family) (after : Setup) (u : Undo) (bits found : Bitboards) → CanUndo after u → may_give_back family.profile u ≡ true
-    → IsTurned (IsPositionOf family) after
+    → IsSeenTurned (IsPositionOf family) after
     → HasLionOffFarRow (earlier after u) → AreBitboards after bits
     → ((s : Setup) → CanUndo s u → length s.board ≡ 12 → AreBitboards s bits → AreBitboards (earlier s u) found) → IsShown family (earlier after u) found
 shown_before family after u bits found can may t home are before =
@@ -106,16 +106,16 @@ pub position_mirrored : (family : Family) (q image : Setup) → IsPositionOf fam
 position_mirrored family q image is e = subst (IsPositionOf family) (sym e) (IsPositionOf-mirrored family q is)
 
 -- after a walk over the one position, for the walk over its mirror image
-pub turned_image : (family : Family) (q image t s : Setup) → IsLegal q → image ≡ mirrored q → t ≡ turned q → s ≡ turned image → IsTurned (IsPositionOf family) t
-    → IsTurned (IsPositionOf family) s
+pub turned_image : (family : Family) (q image t s : Setup) → IsLegal q → image ≡ mirrored q → t ≡ turned q → s ≡ turned image → IsSeenTurned (IsPositionOf family) t
+    → IsSeenTurned (IsPositionOf family) s
 turned_image family q image t s legal im e f walked =
     let same : walked.0 ≡ q
     = sym (turned-turned walked.0 walked.1.of_set.legal.squares) ∙ ap turned (sym walked.2 ∙ e) ∙ turned-turned q legal.squares in
     (image, position_mirrored family q image (subst (IsPositionOf family) same walked.1) im, f)
 
 -- the mirror image of a turned position is a turned one
-pub turned_legal : (q t : Setup) → IsLegal q → t ≡ mirrored (turned q) → IsTurned IsLegal t
+pub turned_legal : (q t : Setup) → IsLegal q → t ≡ mirrored (turned q) → IsSeenTurned IsLegal t
 turned_legal q t legal e = (mirrored q, IsLegal-mirrored q legal, e ∙ sym (turned-mirrored q))
 
-pub turned_position : (family : Family) (q t : Setup) → IsPositionOf family q → t ≡ mirrored (turned q) → IsTurned (IsPositionOf family) t
+pub turned_position : (family : Family) (q t : Setup) → IsPositionOf family q → t ≡ mirrored (turned q) → IsSeenTurned (IsPositionOf family) t
 turned_position family q t is e = (mirrored q, IsPositionOf-mirrored family q is, e ∙ sym (turned-mirrored q))

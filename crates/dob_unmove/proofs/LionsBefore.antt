@@ -15,7 +15,7 @@ use Rattle.dob_pieces.proofs.Boards.{one_lion}
 use Rattle.dob_moves.proofs.Turns.{side_of, kind_of}
 use Rattle.dob_unmove.specs.declared.attackers.Threat.{Threat}
 use Rattle.dob_unmove.specs.declared.undo.Undo.TheVariants.{Unstep, Unput}
-use Rattle.dob_unmove.specs.Classes.{IsTurned}
+use Rattle.dob_unmove.specs.Classes.{IsSeenTurned}
 use Rattle.dob_unmove.specs.Threats.{IsThreat}
 use Rattle.dob_unmove.specs.Undoes.{enemy_cell, earlier, CanUndo, CanUnstep}
 use Rattle.dob_unmove.specs.Ways.{is_home, comes_home, may_end, may_come, TellsHome, HasLionHome}
@@ -58,7 +58,7 @@ from_home : (after : Setup) (lion : ℕ) (kind : Kind) (from to : ℕ) → may_c
 from_home after lion kind from to on same =
     ap (λ (k : Kind). comes_home k lion from) (sym same) ∙ (and_parts _ (comes_home kind lion from) on).1
 
-module _ (after : Setup) (threat : Threat) (t : IsTurned IsLegal after) (h : IsThreat after threat) where
+module _ (after : Setup) (threat : Threat) (t : IsSeenTurned IsLegal after) (h : IsThreat after threat) where
   pub step_home : (kind : Kind) (from to : ℕ) (caught : Option Kind) → CanUnstep after kind from to caught → HasLionHome after threat.lion to
       → may_come after threat.lion kind to from ≡ true
       → HasLionOffFarRow (earlier after (Unstep kind from to caught))

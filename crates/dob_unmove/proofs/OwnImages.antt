@@ -13,7 +13,7 @@ use Rattle.dob_pieces.proofs.Boards.{all_below, all_below-at, at-mirrored, one_l
 use Rattle.dob_pieces.proofs.Targets.{is_mask}
 use Rattle.dob_pieces.proofs.MaskBits.{IsMask-and, IsMask-or}
 use Rattle.dob_unmove.specs.declared.ways.TheConstants.{BESIDE_B}
-use Rattle.dob_unmove.specs.Classes.{IsTurned}
+use Rattle.dob_unmove.specs.Classes.{IsSeenTurned}
 use Rattle.dob_unmove.proofs.Threats.{turned_lions}
 use Rattle.dob_unmove.proofs.WayMasks.{empty_mask, lion_passes}
 
@@ -41,7 +41,7 @@ either true b c first second = first refl
 either false true c first second = second refl
 either false false c first second = refl
 
-module _ (p : Setup) (legal : IsTurned IsLegal p) (own : mirrored p ≡ p) where
+module _ (p : Setup) (legal : IsSeenTurned IsLegal p) (own : mirrored p ≡ p) where
   lion_on_b : (side : Side) (s : ℕ) → s < 12 → is_piece side Lion (at p s) ≡ true → is_beside_b s ≡ false
   lion_on_b side s lt passes =
       let there = lion_passes side (at p s) passes in

@@ -28,7 +28,7 @@ use Rattle.dob_unmove.specs.declared.attackers.Attackers.TheVariants.{Nobody, On
 use Rattle.dob_unmove.specs.declared.attackers.Threat.{Threat}
 use Rattle.dob_unmove.specs.declared.undo.Undo.{Undo}
 use Rattle.dob_unmove.specs.declared.undo.Undo.TheVariants.{Unstep, Unput}
-use Rattle.dob_unmove.specs.Classes.{IsTurned}
+use Rattle.dob_unmove.specs.Classes.{IsSeenTurned}
 use Rattle.dob_unmove.specs.Undoes.{choice, arrives_at, enemy_cell, earlier, CanGiveBack, CanUnstep, CanUndo}
 use Rattle.dob_unmove.proofs.Undone.{HasOutcome-from_undo}
 use Rattle.dob_pieces.specs.Masks.{attacks_by, attacks}
@@ -70,10 +70,10 @@ several p target mask place are some e more =
 
 -- ---- the enemy lion is there
 
-pub turned_squares : (p : Setup) → IsTurned IsLegal p → length p.board ≡ 12
+pub turned_squares : (p : Setup) → IsSeenTurned IsLegal p → length p.board ≡ 12
 turned_squares p t = ap (λ (x : Setup). length x.board) t.2 ∙ length-turned t.0
 
-pub turned_lions : (p : Setup) → IsTurned IsLegal p → HasLions p
+pub turned_lions : (p : Setup) → IsSeenTurned IsLegal p → HasLions p
 turned_lions p t = subst HasLions (sym t.2) (HasLions-turned t.0 t.1.squares t.1.lions)
 
 -- ---- who catches, attacks
@@ -157,7 +157,7 @@ module _ (after before : Setup) (threat : Threat) (from to : ℕ) (by_moved : Bo
 
 -- ---- a step taken back
 
-module _ (after : Setup) (threat : Threat) (t : IsTurned IsLegal after) (h : IsThreat after threat) where
+module _ (after : Setup) (threat : Threat) (t : IsSeenTurned IsLegal after) (h : IsThreat after threat) where
   lion_is : (s : ℕ) → at after s ≡ Some (piece_of Enemy Lion) → s ≡ threat.lion
   lion_is s e = one_lion Enemy after s threat.lion (turned_lions after t) e h.lion
 

@@ -5,5 +5,5 @@ use Rattle.dob_pieces.specs.Setups.{turned}
 pub use Rattle.dob_rank.specs.Families.{RepresentsClass}
 
 -- it is such a setup, seen from the other side
-abbrev pub IsTurned : (Setup → Type 0) → Setup → Type 0
-IsTurned Is after = (q : Setup) × Is q × (after ≡ turned q)
+abbrev pub IsSeenTurned : (Setup → Type 0) → Setup → Type 0
+IsSeenTurned Is after = (q : Setup) × Is q × (after ≡ turned q)

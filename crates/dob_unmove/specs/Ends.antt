@@ -4,14 +4,14 @@ use Rattle.dob_rank.specs.Families.{IsPositionOf, RepresentsClass}
 use Rattle.dob_unmove.specs.declared.predecessors.End.{End}
 use Rattle.dob_unmove.specs.declared.predecessors.Walk.{Walk}
 use Rattle.dob_unmove.specs.declared.undo.Undo.{Undo}
-use Rattle.dob_unmove.specs.Classes.{IsTurned}
+use Rattle.dob_unmove.specs.Classes.{IsSeenTurned}
 use Rattle.dob_unmove.specs.Gathers.{Gathers}
 use Rattle.dob_unmove.specs.Threats.{elsewhere}
 use Rattle.dob_unmove.specs.Ways.{HasLionHome, AreWays}
 
 -- the setup stands after a move of positions of the family, and the ways are those that lead to it
 pub record CanWalk (walk : Walk) : Type 0 where
-  pub of_set : IsTurned (IsPositionOf walk.classes.now.family) walk.after.value
+  pub of_set : IsSeenTurned (IsPositionOf walk.classes.now.family) walk.after.value
   pub ways_are : AreWays walk.after.value walk.ways.now
 
 -- no piece on another square attacks the enemy lion, and the mover's lion came there or stands at home

@@ -5,7 +5,7 @@ ghost use Rattle.std.specs.Prelude.{◌≡◌, ◌<◌, ℕ};
 ghost use Rattle.dob_pieces.specs.declared.setup.Setup.{Setup};
 ghost use Rattle.dob_pieces.specs.Masks.{IsMask, AreMasks, attacks};
 ghost use Rattle.dob_pieces.specs.Setups.{IsLegal};
-ghost use Rattle.dob_unmove.specs.Classes.{IsTurned};
+ghost use Rattle.dob_unmove.specs.Classes.{IsSeenTurned};
 ghost use Rattle.dob_unmove.specs.Threats.{elsewhere, stood_before, AreAttackers, IsThreat};
 
 use crate::undo::Undo;
@@ -58,15 +58,15 @@ fn attackers_in(attackers: u16) -> Attackers
 impl Threat {
     /// Where the enemy lion stands, and who attacks it, after a move and before the board is turned.
     pub(crate) fn of(after: &Setup) -> Threat
-        requires { IsTurned IsLegal after.now }
+        requires { IsSeenTurned IsLegal after.now }
         ensures { IsThreat after.now result }
     {
         Threat::by(after, &Masks::of(after))
     }
 
-    /// The same by the masks of that setup.
+    /// The threat by the masks of that setup.
     pub(crate) fn by(after: &Setup, masks: &Masks) -> Threat
-        requires legal { IsTurned IsLegal after.now }
+        requires legal { IsSeenTurned IsLegal after.now }
         requires masks { AreMasks after.now masks.now }
         ensures { IsThreat after.now result }
     {

@@ -11,8 +11,8 @@ ghost use Rattle.dob_unmove.specs.Undoes.{CanUndo, earlier, enemy_cell};
 
 use crate::earlier::without_caught;
 use crate::undo::Undo;
-use dob_pieces::{HandKind, Hands, Kind, Square, without_square};
 use dob_classes::Bitboards;
+use dob_pieces::{HandKind, Hands, Kind, Square, without_square};
 
 /// What stood and lay where before the move, by the sets of what stands after it.
 pub(crate) fn bits_before(bits: Bitboards, undo: Undo) -> Bitboards
@@ -30,7 +30,7 @@ pub(crate) fn bits_before(bits: Bitboards, undo: Undo) -> Bitboards
     }
 }
 
-// The same of a step.
+// The sets of squares before a step.
 fn bits_before_step(
     bits: Bitboards,
     kind: Kind,
@@ -53,7 +53,7 @@ fn bits_before_step(
     }
 }
 
-// The same of a drop.
+// The sets of squares before a drop.
 fn bits_before_put(bits: Bitboards, kind: HandKind, to: Square) -> Bitboards
     requires { held bits.hands.mover kind < 255 }
     ensures { (after : Setup) → CanUndo after (Undo.Unput kind to) → length after.board ≡ 12 → AreBitboards after bits

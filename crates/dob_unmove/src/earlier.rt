@@ -6,7 +6,7 @@ ghost use Rattle.dob_moves.specs.Statuses.{HasStatus};
 ghost use Rattle.dob_moves.specs.declared.position_status.Status.TheVariants.{Open};
 ghost use Rattle.dob_unmove.specs.Undoes.{CanGiveBack, CanUndo, without_caught, enemy_cell, may_give_back, earlier};
 ghost use Rattle.dob_unmove.specs.Unmoves.{IsOpenPosition};
-ghost use Rattle.dob_unmove.specs.Classes.{IsTurned};
+ghost use Rattle.dob_unmove.specs.Classes.{IsSeenTurned};
 
 use crate::undo::Undo;
 use dob_pieces::{Hand, HandKind, Hands, Kind, Piece, Position, Profile, Setup, Side, Square};
@@ -16,7 +16,7 @@ use dob_pieces::{Hand, HandKind, Hands, Kind, Piece, Position, Profile, Setup, S
 /// other pieces, so only the mover's lion on row 4 is left to be tested.
 pub(crate) fn open_before(after: &Setup, undo: Undo) -> Option<Position>
     requires can { CanUndo after.now undo }
-    requires legal { IsTurned IsLegal after.now }
+    requires legal { IsSeenTurned IsLegal after.now }
     requires was_open { HasStatus A (earlier after.now undo) Open }
     ensures { MatchOption result (¬ IsOpenPosition (earlier after.now undo)) (λ p. (p.setup ≡ earlier after.now undo) × HasStatus A p.setup Open) }
 {

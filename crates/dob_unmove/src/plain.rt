@@ -9,7 +9,7 @@ ghost use Rattle.dob_unmove.specs.declared.undo.Undo.{Undo};
 ghost use Rattle.dob_unmove.specs.Undoes.{CanUndo, earlier};
 ghost use Rattle.dob_unmove.specs.Unmoves.{CountEdges, ArePredecessors};
 ghost use Rattle.dob_unmove.specs.Edges.{predecessors};
-ghost use Rattle.dob_unmove.specs.Classes.{IsTurned, RepresentsClass};
+ghost use Rattle.dob_unmove.specs.Classes.{IsSeenTurned, RepresentsClass};
 ghost use Rattle.dob_unmove.specs.Gathers.{Finds, Adds};
 ghost use Rattle.dob_unmove.specs.Threats.{IsThreat};
 
@@ -17,8 +17,8 @@ use crate::attackers::Threat;
 use crate::earlier::{may_give_back, open_before};
 use crate::undo::Undo;
 use crate::walk::{Taker, take_all};
-use dob_pieces::{Memory, Position, Setup};
 use dob_classes::Classes;
+use dob_pieces::{Memory, Position, Setup};
 
 // The classes found so far, and the threat to the enemy lion in the setup from which ways back are taken.
 #[derive(Drop)]
@@ -29,7 +29,7 @@ struct Gathered<'a> {
 }
 
 impl Taker for Gathered<'_> {
-    ghost suits = { λ after gathered. IsTurned (IsPositionOf gathered.classes.now.family) after × IsThreat after gathered.threat };
+    ghost suits = { λ after gathered. IsSeenTurned (IsPositionOf gathered.classes.now.family) after × IsThreat after gathered.threat };
 
     ghost takes = { λ after old undo new. (new.classes ≡ old.classes) × Adds (RepresentsClass old.classes.now.family) after undo old.found.items new.found.items };
 
@@ -44,7 +44,7 @@ impl Taker for Gathered<'_> {
 // The class whose representative stood there before the move, if a representative did and was open.
 fn class_before(classes: &Classes, after: &Setup, threat: &Threat, undo: Undo) -> Option<u64>
     requires can { CanUndo after.now undo }
-    requires of_set { IsTurned (IsPositionOf classes.now.family) after.now }
+    requires of_set { IsSeenTurned (IsPositionOf classes.now.family) after.now }
     requires threat { IsThreat after.now threat.now }
     ensures { Finds (RepresentsClass classes.now.family) (earlier after.now undo) result }
 {

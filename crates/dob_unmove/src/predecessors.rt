@@ -24,10 +24,10 @@ use crate::earlier::may_give_back;
 use crate::images::mirrored_bits;
 use crate::undo::Undo;
 use crate::ways::Ways;
+use dob_classes::{Bitboards, Classes, Shown};
 use dob_pieces::{
     HandKind, Kind, Memory, Position, Setup, Side, Square, lowest_square, without_square,
 };
-use dob_classes::{Bitboards, Classes, Shown};
 use std::alloc::Global;
 use std::snapshot::Snapshot;
 
@@ -299,7 +299,7 @@ pub fn back(alloc: Global, classes: &Classes, class: u64) -> Result<Vec<u64>, Me
     back_into(Vec::new(alloc), classes, class)
 }
 
-/// The same in the room of a list that the caller keeps for many classes; what it held is gone. Err where no memory was
+/// A class's predecessors in the room of a list that the caller keeps for many classes; what it held is gone. Err where no memory was
 /// left for it to grow, and then the list is gone too.
 pub fn back_into(room: Vec<u64>, classes: &Classes, class: u64) -> Result<Vec<u64>, Memory>
     requires { class < classes_of classes.now.family }

@@ -5,15 +5,15 @@ ghost use Rattle.dob_pieces.specs.Masks.{IsMask};
 ghost use Rattle.dob_pieces.specs.Setups.{at, mirrored, IsLegal};
 ghost use Rattle.dob_pieces.specs.declared.setup.Setup.{Setup};
 ghost use Rattle.dob_classes.specs.Bitboards.{AreBitboards};
-ghost use Rattle.dob_unmove.specs.Classes.{IsTurned};
+ghost use Rattle.dob_unmove.specs.Classes.{IsSeenTurned};
 ghost use Rattle.dob_unmove.specs.Threats.{elsewhere};
 ghost use Rattle.dob_unmove.specs.Ways.{is_home, comes_home, may_come, AreWays, IsOwnKind};
 ghost use Rattle.dob_unmove.specs.Walks.{holds_caught};
 
 use crate::attackers::{Attackers, Threat};
 use crate::walk::holds_caught;
-use dob_pieces::{Kind, Masks, Setup, Square};
 use dob_classes::Bitboards;
+use dob_pieces::{Kind, Masks, Setup, Square};
 use std::snapshot::Snapshot;
 
 /// All squares. Of the twelve bits of a mask the lowest three are row 1, and of the three of a row the lowest is column a.
@@ -71,7 +71,7 @@ fn has(mask: u16, square: Square) -> bool
 impl Ways {
     /// What tells of the ways that lead to the setup, by its sets of squares.
     pub(crate) fn by(after: &Setup, bits: Bitboards) -> Ways
-        requires legal { IsTurned IsLegal after.now }
+        requires legal { IsSeenTurned IsLegal after.now }
         requires bits { AreBitboards after.now bits }
         ensures { AreWays after.now result }
     {
@@ -143,7 +143,7 @@ impl Ways {
 
     /// Whether both lions stand on column b, as they do where the setup is its own mirror image.
     pub(crate) fn has_lions_on_b(&self) -> bool
-        ensures { (after : Setup) → IsTurned IsLegal after → AreWays after self.now → mirrored after ≡ after → IsTrue result }
+        ensures { (after : Setup) → IsSeenTurned IsLegal after → AreWays after self.now → mirrored after ≡ after → IsTrue result }
     {
         (self.masks.lion | self.masks.enemy_lion) & BESIDE_B == 0
     }

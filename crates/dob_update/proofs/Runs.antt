@@ -12,7 +12,7 @@ use Rattle.dob_update.specs.declared.part.Part.{Part}
 use Rattle.dob_update.specs.Items.{items_of}
 use Rattle.dob_update.specs.Parts.{settlement_of, settlements_of, with_number, total, front, behind, skip_behind, AreParts, AreWhole}
 use Rattle.dob_update.specs.Batches.{BatchView, OutboxView, HasItemIn, items_for, IsBatch, IsOutbox, IsFront, IsCut}
-use Rattle.dob_update.specs.Runs.{count_for, IsRun, IsRest}
+use Rattle.dob_update.specs.Runs.{count_for, IsItemRun, IsRest}
 use Rattle.dob_update.proofs.PartLists.{behind-within, behind-past, skip-within, skip-past}
 
 -- ---- parts and their numbers of items
@@ -152,7 +152,7 @@ module _ (family : Family) (n to : ℕ) where
   -- ---- runs
 
   pub IsRun-front : (parts : List Part) (skip k : ℕ) (all : List Item) → AreParts count skip parts → 0 < k → k ≤ total parts → k ≤ length all
-      → take k all ≡ take k (drop skip (items (settlements_of parts))) → IsRun family n to (front k parts) skip (take k all)
+      → take k all ≡ take k (drop skip (items (settlements_of parts))) → IsItemRun family n to (front k parts) skip (take k all)
   IsRun-front parts skip k all h some within enough same =
       let long : length (take k all) ≡ k = length-take-le k all enough in
       let are = AreParts-front count parts k skip h in
@@ -172,7 +172,7 @@ module _ (family : Family) (n to : ℕ) where
       }
 
   -- the front of a run is a run
-  pub run_shortened : (parts : List Part) (skip k : ℕ) (all : List Item) → IsRun family n to parts skip all → 0 < k → k ≤ length all → IsRun family n to (front k parts) skip (take k all)
+  pub run_shortened : (parts : List Part) (skip k : ℕ) (all : List Item) → IsItemRun family n to parts skip all → 0 < k → k ≤ length all → IsItemRun family n to (front k parts) skip (take k all)
   run_shortened parts skip k all r some within =
       IsRun-front parts skip k all r.parts_fit some (let counted = r.counted in omega (arith, counted, within)) within
       (ap (take k) r.run ∙ take-take k (length all) (drop skip (items (settlements_of parts))) within)
@@ -184,7 +184,7 @@ module _ (family : Family) (n to : ℕ) where
       omega (arith, whole, long, length-drop skip (items (settlements_of parts)))
 
   -- so is that of what is left
-  pub run_cut : (parts : List Part) (skip k : ℕ) (all : List Item) → IsRest family n to parts skip all → 0 < k → k ≤ length all → IsRun family n to (front k parts) skip (take k all)
+  pub run_cut : (parts : List Part) (skip k : ℕ) (all : List Item) → IsRest family n to parts skip all → 0 < k → k ≤ length all → IsItemRun family n to (front k parts) skip (take k all)
   run_cut parts skip k all r some within =
       IsRun-front parts skip k all (parts_from_whole count parts skip r.parts_fit) some
       (let many = rest_many parts skip all r in omega (arith, many, within)) within (ap (take k) r.rest)
@@ -260,7 +260,7 @@ module _ (family : Family) (n to : ℕ) where
 
 -- ---- batches and outboxes
 
-pub IsBatch-from_run : (b : BatchView) (parts : List Part) → b.settlements ≡ settlements_of parts → IsRun b.family b.n b.to parts b.skip b.items → IsBatch b
+pub IsBatch-from_run : (b : BatchView) (parts : List Part) → b.settlements ≡ settlements_of parts → IsItemRun b.family b.n b.to parts b.skip b.items → IsBatch b
 IsBatch-from_run b parts e r = record {
   some = r.some;
   run = subst (λ (ss : List Settlement). b.items ≡ take (length b.items) (drop b.skip (items_for b.family b.n b.to ss))) (sym e) r.run;

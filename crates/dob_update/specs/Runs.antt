@@ -14,7 +14,7 @@ abbrev pub count_for : Family → ℕ → ℕ → Settlement → ℕ
 count_for family n to s = length (items_of (predecessors family) n to s)
 
 -- the items are those of the parts
-pub record IsRun (family : Family) (n to : ℕ) (parts : List Part) (skip : ℕ) (items : List Item) : Type 0 where
+pub record IsItemRun (family : Family) (n to : ℕ) (parts : List Part) (skip : ℕ) (items : List Item) : Type 0 where
   pub some : 0 < length items
   pub parts_fit : AreParts (count_for family n to) skip parts
   pub counted : total parts ≡ length items

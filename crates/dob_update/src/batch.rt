@@ -2,7 +2,7 @@
 ghost use Rattle.std.specs.Prelude.{◌≡◌, ◌<◌, ◌≤◌, ◌+◌, ◌*◌, ◌-◌, length, vec_len};
 ghost use Rattle.dob_update.specs.Parts.{front, settlements_of, total};
 ghost use Rattle.dob_update.specs.Batches.{IsBatch, IsFront};
-ghost use Rattle.dob_update.specs.Runs.{IsRun};
+ghost use Rattle.dob_update.specs.Runs.{IsItemRun};
 
 use crate::part::Part;
 use dob_pieces::Family;
@@ -28,13 +28,13 @@ impl Model for Batch {
     ghost use Rattle.std.specs.Prelude.{◌≡◌};
     ghost use Rattle.dob_update.specs.Parts.{settlements_of};
     ghost use Rattle.dob_update.specs.Batches.{BatchView};
-    ghost use Rattle.dob_update.specs.Runs.{IsRun};
+    ghost use Rattle.dob_update.specs.Runs.{IsItemRun};
 
     ghost Value = { BatchView };
 
     ghost view = { λ b. record { family = b.family; n = b.n; from = b.from; to = b.to; number = b.number; settlements = settlements_of b.parts.items; skip = b.skip; items = b.items.items } };
 
-    ghost invariant = { λ b. IsRun b.family b.n b.to b.parts.items b.skip b.items.items };
+    ghost invariant = { λ b. IsItemRun b.family b.n b.to b.parts.items b.skip b.items.items };
 }
 
 impl Batch {
@@ -49,7 +49,7 @@ impl Batch {
         skip: usize,
         items: Vec<Item>,
     ) -> Batch
-        requires { IsRun family n to parts.items skip items.items }
+        requires { IsItemRun family n to parts.items skip items.items }
         ensures { result ≡ record { family = family; n = n; from = from; to = to; number = number; settlements = settlements_of parts.items; skip = skip; items = items.items } }
     {
         Batch {

@@ -28,32 +28,32 @@ moves_keep_the_family family p move q is goes_on goes = record {
 }
 
 -- the numbers stand for the outcomes of the moves below an index
-pub record AreSuccessorsBelow (profile : Profile) {X : Type 0} (StandsFor : X → Setup → Type 0) (p : Setup) (choices : List Move) (upto : ℕ) (numbers : List X) : Type 0 where
+pub record AreSuccessorsBelow (profile : Profile) {X : Type 0} (StandsFor : X → Setup → Type 0) (p : Setup) (the_moves : List Move) (upto : ℕ) (numbers : List X) : Type 0 where
   pub sound : (number : X) → Contains numbers number → (move : Move) × (q : Setup) × Goes profile p move q × StandsFor number q
-  pub whole : (index : ℕ) (move : Move) (q : Setup) → index < upto → slice_get choices index ≡ Some move → Goes profile p move q →
+  pub whole : (index : ℕ) (move : Move) (q : Setup) → index < upto → slice_get the_moves index ≡ Some move → Goes profile p move q →
       (number : X) × Contains numbers number × StandsFor number q
 
 -- what the list of moves says of an entry that was read
-pub choice_goes : (profile : Profile) (p : Setup) (choices : List Move) (index : ℕ) (choice : Move) → AreMoves profile p choices → index < length choices →
-    choice ≡ get_or choices index choice → HasStatus profile p Open × CanGo profile p choice
-choice_goes profile p choices index choice are_moves within read =
-    are_moves.sound choice (subst (λ m. Contains choices m) (sym read) (Contains-get_or choices index choice within))
+pub move_goes : (profile : Profile) (p : Setup) (the_moves : List Move) (index : ℕ) (the_move : Move) → AreMoves profile p the_moves → index < length the_moves →
+    the_move ≡ get_or the_moves index the_move → HasStatus profile p Open × CanGo profile p the_move
+move_goes profile p the_moves index the_move are_moves within read =
+    are_moves.sound the_move (subst (λ m. Contains the_moves m) (sym read) (Contains-get_or the_moves index the_move within))
 
-module _ (profile : Profile) {X : Type 0} (StandsFor : X → Setup → Type 0) (p : Setup) (choices : List Move) where
-  pub successors_none : AreSuccessorsBelow profile StandsFor p choices 0 []
+module _ (profile : Profile) {X : Type 0} (StandsFor : X → Setup → Type 0) (p : Setup) (the_moves : List Move) where
+  pub successors_none : AreSuccessorsBelow profile StandsFor p the_moves 0 []
   successors_none = record {
     sound = λ number there. absurd (omega (arith, there.1));
     whole = λ index move q below there goes. absurd (omega arith);
   }
 
-  pub successors_more : (upto : ℕ) (numbers : List X) (choice : Move) (number : X) → slice_get choices upto ≡ Some choice →
-      CanGo profile p choice → ((q : Setup) → Goes profile p choice q → StandsFor number q) →
-      AreSuccessorsBelow profile StandsFor p choices upto numbers →
-      AreSuccessorsBelow profile StandsFor p choices (upto + 1) (numbers ++ number ∷ [])
-  successors_more upto numbers choice number here can_go stands before = record {
+  pub successors_more : (upto : ℕ) (numbers : List X) (the_move : Move) (number : X) → slice_get the_moves upto ≡ Some the_move →
+      CanGo profile p the_move → ((q : Setup) → Goes profile p the_move q → StandsFor number q) →
+      AreSuccessorsBelow profile StandsFor p the_moves upto numbers →
+      AreSuccessorsBelow profile StandsFor p the_moves (upto + 1) (numbers ++ number ∷ [])
+  successors_more upto numbers the_move number here can_go stands before = record {
     sound = λ other there. elim (Contains-push_cases numbers number other there) [
       | inl earlier ↦ before.sound other earlier
-      | inr same ↦ (choice, can_go.0, can_go.1, subst (λ k. StandsFor k can_go.0) same (stands can_go.0 can_go.1))
+      | inr same ↦ (the_move, can_go.0, can_go.1, subst (λ k. StandsFor k can_go.0) same (stands can_go.0 can_go.1))
     ];
     whole = λ index move q below there goes. elim (cases_lt index upto) [
       | inl earlier ↦
@@ -61,20 +61,20 @@ module _ (profile : Profile) {X : Type 0} (StandsFor : X → Setup → Type 0) (
           (step.0, Contains-append_left numbers (number ∷ []) step.0 step.1, step.2)
       | inr later ↦
           let same : upto ≡ index = omega arith in
-          let here_too : slice_get choices index ≡ Some choice = subst (λ k. slice_get choices k ≡ Some choice) same here in
-          let is_choice : move ≡ choice = same_Some move choice (sym there ∙ here_too) in
-          (number, Contains-push numbers number, stands q (subst (λ m. Goes profile p m q) is_choice goes))
+          let here_too : slice_get the_moves index ≡ Some the_move = subst (λ k. slice_get the_moves k ≡ Some the_move) same here in
+          let is_the_move : move ≡ the_move = same_Some move the_move (sym there ∙ here_too) in
+          (number, Contains-push numbers number, stands q (subst (λ m. Goes profile p m q) is_the_move goes))
     ];
   }
 
-  pub successors_all : (upto : ℕ) (numbers : List X) → length choices ≤ upto → AreMoves profile p choices →
-      AreSuccessorsBelow profile StandsFor p choices upto numbers → AreSuccessors profile StandsFor p numbers
+  pub successors_all : (upto : ℕ) (numbers : List X) → length the_moves ≤ upto → AreMoves profile p the_moves →
+      AreSuccessorsBelow profile StandsFor p the_moves upto numbers → AreSuccessors profile StandsFor p numbers
   successors_all upto numbers all are_moves below = record {
     sound = below.sound;
     whole = λ goes_on move q goes.
         let there = are_moves.whole move goes_on (q, goes) in
-        let read : slice_get choices there.0 ≡ Some move = slice_get-get_or choices there.0 move there.1
+        let read : slice_get the_moves there.0 ≡ Some move = slice_get-get_or the_moves there.0 move there.1
         ∙ ap (λ m. let o : Option Move = Some m in o) there.2 in
-        let within : there.0 < length choices = there.1 in
+        let within : there.0 < length the_moves = there.1 in
         below.whole there.0 move q (omega arith) read goes;
   }

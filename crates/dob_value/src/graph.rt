@@ -8,9 +8,9 @@ ghost use Rattle.dob_rank.specs.Families.{IsPositionOf};
 ghost use Rattle.dob_rank.specs.Families.{classes_of};
 ghost use Rattle.dob_value.specs.Graphs.{ClassStandsFor, IsNode, IsGraph, status_at, successors_at};
 
+use dob_classes::Classes;
 use dob_moves::{Move, Status, apply, moves_into};
 use dob_pieces::{Family, Memory, Position};
-use dob_classes::Classes;
 use std::alloc::Global;
 
 /// The statuses of the classes of a family, and the numbers of their successors in one list: those of a class stand from
@@ -52,30 +52,30 @@ fn number_of(classes: &Classes, position: &Position) -> usize
 }
 
 // The number of the class to which the move leads.
-fn number_after(classes: &Classes, position: &Position, choice: Move) -> usize
+fn number_after(classes: &Classes, position: &Position, the_move: Move) -> usize
     requires member { IsPositionOf classes.now.family position.now.setup }
     requires open { HasStatus classes.now.family.profile position.now.setup Status.Open }
-    requires can_go { CanGo classes.now.family.profile position.now.setup choice }
-    ensures { (q : Setup) → Goes classes.now.family.profile position.now.setup choice q → ClassStandsFor classes.now.family result q }
+    requires can_go { CanGo classes.now.family.profile position.now.setup the_move }
+    ensures { (q : Setup) → Goes classes.now.family.profile position.now.setup the_move q → ClassStandsFor classes.now.family result q }
 {
-    number_of(classes, &apply(position, choice))
+    number_of(classes, &apply(position, the_move))
 }
 
-// Appends the numbers of the classes to which the position's moves lead, and gives its status. The list of choices is
+// Appends the numbers of the classes to which the position's moves lead, and gives its status. The list of the_moves is
 // room for its moves.
 fn push_successors(
     classes: &Classes,
     position: &Position,
-    choices: &mut Vec<Move>,
+    the_moves: &mut Vec<Move>,
     successors: &mut Vec<usize>,
 ) -> Result<Status, Memory>
     requires { IsPositionOf classes.now.family position.now.setup }
     ensures { IfOk result (λ status. (numbers : List ℕ) × (successors.new.items ≡ successors.old.items ++ numbers)
         × IsNode classes.now.family.profile (ClassStandsFor classes.now.family) position.now.setup status numbers) }
 {
-    let status = moves_into(classes.family.profile, choices, position)?;
-    for choice in choices.iter() {
-        let number = number_after(classes, position, *choice);
+    let status = moves_into(classes.family.profile, the_moves, position)?;
+    for the_move in the_moves.iter() {
+        let number = number_after(classes, position, *the_move);
         successors.push(number)?;
     }
     Ok(status)
@@ -83,7 +83,9 @@ fn push_successors(
 
 /// The graph of the classes.
 ///
-/// Error: `Memory`.
+/// # Errors
+///
+/// `Memory`.
 pub(crate) fn graph_of(alloc: Global, classes: &Classes) -> Result<Graph, Memory>
     ensures family { IfOk result (λ graph. graph.family ≡ classes.now.family) }
     ensures graph { IfOk result (λ graph. IsGraph graph) }
@@ -91,11 +93,11 @@ pub(crate) fn graph_of(alloc: Global, classes: &Classes) -> Result<Graph, Memory
     let mut statuses = Vec::new(alloc);
     let mut starts = Vec::new(alloc);
     let mut successors = Vec::new(alloc);
-    let mut choices = Vec::new(alloc);
+    let mut the_moves = Vec::new(alloc);
     starts.push(0)?;
     for number in 0..classes.class_count() {
         let position = classes.class_at(number);
-        let status = push_successors(classes, &position, &mut choices, &mut successors)?;
+        let status = push_successors(classes, &position, &mut the_moves, &mut successors)?;
         statuses.push(status)?;
         starts.push(successors.len())?;
     }

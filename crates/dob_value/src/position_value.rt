@@ -13,13 +13,15 @@ use crate::fault::Fault;
 use crate::sweep::{MAX_DISTANCE, sweep};
 use crate::table::Table;
 use crate::value::Value;
-use dob_pieces::{Family, Memory, Position, Profile};
 use dob_classes::Classes;
+use dob_pieces::{Family, Memory, Position, Profile};
 use std::alloc::Global;
 
 /// The values of all positions of the family, by sweeps over its classes.
 ///
-/// Errors: `TooDeep`, only where some position of the family is won or lost in more than `MAX_DISTANCE` plies, and the family
+/// # Errors
+///
+/// `TooDeep`, only where some position of the family is won or lost in more than `MAX_DISTANCE` plies, and the family
 /// has more classes than that; `Memory`.
 pub fn sweep_table(alloc: Global, family: Family) -> Result<Table, Fault>
     ensures family { IfOk result (λ table. table.family ≡ family) }
@@ -49,7 +51,9 @@ fn table_of(alloc: Global, classes: Classes, values: &[Value]) -> Result<Table, 
 /// The value of the position by the rules of the profile, by sweeps over all its positions with the same pieces. `sweep_table`
 /// gives the values of them all at once.
 ///
-/// Errors: `TooDeep`, only where some position with the same pieces is won or lost in more than `MAX_DISTANCE` plies, and these
+/// # Errors
+///
+/// `TooDeep`, only where some position with the same pieces is won or lost in more than `MAX_DISTANCE` plies, and these
 /// have more classes than that; `Memory`.
 pub fn sweep_value(alloc: Global, profile: Profile, position: &Position) -> Result<Value, Fault>
     requires { IsAllowed profile position.now.setup }

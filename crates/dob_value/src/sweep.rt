@@ -16,8 +16,8 @@ ghost use Rattle.dob_value.specs.Rosters.{SomeTooDeep};
 use crate::fault::Fault;
 use crate::graph::{Graph, graph_of};
 use crate::value::Value;
-use dob_moves::Status;
 use dob_classes::Classes;
+use dob_moves::Status;
 use std::alloc::{AllocError, Global};
 
 /// The greatest distance that an entry may have.
@@ -162,7 +162,9 @@ fn settle(alloc: Global, graph: &Graph) -> Result<Vec<Value>, Fault>
 
 /// The value of each class, in the order of their numbers.
 ///
-/// Errors: `TooDeep` where some distance is above `MAX_DISTANCE`, as then is the number of classes, and `Memory`.
+/// # Errors
+///
+/// `TooDeep` where some distance is above `MAX_DISTANCE`, as then is the number of classes, and `Memory`.
 pub(crate) fn sweep(alloc: Global, classes: &Classes) -> Result<Vec<Value>, Fault>
     ensures values { IfOk result (λ values. AreValues classes.now.family values.items) }
     ensures entries { IfOk result (λ values. All IsEntry values.items) }

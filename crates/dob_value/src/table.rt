@@ -8,9 +8,9 @@ ghost use Rattle.dob_value.specs.Follows.{ClassTable, HasInTable, IsTable, IsEnt
 
 use crate::codes::{code_of_value, value_of_code};
 use crate::value::Value;
-use dob_pieces::{Family, Memory, Position};
 use dob_classes::Classes;
 use dob_lists::{SegmentLength, Segments};
+use dob_pieces::{Family, Memory, Position};
 use std::alloc::Global;
 use std::marker::Model;
 
@@ -43,7 +43,9 @@ impl Table {
     /// The table of those classes with the value that is given for each, which is asked for once, in the order of their
     /// numbers.
     ///
-    /// Error: `Memory`.
+    /// # Errors
+    ///
+    /// `Memory`.
     pub fn from_fn<F: Fn(u64) -> Value>(
         alloc: Global,
         classes: Classes,

@@ -7,7 +7,7 @@ use Rattle.clap.specs.Words.{AddsArg, AddsSubcommand, App, Rule, with_rule, with
 use Rattle.clap.specs.declared.builder.Arg.{Arg}
 use Rattle.clap.specs.declared.builder.Command.{Command}
 use Rattle.dob_words.specs.Forms.{Row}
-use Rattle.dob_words.specs.Shapes.{HasShape, IsRead, ProfileNames, row_app, with_rows, with_rules}
+use Rattle.dob_words.specs.Shapes.{HasCommandShape, IsRead, ProfileNames, row_app, with_rows, with_rules}
 
 map_more : {X Y : Type 0} (f : X → Y) (xs : List X) (x : X) → map f (xs ++ x ∷ []) ≡ map f xs ++ f x ∷ []
 map_more f [] x = refl
@@ -22,23 +22,23 @@ no_rules app = ap (λ (rs : List Rule). record app { top = record app.top { rule
     nil (r ∷ rs) = ap (λ ys. r ∷ ys) (nil rs)
 
 -- a command with one more subcommand
-pub subcommand_shape : (old sub new : Command) (a b : App) → HasShape a old → HasShape b sub → AddsSubcommand old sub new
-    → HasShape (with_subcommand a b.top) new
+pub subcommand_shape : (old sub new : Command) (a b : App) → HasCommandShape a old → HasCommandShape b sub → AddsSubcommand old sub new
+    → HasCommandShape (with_subcommand a b.top) new
 subcommand_shape old sub new a b first second adds =
     (adds.shape second.1 ∙ ap₂ (λ (x y : App). with_subcommand x y.top) first.0 second.0, adds.globals ∙ ap₂ (λ (x y : Bool). x || y) first.1 second.1)
 
 -- a command with one more argument
-pub argument_shape : (old : Command) (arg : Arg) (new : Command) (a : App) (r : Rule) → HasShape a old → IsRead r arg → AddsArg old arg new
-    → HasShape (with_rule a r) new
+pub argument_shape : (old : Command) (arg : Arg) (new : Command) (a : App) (r : Rule) → HasCommandShape a old → IsRead r arg → AddsArg old arg new
+    → HasCommandShape (with_rule a r) new
 argument_shape old arg new a r first read adds =
     (adds.shape read.1 ∙ ap₂ with_rule first.0 read.0, adds.globals ∙ ap₂ (λ (x y : Bool). x || y) first.1 read.1)
 
 -- one more argument
 pub rule_joins : {X Y : Type 0} (rule : Y → Rule) (said : X → Y) (xs : List X) (i : ℕ) (d : X) (app : App) (old new : Command) (arg : Arg) → i < length xs
-    → HasShape (with_rules app (map rule (map said (take i xs)))) old → IsRead (rule (said (get_or xs i d))) arg → AddsArg old arg new
-    → HasShape (with_rules app (map rule (map said (take (i + 1) xs)))) new
+    → HasCommandShape (with_rules app (map rule (map said (take i xs)))) old → IsRead (rule (said (get_or xs i d))) arg → AddsArg old arg new
+    → HasCommandShape (with_rules app (map rule (map said (take (i + 1) xs)))) new
 rule_joins rule said xs i d app old new arg low shape read adds =
-    subst (λ (a : App). HasShape a new) same (argument_shape old arg new (with_rules app (map rule (map said (take i xs)))) (rule (said (get_or xs i d))) shape read adds)
+    subst (λ (a : App). HasCommandShape a new) same (argument_shape old arg new (with_rules app (map rule (map said (take i xs)))) (rule (said (get_or xs i d))) shape read adds)
   where
     more : map rule (map said (take (i + 1) xs)) ≡ map rule (map said (take i xs)) ++ rule (said (get_or xs i d)) ∷ []
     more =
@@ -53,19 +53,19 @@ rule_joins rule said xs i d app old new arg low shape read adds =
 
 -- all of them
 pub rules_all : {X Y : Type 0} (rule : Y → Rule) (said : X → Y) (xs : List X) (i : ℕ) (app : App) (c : Command) → length xs ≤ i
-    → HasShape (with_rules app (map rule (map said (take i xs)))) c → HasShape (with_rules app (map rule (map said xs))) c
-rules_all rule said xs i app c far = subst (λ ys. HasShape (with_rules app (map rule (map said ys))) c) (take_all i xs far)
+    → HasCommandShape (with_rules app (map rule (map said (take i xs)))) c → HasCommandShape (with_rules app (map rule (map said xs))) c
+rules_all rule said xs i app c far = subst (λ ys. HasCommandShape (with_rules app (map rule (map said ys))) c) (take_all i xs far)
 
 -- none so far
-pub rules_none : (app : App) (c : Command) → HasShape app c → HasShape (with_rules app []) c
-rules_none app c = subst (λ (a : App). HasShape a c) (sym (no_rules app))
+pub rules_none : (app : App) (c : Command) → HasCommandShape app c → HasCommandShape (with_rules app []) c
+rules_none app c = subst (λ (a : App). HasCommandShape a c) (sym (no_rules app))
 
 -- one more subcommand
 pub row_joins : {X : Type 0} (profiles : ProfileNames) (said : X → Row) (xs : List X) (i : ℕ) (d : X) (app : App) (old new sub : Command) → i < length xs
-    → HasShape (with_rows profiles app (map said (take i xs))) old → HasShape (row_app profiles (said (get_or xs i d))) sub → AddsSubcommand old sub new
-    → HasShape (with_rows profiles app (map said (take (i + 1) xs))) new
+    → HasCommandShape (with_rows profiles app (map said (take i xs))) old → HasCommandShape (row_app profiles (said (get_or xs i d))) sub → AddsSubcommand old sub new
+    → HasCommandShape (with_rows profiles app (map said (take (i + 1) xs))) new
 row_joins profiles said xs i d app old new sub low first second adds =
-    subst (λ (a : App). HasShape a new) same
+    subst (λ (a : App). HasCommandShape a new) same
     (subcommand_shape old sub new (with_rows profiles app (map said (take i xs))) (row_app profiles (said (get_or xs i d))) first second adds)
   where
     more : map said (take (i + 1) xs) ≡ map said (take i xs) ++ said (get_or xs i d) ∷ []
@@ -79,5 +79,5 @@ row_joins profiles said xs i d app old new sub low first second adds =
 
 -- all of them
 pub rows_all : {X : Type 0} (profiles : ProfileNames) (said : X → Row) (xs : List X) (i : ℕ) (app : App) (c : Command) → length xs ≤ i
-    → HasShape (with_rows profiles app (map said (take i xs))) c → HasShape (with_rows profiles app (map said xs)) c
-rows_all profiles said xs i app c far = subst (λ ys. HasShape (with_rows profiles app (map said ys)) c) (take_all i xs far)
+    → HasCommandShape (with_rows profiles app (map said (take i xs))) c → HasCommandShape (with_rows profiles app (map said xs)) c
+rows_all profiles said xs i app c far = subst (λ ys. HasCommandShape (with_rows profiles app (map said ys)) c) (take_all i xs far)

@@ -15,8 +15,8 @@ use Rattle.dob_words.specs.Forms.{Choice, Form, Place, Row, Text, forms, is_amon
 use Rattle.dob_words.specs.Words.{fits}
 
 -- the command is read so, and none of its arguments is one of each subcommand too
-abbrev pub HasShape : App → Command → Type 0
-HasShape app c = (app_of c ≡ app) × ((out-Command c).has_globals ≡ false)
+abbrev pub HasCommandShape : App → Command → Type 0
+HasCommandShape app c = (app_of c ≡ app) × ((out-Command c).has_globals ≡ false)
 
 -- the names of the profiles, as `clap` has them
 abbrev pub ProfileNames : Type 0
@@ -117,7 +117,7 @@ abbrev pub with_rows : ProfileNames → App → List Row → App
 with_rows profiles = fold (λ app row. with_subcommand app (row_app profiles row).top)
 
 abbrev pub IsProgram : Command → Type 0
-IsProgram c = (profiles : ProfileNames) × AreProfiles profiles × HasShape (dobutsu_app profiles) c
+IsProgram c = (profiles : ProfileNames) × AreProfiles profiles × HasCommandShape (dobutsu_app profiles) c
 
 -- what is given for this label is a number or names a profile where it has to, or is left out where it may be
 abbrev pub IsFit : Form → Text → Option Text → Type 0

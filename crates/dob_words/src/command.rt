@@ -16,7 +16,7 @@ ghost use Rattle.clap.specs.Words.{App, kind_of, new_app, subcommand_rows_of};
 ghost use Rattle.dob_words.specs.Forms.{Form, Text, forms, rows};
 ghost use Rattle.dob_words.specs.Lines.{IsAmong, IsCommandLine};
 ghost use Rattle.dob_words.specs.Words.{Meaning, asks, has_topic, is_topic, is_version, meaning_of, meaning_of_topic, names_subcommand, settled};
-ghost use Rattle.dob_words.specs.Shapes.{AreProfiles, Finds, HasShape, IsProgram, IsRead, bare_app, choice_rule, choice_said, flag_rule, flag_said, place_rule, place_said, row_app, row_said, with_rows, with_rules};
+ghost use Rattle.dob_words.specs.Shapes.{AreProfiles, Finds, HasCommandShape, IsProgram, IsRead, bare_app, choice_rule, choice_said, flag_rule, flag_said, place_rule, place_said, row_app, row_said, with_rows, with_rules};
 ghost use Rattle.dob_words.specs.Readings.{ComesFromLine, IsReadFor, IsReadingOf, IsReadingOfKind};
 
 mod orders;
@@ -249,7 +249,7 @@ fn add_subcommands<'a>(
     profiles: Profiles<'a>,
     rows: &[Row],
 ) -> Result<Command<'a>, AllocError>
-    ensures { (app : App) → HasShape app command.entry → IfOk result (HasShape (with_rows profiles.entry.names app (map row_said rows.now))) }
+    ensures { (app : App) → HasCommandShape app command.entry → IfOk result (HasCommandShape (with_rows profiles.entry.names app (map row_said rows.now))) }
 {
     for row in rows {
         command = command.subcommand(row_command(alloc, profiles, *row)?)?;
@@ -263,7 +263,7 @@ fn row_command<'a>(
     profiles: Profiles<'a>,
     row: Row,
 ) -> Result<Command<'a>, AllocError>
-    ensures { IfOk result (HasShape (row_app profiles.entry.names (row_said row.entry))) }
+    ensures { IfOk result (HasCommandShape (row_app profiles.entry.names (row_said row.entry))) }
 {
     let (name, about, options, flags, places) = row;
     let command = named_command(alloc, name, about);
@@ -274,7 +274,7 @@ fn row_command<'a>(
 
 // A subcommand without its arguments.
 fn named_command<'a>(alloc: Global, name: &'a str, about: &'a str) -> Command<'a>
-    ensures { HasShape (new_app name.now) result }
+    ensures { HasCommandShape (new_app name.now) result }
 {
     Command::new(alloc, name)
         .about(about)
@@ -288,8 +288,8 @@ fn add_options<'a>(
     profiles: Profiles<'a>,
     options: &[Choice],
 ) -> Result<Command<'a>, AllocError>
-    ensures { (app : App) → HasShape app command.entry
-        → IfOk result (HasShape (with_rules app (map (choice_rule profiles.entry.names) (map choice_said options.now)))) }
+    ensures { (app : App) → HasCommandShape app command.entry
+        → IfOk result (HasCommandShape (with_rules app (map (choice_rule profiles.entry.names) (map choice_said options.now)))) }
 {
     for choice in options {
         command = command.arg(choice_argument(alloc, profiles, *choice))?;
@@ -303,7 +303,7 @@ fn add_flags<'a>(
     mut command: Command<'a>,
     flags: &[Flag],
 ) -> Result<Command<'a>, AllocError>
-    ensures { (app : App) → HasShape app command.entry → IfOk result (HasShape (with_rules app (map flag_rule (map flag_said flags.now)))) }
+    ensures { (app : App) → HasCommandShape app command.entry → IfOk result (HasCommandShape (with_rules app (map flag_rule (map flag_said flags.now)))) }
 {
     for flag in flags {
         command = command.arg(flag_argument(alloc, *flag))?;
@@ -318,8 +318,8 @@ fn add_places<'a>(
     profiles: Profiles<'a>,
     places: &[Place],
 ) -> Result<Command<'a>, AllocError>
-    ensures { (app : App) → HasShape app command.entry
-        → IfOk result (HasShape (with_rules app (map (place_rule profiles.entry.names) (map place_said places.now)))) }
+    ensures { (app : App) → HasCommandShape app command.entry
+        → IfOk result (HasCommandShape (with_rules app (map (place_rule profiles.entry.names) (map place_said places.now)))) }
 {
     for place in places {
         command = command.arg(place_argument(alloc, profiles, *place))?;
@@ -336,7 +336,7 @@ fn profile_names<'a>() -> &'a [&'a str]
 
 // The program's command without its subcommands.
 fn bare_command<'a>(alloc: Global) -> Result<Command<'a>, AllocError>
-    ensures { IfOk result (HasShape bare_app) }
+    ensures { IfOk result (HasCommandShape bare_app) }
 {
     let command = Command::new(alloc, "dobutsu")
         .bin_name("dobutsu")?

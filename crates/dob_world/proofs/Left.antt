@@ -20,7 +20,7 @@ use Rattle.dob_world.specs.Events.{CanHappen}
 use Rattle.dob_world.specs.Stops.{TakesFront, IsLeftBy, IsForMemory}
 use Rattle.dob_world.specs.Headline.{AreBeginnings, Headline}
 use Rattle.dob_world.specs.Shown.{setting_of, state_of, ring_of}
-use Rattle.dob_world.specs.Standing.{IsStanding, IsLeft, IsKept}
+use Rattle.dob_world.specs.Standing.{IsStanding, IsLeft, StandsOrStopped}
 use Rattle.dob_world.specs.Effects.{IsStopped}
 use Rattle.dob_world.proofs.Places.{at_link}
 use Rattle.dob_world.proofs.Kept.{FrontApplied, front_applied, lists_are_beginnings}
@@ -143,8 +143,8 @@ stop_leaves old new event fault standing stopped =
 
 -- ---- kept
 
-pub kept_standing : (world : World) → IsStanding world → world.failed ≡ None → IsKept world
+pub kept_standing : (world : World) → IsStanding world → world.failed ≡ None → StandsOrStopped world
 kept_standing world standing going = subst (λ failed. MatchOption failed (IsStanding world) (λ (fault : Fault). IsLeft fault world)) (sym going) standing
 
-pub kept_left : (world : World) (fault : Fault) → world.failed ≡ Some fault → IsKept world → IsLeft fault world
+pub kept_left : (world : World) (fault : Fault) → world.failed ≡ Some fault → StandsOrStopped world → IsLeft fault world
 kept_left world fault failed kept = subst (λ f. MatchOption f (IsStanding world) (λ (why : Fault). IsLeft why world)) failed kept

@@ -19,7 +19,7 @@ use Rattle.dob_update.specs.Batches.{BatchView, OutboxView, items_of_batches}
 use Rattle.dob_link.specs.Links.{LinkView, link_of}
 use Rattle.dob_node.specs.Stores.{HistoryView}
 use Rattle.dob_stops.specs.declared.cause.Cause.{Cause}
-use Rattle.dob_node.specs.TakenItems.{HasEntries, AreKept, AreTaken}
+use Rattle.dob_node.specs.TakenItems.{HasItemEntries, AreKept, AreTaken}
 use Rattle.dob_node.specs.declared.node.Node.{Node}
 use Rattle.dob_node.specs.Nodes.{IsSound, HasTaken, outbox_to}
 use Rattle.dob_node.proofs.Nodes.{outbox_same, kept_sound}
@@ -27,7 +27,7 @@ use Rattle.dob_world.specs.declared.lane.Lane.{Lane}
 use Rattle.dob_world.specs.Worlds.{Setting, WorldView, AreLawful, IsLinked}
 use Rattle.dob_world.specs.Events.{Stays, LinksStay, OtherLinksStay, AppliesAll, AppliesOwn, TakesBatch, Posts}
 use Rattle.dob_world.specs.Stops.{GoesTooDeep, TakesFront}
-use Rattle.dob_world.specs.Lanes.{IsBatchFor, HasListed, HasReceived, HasReceivedFront, HasPosted}
+use Rattle.dob_world.specs.Lanes.{IsBatchFor, HasListed, HasTakenBatch, HasReceivedFront, HasSentBatch}
 use Rattle.dob_world.specs.Shown.{part, lane_at, nodes_shown, world_shown}
 use Rattle.dob_world.specs.Standing.{IsNodeOf, IsLaneOf}
 use Rattle.dob_world.proofs.Slots.{here, was, elsewhere, stays, lane_here, lane_was, lane_else, lane_stays}
@@ -124,7 +124,7 @@ pub record ReceivesFront (items : List Item) (node : Node) (lane : Lane) (after 
   pub listed : next.applied.items ≡ lane.applied.items ++ items
   pub same : next.sent.items ≡ lane.sent.items
 
-abbrev pub whole_received : (node after : Node) (lane next : Lane) (step : HasReceived node lane after next) → ReceivesFront step.batch.items node lane after next
+abbrev pub whole_received : (node after : Node) (lane next : Lane) (step : HasTakenBatch node lane after next) → ReceivesFront step.batch.items node lane after next
 whole_received node after lane next step = record {
   batch = step.batch;
   behind = [];
@@ -147,9 +147,9 @@ front_received node after lane next why step = record {
   same = step.same;
 }
 
-All-front : (xs ys : List Item) → All HasEntries (xs ++ ys) → All HasEntries xs
-All-front [] ys all = All-nil HasEntries
-All-front (x ∷ xs) ys all = All-cons HasEntries x xs (All-head HasEntries x (xs ++ ys) all) (All-front xs ys (All-tail HasEntries x (xs ++ ys) all))
+All-front : (xs ys : List Item) → All HasItemEntries (xs ++ ys) → All HasItemEntries xs
+All-front [] ys all = All-nil HasItemEntries
+All-front (x ∷ xs) ys all = All-cons HasItemEntries x xs (All-head HasItemEntries x (xs ++ ys) all) (All-front xs ys (All-tail HasItemEntries x (xs ++ ys) all))
 
 module _ (k : Setting) (nodes : List Node) (lanes : List Lane) (i j : ℕ) (low_i : i < k.n) (low_j : j < k.n) (differs : i ≢ j) (node after : Node)
     (lane next : Lane) (there_n : slice_get nodes j ≡ Some node) (there_l : lane_at k.n lanes i j ≡ Some lane) (whole : length lanes ≡ k.n * k.n)
@@ -204,7 +204,7 @@ module _ (k : Setting) (nodes : List Node) (lanes : List Lane) (i j : ℕ) (low_
       let others = items_of_batches next.link.waiting ++ (before.outbox i j
       ++ items_from (predecessors k.family) k.n j (drop (before.expanded i) (before.nodes.history i))) in
       applies_many k nodes lanes i j low_i low_j node after lane next there_n there_l whole some items (step.behind ++ others) differs (kept_of k j node is)
-      (All-front items step.behind (subst (λ xs. All HasEntries xs) step.items_are
+      (All-front items step.behind (subst (λ xs. All HasItemEntries xs) step.items_are
       (All-head (IsBatchFor k.family k.n j) step.batch next.link.waiting batches_are).entries)) step.taken.taken lawful
       (next_waiting k before i j step.batch next.link.waiting linked low_i low_j differs waits_first
       ∙ ap (λ xs. before.nodes.applied i j ++ (xs ++ others)) step.items_are
@@ -244,7 +244,7 @@ module _ (k : Setting) (nodes : List Node) (lanes : List Lane) (i j : ℕ) (low_
 
 module _ (k : Setting) (nodes : List Node) (lanes : List Lane) (i j : ℕ) (low_i : i < k.n) (low_j : j < k.n) (node after : Node)
     (lane next : Lane) (there_n : slice_get nodes i ≡ Some node) (there_l : lane_at k.n lanes i j ≡ Some lane) (whole : length lanes ≡ k.n * k.n)
-    (is : IsNodeOf k i node) (is_lane : IsLaneOf k i j lane) (step : HasPosted j k.batch node lane after next) where
+    (is : IsNodeOf k i node) (is_lane : IsLaneOf k i j lane) (step : HasSentBatch j k.batch node lane after next) where
   pub node_posted : IsSound after → after.failed ≡ None → IsNodeOf k i after
   node_posted sound going = node_after k i node after is sound going step.cut.same.0 step.cut.same.1 step.cut.same.2
       (λ class. ap (λ (s : Share). status_at s class) step.cut.kept.0)

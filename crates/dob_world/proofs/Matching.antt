@@ -9,7 +9,7 @@ use Rattle.dob_safra.proofs.Kept.{moved_kept}
 use Rattle.dob_share.specs.declared.news.Item.{Item}
 use Rattle.dob_world.specs.declared.event.Event.{Event}
 use Rattle.dob_world.specs.declared.event.Event.TheVariants.{Expand, Own, Post, Take, Pass, Announce}
-use Rattle.dob_world.specs.Worlds.{Setting, Nodes, WorldView, State, IsIdle, Matches}
+use Rattle.dob_world.specs.Worlds.{Setting, Nodes, WorldView, State, IsNodeIdle, Matches}
 use Rattle.dob_world.specs.Events.{Happens, Expands, AppliesOwn, Posts, TakesBatch, AppliesAll}
 use Rattle.dob_world.specs.Standing.{HasAtMost}
 use Rattle.dob_world.specs.Laws.{HappeningKeepsMatch}
@@ -17,7 +17,7 @@ use Rattle.dob_world.proofs.Places.{at_link}
 use Rattle.dob_world.proofs.Firsts.{none_some}
 
 -- a node that isn't idle is black
-pub busy_black : (k : Setting) (state : State) → Matches k state → (i : ℕ) → i < k.n → (IsIdle k state.world i → ⊥) → state.ring.black i ≡ true
+pub busy_black : (k : Setting) (state : State) → Matches k state → (i : ℕ) → i < k.n → (IsNodeIdle k state.world i → ⊥) → state.ring.black i ≡ true
 busy_black k state matches i low busy = elim (cases_Bool (state.ring.black i)) [
   | inl black ↦ black
   | inr white ↦ absurd (busy (matches.idle i low white))
@@ -25,7 +25,7 @@ busy_black k state matches i low busy = elim (cases_Bool (state.ring.black i)) [
 
 -- a node whose parts stay is as idle as before
 idle_same : (k : Setting) (old new : WorldView) (i : ℕ) → new.expanded i ≡ old.expanded i → new.nodes.history i ≡ old.nodes.history i → new.own i ≡ old.own i →
-    ((j : ℕ) → j < k.n → j ≢ i → new.outbox i j ≡ old.outbox i j) → IsIdle k old i → IsIdle k new i
+    ((j : ℕ) → j < k.n → j ≢ i → new.outbox i j ≡ old.outbox i j) → IsNodeIdle k old i → IsNodeIdle k new i
 idle_same k old new i expanded history own outboxes idle = record {
   expanded = expanded ∙ idle.expanded ∙ ap length (sym history);
   own = own ∙ idle.own;
@@ -41,8 +41,8 @@ all_elsewhere k i j (item ∷ items) old new applied m other =
 
 -- where one node isn't idle before, or is black afterwards, each other white node is as idle as before
 white_else : (k : Setting) (old new : State) (i : ℕ) → ((m : ℕ) → m < k.n → m ≢ i → new.ring.black m ≡ old.ring.black m) → new.ring.black i ≡ true →
-    ((m : ℕ) → m < k.n → m ≢ i → IsIdle k old.world m → IsIdle k new.world m) → Matches k old → (m : ℕ) → m < k.n → new.ring.black m ≡ false →
-    IsIdle k new.world m
+    ((m : ℕ) → m < k.n → m ≢ i → IsNodeIdle k old.world m → IsNodeIdle k new.world m) → Matches k old → (m : ℕ) → m < k.n → new.ring.black m ≡ false →
+    IsNodeIdle k new.world m
 white_else k old new i colours black stay matches m low white = elim (cases_eq m i) [
   | inl same ↦ let e : true ≡ false = sym black ∙ ap new.ring.black (sym same) ∙ white in absurd cc
   | inr other ↦ stay m low other (matches.idle m low (sym (colours m low other) ∙ white))
@@ -129,12 +129,12 @@ module _ (k : Setting) (old new : State) (size : IsSize k.n) (matches : Matches 
       ∙ ap (λ (t : ℕ). t + length (old.world.waiting i j)) (sym (taken i j low_i low_j))
       ∙ ap (λ (w : WorldView). new.ring.taken i j + length (w.waiting i j)) (sym same)
 
-  pub matches_passed : (i : ℕ) → IsIdle k old.world i → new.world ≡ old.world → Moved k.n old.ring (ring.Pass i) new.ring → HasAtMost k.n (2 ^ 40) new.ring →
+  pub matches_passed : (i : ℕ) → IsNodeIdle k old.world i → new.world ≡ old.world → Moved k.n old.ring (ring.Pass i) new.ring → HasAtMost k.n (2 ^ 40) new.ring →
       Matches k new
   matches_passed i idle same moved few = record {
     lawful = moved_kept k.n old.ring new.ring (ring.Pass i) size matches.lawful moved few;
-    idle = λ m low white. subst (λ (w : WorldView). IsIdle k w m) (sym same) (elim (cases_eq m i) [
-      | inl here ↦ subst (λ (a : ℕ). IsIdle k old.world a) (sym here) idle
+    idle = λ m low white. subst (λ (w : WorldView). IsNodeIdle k w m) (sym same) (elim (cases_eq m i) [
+      | inl here ↦ subst (λ (a : ℕ). IsNodeIdle k old.world a) (sym here) idle
       | inr other ↦ matches.idle m low (sym (moved.colours.others m low other) ∙ white)
     ]);
     posted = counts_match same moved.posted moved.taken;
@@ -143,7 +143,7 @@ module _ (k : Setting) (old new : State) (size : IsSize k.n) (matches : Matches 
   pub matches_announced : new.world ≡ old.world → Moved k.n old.ring ring.Announce new.ring → HasAtMost k.n (2 ^ 40) new.ring → Matches k new
   matches_announced same moved few = record {
     lawful = moved_kept k.n old.ring new.ring ring.Announce size matches.lawful moved few;
-    idle = λ m low white. subst (λ (w : WorldView). IsIdle k w m) (sym same) (matches.idle m low (sym (moved.colours m low) ∙ white));
+    idle = λ m low white. subst (λ (w : WorldView). IsNodeIdle k w m) (sym same) (matches.idle m low (sym (moved.colours m low) ∙ white));
     posted = counts_match same moved.posted moved.taken;
   }
 

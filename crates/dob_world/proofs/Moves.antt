@@ -9,7 +9,7 @@ use Rattle.dob_share.specs.declared.news.Item.{Item}
 use Rattle.dob_share.specs.Owners.{owner_of}
 use Rattle.dob_share.specs.Cells.{Cell, fresh}
 use Rattle.dob_share.specs.Shares.{cell_at}
-use Rattle.dob_node.specs.TakenItems.{HasEntries, AreKept, IsTaken, AreTaken}
+use Rattle.dob_node.specs.TakenItems.{HasItemEntries, AreKept, IsTaken, AreTaken}
 use Rattle.dob_node.specs.declared.node.Node.{Node}
 use Rattle.dob_world.specs.declared.lane.Lane.{Lane}
 use Rattle.dob_world.specs.Worlds.{Setting, Nodes, items_in, AreLawful}
@@ -126,7 +126,7 @@ module _ (k : Setting) (nodes : List Node) (lanes : List Lane) (i j : ℕ) (low_
       (subst (λ x. AreLawful k x) old_same lawful)
       (ap (λ x. items_in k x i j) (sym old_same) ∙ is ∙ ap (λ xs. xs ++ item ∷ rest) applied_was))))
 
-  pub applies_many : 0 < k.n → (items rest : List Item) → i ≢ j → AreKept k.family k.n j node.share node.history → All HasEntries items →
+  pub applies_many : 0 < k.n → (items rest : List Item) → i ≢ j → AreKept k.family k.n j node.share node.history → All HasItemEntries items →
       AreTaken items node.share after.share node.history after.history → AreLawful k old → items_in k old i j ≡ old.applied i j ++ (items ++ rest) →
       next.applied.items ≡ lane.applied.items ++ items → AppliesAll k i j items old new
   applies_many some items rest differs kept entries taken lawful is listed =

@@ -8,7 +8,7 @@ use Rattle.dob_node.specs.Nodes.{IsSound, outbox_to}
 use Rattle.dob_world.specs.declared.lane.Lane.{Lane}
 use Rattle.dob_world.specs.Worlds.{Setting, AreLawful, IsLinked}
 use Rattle.dob_world.specs.Events.{AppliesOwn, Posts, TakesBatch}
-use Rattle.dob_world.specs.Lanes.{HasListed, HasReceived, HasPosted}
+use Rattle.dob_world.specs.Lanes.{HasListed, HasTakenBatch, HasSentBatch}
 use Rattle.dob_world.specs.Shown.{part, lane_at, world_shown}
 use Rattle.dob_world.specs.Standing.{AreInPlace}
 use Rattle.dob_world.proofs.Slots.{was, lane_was}
@@ -54,7 +54,7 @@ module _ (k : Setting) (nodes : List Node) (lanes : List Lane) (some : 0 < k.n) 
             (lane_owned k nodes lanes i low node after lane next there_n there_l places.lanes_whole is step (places.lane i i lane there_l));
       }
 
-  pub received : (i j : ℕ) → i < k.n → j < k.n → i ≢ j → slice_get nodes j ≡ Some node → lane_at k.n lanes i j ≡ Some lane → HasReceived node lane after next →
+  pub received : (i j : ℕ) → i < k.n → j < k.n → i ≢ j → slice_get nodes j ≡ Some node → lane_at k.n lanes i j ≡ Some lane → HasTakenBatch node lane after next →
       Outcome k ((i < k.n) × (j < k.n) × (i ≢ j) × (0 < length ((world_shown k.family k.n nodes lanes).waiting i j)))
       (TakesBatch k i j (world_shown k.family k.n nodes lanes) (world_shown k.family k.n (set nodes j after) (set lanes (i * k.n + j) next)))
       (set nodes j after) (set lanes (i * k.n + j) next)
@@ -87,7 +87,7 @@ module _ (k : Setting) (nodes : List Node) (lanes : List Lane) (some : 0 < k.n) 
   waiting_was i j low_i low_j there = lane_was k.n lanes i j lane next low_i low_j places.lanes_whole there [] (λ (x : Lane). x.link.waiting)
 
   pub posted : (i j : ℕ) → i < k.n → j < k.n → i ≢ j → slice_get nodes i ≡ Some node → lane_at k.n lanes i j ≡ Some lane →
-      HasPosted j k.batch node lane after next → ((outbox_to node j).items ≡ [] → ⊥) → length lane.link.waiting < lane.link.capacity →
+      HasSentBatch j k.batch node lane after next → ((outbox_to node j).items ≡ [] → ⊥) → length lane.link.waiting < lane.link.capacity →
       Outcome k ((i < k.n) × (j < k.n) × (i ≢ j) × (0 < length ((world_shown k.family k.n nodes lanes).outbox i j))
       × (length ((world_shown k.family k.n nodes lanes).waiting i j) < k.capacity))
       (Posts k i j (world_shown k.family k.n nodes lanes) (world_shown k.family k.n (set nodes i after) (set lanes (i * k.n + j) next)))

@@ -2,7 +2,7 @@
 use Rattle.std.proofs.Common.{◌≡◌, ◌+◌, ◌-◌, ◌<◌, true, refl, sym, ap, ◌∙◌, arith, List, [], ◌∷◌, length}
 use Rattle.std.proofs.lemmas.Bool.{true≢false}
 use Rattle.dob_safra.specs.Rings.{sum_below, in_flight, AllWhite, AllTaken}
-use Rattle.dob_safra.specs.Laws.{IsQuiet}
+use Rattle.dob_safra.specs.Laws.{IsRingQuiet}
 use Rattle.dob_safra.proofs.Quiet.{quiet}
 use Rattle.dob_safra.proofs.Sums.{sum_same}
 use Rattle.dob_world.specs.declared.event.Event.{Event}
@@ -30,7 +30,7 @@ white_rest k state matches white taken = record {
 
 pub end_is_rest : EndIsRest
 end_is_rest k state size matches may =
-    let is : IsQuiet k.n state.ring = quiet k.n state.ring true size matches.lawful may.1 in
+    let is : IsRingQuiet k.n state.ring = quiet k.n state.ring true size matches.lawful may.1 in
     white_rest k state matches is.all_white is.all_taken
 
 -- ---- what can happen where nothing is left to do

@@ -20,8 +20,8 @@ use Rattle.dob_world.specs.Runs.{IsAfter}
 use Rattle.dob_world.specs.Headline.{HaveKnownValues, AreBeginnings, HasRightValues, Headline}
 use Rattle.dob_world.specs.Shown.{setting_of, state_of, world_shown, ring_of}
 use Rattle.dob_world.specs.Standing.{IsSetting, HasOpenings, HasAtMost, Stand, IsStanding}
-use Rattle.dob_world.specs.Effects.{IsUnchanged}
-use Rattle.dob_world.specs.Start.{IsStart}
+use Rattle.dob_world.specs.Effects.{IsWorldUnchanged}
+use Rattle.dob_world.specs.Start.{IsWorldStart}
 use Rattle.dob_world.specs.Laws.{HeadlineHolds}
 use Rattle.dob_world.proofs.Kept.{lists_are_beginnings, happening_keeps_all}
 use Rattle.dob_world.proofs.Matching.{happening_keeps_match, posted_most}
@@ -133,7 +133,7 @@ matches_start k state setting start none = record {
 pub few_start : (n : ℕ) (ring : Ring) (steps : ℕ) → IsStartRing n ring → HasAtMost n steps ring
 few_start n ring steps start i j low_i low_j = omega (arith, start.posted i j low_i low_j)
 
-kept_start : (k : Setting) (state : State) → IsSetting k → IsStart k state → Keeps k state 0
+kept_start : (k : Setting) (state : State) → IsSetting k → IsWorldStart k state → Keeps k state 0
 kept_start k state setting start = record {
   lawful = subst (λ (w : Shown). AreLawful k w.nodes) (sym start.world_is)
       (lawful_shown k start.openings start.nodes start.lanes setting.nodes.0 start.are_openings start.opened start.empty);
@@ -162,7 +162,7 @@ stood_headline k nodes lanes detector steps stand = headline_of k stand.setting 
     (record { world = world_shown k.family k.n nodes lanes; ring = ring_of detector }) stand.lawful stand.linked stand.matches
 
 -- a world that is as it was stands as it did
-pub stand_unchanged : (old new : World) → IsUnchanged old new → IsStanding old → IsStanding new
+pub stand_unchanged : (old new : World) → IsWorldUnchanged old new → IsStanding old → IsStanding new
 stand_unchanged old new same standing =
     subst (λ (s : Setting). Stand s new.nodes.items new.lanes.items new.detector new.steps) (sym same.setting)
     (subst (λ xs. Stand (setting_of old) xs new.lanes.items new.detector new.steps) (sym same.nodes)

@@ -11,9 +11,9 @@ use Rattle.dob_world.specs.Events.{CanHappen}
 use Rattle.dob_world.specs.Runs.{IsDoneOrSkipped, IsAfter, IsStepOf, IsAfterSteps}
 use Rattle.dob_world.specs.Shown.{setting_of, state_of, world_shown, ring_of}
 use Rattle.dob_world.specs.Standing.{IsSetting, IsStanding}
-use Rattle.dob_world.specs.Effects.{IsUnchanged, IsMade, IsSkipped}
-use Rattle.dob_world.specs.Start.{IsStart}
-use Rattle.dob_world.specs.Results.{HasRun, HasStoppedAt}
+use Rattle.dob_world.specs.Effects.{IsWorldUnchanged, IsMade, IsSkipped}
+use Rattle.dob_world.specs.Start.{IsWorldStart}
+use Rattle.dob_world.specs.Results.{HasRunEvents, HasStoppedAt}
 use Rattle.dob_world.specs.declared.fault.Fault.{Fault}
 use Rattle.dob_world.specs.Stops.{IsStopBy}
 use Rattle.dob_world.specs.declared.detector.Detector.{Detector}
@@ -51,7 +51,7 @@ pub after_more : (k : Setting) (old between new : State) (events : List Event) (
 after_more k old between new events event one other after step =
     after_both_steps k old between new events (event ∷ []) one other after (new, other, 0, step, (refl, refl), (let e : other ≡ other + 0 = omega arith in e))
 
-state_same : (old new : World) → IsUnchanged old new → state_of new ≡ state_of old
+state_same : (old new : World) → IsWorldUnchanged old new → state_of new ≡ state_of old
 state_same old new same =
     ap (λ (d : Detector). with_ring (world_shown new.classes.family new.n new.nodes.items new.lanes.items) (ring_of d)) same.detector
     ∙ ap (λ (w : Shown). with_ring w (ring_of old.detector)) (
@@ -91,8 +91,8 @@ stepped event old new Skipped done skipped = let none = skipped refl in
     }
 
 -- what holds of a run where its end is such a world
-pub ran : (k : Setting) (start : State) (events : List Event) (world : World) → setting_of world ≡ k → IsStart k start →
-    IsAfterSteps k start events world.steps (state_of world) → IsStanding world → world.failed ≡ None → HasRun k events world
+pub ran : (k : Setting) (start : State) (events : List Event) (world : World) → setting_of world ≡ k → IsWorldStart k start →
+    IsAfterSteps k start events world.steps (state_of world) → IsStanding world → world.failed ≡ None → HasRunEvents k events world
 ran k start events world setting is_start after standing going = record {
   setting = setting;
   start = start;
@@ -106,10 +106,10 @@ ran k start events world setting is_start after standing going = record {
 
 -- one event more
 pub ran_more : (k : Setting) (events : List Event) (place : ℕ) (default : Event) (old new : World) → place < length events →
-    HasRun k (take place events) old → Stepped (get_or events place default) old new → new.failed ≡ None → IsStanding new →
-    HasRun k (take (place + 1) events) new
+    HasRunEvents k (take place events) old → Stepped (get_or events place default) old new → new.failed ≡ None → IsStanding new →
+    HasRunEvents k (take (place + 1) events) new
 ran_more k events place default old new low run step going standing =
-    subst (λ xs. HasRun k xs new) (sym (rw add-one (take-suc events place default low)))
+    subst (λ xs. HasRunEvents k xs new) (sym (rw add-one (take-suc events place default low)))
     (ran k run.start (take place events ++ get_or events place default ∷ []) new (step.setting ∙ run.setting) run.is_start
     (subst (λ (m : ℕ). IsAfterSteps k run.start (take place events ++ get_or events place default ∷ []) m (state_of new))
     (let least = step.least in let e : old.steps + (new.steps - old.steps) ≡ new.steps = omega (arith, least) in e)
@@ -119,7 +119,7 @@ ran_more k events place default old new low run step going standing =
 
 -- the event after those of a run stops a node
 pub run_stops : (k : Setting) (events : List Event) (place : ℕ) (default : Event) (world : World) (fault : Fault) → place < length events →
-    HasRun k (take place events) world → IsStopBy (setting_of world) (state_of world) (get_or events place default) fault → HasStoppedAt k events fault
+    HasRunEvents k (take place events) world → IsStopBy (setting_of world) (state_of world) (get_or events place default) fault → HasStoppedAt k events fault
 run_stops k events place default world fault low run stop = record {
   setting = subst IsSetting run.setting run.standing.setting;
   start = run.start;

@@ -35,7 +35,7 @@ use Rattle.dob_node.proofs.ValuesFollow.{SumsUp-same}
 use Rattle.dob_node.proofs.Totals.{start_sums}
 use Rattle.dob_node.proofs.Rest.{below_owner}
 use Rattle.dob_node.proofs.Rises.{opened_first, fresh_within, falls_start}
-use Rattle.dob_node.proofs.SoleOpens.{listed_opening}
+use Rattle.dob_node.proofs.AloneOpens.{listed_opening}
 use Rattle.dob_world.specs.declared.lane.Lane.{Lane}
 use Rattle.dob_world.specs.Worlds.{Setting, Nodes, value_in, AreLawful, HaveFallsIn, IsLinked}
 use Rattle.dob_world.specs.Shown.{part, lane_at, nodes_shown, world_shown}

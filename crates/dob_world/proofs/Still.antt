@@ -6,7 +6,7 @@ use Rattle.std.proofs.lemmas.Nat.{div-mul-add, mul-add-lt}
 use Rattle.std.proofs.lemmas.Bool.{cases_Bool, cases_lt, lt-ltb, le-ltb, eq-eqb, ne_eqb}
 use Rattle.dob_world.specs.declared.event.Event.{Event}
 use Rattle.dob_world.specs.declared.event.Event.TheVariants.{Expand, Own, Post, Take, Pass, Announce}
-use Rattle.dob_world.specs.Worlds.{Setting, State, IsLinked, IsIdle, Matches, IsAtRest}
+use Rattle.dob_world.specs.Worlds.{Setting, State, IsLinked, IsNodeIdle, Matches, IsAtRest}
 use Rattle.dob_world.specs.Events.{CanHappen}
 use Rattle.dob_world.specs.Rounds.{round_length, round_event, IsStill}
 use Rattle.dob_world.specs.Standing.{IsSetting}
@@ -158,7 +158,7 @@ module _ (k : Setting) (state : State) (setting : IsSetting k) (linked : IsLinke
     links = no_waiting;
   }
 
-  holder_idle : IsIdle k state.world state.ring.token.at
+  holder_idle : IsNodeIdle k state.world state.ring.token.at
   holder_idle = record {
     expanded = still_rest.expanded state.ring.token.at matches.lawful.at;
     own = still_rest.own state.ring.token.at matches.lawful.at;

@@ -11,7 +11,7 @@ use Rattle.dob_node.specs.Nodes.{IsIdle as IsIdleNode, outbox_to}
 use Rattle.dob_world.specs.declared.detector.Detector.{Detector}
 use Rattle.dob_world.specs.declared.event.Event.{Event}
 use Rattle.dob_world.specs.declared.lane.Lane.{Lane}
-use Rattle.dob_world.specs.Worlds.{Setting, State, IsIdle}
+use Rattle.dob_world.specs.Worlds.{Setting, State, IsNodeIdle}
 use Rattle.dob_world.specs.Events.{CanHappen, Happens}
 use Rattle.dob_world.specs.Shown.{nodes_shown, world_shown, ring_of}
 use Rattle.dob_world.specs.Standing.{AreInPlace, IsCounted, Stand, HasAtMost, AreCutsPosted}
@@ -89,7 +89,7 @@ beyond (x ∷ xs) (suc i) d past = beyond xs i d (omega arith)
 
 module _ (k : Setting) (nodes : List Node) (lanes : List Lane) (places : AreInPlace k nodes lanes) (i : ℕ) (node : Node) (low : i < k.n)
     (there : slice_get nodes i ≡ Some node) where
-  pub idle_shown : IsIdleNode node → IsIdle k (world_shown k.family k.n nodes lanes) i
+  pub idle_shown : IsIdleNode node → IsNodeIdle k (world_shown k.family k.n nodes lanes) i
   unfolding world_shown nodes_shown
   idle_shown idle = record {
     expanded = was nodes i node node there 0 (λ (x : Node). x.expanded) ∙ idle.expanded
@@ -98,7 +98,7 @@ module _ (k : Setting) (nodes : List Node) (lanes : List Lane) (places : AreInPl
     outboxes = λ j low_j differs. was nodes i node node there [] (λ (x : Node). (outbox_to x j).items) ∙ idle.sent j;
   }
 
-  pub shown_idle : IsIdle k (world_shown k.family k.n nodes lanes) i → IsIdleNode node
+  pub shown_idle : IsNodeIdle k (world_shown k.family k.n nodes lanes) i → IsIdleNode node
   unfolding world_shown nodes_shown
   shown_idle idle = record {
     expanded = sym (was nodes i node node there 0 (λ (x : Node). x.expanded)) ∙ idle.expanded

@@ -5,7 +5,7 @@ use Rattle.dob_moves.proofs.Cases.{one_status}
 use Rattle.dob_rank.specs.Families.{class_setup}
 use Rattle.dob_share.specs.declared.news.Item.{Item}
 use Rattle.dob_share.specs.declared.share.Share.{Share}
-use Rattle.dob_share.specs.Cells.{Cell, CanTake, changed}
+use Rattle.dob_share.specs.Cells.{Cell, CellCanTake, changed}
 use Rattle.dob_share.specs.Steps.{IsTooDeep}
 use Rattle.dob_share.specs.Shares.{status_at, cell_at, Fits, GoesTooDeep}
 use Rattle.dob_node.specs.Stores.{HistoryView}
@@ -39,7 +39,7 @@ fits_by k i node share history cell item is kept statuses can same = (
   (kept.owned item.to).1 (can.own, can.below),
   statuses item.to ∙ one_status k.family.profile (class_setup k.family item.to) (status_at node.share item.to) Open
       (is.statuses item.to (((kept_of k i node is).owned item.to).1 (can.own, can.below))) can.is_open,
-  subst (λ c. CanTake item.was item.now c) same can.takes,
+  subst (λ c. CellCanTake item.was item.now c) same can.takes,
 )
 
 -- An item that fits stops its node for lack of memory, or since it goes too deep.

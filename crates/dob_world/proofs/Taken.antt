@@ -17,7 +17,7 @@ use Rattle.dob_share.proofs.Changing.{short_value}
 use Rattle.dob_node.specs.Stores.{HistoryView}
 use Rattle.dob_node.specs.Histories.{value_of}
 use Rattle.dob_node.specs.Lawful.{CanApply}
-use Rattle.dob_node.specs.TakenItems.{HasEntries, AreKept, IsTaken, AreTaken}
+use Rattle.dob_node.specs.TakenItems.{HasItemEntries, AreKept, IsTaken, AreTaken}
 use Rattle.dob_node.proofs.Stored.{same_settlement}
 use Rattle.dob_node.proofs.Parity.{short_own}
 use Rattle.dob_node.proofs.Kepts.{fits_own, kept_still}
@@ -180,7 +180,7 @@ stay_by before after is = record {
 }
 
 pub kept_after : (k : Setting) (j : ℕ) (share after : Share) (history grown : HistoryView) (item : Item) → AreKept k.family k.n j share history →
-    HasEntries item → IsTaken item share after history grown → AreKept k.family k.n j after grown
+    HasItemEntries item → IsTaken item share after history grown → AreKept k.family k.n j after grown
 kept_after k j share after history grown item kept entries taken = kept_still k.family k.n j share after history item kept entries taken.classes taken.fits
     taken.cell taken.others taken.settled.0 taken.settled.1 grown taken.settled.2
 
@@ -195,7 +195,7 @@ module _ (k : Setting) (some : 0 < k.n) (i j : ℕ) (low_i : i < k.n) (low_j : j
       (is ∙ ap (λ xs. xs ++ item ∷ rest) (sym (applied_here k i j nodes share history.settlements items))))
 
   pub items_apply : (more : List Item) (share after : Share) (history grown : HistoryView) (items rest : List Item) → i ≢ j →
-      AreKept k.family k.n j share history → All HasEntries more → AreTaken more share after history grown →
+      AreKept k.family k.n j share history → All HasItemEntries more → AreTaken more share after history grown →
       AreLawful k (with_share k i j nodes share history.settlements items) →
       items_in k (with_share k i j nodes share history.settlements items) i j ≡ items ++ (more ++ rest) →
       AppliesAll k i j more (with_share k i j nodes share history.settlements items) (with_share k i j nodes after grown.settlements (items ++ more))
@@ -217,8 +217,8 @@ module _ (k : Setting) (some : 0 < k.n) (i j : ℕ) (low_i : i < k.n) (low_j : j
       let is_next : items_in k old i j ≡ old.applied i j ++ item ∷ (more ++ rest) = is ∙ ap (λ xs. xs ++ item ∷ (more ++ rest)) (sym here) in
       let step : Applies k i j item old new = item_applies share between history longer items (more ++ rest) item kept taken.2 lawful is in
       let then = items_apply more between after longer grown (items ++ item ∷ []) rest differs
-      (kept_after k j share between history longer item kept (All-head HasEntries item more entries) taken.2)
-      (All-tail HasEntries item more entries) taken.3
+      (kept_after k j share between history longer item kept (All-head HasItemEntries item more entries) taken.2)
+      (All-tail HasItemEntries item more entries) taken.3
       (lawful_step k some i j low_i low_j item old lawful (more ++ rest) is_next new step)
       (next_after k i j (item ∷ []) (more ++ rest) old new differs (step_grows k i j item old new step) is_next
       ∙ ap (λ xs. xs ++ (more ++ rest)) there) in (

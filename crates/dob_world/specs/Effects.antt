@@ -9,7 +9,7 @@ use Rattle.dob_world.specs.Shown.{setting_of, state_of}
 use Rattle.dob_world.specs.Standing.{WillStand}
 
 -- the world keeps all that it has
-pub record IsUnchanged (old new : World) : Type 0 where
+pub record IsWorldUnchanged (old new : World) : Type 0 where
   pub setting : setting_of new ≡ setting_of old
   pub nodes : new.nodes.items ≡ old.nodes.items
   pub lanes : new.lanes.items ≡ old.lanes.items
@@ -24,7 +24,7 @@ pub record IsMade (event : Event) (old new : World) : Type 0 where
   pub happens : Happens (setting_of old) (state_of old) event (state_of new)
 
 -- It is done, the step isn't counted yet, and the world stands once it is.
-pub record IsDone (event : Event) (old new : World) : Type 0 where
+pub record IsEventDone (event : Event) (old new : World) : Type 0 where
   pub made : IsMade event old new
   pub stands : WillStand new
   pub same : (new.failed ≡ old.failed) × (new.steps ≡ old.steps)
@@ -32,7 +32,7 @@ pub record IsDone (event : Event) (old new : World) : Type 0 where
 -- It was impossible, and is skipped.
 pub record IsSkipped (event : Event) (old new : World) : Type 0 where
   pub cannot : ¬ CanHappen (setting_of old) (state_of old) event
-  pub unchanged : IsUnchanged old new
+  pub unchanged : IsWorldUnchanged old new
 
 -- It was possible, and has stopped its node: counts, colours, token and the number of steps are as before it.
 pub record IsStopped (event : Event) (fault : Fault) (old new : World) : Type 0 where

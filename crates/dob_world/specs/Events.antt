@@ -10,13 +10,13 @@ use Rattle.dob_world.specs.declared.event.Event.{Event}
 use Rattle.dob_safra.specs.declared.event.RingEvent.TheVariants as ring
 use Rattle.dob_safra.specs.Rings.{IsAnnounceable, Moved}
 use Rattle.dob_world.specs.declared.event.Event.TheVariants.{Expand, Own, Post, Take, Pass, Announce}
-use Rattle.dob_world.specs.Worlds.{Setting, Nodes, WorldView, State, IsIdle, value_in}
+use Rattle.dob_world.specs.Worlds.{Setting, Nodes, WorldView, State, IsNodeIdle, value_in}
 
 -- ---- when an event can happen
 
 -- The end may be announced: node 0 is idle, and by the ring it may.
-abbrev pub MayEnd : Setting → State → Type 0
-MayEnd k state = IsIdle k state.world 0 × IsAnnounceable k.n state.ring true
+abbrev pub WorldMayEnd : Setting → State → Type 0
+WorldMayEnd k state = IsNodeIdle k state.world 0 × IsAnnounceable k.n state.ring true
 
 -- Node i has a settlement that isn't expanded; it has an own item; it isn't j, has something to send to j, and the link
 -- to it has fewer batches waiting than its capacity; it isn't j, and a batch waits on the link to it; it has the token and
@@ -26,8 +26,8 @@ CanHappen k state (Expand i) = (i < k.n) × (state.world.expanded i < length (st
 CanHappen k state (Own i) = (i < k.n) × (0 < length (state.world.own i))
 CanHappen k state (Post i j) = (i < k.n) × (j < k.n) × (i ≢ j) × (0 < length (state.world.outbox i j)) × (length (state.world.waiting i j) < k.capacity)
 CanHappen k state (Take i j) = (i < k.n) × (j < k.n) × (i ≢ j) × (0 < length (state.world.waiting i j))
-CanHappen k state (Pass i) = (i < k.n) × (state.ring.token.at ≡ i) × IsIdle k state.world i × (state.ring.announced ≡ false) × (i ≡ 0 → ¬ MayEnd k state)
-CanHappen k state Announce = MayEnd k state × (state.ring.announced ≡ false)
+CanHappen k state (Pass i) = (i < k.n) × (state.ring.token.at ≡ i) × IsNodeIdle k state.world i × (state.ring.announced ≡ false) × (i ≡ 0 → ¬ WorldMayEnd k state)
+CanHappen k state Announce = WorldMayEnd k state × (state.ring.announced ≡ false)
 
 -- ---- what stays
 

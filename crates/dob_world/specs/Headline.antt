@@ -13,7 +13,7 @@ use Rattle.dob_node.specs.Quiet.{FollowsAtStatus}
 use Rattle.dob_safra.specs.Rings.{in_flight}
 use Rattle.dob_world.specs.declared.event.Event.{Event}
 use Rattle.dob_world.specs.Worlds.{Setting, Nodes, WorldView, State, value_in, items_in, AreLawful, IsAtRest, Matches, waiting_batches}
-use Rattle.dob_world.specs.Events.{CanHappen, MayEnd}
+use Rattle.dob_world.specs.Events.{CanHappen, WorldMayEnd}
 
 -- Each class has the value that follows, at its status, from what the copies of its moves know by the items applied.
 abbrev pub HaveKnownValues : Setting → Nodes → Type 0
@@ -48,4 +48,4 @@ pub record Headline (k : Setting) (state : State) : Type 0 where
   pub gathering : state.ring.announced ≡ true → HasRightValues k state.world
   pub matches : Matches k state
   pub flight : in_flight k.n state.ring ≡ waiting_batches k.n state.world
-  pub quiet : MayEnd k state → IsAtRest k state.world
+  pub quiet : WorldMayEnd k state → IsAtRest k state.world

@@ -7,14 +7,14 @@ use Rattle.dob_update.specs.Batches.{BatchView}
 use Rattle.dob_link.specs.Links.{link_of}
 use Rattle.dob_stops.specs.declared.cause.Cause.{Cause}
 use Rattle.dob_node.specs.declared.node.Node.{Node}
-use Rattle.dob_node.specs.TakenItems.{HasEntries}
+use Rattle.dob_node.specs.TakenItems.{HasItemEntries}
 use Rattle.dob_node.specs.Nodes.{HasApplied, HasTaken, HasTakenBefore, HasCut}
 use Rattle.dob_world.specs.declared.lane.Lane.{Lane}
 
 -- a batch for one of n nodes, with items that have such values as a table can have
 pub record IsBatchFor (family : Family) (n to : ℕ) (batch : BatchView) : Type 0 where
   pub of : (batch.family ≡ family) × (batch.n ≡ n) × (batch.to ≡ to)
-  pub entries : All HasEntries batch.items
+  pub entries : All HasItemEntries batch.items
 
 -- the same batches wait on the lane, and it lists the same items
 pub record LaneStays (old new : Lane) : Type 0 where
@@ -29,7 +29,7 @@ pub record HasListed (old : Node) (lane : Lane) (new : Node) (after : Lane) : Ty
   pub same : (after.link ≡ lane.link) × (after.sent.items ≡ lane.sent.items)
 
 -- The batch that the node has cut for that node is the last that waits on the lane, and its items are listed as sent.
-pub record HasPosted (to size : ℕ) (old : Node) (lane : Lane) (new : Node) (after : Lane) : Type 0 where
+pub record HasSentBatch (to size : ℕ) (old : Node) (lane : Lane) (new : Node) (after : Lane) : Type 0 where
   pub batch : BatchView
   pub cut : HasCut to size batch old new
   pub link : after.link ≡ link_of (lane.link.waiting ++ batch ∷ []) lane.link.capacity
@@ -37,7 +37,7 @@ pub record HasPosted (to size : ℕ) (old : Node) (lane : Lane) (new : Node) (af
   pub same : after.applied.items ≡ lane.applied.items
 
 -- The node has taken the first batch that waited on the lane, and its items are listed as applied.
-pub record HasReceived (old : Node) (lane : Lane) (new : Node) (after : Lane) : Type 0 where
+pub record HasTakenBatch (old : Node) (lane : Lane) (new : Node) (after : Lane) : Type 0 where
   pub batch : BatchView
   pub first : lane.link ≡ link_of (batch ∷ after.link.waiting) after.link.capacity
   pub taken : HasTaken batch.items old new

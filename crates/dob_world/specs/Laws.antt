@@ -12,12 +12,12 @@ use Rattle.dob_node.specs.Lawful.{CanApply}
 use Rattle.dob_safra.specs.Laws.{IsSize}
 use Rattle.dob_world.specs.declared.event.Event.{Event}
 use Rattle.dob_world.specs.Worlds.{Setting, Nodes, WorldView, State, value_in, items_in, AreLawful, IsLinked, IsAtRest, Matches}
-use Rattle.dob_world.specs.Events.{CanHappen, Happens, MayEnd, AppliesAll}
+use Rattle.dob_world.specs.Events.{CanHappen, Happens, WorldMayEnd, AppliesAll}
 use Rattle.dob_world.specs.Runs.{IsAfter}
 use Rattle.dob_world.specs.Rounds.{IsStill}
 use Rattle.dob_world.specs.Headline.{IsSilent, Headline}
 use Rattle.dob_world.specs.Standing.{IsSetting, HasAtMost}
-use Rattle.dob_world.specs.Start.{IsStart}
+use Rattle.dob_world.specs.Start.{IsWorldStart}
 
 -- each event leaves a lawful and linked world so
 abbrev pub HappeningKeepsAll : Type 0
@@ -60,7 +60,7 @@ RestIsRight = (k : Setting) (world : WorldView) (openings : List Opening) (value
 
 -- where the end may be announced, nothing is left to do
 abbrev pub EndIsRest : Type 0
-EndIsRest = (k : Setting) (state : State) → IsSize k.n → Matches k state → MayEnd k state → IsAtRest k state.world
+EndIsRest = (k : Setting) (state : State) → IsSize k.n → Matches k state → WorldMayEnd k state → IsAtRest k state.world
 
 -- where nothing is left to do, that stays: an event changes nothing of nodes and links
 abbrev pub RestStays : Type 0
@@ -78,5 +78,5 @@ StillIsEnded = (k : Setting) (state : State) → IsSetting k → IsLinked k stat
 
 -- the promise of the whole holds after any events, at most 2^40
 abbrev pub HeadlineHolds : Type 0
-HeadlineHolds = (k : Setting) (start state : State) (events : List Event) → IsSetting k → IsStart k start → length events ≤ 2 ^ 40 →
+HeadlineHolds = (k : Setting) (start state : State) (events : List Event) → IsSetting k → IsWorldStart k start → length events ≤ 2 ^ 40 →
     IsAfter k start events state → Headline k state

@@ -14,7 +14,7 @@ use Rattle.dob_world.specs.Headline.{Headline}
 use Rattle.dob_world.specs.Stops.{IsStopIn, IsStopInRounds}
 use Rattle.dob_world.specs.Shown.{setting_of, state_of}
 use Rattle.dob_world.specs.Standing.{IsSetting, IsStanding}
-use Rattle.dob_world.specs.Start.{IsStart}
+use Rattle.dob_world.specs.Start.{IsWorldStart}
 
 -- Why there is no world of that setting: the first of these that isn't so, or memory is refused where all are.
 abbrev pub HasSettingFault : Setting → Fault → Type 0
@@ -25,10 +25,10 @@ HasSettingFault k Memory = IsSetting k
 
 -- The world is the opening world changed by the events, in order, it counts how many of them were done, and the promise of the
 -- whole holds of it. Each settlement stands first in a fall, and no distance is above the number of classes.
-pub record HasRun (k : Setting) (events : List Event) (world : World) : Type 0 where
+pub record HasRunEvents (k : Setting) (events : List Event) (world : World) : Type 0 where
   pub setting : setting_of world ≡ k
   pub start : State
-  pub is_start : IsStart k start
+  pub is_start : IsWorldStart k start
   pub after : IsAfterSteps k start events world.steps (state_of world)
   pub standing : IsStanding world
   pub going : world.failed ≡ None
@@ -39,7 +39,7 @@ pub record HasRun (k : Setting) (events : List Event) (world : World) : Type 0 w
 pub record HasStoppedAt (k : Setting) (events : List Event) (fault : Fault) : Type 0 where
   pub setting : IsSetting k
   pub start : State
-  pub is_start : IsStart k start
+  pub is_start : IsWorldStart k start
   pub stop : IsStopIn k start events fault
 
 -- One of the first so many events of a round can happen after those before it.

@@ -101,5 +101,5 @@ pub record IsLeft (fault : Fault) (world : World) : Type 0 where
   pub headline : IsForMemory fault → Headline (setting_of world) (state_of world)
 
 -- The world stands, or it has stopped; but never because an item contradicts its cell.
-abbrev pub IsKept : World → Type 0
-IsKept world = MatchOption world.failed (IsStanding world) (λ fault. IsLeft fault world)
+abbrev pub StandsOrStopped : World → Type 0
+StandsOrStopped world = MatchOption world.failed (IsStanding world) (λ fault. IsLeft fault world)

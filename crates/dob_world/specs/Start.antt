@@ -27,7 +27,7 @@ pub record AreOpenedNodes (openings : List Opening) (family : Family) (n upto : 
   pub each : (i : ℕ) (node : Node) → slice_get nodes i ≡ Some node → IsOpened openings family i n node × IsSound node
 
 -- The state before the first event: each node is opened, nothing has gone over a lane, and the ring is at its start.
-pub record IsStart (k : Setting) (state : State) : Type 0 where
+pub record IsWorldStart (k : Setting) (state : State) : Type 0 where
   pub openings : List Opening
   pub are_openings : AreOpenings k.family openings
   pub nodes : List Node

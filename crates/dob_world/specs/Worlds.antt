@@ -86,7 +86,7 @@ pub record IsAtRest (k : Setting) (world : WorldView) : Type 0 where
   pub links : (i j : ℕ) → i < k.n → j < k.n → i ≢ j → world.waiting i j ≡ []
 
 -- Node i is idle: it has no settlement left to expand, no own item left to apply, and nothing left to send.
-pub record IsIdle (k : Setting) (world : WorldView) (i : ℕ) : Type 0 where
+pub record IsNodeIdle (k : Setting) (world : WorldView) (i : ℕ) : Type 0 where
   pub expanded : world.expanded i ≡ length (world.nodes.history i)
   pub own : world.own i ≡ []
   pub outboxes : (j : ℕ) → j < k.n → j ≢ i → world.outbox i j ≡ []
@@ -95,7 +95,7 @@ pub record IsIdle (k : Setting) (world : WorldView) (i : ℕ) : Type 0 where
 -- is idle; and the batches posted to a node are those that it took and those that wait on the link.
 pub record Matches (k : Setting) (state : State) : Type 0 where
   pub lawful : IsLawfulRing k.n state.ring
-  pub idle : (i : ℕ) → i < k.n → state.ring.black i ≡ false → IsIdle k state.world i
+  pub idle : (i : ℕ) → i < k.n → state.ring.black i ≡ false → IsNodeIdle k state.world i
   pub posted : (i j : ℕ) → i < k.n → j < k.n → state.ring.posted i j ≡ state.ring.taken i j + length (state.world.waiting i j)
 
 -- how many batches wait on all links

@@ -3,7 +3,7 @@ ghost use Rattle.std.specs.Prelude.{◌≡◌, ℕ, ◌+◌, ◌*◌, ◌^◌, �
 ghost use Rattle.dob_rank.specs.Families.{classes_of};
 ghost use Rattle.dob_world.specs.Rounds.{round_length, round_event};
 ghost use Rattle.dob_world.specs.Shown.{setting_of, state_of};
-ghost use Rattle.dob_world.specs.Standing.{IsStanding, IsKept};
+ghost use Rattle.dob_world.specs.Standing.{IsStanding, StandsOrStopped};
 ghost use Rattle.dob_world.specs.Worlds.{HaveFallsIn};
 ghost use Rattle.dob_world.specs.Stops.{IsForMemory};
 ghost use Rattle.dob_world.specs.Results.{HasMadeRound, HasDriven, StopsInRounds};
@@ -19,7 +19,9 @@ impl World {
     /// `Announce`. The answer is whether no event of the last round was done; then the end is announced. It is false for no
     /// round.
     ///
-    /// Error: `Stopped`, as at a step, and the world is left as that step leaves it; in a set of fewer than 65,535 classes for lack
+    /// # Errors
+    ///
+    /// `Stopped`, as at a step, and the world is left as that step leaves it; in a set of fewer than 65,535 classes for lack
     /// of memory alone.
     pub fn drive(&mut self, rounds: u64) -> Result<bool, Fault>
         requires few { self.old.steps + rounds * round_length self.old.n ≤ 2 ^ 40 }
@@ -30,7 +32,7 @@ impl World {
         ensures falls { IfOk result (λ still. HaveFallsIn (setting_of self.new) (state_of self.new).world.nodes) }
         ensures stopped { IfErr result (λ fault. StopsInRounds self.old rounds fault self.new) }
         ensures unannounced { OnErr result (self.new.detector.announced ≡ false) }
-        ensures kept { IsKept self.new }
+        ensures kept { StandsOrStopped self.new }
     {
         for _round in 0..rounds {
             match self.round() {
@@ -50,7 +52,7 @@ impl World {
         ensures made { IfOk result (λ still. HasMadeRound self.old still self.new) }
         ensures memory { classes_of (setting_of self.old).family < 65535 → IfErr result IsForMemory }
         ensures stopped { IfErr result (λ fault. StopsInRounds self.old 1 fault self.new) }
-        ensures kept { IsKept self.new }
+        ensures kept { StandsOrStopped self.new }
     {
         let before = self.steps;
         let n = self.n;

@@ -5,9 +5,9 @@ ghost use Rattle.dob_world.specs.Start.{AreOpenedNodes, AreEmptyLanes};
 ghost use Rattle.dob_safra.specs.Tokens.{most_nodes};
 
 use crate::lane::Lane;
+use dob_lists::Segments;
 use dob_node::{Node, Opening};
 use dob_pieces::{Family, Memory};
-use dob_lists::Segments;
 use std::alloc::Global;
 
 /// The nodes of all owners, as they are opened.

@@ -2,7 +2,7 @@
 ghost use Rattle.std.specs.Prelude.{◌≡◌, ◌^◌, ◌<◌, ◌≤◌, ◌⊎◌, length, IfOk, IfErr};
 ghost use Rattle.dob_rank.specs.Families.{classes_of};
 ghost use Rattle.dob_world.specs.Worlds.{setting_by};
-ghost use Rattle.dob_world.specs.Results.{HasSettingFault, HasRun, HasStoppedAt};
+ghost use Rattle.dob_world.specs.Results.{HasSettingFault, HasRunEvents, HasStoppedAt};
 ghost use Rattle.dob_world.specs.Stops.{IsForMemory};
 
 use crate::event::Event;
@@ -14,7 +14,9 @@ use std::alloc::Global;
 /// The world of `n` nodes, with batches of at most `batch` items and links with room for `capacity` batches, after the
 /// events in order. Those that can't happen are skipped.
 ///
-/// Errors: those of `World::open`; `Stopped`, where one of the events stops a node, but never because an item contradicts its
+/// # Errors
+///
+/// Those of `World::open`; `Stopped`, where one of the events stops a node, but never because an item contradicts its
 /// cell, and in a set of fewer than 65,535 classes for lack of memory alone. In the world each settlement stands first in a
 /// list of settlements of different classes whose distances fall by one down to a win in one ply or a loss in none, and no
 /// distance is above the number of classes.
@@ -27,7 +29,7 @@ pub fn run(
     events: &[Event],
 ) -> Result<World, Fault>
     requires few { length events.now ≤ 2 ^ 40 }
-    ensures run { IfOk result (λ world. HasRun (setting_by family n batch capacity) events.now world) }
+    ensures run { IfOk result (λ world. HasRunEvents (setting_by family n batch capacity) events.now world) }
     ensures memory { classes_of family < 65535 → IfErr result (λ fault. HasSettingFault (setting_by family n batch capacity) fault ⊎ IsForMemory fault) }
     ensures fault { IfErr result (λ fault. HasSettingFault (setting_by family n batch capacity) fault
         ⊎ HasStoppedAt (setting_by family n batch capacity) events.now fault) }

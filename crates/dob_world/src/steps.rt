@@ -4,7 +4,7 @@ ghost use Rattle.std.specs.Prelude.{true, false, IfErr, OnOk, OnErr};
 ghost use Rattle.std.specs.List.{All};
 ghost use Rattle.dob_stops.specs.declared.cause.Cause.TheVariants as cause;
 ghost use Rattle.dob_node.specs.Nodes.{outbox_to, IsSound, IsUnchanged, HasItemFault};
-ghost use Rattle.dob_world.specs.Lanes.{LaneStays, IsBatchFor, HasListed, HasPosted, HasReceived, HasReceivedFront};
+ghost use Rattle.dob_world.specs.Lanes.{LaneStays, IsBatchFor, HasListed, HasSentBatch, HasTakenBatch, HasReceivedFront};
 ghost use Rattle.dob_update.specs.Batches.{most_items};
 
 use crate::lane::Lane;
@@ -14,7 +14,9 @@ use dob_share::Item;
 
 /// Applies the first own item of a node, and lists it as applied. False where there is none.
 ///
-/// Errors, which leave node and lane as they were: those of the node; `Memory`.
+/// # Errors
+///
+/// Which leave node and lane as they were: those of the node; `Memory`.
 pub(crate) fn apply_own(node: &mut Node, lane: &mut Lane) -> Result<bool, Cause>
     requires sound { IsSound node.old }
     requires going { node.old.failed ≡ None }
@@ -41,7 +43,9 @@ pub(crate) fn apply_own(node: &mut Node, lane: &mut Lane) -> Result<bool, Cause>
 /// Cuts a batch of at most `size` items that the node has to send to the node `to`, which goes over the lane. False where
 /// there is nothing to send, or the lane's link has no room.
 ///
-/// Errors, which leave node and lane as they were: those of the node; `Memory`.
+/// # Errors
+///
+/// Which leave node and lane as they were: those of the node; `Memory`.
 pub(crate) fn post(node: &mut Node, lane: &mut Lane, to: usize, size: usize) -> Result<bool, Cause>
     requires sound { IsSound node.old }
     requires going { node.old.failed ≡ None }
@@ -51,7 +55,7 @@ pub(crate) fn post(node: &mut Node, lane: &mut Lane, to: usize, size: usize) -> 
     ensures none { (result ≡ Ok false) → ((outbox_to node.old to).items ≡ []) ⊎ (lane.old.link.capacity ≤ length lane.old.link.waiting) }
     ensures nothing { result ≡ Ok false → (node.new ≡ node.old) × (lane.new ≡ lane.old) }
     ensures some { result ≡ Ok true → ((outbox_to node.old to).items ≡ [] → ⊥) × (length lane.old.link.waiting < lane.old.link.capacity) }
-    ensures posted { result ≡ Ok true → HasPosted to size node.old lane.old node.new lane.new }
+    ensures posted { result ≡ Ok true → HasSentBatch to size node.old lane.old node.new lane.new }
     ensures stopped { IfErr result (λ why. ((why ≡ cause.Counts) × (2 ^ 40 ≤ (outbox_to node.old to).next)) ⊎ (why ≡ cause.Memory)) }
     ensures moment { OnErr result (((outbox_to node.old to).items ≡ [] → ⊥) × (length lane.old.link.waiting < lane.old.link.capacity)) }
     ensures unchanged { OnErr result (IsUnchanged node.old node.new × LaneStays lane.old lane.new) }
@@ -77,7 +81,9 @@ pub(crate) fn post(node: &mut Node, lane: &mut Lane, to: usize, size: usize) -> 
 
 /// Takes the first batch that waits on the lane, and applies its items. False where none waits.
 ///
-/// Errors: `Memory`, which leaves node and lane as they were; those of the node at an item, after which just the items before it
+/// # Errors
+///
+/// `Memory`, which leaves node and lane as they were; those of the node at an item, after which just the items before it
 /// are applied and listed, and the batch no longer waits.
 pub(crate) fn receive(node: &mut Node, lane: &mut Lane) -> Result<bool, Cause>
     requires sound { IsSound node.old }
@@ -85,7 +91,7 @@ pub(crate) fn receive(node: &mut Node, lane: &mut Lane) -> Result<bool, Cause>
     requires batches { All (IsBatchFor node.old.family node.old.n node.old.id) lane.old.link.waiting }
     ensures none { (result ≡ Ok false) ↔ (lane.old.link.waiting ≡ []) }
     ensures nothing { result ≡ Ok false → (node.new ≡ node.old) × (lane.new ≡ lane.old) }
-    ensures received { result ≡ Ok true → HasReceived node.old lane.old node.new lane.new }
+    ensures received { result ≡ Ok true → HasTakenBatch node.old lane.old node.new lane.new }
     ensures unchanged { result ≡ Err cause.Memory → IsUnchanged node.old node.new × LaneStays lane.old lane.new }
     ensures front { IfErr result (λ why. why ≢ cause.Memory → HasReceivedFront node.old lane.old node.new lane.new why) }
     ensures going { OnOk result (node.new.failed ≡ None) }

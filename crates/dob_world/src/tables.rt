@@ -8,8 +8,8 @@ ghost use Rattle.dob_world.specs.Shown.{setting_of, state_of};
 ghost use Rattle.dob_world.specs.Standing.{IsStanding};
 
 use crate::world::World;
-use dob_pieces::Memory;
 use dob_classes::Classes;
+use dob_pieces::Memory;
 use dob_share::owner;
 use dob_value::{Table, Value};
 
@@ -17,7 +17,9 @@ impl World {
     /// The present values of all classes. Where nothing is left to do, and so where the end is announced, it is the value
     /// table.
     ///
-    /// Error: `Memory`.
+    /// # Errors
+    ///
+    /// `Memory`.
     pub fn gather(&self) -> Result<Table, Memory>
         requires standing { IsStanding self.now }
         ensures family { IfOk result (λ table. table.family ≡ self.now.classes.family) }

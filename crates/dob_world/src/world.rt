@@ -9,10 +9,10 @@ use crate::lane::Lane;
 use crate::parts::{open_lanes, open_nodes};
 use crate::step::Step;
 use crate::steps::{apply_own, post, receive};
-use dob_node::{Node, opening};
-use dob_pieces::Family;
 use dob_classes::Classes;
 use dob_lists::SegmentLength;
+use dob_node::{Node, opening};
+use dob_pieces::Family;
 use dob_safra::is_size;
 use dob_update::are_sizes;
 use std::alloc::Global;
@@ -42,16 +42,18 @@ impl World {
     ghost use Rattle.dob_world.specs.declared.fault.Fault.TheVariants as fault;
     ghost use Rattle.dob_world.specs.Stops.{IsStop, IsForMemory};
     ghost use Rattle.dob_world.specs.Shown.{setting_of, state_of};
-    ghost use Rattle.dob_world.specs.Standing.{IsStanding, IsKept};
-    ghost use Rattle.dob_world.specs.Effects.{IsMade, IsDone, IsSkipped, IsStopped};
-    ghost use Rattle.dob_world.specs.Start.{IsStart};
+    ghost use Rattle.dob_world.specs.Standing.{IsStanding, StandsOrStopped};
+    ghost use Rattle.dob_world.specs.Effects.{IsMade, IsEventDone, IsSkipped, IsStopped};
+    ghost use Rattle.dob_world.specs.Start.{IsWorldStart};
     ghost use Rattle.dob_world.specs.Results.{HasSettingFault};
     ghost use Rattle.dob_world.specs.Headline.{AreBeginnings, Headline};
 
     /// A world of `n` nodes before its first event, with batches of at most `batch` items and links with room for
     /// `capacity` batches.
     ///
-    /// Errors, tested in this order: `Nodes` where `n` isn't 1 to 16; `Sizes` where `batch` isn't 1 to 4096 or `capacity` not
+    /// # Errors
+    ///
+    /// Tested in this order: `Nodes` where `n` isn't 1 to 16; `Sizes` where `batch` isn't 1 to 4096 or `capacity` not
     /// 1 to 1024; `Memory`.
     pub fn open(
         alloc: Global,
@@ -62,7 +64,7 @@ impl World {
     ) -> Result<World, Fault>
         ensures setting { IfOk result (λ world. setting_of world ≡ setting_by family n batch capacity) }
         ensures standing { IfOk result (λ world. IsStanding world × (world.failed ≡ None) × (world.steps ≡ 0)) }
-        ensures opened { IfOk result (λ world. IsStart (setting_of world) (state_of world)) }
+        ensures opened { IfOk result (λ world. IsWorldStart (setting_of world) (state_of world)) }
         ensures fault { IfErr result (λ fault. HasSettingFault (setting_by family n batch capacity) fault) }
     {
         if !is_size(n) {
@@ -92,14 +94,16 @@ impl World {
 
     /// Makes the event happen, or skips it where it can't.
     ///
-    /// Error: `Stopped`, where the node that makes a step at the event has stopped; then, and at each further step, the same, which
+    /// # Errors
+    ///
+    /// `Stopped`, where the node that makes a step at the event has stopped; then, and at each further step, the same, which
     /// changes nothing. A world that has stopped isn't one whose end is announced. Counts, colours and the token are as before the
     /// event, and so are all lists, but where an item of a batch goes too deep: then just the items before it are applied, and the
     /// batch waits no more. In each case what was applied is a beginning of what was sent, and each cell is what is known.
     /// In a set of fewer than 65,535 classes it stops for lack of memory alone.
     pub fn step(&mut self, event: Event) -> Result<Step, Fault>
         requires few { self.old.steps < 2 ^ 40 }
-        requires kept { IsKept self.old }
+        requires kept { StandsOrStopped self.old }
         ensures done { result ≡ Ok Step.Done → IsMade event self.old self.new × (self.new.steps ≡ self.old.steps + 1) }
         ensures skipped { result ≡ Ok Step.Skipped → IsSkipped event self.old self.new }
         ensures setting { setting_of self.new ≡ setting_of self.old }
@@ -115,7 +119,7 @@ impl World {
         ensures headline { OnOk result (Headline (setting_of self.new) (state_of self.new)) }
         ensures beginnings { AreBeginnings (setting_of self.new) (state_of self.new).world }
         ensures going { OnOk result ((self.new.failed ≡ None) × IsStanding self.new) }
-        ensures kept { IsKept self.new }
+        ensures kept { StandsOrStopped self.new }
     {
         if let Some(fault) = self.failed {
             return Err(fault);
@@ -137,7 +141,7 @@ impl World {
     fn make(&mut self, event: Event) -> Result<bool, Fault>
         requires standing { IsStanding self.old }
         requires few { self.old.steps < 2 ^ 40 }
-        ensures done { result ≡ Ok true → IsDone event self.old self.new }
+        ensures done { result ≡ Ok true → IsEventDone event self.old self.new }
         ensures skipped { result ≡ Ok false → IsSkipped event self.old self.new }
         ensures stopped { IfErr result (λ fault. IsStopped event fault self.old self.new) }
     {
@@ -155,7 +159,7 @@ impl World {
     fn expand(&mut self, node: usize) -> Result<bool, Fault>
         requires standing { IsStanding self.old }
         requires few { self.old.steps < 2 ^ 40 }
-        ensures done { result ≡ Ok true → IsDone (Expand node) self.old self.new }
+        ensures done { result ≡ Ok true → IsEventDone (Expand node) self.old self.new }
         ensures skipped { result ≡ Ok false → IsSkipped (Expand node) self.old self.new }
         ensures stopped { IfErr result (λ fault. IsStopped (Expand node) fault self.old self.new) }
     {
@@ -172,7 +176,7 @@ impl World {
     fn own(&mut self, node: usize) -> Result<bool, Fault>
         requires standing { IsStanding self.old }
         requires few { self.old.steps < 2 ^ 40 }
-        ensures done { result ≡ Ok true → IsDone (Own node) self.old self.new }
+        ensures done { result ≡ Ok true → IsEventDone (Own node) self.old self.new }
         ensures skipped { result ≡ Ok false → IsSkipped (Own node) self.old self.new }
         ensures stopped { IfErr result (λ fault. IsStopped (Own node) fault self.old self.new) }
     {
@@ -190,7 +194,7 @@ impl World {
     fn post(&mut self, from: usize, to: usize) -> Result<bool, Fault>
         requires standing { IsStanding self.old }
         requires few { self.old.steps < 2 ^ 40 }
-        ensures done { result ≡ Ok true → IsDone (Post from to) self.old self.new }
+        ensures done { result ≡ Ok true → IsEventDone (Post from to) self.old self.new }
         ensures skipped { result ≡ Ok false → IsSkipped (Post from to) self.old self.new }
         ensures stopped { IfErr result (λ fault. IsStopped (Post from to) fault self.old self.new) }
     {
@@ -217,7 +221,7 @@ impl World {
     fn take(&mut self, from: usize, to: usize) -> Result<bool, Fault>
         requires standing { IsStanding self.old }
         requires few { self.old.steps < 2 ^ 40 }
-        ensures done { result ≡ Ok true → IsDone (Take from to) self.old self.new }
+        ensures done { result ≡ Ok true → IsEventDone (Take from to) self.old self.new }
         ensures skipped { result ≡ Ok false → IsSkipped (Take from to) self.old self.new }
         ensures stopped { IfErr result (λ fault. IsStopped (Take from to) fault self.old self.new) }
     {
@@ -239,7 +243,7 @@ impl World {
     fn pass(&mut self, node: usize) -> bool
         requires standing { IsStanding self.old }
         requires few { self.old.steps < 2 ^ 40 }
-        ensures done { result ≡ true → IsDone (Pass node) self.old self.new }
+        ensures done { result ≡ true → IsEventDone (Pass node) self.old self.new }
         ensures skipped { result ≡ false → IsSkipped (Pass node) self.old self.new }
     {
         if node >= self.n || node != self.detector.token.at || self.detector.announced {
@@ -259,7 +263,7 @@ impl World {
     fn announce(&mut self) -> bool
         requires standing { IsStanding self.old }
         requires few { self.old.steps < 2 ^ 40 }
-        ensures done { result ≡ true → IsDone Announce self.old self.new }
+        ensures done { result ≡ true → IsEventDone Announce self.old self.new }
         ensures skipped { result ≡ false → IsSkipped Announce self.old self.new }
     {
         if self.detector.announced || !self.detector.may_end() {

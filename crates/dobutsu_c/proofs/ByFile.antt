@@ -14,8 +14,8 @@ use Rattle.dob_dbfile.specs.declared.header.Format.{Format}
 use Rattle.dob_dbfile.specs.Faults.{CountsClasses}
 use Rattle.dob_dbfile.specs.Format.{IsFile}
 use Rattle.dob_dbfile.proofs.Looked.{table_family, table_has_record, table_record}
-use Rattle.dob_probe.specs.declared.choices.ValuedMove.{ValuedMove}
-use Rattle.dob_probe.specs.Choices.{AreValuedMoves, HasMoveValue}
+use Rattle.dob_probe.specs.declared.valued_moves.ValuedMove.{ValuedMove}
+use Rattle.dob_probe.specs.ValuedMoves.{AreValuedMoves, HasMoveValue}
 use Rattle.dob_probe.specs.Lines.{GivenBy}
 use Rattle.dob_probe.proofs.Best.{of_value}
 use Rattle.dobutsu_c.specs.Moves.{AreToldMoves}
@@ -51,7 +51,7 @@ module _ (file : List ℕ) (table : ClassTable) (is : IsFile file table) (right 
       outcome = has.outcome;
       goes = has.goes;
       value = has.value;
-      has = given_right has.outcome has.value (moves_keep_the_family table.family p valued.choice has.outcome member has.goes_on has.goes) has.has;
+      has = given_right has.outcome has.value (moves_keep_the_family table.family p valued.the_move has.outcome member has.goes_on has.goes) has.has;
       seen = has.seen;
     }
 
@@ -62,7 +62,7 @@ module _ (file : List ℕ) (table : ClassTable) (is : IsFile file table) (right 
       outcome = has.outcome;
       goes = has.goes;
       value = has.value;
-      has = right_given has.outcome has.value (moves_keep_the_family table.family p valued.choice has.outcome member has.goes_on has.goes) has.has;
+      has = right_given has.outcome has.value (moves_keep_the_family table.family p valued.the_move has.outcome member has.goes_on has.goes) has.has;
       seen = has.seen;
     }
 

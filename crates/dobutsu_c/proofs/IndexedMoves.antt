@@ -6,34 +6,34 @@ use Rattle.dob_pieces.specs.declared.setup.Setup.{Setup}
 use Rattle.dob_moves.specs.declared.game_move.Move.{Move}
 use Rattle.dob_moves.specs.Moves.{place}
 use Rattle.dob_moves.specs.Statuses.{AreMoves}
-use Rattle.dob_probe.specs.declared.choices.ValuedMove.{ValuedMove}
+use Rattle.dob_probe.specs.declared.valued_moves.ValuedMove.{ValuedMove}
 
--- each listed move is one of the first choices
+-- each listed move is one of the first the_moves
 abbrev pub AreOfFirst : List Move → ℕ → List ValuedMove → Type 0
-AreOfFirst choices upto list = (valued : ValuedMove) → Contains list valued
-    → (index : ℕ) × (index < upto) × (slice_get choices index ≡ Some valued.choice)
+AreOfFirst the_moves upto list = (valued : ValuedMove) → Contains list valued
+    → (index : ℕ) × (index < upto) × (slice_get the_moves index ≡ Some valued.the_move)
 
 -- and stands before the next
-pub before_next : (profile : Profile) (p : Setup) (choices : List Move) (upto : ℕ) (list : List ValuedMove) (choice : Move) → AreMoves profile p choices
-    → upto < length choices → slice_get choices upto ≡ Some choice → AreOfFirst choices upto list
-    → (valued : ValuedMove) → Contains list valued → place valued.choice < place choice
-before_next profile p choices upto list choice are within here first valued there =
+pub before_next : (profile : Profile) (p : Setup) (the_moves : List Move) (upto : ℕ) (list : List ValuedMove) (the_move : Move) → AreMoves profile p the_moves
+    → upto < length the_moves → slice_get the_moves upto ≡ Some the_move → AreOfFirst the_moves upto list
+    → (valued : ValuedMove) → Contains list valued → place valued.the_move < place the_move
+before_next profile p the_moves upto list the_move are within here first valued there =
     let earlier = first valued there in
     let index : ℕ = earlier.0 in
     let below : index < upto = earlier.1 in
-    let low = ap place (read index valued.choice (omega arith) earlier.2 choice) in
-    let high = ap place (read upto choice within here choice) in
-    let rising : place (get_or choices index choice) < place (get_or choices upto choice) = are.ordered index upto choice below within in
+    let low = ap place (read index valued.the_move (omega arith) earlier.2 the_move) in
+    let high = ap place (read upto the_move within here the_move) in
+    let rising : place (get_or the_moves index the_move) < place (get_or the_moves upto the_move) = are.ordered index upto the_move below within in
     omega (arith, low, high, rising)
   where
-    read : (k : ℕ) (m : Move) → k < length choices → slice_get choices k ≡ Some m → (d : Move) → get_or choices k d ≡ m
-    read k m below stands d = same_Some (get_or choices k d) m (sym (slice_get-get_or choices k d below) ∙ stands)
+    read : (k : ℕ) (m : Move) → k < length the_moves → slice_get the_moves k ≡ Some m → (d : Move) → get_or the_moves k d ≡ m
+    read k m below stands d = same_Some (get_or the_moves k d) m (sym (slice_get-get_or the_moves k d below) ∙ stands)
 
-pub one_more : (choices : List Move) (upto : ℕ) (list new : List ValuedMove) (more : ValuedMove) → slice_get choices upto ≡ Some more.choice
-    → ((x : ValuedMove) → Contains new x ↔ (Contains list x ⊎ (x ≡ more))) → AreOfFirst choices upto list → AreOfFirst choices (upto + 1) new
-one_more choices upto list new more here has first valued there = elim ((has valued).0 there) [
+pub one_more : (the_moves : List Move) (upto : ℕ) (list new : List ValuedMove) (more : ValuedMove) → slice_get the_moves upto ≡ Some more.the_move
+    → ((x : ValuedMove) → Contains new x ↔ (Contains list x ⊎ (x ≡ more))) → AreOfFirst the_moves upto list → AreOfFirst the_moves (upto + 1) new
+one_more the_moves upto list new more here has first valued there = elim ((has valued).0 there) [
   | inl earlier ↦ let known = first valued earlier in let below : known.0 < upto = known.1 in (known.0, omega (arith, below), known.2)
-  | inr same ↦ (upto, omega arith, subst (λ (x : ValuedMove). slice_get choices upto ≡ Some x.choice) (sym same) here)
+  | inr same ↦ (upto, omega arith, subst (λ (x : ValuedMove). slice_get the_moves upto ≡ Some x.the_move) (sym same) here)
 ]
 
 -- what follows of what is there

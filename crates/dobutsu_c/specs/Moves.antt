@@ -10,8 +10,8 @@ use Rattle.dob_moves.specs.declared.game_move.Move.{Move}
 use Rattle.dob_moves.specs.declared.game_move.Move.TheVariants.{Step, Put}
 use Rattle.dob_value.specs.declared.value.Value.{Value}
 use Rattle.dob_dbfile.specs.declared.header.Format.{Format}
-use Rattle.dob_probe.specs.declared.choices.ValuedMove.{ValuedMove}
-use Rattle.dob_probe.specs.Choices.{AreValuedMoves}
+use Rattle.dob_probe.specs.declared.valued_moves.ValuedMove.{ValuedMove}
+use Rattle.dob_probe.specs.ValuedMoves.{AreValuedMoves}
 use Rattle.dobutsu_c.specs.declared.moves.DobutsuMove.{DobutsuMove}
 use Rattle.dobutsu_c.specs.declared.value.DobutsuValue.{DobutsuValue}
 use Rattle.dobutsu_c.specs.Probes.{IsAsked, IsGiven, shown}
@@ -41,7 +41,7 @@ shown_move (Step kind from to catch grows) value =
 shown_move (Put kind to) value = record { kind = hand_number kind; from = 12; to = to; catches = 0; grows = 0; value = value }
 
 abbrev pub shown_valued : ValuedMove → DobutsuMove
-shown_valued valued = shown_move valued.choice (shown valued.value)
+shown_valued valued = shown_move valued.the_move (shown valued.value)
 
 -- the moves stand in the first places, as far as there are places, and the others hold what they held
 pub record AreWritten (list : List ValuedMove) (old new : List DobutsuMove) : Type 0 where

@@ -8,9 +8,9 @@ ghost use Rattle.dob_dbfile.specs.Faults.{IsNoLonger};
 ghost use Rattle.dobutsu_c.specs.Probes.{HasProbeFault, IsAsked, IsGiven};
 
 use crate::fault::Fault;
+use dob_classes::class_number;
 use dob_dbfile::{Format, held_family, held_value};
 use dob_pieces::{Family, PieceSet, Position, Profile};
-use dob_classes::class_number;
 use dob_text::read_position_bytes;
 use dob_value::Value;
 

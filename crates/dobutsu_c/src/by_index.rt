@@ -95,7 +95,7 @@ fn held_by(file: &[u8], index: &[u64]) -> Result<HeldBy, ByFault>
     }
 }
 
-// The same where file and index fit each other.
+// The value where file and index fit each other.
 fn held_with(file: &[u8], index: &[u64]) -> Option<HeldBy>
     ensures some { IfSome result (λ held. IsHeldBy file.now index.now held.format held.family held.classes) }
     ensures none { (format : AnyFormat) (family : AnyFamily) → IsIndex family index.now → IsNoLonger format family (whole file.now) → result ≢ None }

@@ -5,8 +5,8 @@ ghost use Rattle.dob_rank.specs.Families.{HasSize, HasClasses};
 ghost use Rattle.dobutsu_c.specs.Counts.{IsFamily, count_fault, profile_number};
 
 use crate::numbers::{PROFILE_BYTE, SET_TEXT};
-use dob_pieces::{Family, PieceSet, Profile};
 use dob_classes::count_classes;
+use dob_pieces::{Family, PieceSet, Profile};
 use dob_rank::size;
 
 /// How many positions a family has, and how many classes: that of so many chicks, elephants and giraffes, 0 to 2 of each, by

@@ -10,8 +10,8 @@ ghost use Rattle.dob_value.specs.Values.{HasValue};
 ghost use Rattle.dob_dbfile.specs.Devices.{whole};
 ghost use Rattle.dob_dbfile.specs.Faults.{IsNoLonger};
 ghost use Rattle.dob_dbfile.specs.Format.{IsFile};
-ghost use Rattle.dob_probe.specs.declared.choices.ValuedMove.{ValuedMove as Valued};
-ghost use Rattle.dob_probe.specs.Choices.{AreValuedMoves};
+ghost use Rattle.dob_probe.specs.declared.valued_moves.ValuedMove.{ValuedMove as Valued};
+ghost use Rattle.dob_probe.specs.ValuedMoves.{AreValuedMoves};
 ghost use Rattle.dobutsu_c.specs.declared.fault.Fault.{Fault as AnyFault};
 ghost use Rattle.dobutsu_c.specs.Faults.{number_of};
 ghost use Rattle.dobutsu_c.specs.Moves.{AreToldMoves, AreWritten, shown_move, kind_number, hand_number, flag};
@@ -86,14 +86,14 @@ fn valued_moves(alloc: Global, file: &[u8], asked: Asked) -> Result<Vec<ValuedMo
     requires member { IsPositionOf asked.family asked.position.setup }
     ensures { IfOk result (λ list. AreValuedMoves asked.family.profile (IsGiven file.now asked.format asked.family) asked.position.setup list.items) }
 {
-    if let Some(choice) = first_catch(&asked.position) {
+    if let Some(the_move) = first_catch(&asked.position) {
         let mut list = Vec::new(alloc);
         let value = Value::Win(1);
-        list.push(ValuedMove { choice, value })?;
+        list.push(ValuedMove { the_move, value })?;
         return Ok(list);
     }
-    let choices = moves(alloc, asked.family.profile, &asked.position)?;
-    moves_by_value(alloc, file, asked, &choices)
+    let the_moves = moves(alloc, asked.family.profile, &asked.position)?;
+    moves_by_value(alloc, file, asked, &the_moves)
 }
 
 // Those moves with their values, best first.
@@ -103,19 +103,19 @@ fn moves_by_value(
     alloc: Global,
     file: &[u8],
     asked: Asked,
-    choices: &[Move],
+    the_moves: &[Move],
 ) -> Result<Vec<ValuedMove>, Memory>
     requires held { IsNoLonger asked.format asked.family (whole file.now) }
     requires member { IsPositionOf asked.family asked.position.setup }
-    requires choices { AreMoves asked.family.profile asked.position.setup choices.now }
+    requires the_moves { AreMoves asked.family.profile asked.position.setup the_moves.now }
     requires free { ¬ CanCatch asked.position.setup }
     ensures { IfOk result (λ list. AreValuedMoves asked.family.profile (IsGiven file.now asked.format asked.family) asked.position.setup list.items) }
 {
     let mut list = Vec::new(alloc);
-    for choice in choices {
-        let value = value_seen(value_to(file, &asked, *choice));
+    for the_move in the_moves {
+        let value = value_seen(value_to(file, &asked, *the_move));
         let valued = ValuedMove {
-            choice: *choice,
+            the_move: *the_move,
             value,
         };
         insert_by_value(&mut list, valued)?;
@@ -124,12 +124,12 @@ fn moves_by_value(
 }
 
 // The value that the file gives the position to which the move leads.
-fn value_to(file: &[u8], asked: &Asked, choice: Move) -> Value
+fn value_to(file: &[u8], asked: &Asked, the_move: Move) -> Value
     requires held { IsNoLonger asked.now.format asked.now.family (whole file.now) }
     requires member { IsPositionOf asked.now.family asked.now.position.setup }
     requires open { HasStatus asked.now.family.profile asked.now.position.setup Open }
-    requires can_go { CanGo asked.now.family.profile asked.now.position.setup choice }
-    ensures given { (q : Setup) → Goes asked.now.family.profile asked.now.position.setup choice q
+    requires can_go { CanGo asked.now.family.profile asked.now.position.setup the_move }
+    ensures given { (q : Setup) → Goes asked.now.family.profile asked.now.position.setup the_move q
         → IsGiven file.now asked.now.format asked.now.family q result }
     ensures entry { IsEntry result }
 {
@@ -137,7 +137,7 @@ fn value_to(file: &[u8], asked: &Asked, choice: Move) -> Value
         file,
         asked.format,
         asked.family,
-        &apply(&asked.position, choice),
+        &apply(&asked.position, the_move),
     )
 }
 
@@ -148,15 +148,15 @@ pub(crate) fn write_moves(places: &mut [DobutsuMove], list: &[ValuedMove])
     let count = list.len().min(places.len());
     for place in 0..count {
         let valued = list[place];
-        places[place] = shown_move(valued.choice, shown(valued.value));
+        places[place] = shown_move(valued.the_move, shown(valued.value));
     }
 }
 
 // The move with its value, as it is shown.
-fn shown_move(choice: Move, value: DobutsuValue) -> DobutsuMove
-    ensures { result ≡ shown_move choice value }
+fn shown_move(the_move: Move, value: DobutsuValue) -> DobutsuMove
+    ensures { result ≡ shown_move the_move value }
 {
-    match choice {
+    match the_move {
         Move::Step {
             kind,
             from,

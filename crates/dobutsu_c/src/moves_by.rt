@@ -12,8 +12,8 @@ ghost use Rattle.dob_index.specs.Index.{IsIndex, IsMarked};
 ghost use Rattle.dob_dbfile.specs.declared.header.Format.{Format as AnyFormat};
 ghost use Rattle.dob_dbfile.specs.Faults.{NamesFamily};
 ghost use Rattle.dob_dbfile.specs.Format.{IsFile};
-ghost use Rattle.dob_probe.specs.declared.choices.ValuedMove.{ValuedMove as Valued};
-ghost use Rattle.dob_probe.specs.Choices.{AreValuedMoves};
+ghost use Rattle.dob_probe.specs.declared.valued_moves.ValuedMove.{ValuedMove as Valued};
+ghost use Rattle.dob_probe.specs.ValuedMoves.{AreValuedMoves};
 ghost use Rattle.dobutsu_c.specs.declared.fault.Fault.{Fault as AnyFault};
 ghost use Rattle.dobutsu_c.specs.ByIndex.{IsIndexFor, IsHeldBy};
 ghost use Rattle.dobutsu_c.specs.Faults.{number_of};
@@ -81,14 +81,14 @@ fn valued_moves_by(
     ensures { IfOk result (λ found. MatchOption found (¬ IsIndex asked.held.family index.now) (λ list. IsIndex asked.held.family index.now
         → AreValuedMoves asked.held.family.profile (IsGiven file.now asked.held.format asked.held.family) asked.position.setup list.items)) }
 {
-    if let Some(choice) = first_catch(&asked.position) {
+    if let Some(the_move) = first_catch(&asked.position) {
         let mut list = Vec::new(alloc);
         let value = Value::Win(1);
-        list.push(ValuedMove { choice, value })?;
+        list.push(ValuedMove { the_move, value })?;
         return Ok(Some(list));
     }
-    let choices = moves(alloc, asked.held.family.profile, &asked.position)?;
-    moves_in_order(alloc, file, index, asked, &choices)
+    let the_moves = moves(alloc, asked.held.family.profile, &asked.position)?;
+    moves_in_order(alloc, file, index, asked, &the_moves)
 }
 
 // Those moves with their values, best first; none where the index leads outside of the file.
@@ -99,22 +99,22 @@ fn moves_in_order(
     file: &[u8],
     index: &[u64],
     asked: AskedBy,
-    choices: &[Move],
+    the_moves: &[Move],
 ) -> Result<Option<Vec<ValuedMove>>, Memory>
     requires held { IsHeldBy file.now index.now asked.held.format asked.held.family asked.held.classes }
     requires member { IsPositionOf asked.held.family asked.position.setup }
-    requires choices { AreMoves asked.held.family.profile asked.position.setup choices.now }
+    requires the_moves { AreMoves asked.held.family.profile asked.position.setup the_moves.now }
     requires free { ¬ CanCatch asked.position.setup }
     ensures { IfOk result (λ found. MatchOption found (¬ IsIndex asked.held.family index.now) (λ list. IsIndex asked.held.family index.now
         → AreValuedMoves asked.held.family.profile (IsGiven file.now asked.held.format asked.held.family) asked.position.setup list.items)) }
 {
     let mut list = Vec::new(alloc);
-    for choice in choices {
-        let Some(value) = value_after(file, index, &asked, *choice) else {
+    for the_move in the_moves {
+        let Some(value) = value_after(file, index, &asked, *the_move) else {
             return Ok(None);
         };
         let valued = ValuedMove {
-            choice: *choice,
+            the_move: *the_move,
             value: value_seen(value),
         };
         insert_by_value(&mut list, valued)?;
@@ -123,15 +123,15 @@ fn moves_in_order(
 }
 
 // The value that the file gives the position to which the move leads; none where the index leads outside of the file.
-fn value_after(file: &[u8], index: &[u64], asked: &AskedBy, choice: Move) -> Option<Value>
+fn value_after(file: &[u8], index: &[u64], asked: &AskedBy, the_move: Move) -> Option<Value>
     requires held { IsHeldBy file.now index.now asked.now.held.format asked.now.held.family asked.now.held.classes }
     requires member { IsPositionOf asked.now.held.family asked.now.position.setup }
     requires open { HasStatus asked.now.held.family.profile asked.now.position.setup Open }
-    requires can_go { CanGo asked.now.held.family.profile asked.now.position.setup choice }
+    requires can_go { CanGo asked.now.held.family.profile asked.now.position.setup the_move }
     ensures { MatchOption result (¬ IsIndex asked.now.held.family index.now) (λ value. IsEntry value × (IsIndex asked.now.held.family index.now
-        → (q : Setup) → Goes asked.now.held.family.profile asked.now.position.setup choice q
+        → (q : Setup) → Goes asked.now.held.family.profile asked.now.position.setup the_move q
         → IsGiven file.now asked.now.held.format asked.now.held.family q value)) }
 {
-    let after = apply(&asked.position, choice);
+    let after = apply(&asked.position, the_move);
     value_by(file, index, asked.held, &after)
 }

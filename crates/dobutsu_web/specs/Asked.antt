@@ -19,8 +19,8 @@ profile_number A = 0
 profile_number B = 1
 
 -- the text is that of a position of the family, whose profile has that number
-abbrev pub IsAsked : List ℕ → ℕ → Family → Setup → Type 0
-IsAsked text number family setup = (profile_number family.profile ≡ number) × Spells text setup × IsPositionOf family setup
+abbrev pub IsTextAsked : List ℕ → ℕ → Family → Setup → Type 0
+IsTextAsked text number family setup = (profile_number family.profile ≡ number) × Spells text setup × IsPositionOf family setup
 
 abbrev pub HasRefusal : List ℕ → ℕ → Refusal → Type 0
 HasRefusal text number Profile = 2 ≤ number
@@ -45,4 +45,4 @@ IsRefused text number answer = (refusal : Refusal) × HasRefusal text number ref
 
 -- the number of the block of the position that is asked for
 abbrev pub IsBlockOf : List ℕ → ℕ → ℕ → Type 0
-IsBlockOf text number block = (family : Family) × (setup : Setup) × IsAsked text number family setup × (block ≡ block_of family.set setup)
+IsBlockOf text number block = (family : Family) × (setup : Setup) × IsTextAsked text number family setup × (block ≡ block_of family.set setup)

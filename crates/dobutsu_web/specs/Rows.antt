@@ -5,7 +5,7 @@ use Rattle.dob_pieces.specs.declared.setup.Setup.{Setup}
 use Rattle.dob_classes.specs.BlockRows.{IsRow}
 use Rattle.dob_rank.specs.Families.{IsInClass, classes_of}
 use Rattle.dob_rank.specs.Numbers.{block_of}
-use Rattle.dobutsu_web.specs.Asked.{IsAsked}
+use Rattle.dobutsu_web.specs.Asked.{IsTextAsked}
 
 -- where the numbers are the row of the position's block, its class
 abbrev pub IsClassBy : Family → List ℕ → Setup → ℕ → Type 0
@@ -17,4 +17,4 @@ IsRightRow family setup row classes = IsRow family (block_of family.set setup) r
 
 -- the class of the position that is asked for
 abbrev pub IsToldClass : List ℕ → ℕ → List ℕ → ℕ → Type 0
-IsToldClass text number row class = (family : Family) × (setup : Setup) × IsAsked text number family setup × IsClassBy family row setup class
+IsToldClass text number row class = (family : Family) × (setup : Setup) × IsTextAsked text number family setup × IsClassBy family row setup class

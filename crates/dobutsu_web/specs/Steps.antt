@@ -15,7 +15,7 @@ use Rattle.dob_moves.specs.AtPlaces.{IsMoveAt, IsCatchAt}
 use Rattle.dob_moves.specs.Moves.{Goes}
 use Rattle.dob_rank.specs.Numbers.{block_of}
 use Rattle.dobutsu_web.specs.declared.steps.DobutsuStep.{DobutsuStep}
-use Rattle.dobutsu_web.specs.Asked.{IsAsked}
+use Rattle.dobutsu_web.specs.Asked.{IsTextAsked}
 use Rattle.dobutsu_web.specs.Rows.{IsClassBy}
 
 abbrev pub status_number : Status → ℕ
@@ -47,8 +47,8 @@ shown_step (Step kind from to catch grows) block =
 shown_step (Put kind to) block = record { block = block; kind = hand_number kind; from = 12; to = to; catches = 0; grows = 0 }
 
 -- the move of an open position at that place, or the step there that catches the lion
-abbrev pub IsChoiceAt : Profile → Setup → ℕ → Move → Type 0
-IsChoiceAt profile p there move = IsMoveAt profile p there move ⊎ IsCatchAt p there move
+abbrev pub IsMoveAtPlace : Profile → Setup → ℕ → Move → Type 0
+IsMoveAtPlace profile p there move = IsMoveAt profile p there move ⊎ IsCatchAt p there move
 
 -- what the move of an open position at that place leads to
 abbrev pub IsOutcomeAt : Family → Setup → ℕ → Setup → Type 0
@@ -63,25 +63,25 @@ IsShownMove family p there step = (move : Move) × (outcome : Setup) × IsMoveAt
 abbrev pub IsShownCatch : Setup → ℕ → DobutsuStep → Type 0
 IsShownCatch p there step = (move : Move) × IsCatchAt p there move × (step ≡ shown_step move 0)
 
-abbrev pub IsShown : Family → Setup → ℕ → DobutsuStep → Type 0
-IsShown family p there step = IsShownMove family p there step ⊎ IsShownCatch p there step
+abbrev pub IsStepShown : Family → Setup → ℕ → DobutsuStep → Type 0
+IsStepShown family p there step = IsShownMove family p there step ⊎ IsShownCatch p there step
 
 -- ---- of the position that is asked for
 
 abbrev pub IsToldStep : List ℕ → ℕ → ℕ → DobutsuStep → Type 0
-IsToldStep text number there step = (family : Family) × (setup : Setup) × IsAsked text number family setup × IsShown family setup there step
+IsToldStep text number there step = (family : Family) × (setup : Setup) × IsTextAsked text number family setup × IsStepShown family setup there step
 
 -- no move, and no step that catches the lion, stands at that place
 abbrev pub HasNone : List ℕ → ℕ → ℕ → Type 0
 HasNone text number there =
-    (family : Family) × (setup : Setup) × IsAsked text number family setup × ((move : Move) → ¬ IsChoiceAt family.profile setup there move)
+    (family : Family) × (setup : Setup) × IsTextAsked text number family setup × ((move : Move) → ¬ IsMoveAtPlace family.profile setup there move)
 
 -- no move stands at that place
 abbrev pub HasNoMove : List ℕ → ℕ → ℕ → Type 0
 HasNoMove text number there =
-    (family : Family) × (setup : Setup) × IsAsked text number family setup × ((move : Move) → ¬ IsMoveAt family.profile setup there move)
+    (family : Family) × (setup : Setup) × IsTextAsked text number family setup × ((move : Move) → ¬ IsMoveAt family.profile setup there move)
 
 -- the class of what the move at that place leads to, by numbers that ought to be the row of its block
 abbrev pub IsToldClassAfter : List ℕ → ℕ → ℕ → List ℕ → ℕ → Type 0
-IsToldClassAfter text number there row class = (family : Family) × (setup : Setup) × (outcome : Setup) × IsAsked text number family setup
+IsToldClassAfter text number there row class = (family : Family) × (setup : Setup) × (outcome : Setup) × IsTextAsked text number family setup
     × IsOutcomeAt family setup there outcome × IsClassBy family row outcome class

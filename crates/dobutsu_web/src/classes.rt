@@ -3,7 +3,7 @@ ghost use Rattle.std.specs.Prelude.{◌≡◌, ◌≢◌};
 ghost use Rattle.dob_pieces.specs.declared.profile.Family.{Family as AnyFamily};
 ghost use Rattle.dob_pieces.specs.declared.setup.Setup.{Setup as AnySetup};
 ghost use Rattle.dob_rank.specs.Families.{IsInClass};
-ghost use Rattle.dobutsu_web.specs.Asked.{IsAsked, IsRefused};
+ghost use Rattle.dobutsu_web.specs.Asked.{IsTextAsked, IsRefused};
 
 use crate::asked::ask;
 use dob_classes::class_number;
@@ -13,7 +13,7 @@ use dob_classes::class_number;
 /// 6 or 26 of the text. It takes no memory, and some hundredths of a second for two pieces of each kind.
 #[unsafe(no_mangle)]
 pub extern "C" fn dobutsu_class(text: &[u8], profile: u32, class: &mut u64) -> u32
-    ensures told { result ≡ 0 → (family : AnyFamily) × (setup : AnySetup) × IsAsked text.now profile family setup × IsInClass family setup class.new }
+    ensures told { result ≡ 0 → (family : AnyFamily) × (setup : AnySetup) × IsTextAsked text.now profile family setup × IsInClass family setup class.new }
     ensures refused { result ≢ 0 → IsRefused text.now profile result }
     ensures unchanged { result ≢ 0 → class.new ≡ class.old }
 {

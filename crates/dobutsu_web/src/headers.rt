@@ -3,9 +3,9 @@ ghost use Rattle.std.specs.Prelude.{◌≡◌, ◌≢◌};
 ghost use Rattle.dobutsu_web.specs.Headers.{IsToldHeader, IsNoFile, file_number, shown};
 ghost use Rattle.dobutsu_web.specs.Asked.{profile_number};
 
+use dob_classes::count_classes;
 use dob_dbfile::{Fault, Format, front_family, header_len};
 use dob_pieces::{Family, Profile};
-use dob_classes::count_classes;
 
 /// What the header of a file says: how many classes its family has, how many bytes stand before the first class's record, of which each has two, the numbers
 /// of chicks, elephants and giraffes, and the profile's number, 0 for A and 1 for B.

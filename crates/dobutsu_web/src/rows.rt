@@ -4,13 +4,13 @@ ghost use Rattle.dob_pieces.specs.declared.profile.Family.{Family as AnyFamily};
 ghost use Rattle.dob_pieces.specs.declared.setup.Setup.{Setup as AnySetup};
 ghost use Rattle.dob_classes.specs.BlockRows.{IsRow};
 ghost use Rattle.dob_rank.specs.Families.{IsPositionOf};
-ghost use Rattle.dobutsu_web.specs.Asked.{IsAsked, IsRefused, IsBlockOf};
+ghost use Rattle.dobutsu_web.specs.Asked.{IsTextAsked, IsRefused, IsBlockOf};
 ghost use Rattle.dobutsu_web.specs.Rows.{IsClassBy, IsRightRow, IsToldClass};
 
 use crate::asked::ask;
 use crate::numbers::NO_ROW;
-use dob_pieces::{Family, Position};
 use dob_classes::{block_number, class_number_by_any, count_blocks, write_row};
+use dob_pieces::{Family, Position};
 
 /// How many numbers a row has.
 const ROW_LEN: usize = 101;
@@ -35,7 +35,7 @@ pub extern "C" fn dobutsu_block(text: &[u8], profile: u32, block: &mut u64) -> u
 /// fault as `dobutsu_class` does.
 #[unsafe(no_mangle)]
 pub extern "C" fn dobutsu_row(text: &[u8], profile: u32, block: u64, row: &mut [u64]) -> u32
-    ensures told { result ≡ 0 → (family : AnyFamily) × (setup : AnySetup) × IsAsked text.now profile family setup × IsRow family block row.new }
+    ensures told { result ≡ 0 → (family : AnyFamily) × (setup : AnySetup) × IsTextAsked text.now profile family setup × IsRow family block row.new }
     ensures refused { result ≢ 0 → result ≢ 29 → IsRefused text.now profile result }
     ensures unchanged { result ≢ 0 → row.new ≡ row.old }
 {
@@ -65,7 +65,7 @@ pub extern "C" fn dobutsu_class_by(
 ) -> u32
     ensures told { result ≡ 0 → IsToldClass text.now profile row.now class.new }
     ensures below { result ≡ 0 → class.new < classes }
-    ensures row { result ≡ 29 → (family : AnyFamily) × (setup : AnySetup) × IsAsked text.now profile family setup × ¬ IsRightRow family setup row.now classes }
+    ensures row { result ≡ 29 → (family : AnyFamily) × (setup : AnySetup) × IsTextAsked text.now profile family setup × ¬ IsRightRow family setup row.now classes }
     ensures refused { result ≢ 0 → result ≢ 29 → IsRefused text.now profile result }
     ensures unchanged { result ≢ 0 → class.new ≡ class.old }
 {

@@ -5,7 +5,7 @@ ghost use Rattle.dob_pieces.specs.declared.setup.Setup.{Setup as AnySetup};
 ghost use Rattle.dob_moves.specs.declared.position_status.Status.{Status as AnyStatus};
 ghost use Rattle.dob_moves.specs.MoveLists.{moves_of};
 ghost use Rattle.dob_moves.specs.Statuses.{HasStatus};
-ghost use Rattle.dobutsu_web.specs.Asked.{IsAsked, IsRefused};
+ghost use Rattle.dobutsu_web.specs.Asked.{IsTextAsked, IsRefused};
 ghost use Rattle.dobutsu_web.specs.Steps.{status_number};
 
 use crate::asked::ask;
@@ -20,7 +20,7 @@ pub extern "C" fn dobutsu_status(
     status: &mut u32,
     count: &mut u32,
 ) -> u32
-    ensures told { result ≡ 0 → (family : AnyFamily) × (setup : AnySetup) × (of : AnyStatus) × IsAsked text.now profile family setup
+    ensures told { result ≡ 0 → (family : AnyFamily) × (setup : AnySetup) × (of : AnyStatus) × IsTextAsked text.now profile family setup
         × HasStatus family.profile setup of × (status.new ≡ status_number of) × (count.new ≡ length (moves_of family.profile setup)) }
     ensures refused { result ≢ 0 → IsRefused text.now profile result }
     ensures unchanged { result ≢ 0 → (status.new ≡ status.old) × (count.new ≡ count.old) }

@@ -6,16 +6,16 @@ ghost use Rattle.dob_moves.specs.declared.game_move.Move.{Move as AnyMove};
 ghost use Rattle.dob_moves.specs.AtPlaces.{IsMoveAt};
 ghost use Rattle.dob_moves.specs.Moves.{Goes};
 ghost use Rattle.dob_rank.specs.Families.{IsPositionOf};
-ghost use Rattle.dobutsu_web.specs.Asked.{IsAsked, IsRefused};
+ghost use Rattle.dobutsu_web.specs.Asked.{IsTextAsked, IsRefused};
 ghost use Rattle.dobutsu_web.specs.Rows.{IsRightRow};
-ghost use Rattle.dobutsu_web.specs.Steps.{IsChoiceAt, HasNone, HasNoMove, IsShownMove, IsShown, IsToldStep, IsToldClassAfter, IsOutcomeAt, shown_step, kind_number, hand_number, flag};
+ghost use Rattle.dobutsu_web.specs.Steps.{IsMoveAtPlace, HasNone, HasNoMove, IsShownMove, IsStepShown, IsToldStep, IsToldClassAfter, IsOutcomeAt, shown_step, kind_number, hand_number, flag};
 
 use crate::asked::{Asked, ask};
 use crate::numbers::{NO_MOVE, NO_ROW};
 use crate::rows::class_below;
+use dob_classes::block_number;
 use dob_moves::{Move, apply, catch_at, move_at};
 use dob_pieces::{HandKind, Kind, Position, Square};
-use dob_classes::block_number;
 
 /// A move: a step of a piece of that kind from one square to another, or where it comes from 12 a drop. Chick 0, elephant 1, giraffe 2, hen 3,
 /// lion 4, as the piece was before; square a1 is 0, b1 1, c1 2, a2 3 and so on to c4, 11. `catches` is 1 where a piece is caught and `grows` where
@@ -68,15 +68,15 @@ pub extern "C" fn dobutsu_class_after(
     ensures told { result ≡ 0 → IsToldClassAfter text.now profile place row.now class.new }
     ensures below { result ≡ 0 → class.new < classes }
     ensures none { result ≡ 28 → HasNoMove text.now profile place }
-    ensures row { result ≡ 29 → (family : AnyFamily) × (setup : AnySetup) × (outcome : AnySetup) × IsAsked text.now profile family setup
+    ensures row { result ≡ 29 → (family : AnyFamily) × (setup : AnySetup) × (outcome : AnySetup) × IsTextAsked text.now profile family setup
         × IsOutcomeAt family setup place outcome × ¬ IsRightRow family outcome row.now classes }
     ensures refused { result ≢ 0 → result ≢ 28 → result ≢ 29 → IsRefused text.now profile result }
     ensures unchanged { result ≢ 0 → class.new ≡ class.old }
 {
     match ask(text, profile) {
         Ok(asked) => match move_at(asked.family.profile, &asked.position, place as usize) {
-            Some(choice) => {
-                let outcome = outcome_of(&asked, place as usize, &choice);
+            Some(the_move) => {
+                let outcome = outcome_of(&asked, place as usize, &the_move);
                 match class_below(asked.family, row, classes, &outcome) {
                     Some(found) => {
                         *class = found;
@@ -92,59 +92,59 @@ pub extern "C" fn dobutsu_class_after(
 }
 
 /// The move of an open position at that place, or the step that catches the lion.
-pub(crate) fn choice_at(asked: &Asked, place: usize) -> Option<Move>
+pub(crate) fn move_by_place(asked: &Asked, place: usize) -> Option<Move>
     ensures { MatchOption result
-        ((m : AnyMove) → ¬ IsChoiceAt asked.now.family.profile asked.now.position.setup place m)
-        (IsChoiceAt asked.now.family.profile asked.now.position.setup place) }
+        ((m : AnyMove) → ¬ IsMoveAtPlace asked.now.family.profile asked.now.position.setup place m)
+        (IsMoveAtPlace asked.now.family.profile asked.now.position.setup place) }
 {
     match move_at(asked.family.profile, &asked.position, place) {
-        Some(choice) => Some(choice),
+        Some(the_move) => Some(the_move),
         None => catch_at(&asked.position, place),
     }
 }
 
-// The same, as it is shown.
+// The step, as it is shown.
 fn step_at(asked: &Asked, place: usize) -> Option<DobutsuStep>
     requires { IsPositionOf asked.now.family asked.now.position.setup }
     ensures { MatchOption result
-        ((m : AnyMove) → ¬ IsChoiceAt asked.now.family.profile asked.now.position.setup place m)
-        (IsShown asked.now.family asked.now.position.setup place) }
+        ((m : AnyMove) → ¬ IsMoveAtPlace asked.now.family.profile asked.now.position.setup place m)
+        (IsStepShown asked.now.family asked.now.position.setup place) }
 {
     match move_at(asked.family.profile, &asked.position, place) {
-        Some(choice) => Some(step_of_move(asked, place, &choice)),
+        Some(the_move) => Some(step_of_move(asked, place, &the_move)),
         None => match catch_at(&asked.position, place) {
-            Some(choice) => Some(shown_step(&choice, 0)),
+            Some(the_move) => Some(shown_step(&the_move, 0)),
             None => None,
         },
     }
 }
 
 // A move with the block of what it leads to.
-fn step_of_move(asked: &Asked, place: usize, choice: &Move) -> DobutsuStep
+fn step_of_move(asked: &Asked, place: usize, the_move: &Move) -> DobutsuStep
     requires member { IsPositionOf asked.now.family asked.now.position.setup }
-    requires choice { IsMoveAt asked.now.family.profile asked.now.position.setup place choice.now }
+    requires the_move { IsMoveAt asked.now.family.profile asked.now.position.setup place the_move.now }
     ensures { IsShownMove asked.now.family asked.now.position.setup place result }
 {
-    let outcome = outcome_of(asked, place, choice);
-    shown_step(choice, block_number(asked.family, &outcome))
+    let outcome = outcome_of(asked, place, the_move);
+    shown_step(the_move, block_number(asked.family, &outcome))
 }
 
 /// What the move at that place leads to.
-pub(crate) fn outcome_of(asked: &Asked, place: usize, choice: &Move) -> Position
+pub(crate) fn outcome_of(asked: &Asked, place: usize, the_move: &Move) -> Position
     requires member { IsPositionOf asked.now.family asked.now.position.setup }
-    requires choice { IsMoveAt asked.now.family.profile asked.now.position.setup place choice.now }
-    ensures goes { Goes asked.now.family.profile asked.now.position.setup choice.now result.setup }
+    requires the_move { IsMoveAt asked.now.family.profile asked.now.position.setup place the_move.now }
+    ensures goes { Goes asked.now.family.profile asked.now.position.setup the_move.now result.setup }
     ensures member { IsPositionOf asked.now.family result.setup }
 {
     let _ = place;
-    apply(&asked.position, *choice)
+    apply(&asked.position, *the_move)
 }
 
 // The move as it is shown.
-fn shown_step(choice: &Move, block: u64) -> DobutsuStep
-    ensures { result ≡ shown_step choice.now block }
+fn shown_step(the_move: &Move, block: u64) -> DobutsuStep
+    ensures { result ≡ shown_step the_move.now block }
 {
-    match *choice {
+    match *the_move {
         Move::Step {
             kind,
             from,

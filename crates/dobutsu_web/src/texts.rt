@@ -9,7 +9,7 @@ ghost use Rattle.dobutsu_web.specs.Texts.{IsText, AreFew, IsToldMoveText, IsTold
 
 use crate::asked::ask;
 use crate::numbers::NO_MOVE;
-use crate::steps::{choice_at, outcome_of};
+use crate::steps::{move_by_place, outcome_of};
 use arrayvec::ArrayVec;
 use dob_moves::{Move, move_at};
 use dob_pieces::{Hand, Kind, Piece, Position, Side, Square};
@@ -39,9 +39,9 @@ pub extern "C" fn dobutsu_move_text(
     ensures unchanged { result ≢ 0 → written.new ≡ written.old }
 {
     match ask(text, profile) {
-        Ok(asked) => match choice_at(&asked, place as usize) {
-            Some(choice) => {
-                *written = move_text(&choice, second != 0);
+        Ok(asked) => match move_by_place(&asked, place as usize) {
+            Some(the_move) => {
+                *written = move_text(&the_move, second != 0);
                 0
             }
             None => NO_MOVE,
@@ -66,8 +66,8 @@ pub extern "C" fn dobutsu_after(
 {
     match ask(text, profile) {
         Ok(asked) => match move_at(asked.family.profile, &asked.position, place as usize) {
-            Some(choice) => {
-                *written = position_text(&outcome_of(&asked, place as usize, &choice));
+            Some(the_move) => {
+                *written = position_text(&outcome_of(&asked, place as usize, &the_move));
                 0
             }
             None => NO_MOVE,
@@ -157,21 +157,21 @@ fn push_times(letters: &mut ArrayVec<u8, 32>, letter: u8, count: u8)
 }
 
 // The text of a move.
-fn move_text(choice: &Move, second: bool) -> DobutsuText
-    ensures { IsText result (move_text choice.now second) }
+fn move_text(the_move: &Move, second: bool) -> DobutsuText
+    ensures { IsText result (move_text the_move.now second) }
 {
     let mut letters = ArrayVec::new();
-    push_move(&mut letters, choice, second);
+    push_move(&mut letters, the_move, second);
     written(&letters)
 }
 
 // Writes a move.
-fn push_move(letters: &mut ArrayVec<u8, 32>, choice: &Move, second: bool)
+fn push_move(letters: &mut ArrayVec<u8, 32>, the_move: &Move, second: bool)
     requires { array_vec_len letters.old ≡ 0 }
-    ensures { letters.new.items ≡ move_text choice.now second }
+    ensures { letters.new.items ≡ move_text the_move.now second }
 {
     let side = if second { Side::Enemy } else { Side::Mover };
-    match *choice {
+    match *the_move {
         Move::Step {
             kind,
             from,

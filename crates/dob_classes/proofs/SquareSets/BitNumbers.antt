@@ -8,20 +8,20 @@ use Rattle.dob_rank.specs.declared.layers.Layer.TheVariants.{Chicks, Elephants, 
 use Rattle.dob_rank.specs.declared.masks.Masks.{Masks}
 use Rattle.dob_classes.specs.Bitboards.{IsShownOfSet, AreBitboards, HasOfLayer}
 use Rattle.dob_rank.specs.BoardDigits.{ArePartsOf, AreNumbersOf}
-use Rattle.dob_rank.specs.BoardMasks.{AreMasks}
+use Rattle.dob_rank.specs.BoardMasks.{AreMasksOfBoard}
 use Rattle.dob_rank.specs.Numbers.{order, forms_number, on_board, digits}
 use Rattle.dob_rank.proofs.Boards.BoardMasks.{numbers_are, AreNumbers, three}
 
 -- a position that is shown, by the masks and the numbers found
 pub record AreFound (set : PieceSet) (bits : Bitboards) (masks : Masks) (numbers : List ℕ) (setup : Setup) : Type 0 where
   pub shown : IsShownOfSet set setup bits
-  pub masks_are : AreMasks setup.board masks
+  pub masks_are : AreMasksOfBoard setup.board masks
   pub numbers_are : numbers ≡ on_board setup
   pub counted : AreNumbers setup numbers
 
 pub are_found : (set : PieceSet) (bits : Bitboards) (masks : Masks) (numbers : List ℕ) (setup : Setup) → IsShownOfSet set setup bits
-    → ((s : Setup) → AreBitboards s bits → length s.board ≡ 12 → AreMasks s.board masks)
-    → ((s : Setup) → AreMasks s.board masks → numbers ≡ on_board s) → AreFound set bits masks numbers setup
+    → ((s : Setup) → AreBitboards s bits → length s.board ≡ 12 → AreMasksOfBoard s.board masks)
+    → ((s : Setup) → AreMasksOfBoard s.board masks → numbers ≡ on_board s) → AreFound set bits masks numbers setup
 are_found set bits masks numbers setup shown layers counts =
     let are = layers setup shown.squares shown.position.legal.squares in
     record {
@@ -71,8 +71,8 @@ module _ (set : PieceSet) (bits : Bitboards) (masks : Masks) (numbers : List ℕ
 
 -- by what the code's calls say
 module _ (set : PieceSet) (bits : Bitboards) (masks : Masks) (numbers : List ℕ)
-    (layers : (s : Setup) → AreBitboards s bits → length s.board ≡ 12 → AreMasks s.board masks)
-    (counts : (s : Setup) → AreMasks s.board masks → numbers ≡ on_board s) (first second third : ℕ)
+    (layers : (s : Setup) → AreBitboards s bits → length s.board ≡ 12 → AreMasksOfBoard s.board masks)
+    (counts : (s : Setup) → AreMasksOfBoard s.board masks → numbers ≡ on_board s) (first second third : ℕ)
     (chicks : (s : Setup) → HasOfLayer Chicks masks.chicks (slice_index numbers 0) s bits → first ≡ forms_number (order Chicks) s.board)
     (elephants : (s : Setup) → HasOfLayer Elephants masks.elephants (slice_index numbers 1) s bits → second ≡ forms_number (order Elephants) s.board)
     (giraffes : (s : Setup) → HasOfLayer Giraffes masks.giraffes (slice_index numbers 2) s bits → third ≡ forms_number (order Giraffes) s.board) where

@@ -16,7 +16,7 @@ use Rattle.dob_rank.specs.Marks.{marks_below}
 use Rattle.dob_rank.specs.Families.{is_marked}
 use Rattle.dob_rank.specs.Runs.{runs_in, run_size, run_start, run_kind, run_bases, run_digits, lion_pairs}
 use Rattle.dob_classes.specs.FamilyRuns.{run_size_in, local_marks_in, classes_before, IsInRunOf}
-use Rattle.dob_classes.specs.RunTables.{IsRun, AreRuns, IsTable, HasTable}
+use Rattle.dob_classes.specs.RunTables.{IsRun, AreRuns, IsTableOfRuns, HasTable}
 use Rattle.dob_rank.proofs.Positions.Blocks.{block_size-small}
 use Rattle.dob_rank.proofs.Marked.Words.{marks_below-le, marks_below-upto}
 use Rattle.dob_rank.proofs.InRuns.RunPlaces.{block_size-runs, run_start-is}
@@ -57,7 +57,7 @@ pub table_for : (family : Family) (block run number : ℕ) (tables : List Stretc
     → run < runs_in family.set block → HasTable family block run number tables → run_kind (run % lion_pairs) ≡ Mixed
     → table ≡ slice_index_or tables number table → IsTableFor family block run table
 table_for family block run number tables table within below has kind read =
-    let is : IsTable family block (run % lion_pairs) table = subst (IsTable family block (run % lion_pairs)) (sym read) ((has kind).1 table) in
+    let is : IsTableOfRuns family block (run % lion_pairs) table = subst (IsTableOfRuns family block (run % lion_pairs)) (sym read) ((has kind).1 table) in
     let alike : IsAlike family block run = alike_by_lions family block run within below kind in
     let size : run_size_in table.family table.block table.run ≡ run_size_in family block run
     = ap (λ f. run_size_in f table.block table.run) is.family_is ∙ ap (λ b. run_size_in family b table.run) is.block_is
@@ -92,7 +92,7 @@ HasTable-more : (family : Family) (block run number : ℕ) (tables more : List S
 HasTable-more family block run number tables more has kind =
     let old = has kind in (
       (let long = length-append tables more in let inside = old.0 in omega (arith, long, inside)),
-      λ other. subst (IsTable family block (run % lion_pairs)) (sym (get_or_append_left tables more other number old.0)) (old.1 other),
+      λ other. subst (IsTableOfRuns family block (run % lion_pairs)) (sym (get_or_append_left tables more other number old.0)) (old.1 other),
     )
 
 pub AreRuns-more : (family : Family) (block count : ℕ) (runs : List Run) (tables news : List StretchTable) (table : StretchTable) → news ≡ tables ++ table ∷ [] →
@@ -117,8 +117,8 @@ HasTable-new family block run number tables news table first at grown family_is 
     let long = length_push tables table in
     let lions : run ≡ run % lion_pairs = omega (arith, first) in (
       subst (λ (ts : List StretchTable). number < length ts) (sym grown) (omega (arith, at, long)),
-      λ other. subst (λ (ts : List StretchTable). IsTable family block (run % lion_pairs) (slice_index_or ts number other)) (sym grown)
-          (subst (IsTable family block (run % lion_pairs)) (sym (get_or_push tables table other number (sym at)))
+      λ other. subst (λ (ts : List StretchTable). IsTableOfRuns family block (run % lion_pairs) (slice_index_or ts number other)) (sym grown)
+          (subst (IsTableOfRuns family block (run % lion_pairs)) (sym (get_or_push tables table other number (sym at)))
           (record { family_is = family_is; block_is = block_is; run_is = run_is ∙ lions })),
     )
 
@@ -130,7 +130,7 @@ HasTable-again family block run runs tables entry are later read kind =
     let is : IsRun family block (run % lion_pairs) tables entry =
     subst (IsRun family block (run % lion_pairs) tables) (sym read) (are.each (run % lion_pairs) entry (omega (arith, later))) in
     let found = is.table_is (ap run_kind same ∙ kind) in
-    (found.0, λ other. subst (λ n. IsTable family block n (slice_index_or tables entry.table other)) same (found.1 other))
+    (found.0, λ other. subst (λ n. IsTableOfRuns family block n (slice_index_or tables entry.table other)) same (found.1 other))
 
 -- ---- the entries of runs
 

@@ -5,7 +5,7 @@ ghost use Rattle.dob_pieces.specs.declared.setup.Setup.{Setup};
 ghost use Rattle.dob_pieces.specs.Masks.{AreMasks as AreSetupMasks};
 ghost use Rattle.dob_pieces.specs.Setups.{at, setup_of, turned};
 ghost use Rattle.dob_classes.specs.Bitboards.{AreBitboards, HasOfLayer};
-ghost use Rattle.dob_rank.specs.BoardMasks.{AreMasks};
+ghost use Rattle.dob_rank.specs.BoardMasks.{AreMasksOfBoard};
 ghost use Rattle.dob_rank.specs.Numbers.{order, layer, forms_number};
 ghost use Rattle.dob_rank.specs.Order.{form};
 
@@ -71,7 +71,7 @@ impl Bitboards {
         Bitboards::turned_by(&setup.board, setup.hands)
     }
 
-    /// The same of that board and those hands, found in one pass without a branch on what stands on a square. The pass begins
+    /// The sets of squares of that board, turned, and those hands, found in one pass without a branch on what stands on a square. The pass begins
     /// with the square that becomes the last one.
     fn turned_by(board: &[Option<Piece>; Square::COUNT], hands: Hands) -> Bitboards
         ensures { AreBitboards (turned (setup_of board.now hands)) result }
@@ -122,7 +122,7 @@ impl Bitboards {
 
     /// The squares of each layer.
     pub(crate) fn layers(&self) -> Masks
-        ensures { (setup : Setup) → AreBitboards setup self.now → length setup.board ≡ 12 → AreMasks setup.board result }
+        ensures { (setup : Setup) → AreBitboards setup self.now → length setup.board ≡ 12 → AreMasksOfBoard setup.board result }
     {
         Masks {
             own_lion: u64::from(self.own_lion),

@@ -8,7 +8,7 @@ use Rattle.dob_rank.specs.declared.masks.Masks.{Masks}
 use Rattle.dob_rank.specs.declared.layers.Layer.TheVariants.{OwnLion, EnemyLion, Chicks, Elephants, Giraffes, Empty}
 use Rattle.dob_rank.specs.Numbers.{order, layer, count, on_board}
 use Rattle.dob_rank.specs.Masks.{layer_mask, from_mask, all_squares}
-use Rattle.dob_rank.specs.BoardMasks.{AreMasks}
+use Rattle.dob_rank.specs.BoardMasks.{AreMasksOfBoard}
 use Rattle.dob_rank.proofs.Positions.Digits.{HasParts, HasParts-from_position}
 use Rattle.dob_rank.proofs.Boards.Planes.{later_are}
 use Rattle.dob_rank.proofs.Positions.Sets.{set_of, IsPositionOfSet-set_of, few_in_layer}
@@ -27,7 +27,7 @@ pub record AreLeft (board : List Cell) (masks : Masks) : Type 0 where
   pub after_elephants : all_squares - masks.own_lion - masks.enemy_lion - masks.chicks - masks.elephants ≡ from_mask (order Giraffes) (map layer board)
   pub empty : all_squares - masks.own_lion - masks.enemy_lion - masks.chicks - masks.elephants - masks.giraffes ≡ from_mask (order Empty) (map layer board)
 
-pub left_are : (board : List Cell) (masks : Masks) → length board ≡ 12 → AreMasks board masks → AreLeft board masks
+pub left_are : (board : List Cell) (masks : Masks) → length board ≡ 12 → AreMasksOfBoard board masks → AreLeft board masks
 left_are board masks h are =
     let long : length (map layer board) ≡ 12 = length-map board layer ∙ h in
     let later = later_are (map layer board) long in

@@ -6,10 +6,10 @@ ghost use Rattle.dob_node.specs.Openings.{AreOpenings};
 
 use super::{Log, run};
 use crate::sets::classes_of;
-use dob_node::{Node, Opening, Part, opening};
-use dob_pieces::Family;
 use dob_classes::Classes;
 use dob_lists::{SegmentLength, Segments};
+use dob_node::{Node, Opening, Part, opening};
+use dob_pieces::Family;
 use std::alloc::Global;
 use std::process::Abort;
 

@@ -1,6 +1,6 @@
 // Worlds and their ring: who passes the token, when the end is announced, and that nothing happens after it.
 ghost use Rattle.std.specs.Prelude.{◌≡◌, None};
-ghost use Rattle.dob_world.specs.Standing.{IsStanding, IsKept};
+ghost use Rattle.dob_world.specs.Standing.{IsStanding, StandsOrStopped};
 
 use super::{NODES, SIZES, does, finish, make, opened, skips, world_of};
 use crate::sets::family_of;
@@ -23,10 +23,10 @@ fn ends_announced(rt: &impl Abort, alloc: Global, n: usize, batch: usize, capaci
 // The only node expands its settlements and applies its items, until nothing is left.
 fn exhaust(rt: &impl Abort, world: &mut World)
     requires standing { IsStanding world.old }
-    requires kept { IsKept world.old }
+    requires kept { StandsOrStopped world.old }
     requires going { world.old.failed ≡ None }
     ensures standing { IsStanding world.new }
-    ensures kept { IsKept world.new }
+    ensures kept { StandsOrStopped world.new }
     ensures going { world.new.failed ≡ None }
 {
     for _event in 0..1000 {

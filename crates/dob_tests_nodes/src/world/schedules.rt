@@ -1,11 +1,11 @@
 // Worlds under events drawn at random: what was sent and applied on the way, and the tables that they end with.
 ghost use Rattle.std.specs.Prelude.{◌≡◌, ◌<◌, None};
-ghost use Rattle.dob_world.specs.Standing.{IsStanding, IsKept};
+ghost use Rattle.dob_world.specs.Standing.{IsStanding, StandsOrStopped};
 
 use super::{finish, make, world_of};
 use crate::sets::{classes_of, family_of, is_same_table};
-use dob_pieces::{Family, Memory};
 use dob_classes::Classes;
+use dob_pieces::{Family, Memory};
 use dob_share::{Item, Settlement, owner};
 use dob_unmove::back;
 use dob_value::{Table, Value, sweep_table};
@@ -51,7 +51,7 @@ impl Dice {
 // A world of the family with so many nodes, before its first event.
 fn open(rt: &impl Abort, alloc: Global, family: Family, n: usize, dice: &mut Dice) -> World
     ensures standing { IsStanding result }
-    ensures kept { IsKept result }
+    ensures kept { StandsOrStopped result }
     ensures going { result.failed ≡ None }
     ensures n { result.n ≡ n }
 {
@@ -70,7 +70,7 @@ fn open(rt: &impl Abort, alloc: Global, family: Family, n: usize, dice: &mut Dic
 // Makes so many events in the world of so many nodes.
 fn happen(rt: &impl Abort, world: &mut World, n: usize, dice: &mut Dice, events: u64)
     requires standing { IsStanding world.old }
-    requires kept { IsKept world.old }
+    requires kept { StandsOrStopped world.old }
     requires going { world.old.failed ≡ None }
     requires n { world.old.n ≡ n }
     ensures standing { IsStanding world.new }

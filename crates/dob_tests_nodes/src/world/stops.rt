@@ -1,7 +1,7 @@
 // A world that stops, and what it has left. `rt try --test --fail-alloc N -- stopped_world` refuses the growth of that number; with none
 // refused each world comes to its end.
 ghost use Rattle.std.specs.Prelude.{◌≡◌, ◌<◌};
-ghost use Rattle.dob_world.specs.Standing.{IsKept};
+ghost use Rattle.dob_world.specs.Standing.{StandsOrStopped};
 
 use crate::sets::family_of;
 use dob_node::Cause;
@@ -30,8 +30,8 @@ fn stop_after(
     event: Event,
     before: Option<Fault>,
 ) -> Option<Fault>
-    requires { IsKept world.old }
-    ensures { IsKept world.new }
+    requires { StandsOrStopped world.old }
+    ensures { StandsOrStopped world.new }
 {
     let steps = world.steps();
     assert!(rt; steps < 1 << 40);
@@ -45,8 +45,8 @@ fn stop_after(
 
 // Why the world stops in so many events.
 fn stop_in(rt: &impl Abort, world: &mut World, events: usize) -> Option<Fault>
-    requires { IsKept world.old }
-    ensures { IsKept world.new }
+    requires { StandsOrStopped world.old }
+    ensures { StandsOrStopped world.new }
 {
     let mut stop = None;
     for number in 0..events {
@@ -107,9 +107,9 @@ fn have_same_histories(rt: &impl Abort, one: &History<'_>, other: &History<'_>) 
 // Makes the event in both worlds, in the second one a moment later. Whether neither stops; if the first one does it is as the second,
 // and stays so.
 fn make_both(rt: &impl Abort, one: &mut World, other: &mut World, event: Event) -> bool
-    requires kept { IsKept one.old × IsKept other.old }
+    requires kept { StandsOrStopped one.old × StandsOrStopped other.old }
     requires n { (one.old.n ≡ 2) × (other.old.n ≡ 2) }
-    ensures kept { IsKept one.new × IsKept other.new }
+    ensures kept { StandsOrStopped one.new × StandsOrStopped other.new }
     ensures n { (one.new.n ≡ 2) × (other.new.n ≡ 2) }
 {
     assert!(rt; one.steps() < 1 << 40 && other.steps() < 1 << 40);
@@ -125,9 +125,9 @@ fn make_both(rt: &impl Abort, one: &mut World, other: &mut World, event: Event) 
 
 // The world that has stopped answers the same at each event.
 fn answers_the_same(rt: &impl Abort, world: &mut World, fault: Fault)
-    requires kept { IsKept world.old }
+    requires kept { StandsOrStopped world.old }
     requires n { world.old.n ≡ 2 }
-    ensures kept { IsKept world.new }
+    ensures kept { StandsOrStopped world.new }
     ensures n { world.new.n ≡ 2 }
 {
     for event in &EVENTS {

@@ -4,9 +4,9 @@ ghost use Rattle.std.specs.Prelude.{◌≡◌, ◌<◌, length};
 ghost use Rattle.dob_value.specs.Follows.{IsEntry};
 
 use crate::sets::{are_one_table, family};
+use dob_classes::Classes;
 use dob_dbfile::{MemSink, MemSource, read_table, write_table};
 use dob_pieces::Profile;
-use dob_classes::Classes;
 use dob_value::{Table, Value};
 use std::cell::Cell;
 use std::process::Abort;

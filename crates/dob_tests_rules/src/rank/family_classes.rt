@@ -1,8 +1,8 @@
 // Classes of profile B, from outside.
 use crate::positions::position;
 use crate::sets::set_of;
-use dob_pieces::{Family, Position, Profile};
 use dob_classes::{Classes, class_number, count_classes, representative};
+use dob_pieces::{Family, Position, Profile};
 use std::alloc::Global;
 use std::process::Abort;
 

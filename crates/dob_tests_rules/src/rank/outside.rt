@@ -3,8 +3,8 @@ ghost use Rattle.std.specs.Prelude.{◌<◌};
 
 use crate::positions::position;
 use crate::sets::family_of;
-use dob_pieces::{Family, Position, Profile};
 use dob_classes::{Classes, representative};
+use dob_pieces::{Family, Position, Profile};
 use dob_rank::{rank, size, unrank};
 use std::alloc::Global;
 use std::process::Abort;

@@ -74,7 +74,7 @@ fn rest(all: Hand, taken: Hand) -> Hand {
     }
 }
 
-// All choices of at most so many of each kind.
+// All the_moves of at most so many of each kind.
 fn hands_up_to(alloc: Global, most: Hand) -> Result<Vec<Hand>, AllocError> {
     let mut hands = Vec::new(alloc);
     for chicks in 0..=most.chicks {

@@ -2,8 +2,8 @@
 ghost use Rattle.dob_rank.specs.Families.{IsPositionOf};
 
 use crate::positions::position;
-use dob_pieces::{Family, Position, Profile};
 use dob_classes::Classes;
+use dob_pieces::{Family, Position, Profile};
 use dob_unmove::back;
 use std::alloc::Global;
 use std::process::Abort;

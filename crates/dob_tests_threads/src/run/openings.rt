@@ -3,11 +3,11 @@
 ghost use Rattle.std.specs.Prelude.{◌<◌, length};
 
 use crate::sets::classes_of;
+use dob_classes::Classes;
+use dob_lists::{SegmentLength, Segments};
 use dob_moves::status_and_count;
 use dob_node::{Opening, opening};
 use dob_pieces::Profile;
-use dob_classes::Classes;
-use dob_lists::{SegmentLength, Segments};
 use dob_run::scan;
 use dob_share::Share;
 use std::process::Abort;

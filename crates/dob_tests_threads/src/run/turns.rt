@@ -6,9 +6,9 @@ ghost use Rattle.dob_run.specs.declared.runner.Runner.{Runner as AnyRunner};
 
 use super::{is_done, is_table_of_lions, lions};
 use dob_board::{Board, Halt};
+use dob_classes::Classes;
 use dob_node::Cause;
 use dob_pieces::Memory;
-use dob_classes::Classes;
 use dob_run::{Built, Fault, Free, Gate, Runner, crew, finish};
 use std::alloc::Global;
 use std::process::Abort;

@@ -19,7 +19,7 @@ Usage: dobutsu probe --db <FILE> <POSITION>
 For more information, try '--help'.
 ";
 
-// The same of `look`.
+// The words of `look`, read so.
 const UNCLEAR_LOOK: &str = "error: one of '<POSITION>' and '--each' has to be given, and just one
 
 Usage: dobutsu look --db <FILE> <POSITION>

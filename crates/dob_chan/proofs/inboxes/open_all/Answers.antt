@@ -1,13 +1,13 @@
 -- one end more is opened
 use Rattle.std.proofs.Common.{rules, subst, sym, length}
 use Rattle.crossbeam_queue.specs.Passes.{ruled_capacity}
-use Rattle.dob_chan.specs.Ends.{IsOpened, AreOpened}
+use Rattle.dob_chan.specs.Ends.{IsEndOpened, AreOpened}
 use Rattle.dob_chan.proofs.EndsOpened.{one_opened}
 use Rattle.dob_chan.proofs.inboxes.open_all.Goals as goal
 
 pub loop-from-preserved : goal.loop-from-preserved
 loop-from-preserved c =
     let capacity = ruled_capacity c.args.inbox.now.value in
-    let one : IsOpened c.loop-from.pass capacity c.args.senders (length c.loop-from.sends.items) c.in_ok-send.send = subst (λ k. IsOpened c.loop-from.pass capacity c.args.senders k c.in_ok-send.send) (sym c.loop-from.invariant.3) (search rules) in
+    let one : IsEndOpened c.loop-from.pass capacity c.args.senders (length c.loop-from.sends.items) c.in_ok-send.send = subst (λ k. IsEndOpened c.loop-from.pass capacity c.args.senders k c.in_ok-send.send) (sym c.loop-from.invariant.3) (search rules) in
     let all = one_opened c.loop-from.pass c.open_next.new.pass capacity c.args.senders c.loop-from.sends.items c.in_ok-send.send (search rules) c.loop-from.invariant.4 one in
     (search rules, search rules, search rules, search rules, subst (AreOpened c.open_next.new.pass capacity c.args.senders) (search rules) all)

@@ -1,7 +1,7 @@
 -- The digest that was read is compared with that of the bytes before it.
 use Rattle.std.proofs.Common.{◌≡◌, ◌∙◌, ℕ, sym, subst, length, true, false}
 use Rattle.std.proofs.lemmas.Result.{err_from_is_err_and}
-use Rattle.dob_dbfile.specs.Reading.{IsCut}
+use Rattle.dob_dbfile.specs.Reading.{GivesFewer}
 use Rattle.dob_dbfile.proofs.Endings.{digest_cut, all_taken}
 use Rattle.dob_dbfile.proofs.read.expect_digest.Goals as goal
 
@@ -10,7 +10,7 @@ returns-in_err-fill-clause-fault g c = λ stream message gives holds.
     let p = err_from_is_err_and c.from_residual.result c.from_residual.ensures.1 in
     let room : length c.fill.new.room ≡ 32 = c.fill.auto.room in
     rw (p.1, p.2) (digest_cut message c.args.before stream _
-    (subst (λ (n : ℕ). IsCut n c.args.before stream c.in_err-fill.field-0.0) room (c.in_err-fill.ensures.cut stream gives)))
+    (subst (λ (n : ℕ). GivesFewer n c.args.before stream c.in_err-fill.field-0.0) room (c.in_err-fill.ensures.cut stream gives)))
 
 pub returns-then-are_same-clause-is : goal.returns-then-are_same-clause-is
 returns-then-are_same-clause-is g c = λ stream message gives holds.

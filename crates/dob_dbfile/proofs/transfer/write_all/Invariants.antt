@@ -1,6 +1,6 @@
 -- As many first bytes as are done have gone into the same sink, unflushed and unfailed; fewer are left each time.
 use Rattle.std.proofs.Common.{length, take, ◌-◌, ◌≤◌}
-use Rattle.dob_dbfile.specs.Sinks.{IsNotFlushed, IsSame, TakesPiece, Works, change}
+use Rattle.dob_dbfile.specs.Sinks.{IsNotFlushed, IsSame, TakesPiece, SinkWorks, change}
 use Rattle.dob_dbfile.proofs.transfer.write_all.Given as goal
 
 -- so many bytes have gone in, and nothing has failed or been flushed
@@ -9,7 +9,7 @@ invariant-loop-done g l =
     (l.done ≤ length l.bytes)
     × TakesPiece (change (g.W.Sink.state l.initial.sink) (g.W.Sink.state l.sink)) (take l.done l.bytes)
     × IsNotFlushed (change (g.W.Sink.state l.initial.sink) (g.W.Sink.state l.sink))
-    × Works (change (g.W.Sink.state l.initial.sink) (g.W.Sink.state l.sink))
+    × SinkWorks (change (g.W.Sink.state l.initial.sink) (g.W.Sink.state l.sink))
     × IsSame (change (g.W.Sink.state l.initial.sink) (g.W.Sink.state l.sink))
 
 abbrev pub decreases-loop-done : goal.decreases-loop-done

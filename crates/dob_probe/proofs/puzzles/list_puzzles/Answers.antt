@@ -1,7 +1,7 @@
 -- The puzzles of one place more, until there are as many as were asked for.
 use Rattle.std.proofs.Common.{◌≡◌, ◌≤◌, ◌<◌, ◌+◌, ◌++◌, ◌∷◌, [], ℕ, rules, arith, length, length-append, subst, sym, ap, ◌∙◌, List, None, Some, Option, vec_len}
 use Rattle.dob_probe.specs.declared.puzzles.Puzzle.{Puzzle}
-use Rattle.dob_probe.specs.SoleMoves.{IsPuzzleOf}
+use Rattle.dob_probe.specs.SingleMoves.{IsPuzzleOf}
 use Rattle.dob_probe.specs.Walks.{begin_at, class_on, first_class}
 use Rattle.dob_probe.proofs.OnlyMoves.{ArePuzzlesBelow, begin, puzzles_all, puzzles_full, puzzles_more, puzzles_none, puzzles_same}
 use Rattle.dob_probe.proofs.Walked.{first_below}

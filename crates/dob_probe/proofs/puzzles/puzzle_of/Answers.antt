@@ -7,7 +7,7 @@ use Rattle.dob_value.specs.declared.value.Value.{Value}
 use Rattle.dob_value.specs.declared.value.Value.TheVariants.{Win, Loss}
 use Rattle.dob_probe.specs.Checks.{HasEntry}
 use Rattle.dob_probe.specs.Lines.{GivenBy}
-use Rattle.dob_probe.specs.SoleMoves.{IsSoleMove}
+use Rattle.dob_probe.specs.SingleMoves.{IsSingleMove}
 use Rattle.dob_probe.proofs.OnlyMoves.{puzzle_missing}
 use Rattle.dob_probe.proofs.puzzles.puzzle_of.Goals as goal
 
@@ -23,6 +23,6 @@ returns-in-None c =
       number = subst (λ (family : Family). HasClass family representative class) c.classes.ensures.family c.class_at-position.ensures.class;
       entry = c.value.ensures ∙ ap (λ (v : Value). let o : Option Value = Some v in o) won;
     } in
-    let none : IsSoleMove table.family.profile (GivenBy table) representative (Loss (plies - 1)) None =
-    subst (λ (o : Option Move). IsSoleMove table.family.profile (GivenBy table) representative (Loss (plies - 1)) o) c.in-None.is c.sole_move.ensures in
+    let none : IsSingleMove table.family.profile (GivenBy table) representative (Loss (plies - 1)) None =
+    subst (λ (o : Option Move). IsSingleMove table.family.profile (GivenBy table) representative (Loss (plies - 1)) o) c.in-None.is c.single_move.ensures in
     puzzle_missing table plies class representative entry none

@@ -6,7 +6,7 @@ use Rattle.dob_probe.specs.Lines.{GivenBy}
 use Rattle.dob_probe.specs.Sums.{AreSummed}
 use Rattle.dob_probe.proofs.successors.successors_of.Given as goal
 
-abbrev pub invariant-loop-choice : goal.invariant-loop-choice
-invariant-loop-choice l =
-    (values : List Value) × AreSuccessorsBelow l.table.family.profile (λ (v : Value) q. GivenBy l.table q v) l.position.setup l.choices l.choice-index values
+abbrev pub invariant-loop-the_move : goal.invariant-loop-the_move
+invariant-loop-the_move l =
+    (values : List Value) × AreSuccessorsBelow l.table.family.profile (λ (v : Value) q. GivenBy l.table q v) l.position.setup l.the_moves l.the_move-index values
     × AreSummed values l.kept

@@ -14,17 +14,17 @@ apply-requires-clause-open c =
     status_there c.args.table.now.family.profile c.args.position.now.setup Open c.args.position.now.legal c.requires.open
 
 pub apply-requires-clause-can_go : goal.apply-requires-clause-can_go
-apply-requires-clause-can_go c = can_go c.args.table.now.family.profile c.args.position.now.setup c.args.choice c.requires.can_go
+apply-requires-clause-can_go c = can_go c.args.table.now.family.profile c.args.position.now.setup c.args.the_move c.requires.can_go
 
 pub value_of-requires : goal.value_of-requires
 value_of-requires c =
     let setup = c.args.position.now.setup in
-    moves_keep_the_family c.args.table.now.family setup c.args.choice c.apply.result.setup c.requires.member c.requires.open
-    (goes_there c.args.table.now.family.profile setup c.args.choice c.apply.result.setup c.requires.can_go c.apply.ensures)
+    moves_keep_the_family c.args.table.now.family setup c.args.the_move c.apply.result.setup c.requires.member c.requires.open
+    (goes_there c.args.table.now.family.profile setup c.args.the_move c.apply.result.setup c.requires.can_go c.apply.ensures)
 
 pub returns : goal.returns
 returns c = λ q by.
     let setup = c.args.position.now.setup in
-    let same = HasOutcome-is setup c.args.choice c.apply.result.setup c.apply.ensures
-    ∙ sym (HasOutcome-is setup c.args.choice q (goes c.args.table.now.family.profile setup c.args.choice q by)) in
+    let same = HasOutcome-is setup c.args.the_move c.apply.result.setup c.apply.ensures
+    ∙ sym (HasOutcome-is setup c.args.the_move q (goes c.args.table.now.family.profile setup c.args.the_move q by)) in
     subst (λ (s : Setup). GivenBy c.args.table.now s c.value_of.result) same c.value_of.ensures

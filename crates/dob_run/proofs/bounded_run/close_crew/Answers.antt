@@ -1,7 +1,7 @@
--- The endpoints are a crew's, each node has its rows of hands, and the closed parts are what the runners leave.
+-- The endpoints are a crew's, each node has its rows of slots, and the closed parts are what the runners leave.
 use Rattle.std.proofs.Common.{refl, sym, subst, List}
 use Rattle.dob_run.specs.declared.endpoint.Endpoint.{Endpoint}
-use Rattle.dob_run.specs.CrewClose.{IsCrew, hands_out, hands_in}
+use Rattle.dob_run.specs.CrewClose.{IsCrew, slots_out, slots_in}
 use Rattle.dob_run.proofs.CrewLeaves.{left_by, rows_long}
 use Rattle.dob_run.proofs.bounded_run.close_crew.Goals as goal
 
@@ -10,12 +10,12 @@ close_endpoints-requires g c = subst (λ (endpoints : List Endpoint). IsCrew c.a
 
 pub workers_of-requires-clause-sending : goal.workers_of-requires-clause-sending
 workers_of-requires-clause-sending g c =
-    rows_long hands_out _ c.in_ok-nodes.endpoints.items c.in_ok-nodes.nodes.items c.args.runners.items c.in_ok-closed.ensures.sending c.in_ok-nodes.ensures.endpoints
+    rows_long slots_out _ c.in_ok-nodes.endpoints.items c.in_ok-nodes.nodes.items c.args.runners.items c.in_ok-closed.ensures.sending c.in_ok-nodes.ensures.endpoints
     c.in_ok-nodes.ensures.nodes
 
 pub workers_of-requires-clause-taking : goal.workers_of-requires-clause-taking
 workers_of-requires-clause-taking g c =
-    rows_long hands_in _ c.in_ok-nodes.endpoints.items c.in_ok-nodes.nodes.items c.args.runners.items c.in_ok-closed.ensures.taking c.in_ok-nodes.ensures.endpoints
+    rows_long slots_in _ c.in_ok-nodes.endpoints.items c.in_ok-nodes.nodes.items c.args.runners.items c.in_ok-closed.ensures.taking c.in_ok-nodes.ensures.endpoints
     c.in_ok-nodes.ensures.nodes
 
 pub returns : goal.returns

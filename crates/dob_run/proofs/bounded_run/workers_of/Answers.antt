@@ -1,4 +1,4 @@
--- Each node finds a row of sending and one of taking hands left, those at its place, until all are workers.
+-- Each node finds a row of sending and one of taking slots left, those at its place, until all are workers.
 use Rattle.std.proofs.Common.{rules, refl}
 use Rattle.dob_run.proofs.CrewLeaves.{joining_begins, joining_goes_on, all_joined}
 use Rattle.dob_run.proofs.Places.{thing_left}

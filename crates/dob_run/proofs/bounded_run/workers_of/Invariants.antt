@@ -1,4 +1,4 @@
--- So many nodes have their hands and are workers, and the other nodes and rows of hands are left.
+-- So many nodes have their slots and are workers, and the other nodes and rows of slots are left.
 use Rattle.std.specs.Vec.Iter.{into_iter_items}
 use Rattle.dob_run.proofs.CrewLeaves.{IsJoining}
 use Rattle.dob_run.proofs.bounded_run.workers_of.Given as goal

@@ -1,7 +1,7 @@
 -- The owner shows an entry, whose code stands for it.
 use Rattle.std.proofs.Common.{refl, sym, subst}
 use Rattle.dob_value.specs.declared.value.Value.{Value}
-use Rattle.dob_run.specs.BuildEnd.{IsShown}
+use Rattle.dob_run.specs.BuildEnd.{IsShownByOwner}
 use Rattle.dob_run.proofs.Shown.{shown_entry}
 use Rattle.std.proofs.Common.{length}
 use Rattle.dob_run.proofs.build_end.code_of.Goals as goal
@@ -16,5 +16,5 @@ code_of_value-requires c =
 pub returns : goal.returns
 returns c = (
   c.code_of_value.type_inv,
-  subst (λ (value : Value). IsShown (length c.args.shares.now) c.args.shares.now c.args.class value) (sym c.code_of_value.ensures.back) c.value_of.ensures,
+  subst (λ (value : Value). IsShownByOwner (length c.args.shares.now) c.args.shares.now c.args.class value) (sym c.code_of_value.ensures.back) c.value_of.ensures,
 )

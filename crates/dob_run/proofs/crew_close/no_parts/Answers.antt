@@ -1,4 +1,4 @@
--- The parts of no endpoints: no seats, no taking ends, no hands, and a row without sending ends for each node.
+-- The parts of no endpoints: no seats, no taking ends, no slots, and a row without sending ends for each node.
 use Rattle.std.proofs.Common.{List, Vec, Global, Option, map, ap}
 use Rattle.dob_update.specs.Batches.{BatchView}
 use Rattle.dob_run.specs.CrewClose.{row_of}

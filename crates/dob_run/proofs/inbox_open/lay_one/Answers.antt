@@ -1,4 +1,4 @@
--- Each of the new inbox's ends has an outlet, and its taking end the inlet, with nothing sent or taken and empty hands.
+-- Each of the new inbox's ends has an outlet, and its taking end the inlet, with nothing sent or taken and empty slots.
 use Rattle.dob_run.proofs.InboxesOpened.{one_laid}
 use Rattle.dob_run.proofs.inbox_open.lay_one.Goals as goal
 
@@ -9,4 +9,4 @@ pub returns : goal.returns
 returns c =
     let new = c.in_ok-sends.ensures in
     one_laid c.args.capacity c.args.n c.in_ok-sends.sends.items c.in_ok-sends.take c.in_ok-outlets.outlets.items c.new.result new.senders.0 new.senders.1 new.opened new.nothing
-    c.in_ok-outlets.ensures c.new.ensures.end c.new.ensures.hand
+    c.in_ok-outlets.ensures c.new.ensures.end c.new.ensures.slot

@@ -8,7 +8,7 @@ loop-send-init c = making_begins c.args.sends.items _ _ c.into_iter-send-iterato
 
 pub loop-send-preserved : goal.loop-send-preserved
 loop-send-preserved c = making_goes_on c.args.sends.items _ _ c.in-Some.send _ _ c.new.result c.loop-send.invariant c.in-Some.ensures.steps.0
-    c.new.ensures.end c.new.ensures.hand c.in_ok-push.ensures.items
+    c.new.ensures.end c.new.ensures.slot c.in_ok-push.ensures.items
 
 pub returns : goal.returns
 returns c = all_made c.args.sends.items _ _ c.loop-send.invariant (search rules)

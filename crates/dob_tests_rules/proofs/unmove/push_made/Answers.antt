@@ -1,14 +1,14 @@
 -- What was read from the list of moves is a move.
 use Rattle.dob_pieces.specs.declared.profile.Profile.TheVariants.{A}
-use Rattle.dob_value.proofs.Successors.{choice_goes}
+use Rattle.dob_value.proofs.Successors.{move_goes}
 use Rattle.dob_tests_rules.proofs.unmove.push_made.Goals as goal
 
 pub apply-requires-clause-open : goal.apply-requires-clause-open
 apply-requires-clause-open g c =
-    (choice_goes A c.args.position.now.setup c.args.choices.now c.loop-choice.choice-index c.choice-item.result
-    c.requires c.loop-choice-test.true c.choice-item.is).0
+    (move_goes A c.args.position.now.setup c.args.the_moves.now c.loop-the_move.the_move-index c.the_move-item.result
+    c.requires c.loop-the_move-test.true c.the_move-item.is).0
 
 pub apply-requires-clause-can_go : goal.apply-requires-clause-can_go
 apply-requires-clause-can_go g c =
-    (choice_goes A c.args.position.now.setup c.args.choices.now c.loop-choice.choice-index c.choice-item.result
-    c.requires c.loop-choice-test.true c.choice-item.is).1
+    (move_goes A c.args.position.now.setup c.args.the_moves.now c.loop-the_move.the_move-index c.the_move-item.result
+    c.requires c.loop-the_move-test.true c.the_move-item.is).1

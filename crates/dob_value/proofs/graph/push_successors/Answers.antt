@@ -3,55 +3,55 @@ use Rattle.std.proofs.Common.{◌∷◌, ◌++◌, [], ℕ, List, refl, sym, sub
 use Rattle.std.proofs.lemmas.Option.{slice_get_read}
 use Rattle.dob_moves.specs.Statuses.{AreMoves}
 use Rattle.dob_value.specs.Graphs.{ClassStandsFor}
-use Rattle.dob_value.proofs.Successors.{choice_goes, successors_none, successors_more, successors_all}
+use Rattle.dob_value.proofs.Successors.{move_goes, successors_none, successors_more, successors_all}
 use Rattle.dob_value.proofs.graph.push_successors.Goals as goal
-use Rattle.dob_value.proofs.graph.push_successors.Goals.{After-deref-choice-items}
+use Rattle.dob_value.proofs.graph.push_successors.Goals.{After-deref-the_move-items}
 
 -- what is known of the list of moves
-choices_are : (c : After-deref-choice-items) → AreMoves c.args.classes.now.family.profile c.args.position.now.setup c.deref-choice-items.result.now
-choices_are c = subst (λ xs. AreMoves c.args.classes.now.family.profile c.args.position.now.setup xs) (sym c.deref-choice-items.ensures.value) c.in_ok-status.ensures.moves
+the_moves_are : (c : After-deref-the_move-items) → AreMoves c.args.classes.now.family.profile c.args.position.now.setup c.deref-the_move-items.result.now
+the_moves_are c = subst (λ xs. AreMoves c.args.classes.now.family.profile c.args.position.now.setup xs) (sym c.deref-the_move-items.ensures.value) c.in_ok-status.ensures.moves
 
-pub loop-choice-init : goal.loop-choice-init
-loop-choice-init c =
+pub loop-the_move-init : goal.loop-the_move-init
+loop-the_move-init c =
     ([], sym (append-nil c.args.successors.now.items), successors_none c.args.classes.now.family.profile (ClassStandsFor c.args.classes.now.family) c.args.position.now.setup _)
 
 pub number_after-number-requires-clause-open : goal.number_after-number-requires-clause-open
 number_after-number-requires-clause-open c =
-    (choice_goes c.args.classes.now.family.profile c.args.position.now.setup c.deref-choice-items.result.now c.loop-choice.choice-index c.choice-item.result
-    (choices_are (goal.at.number_after-number-requires-clause-open c).After-deref-choice-items) c.loop-choice-test.true c.choice-item.is).0
+    (move_goes c.args.classes.now.family.profile c.args.position.now.setup c.deref-the_move-items.result.now c.loop-the_move.the_move-index c.the_move-item.result
+    (the_moves_are (goal.at.number_after-number-requires-clause-open c).After-deref-the_move-items) c.loop-the_move-test.true c.the_move-item.is).0
 
 pub number_after-number-requires-clause-can_go : goal.number_after-number-requires-clause-can_go
 number_after-number-requires-clause-can_go c =
-    (choice_goes c.args.classes.now.family.profile c.args.position.now.setup c.deref-choice-items.result.now c.loop-choice.choice-index c.choice-item.result
-    (choices_are (goal.at.number_after-number-requires-clause-can_go c).After-deref-choice-items) c.loop-choice-test.true c.choice-item.is).1
+    (move_goes c.args.classes.now.family.profile c.args.position.now.setup c.deref-the_move-items.result.now c.loop-the_move.the_move-index c.the_move-item.result
+    (the_moves_are (goal.at.number_after-number-requires-clause-can_go c).After-deref-the_move-items) c.loop-the_move-test.true c.the_move-item.is).1
 
-pub loop-choice-preserved : goal.loop-choice-preserved
-loop-choice-preserved c =
+pub loop-the_move-preserved : goal.loop-the_move-preserved
+loop-the_move-preserved c =
     let StandsFor = ClassStandsFor c.args.classes.now.family in
     let setup = c.args.position.now.setup in
-    let choices = c.deref-choice-items.result.now in
-    let index = c.loop-choice.choice-index in
-    let choice = c.choice-item.result in
+    let the_moves = c.deref-the_move-items.result.now in
+    let index = c.loop-the_move.the_move-index in
+    let the_move = c.the_move-item.result in
     let number = c.number_after-number.result in
-    let numbers : List ℕ = c.loop-choice.invariant.0 in
-    let here = slice_get_read choices _ index choice refl c.loop-choice-test.true c.choice-item.is in
-    let goes = choice_goes c.args.classes.now.family.profile setup choices index choice (choices_are (goal.at.loop-choice-preserved c).After-deref-choice-items)
-    c.loop-choice-test.true c.choice-item.is in (
+    let numbers : List ℕ = c.loop-the_move.invariant.0 in
+    let here = slice_get_read the_moves _ index the_move refl c.loop-the_move-test.true c.the_move-item.is in
+    let goes = move_goes c.args.classes.now.family.profile setup the_moves index the_move (the_moves_are (goal.at.loop-the_move-preserved c).After-deref-the_move-items)
+    c.loop-the_move-test.true c.the_move-item.is in (
       numbers ++ number ∷ [],
-      c.in_ok-push.ensures.items ∙ ap (λ xs. xs ++ number ∷ []) c.loop-choice.invariant.1
+      c.in_ok-push.ensures.items ∙ ap (λ xs. xs ++ number ∷ []) c.loop-the_move.invariant.1
           ∙ append_assoc c.args.successors.now.items numbers (number ∷ []),
-      successors_more c.args.classes.now.family.profile StandsFor setup choices index numbers choice number here goes.1 c.number_after-number.ensures c.loop-choice.invariant.2,
+      successors_more c.args.classes.now.family.profile StandsFor setup the_moves index numbers the_move number here goes.1 c.number_after-number.ensures c.loop-the_move.invariant.2,
     )
 
 pub returns : goal.returns
 returns c = (
-  c.loop-choice.invariant.0,
-  c.loop-choice.invariant.1,
+  c.loop-the_move.invariant.0,
+  c.loop-the_move.invariant.1,
   record {
     status = c.in_ok-status.ensures.status;
     successors =
-        successors_all c.args.classes.now.family.profile (ClassStandsFor c.args.classes.now.family) c.args.position.now.setup c.deref-choice-items.result.now
-        c.loop-choice.choice-index c.loop-choice.invariant.0 c.loop-choice-test.false
-        (choices_are (goal.at.returns c).After-deref-choice-items) c.loop-choice.invariant.2;
+        successors_all c.args.classes.now.family.profile (ClassStandsFor c.args.classes.now.family) c.args.position.now.setup c.deref-the_move-items.result.now
+        c.loop-the_move.the_move-index c.loop-the_move.invariant.0 c.loop-the_move-test.false
+        (the_moves_are (goal.at.returns c).After-deref-the_move-items) c.loop-the_move.invariant.2;
   },
 )

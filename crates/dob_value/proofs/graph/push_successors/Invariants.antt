@@ -4,7 +4,7 @@ use Rattle.dob_value.specs.Graphs.{ClassStandsFor}
 use Rattle.dob_value.proofs.Successors.{AreSuccessorsBelow}
 use Rattle.dob_value.proofs.graph.push_successors.Given as goal
 
-abbrev pub invariant-loop-choice : goal.invariant-loop-choice
-invariant-loop-choice l =
+abbrev pub invariant-loop-the_move : goal.invariant-loop-the_move
+invariant-loop-the_move l =
     (numbers : List ℕ) × (l.successors.items ≡ l.initial.successors.items ++ numbers)
-    × AreSuccessorsBelow l.classes.family.profile (ClassStandsFor l.classes.family) l.position.setup l.choice-items l.choice-index numbers
+    × AreSuccessorsBelow l.classes.family.profile (ClassStandsFor l.classes.family) l.position.setup l.the_move-items l.the_move-index numbers

@@ -1,9 +1,9 @@
 -- The texts so far have joined the command.
 use Rattle.std.proofs.Common.{map, take}
 use Rattle.clap.specs.Words.{App}
-use Rattle.dob_words.specs.Shapes.{HasShape, place_rule, place_said, with_rules}
+use Rattle.dob_words.specs.Shapes.{HasCommandShape, place_rule, place_said, with_rules}
 use Rattle.dob_words.proofs.command.add_places.Given as goal
 
 abbrev pub invariant-loop-place : goal.invariant-loop-place
-invariant-loop-place l = (app : App) → HasShape app l.initial.command
-    → HasShape (with_rules app (map (place_rule l.fn.profiles.names) (map place_said (take l.place-index l.places)))) l.command
+invariant-loop-place l = (app : App) → HasCommandShape app l.initial.command
+    → HasCommandShape (with_rules app (map (place_rule l.fn.profiles.names) (map place_said (take l.place-index l.places)))) l.command

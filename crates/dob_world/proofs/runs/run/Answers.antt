@@ -3,7 +3,7 @@ use Rattle.std.proofs.Common.{◌<◌, inr, refl, sym, ap, subst, arith, [], Ok}
 use Rattle.dob_rank.specs.Families.{classes_of}
 use Rattle.dob_world.specs.Worlds.{Setting, setting_by}
 use Rattle.dob_world.specs.Shown.{state_of}
-use Rattle.dob_world.specs.Start.{IsStart}
+use Rattle.dob_world.specs.Start.{IsWorldStart}
 use Rattle.dob_world.proofs.Ran.{ran, stepped, ran_more, run_stops}
 use Rattle.dob_world.proofs.runs.run.Goals as goal
 
@@ -13,7 +13,7 @@ loop-event-init c =
     let world = c.in-Ok.world in
     let opened = c.in-Ok.ensures in
     record {
-      run = ran k (state_of world) [] world opened.setting (subst (λ (s : Setting). IsStart s (state_of world)) opened.setting opened.opened)
+      run = ran k (state_of world) [] world opened.setting (subst (λ (s : Setting). IsWorldStart s (state_of world)) opened.setting opened.opened)
           (refl, opened.standing.2) opened.standing.0 opened.standing.1;
       steps = omega (arith, opened.standing.2);
     }

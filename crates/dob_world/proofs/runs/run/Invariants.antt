@@ -1,11 +1,11 @@
 -- The events so far have happened, or were skipped.
 use Rattle.std.proofs.Common.{◌≤◌, take}
 use Rattle.dob_world.specs.Worlds.{setting_by}
-use Rattle.dob_world.specs.Results.{HasRun}
+use Rattle.dob_world.specs.Results.{HasRunEvents}
 use Rattle.dob_world.proofs.runs.run.Given as goal
 
 abbrev pub invariant-loop-event : goal.invariant-loop-event
 invariant-loop-event l = record {
-  run : HasRun (setting_by l.fn.family l.n l.batch l.capacity) (take l.event-index l.events) l.world;
+  run : HasRunEvents (setting_by l.fn.family l.n l.batch l.capacity) (take l.event-index l.events) l.world;
   steps : l.world.steps ≤ l.event-index;
 }

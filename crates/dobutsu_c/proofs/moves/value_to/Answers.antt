@@ -17,17 +17,17 @@ apply-requires-clause-open c =
 pub apply-requires-clause-can_go : goal.apply-requires-clause-can_go
 apply-requires-clause-can_go c =
     let asked = c.args.asked.now in
-    can_go asked.family.profile asked.position.setup c.args.choice c.requires.can_go
+    can_go asked.family.profile asked.position.setup c.args.the_move c.requires.can_go
 
 pub value_of-requires-clause-member : goal.value_of-requires-clause-member
 value_of-requires-clause-member c =
     let asked = c.args.asked.now in
-    moves_keep_the_family asked.family asked.position.setup c.args.choice c.apply.result.setup c.requires.member c.requires.open
-    (goes_there asked.family.profile asked.position.setup c.args.choice c.apply.result.setup c.requires.can_go c.apply.ensures)
+    moves_keep_the_family asked.family asked.position.setup c.args.the_move c.apply.result.setup c.requires.member c.requires.open
+    (goes_there asked.family.profile asked.position.setup c.args.the_move c.apply.result.setup c.requires.can_go c.apply.ensures)
 
 pub returns-clause-given : goal.returns-clause-given
 returns-clause-given c = λ q by.
     let asked = c.args.asked.now in
-    let same = HasOutcome-is asked.position.setup c.args.choice c.apply.result.setup c.apply.ensures
-    ∙ sym (HasOutcome-is asked.position.setup c.args.choice q (goes asked.family.profile asked.position.setup c.args.choice q by)) in
+    let same = HasOutcome-is asked.position.setup c.args.the_move c.apply.result.setup c.apply.ensures
+    ∙ sym (HasOutcome-is asked.position.setup c.args.the_move q (goes asked.family.profile asked.position.setup c.args.the_move q by)) in
     subst (λ (s : Setup). IsGiven c.args.file.now asked.format asked.family s c.value_of.result) same c.value_of.ensures.given

@@ -5,7 +5,7 @@ use Rattle.dob_unmove.specs.Edges.{predecessors}
 use Rattle.dob_share.specs.Owners.{owner_of}
 use Rattle.dob_update.specs.Items.{items_of}
 use Rattle.dob_node.specs.Stores.{HistoryView}
-use Rattle.dob_node.specs.TakenItems.{HasEntries, AreKept}
+use Rattle.dob_node.specs.TakenItems.{HasItemEntries, AreKept}
 use Rattle.dob_node.specs.Outboxes.{IsOutboxTo, outbox_in}
 use Rattle.dob_node.proofs.Sounds.{next_emitted, entries_more}
 use Rattle.dob_node.proofs.Sends.{ready_added, ready_same}
@@ -53,7 +53,7 @@ returns-in_err-add_for_others-clause-sound c =
     record {
       kept = subst (λ (h : HistoryView). AreKept node.family node.n node.id node.share h) (sym c.seek.ensures.same) sound.kept;
       emitted = subst (λ (h : HistoryView). node.expanded ≤ length h.settlements) (sym c.seek.ensures.same) sound.emitted;
-      entries = subst (λ xs. All HasEntries xs) (sym c.reserve.ensures.items) sound.entries;
+      entries = subst (λ xs. All HasItemEntries xs) (sym c.reserve.ensures.items) sound.entries;
       receivers = ready.receivers;
       addressed = ready.addressed;
       nothing_to_self = ready.nothing_to_self;

@@ -5,7 +5,7 @@ use Rattle.std.proofs.lemmas.List.Elements.{All-nil}
 use Rattle.dob_share.specs.declared.news.Settlement.{Settlement}
 use Rattle.dob_update.specs.Batches.{OutboxView}
 use Rattle.dob_node.specs.Stores.{HistoryView}
-use Rattle.dob_node.specs.TakenItems.{HasEntries}
+use Rattle.dob_node.specs.TakenItems.{HasItemEntries}
 use Rattle.dob_node.proofs.Opens.{places_are, opened_cells, opened_kept, few_listed}
 use Rattle.dob_node.proofs.Sends.{addressed_empty}
 use Rattle.dob_node.proofs.StartLists.{share_opened}
@@ -36,7 +36,7 @@ returns-clause-sound c =
           (subst (λ (xs : List Settlement). c.in_ok-history.history ≡ record { id = c.args.id; n = c.args.n; settlements = xs; room = 0 })
           (share_opened c.in_ok-share.share c.args.openings.now c.args.n c.args.id out.who c.requires.owner out.statuses) c.in_ok-history.ensures);
       emitted = omega arith;
-      entries = subst (λ xs. All HasEntries xs) (sym c.new.ensures.items) (All-nil HasEntries);
+      entries = subst (λ xs. All HasItemEntries xs) (sym c.new.ensures.items) (All-nil HasItemEntries);
       receivers = c.in_ok-outboxes.ensures.whole;
       addressed = addressed_empty c.args.family c.args.n c.args.id c.in_ok-outboxes.outboxes.items c.in_ok-outboxes.ensures.empty;
       nothing_to_self = ap (λ (o : OutboxView). o.items) (c.in_ok-outboxes.ensures.empty c.args.id);

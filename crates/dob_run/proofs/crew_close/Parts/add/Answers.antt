@@ -1,4 +1,4 @@
--- One endpoint more is taken apart: its seat, taking end and hands go last, and each sending end to its receiver's row.
+-- One endpoint more is taken apart: its seat, taking end and slots go last, and each sending end to its receiver's row.
 use Rattle.std.proofs.Common.{◌≡◌, ℕ, rules, sym, subst, ap, List, length, vec_len, ◌∙◌, map}
 use Rattle.std.proofs.lemmas.List.{length-map}
 use Rattle.dob_chan.specs.declared.ends.SendEnd.{SendEnd}
@@ -26,6 +26,6 @@ returns c =
       seats = c.in_ok-push.ensures.items;
       sends = subst (λ (p : ℕ × List SendEnd). AreDealt p.0 p.1 c.args.self.now.sends.items c.deal.new.rows.items) (λ q. (count q, things q)) c.in_ok-deal.ensures;
       takes = c.in_ok-push-3.ensures.items;
-      sending = (c.in_ok-sends.sending, c.in_ok-push-2.ensures.items, c.in_ok-sends.ensures.hands);
+      sending = (c.in_ok-sends.sending, c.in_ok-push-2.ensures.items, c.in_ok-sends.ensures.slots);
       taking = (c.in_ok-taking.taking, c.in_ok-push-4.ensures.items, c.in_ok-taking.ensures);
     }

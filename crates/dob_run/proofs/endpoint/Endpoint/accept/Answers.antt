@@ -4,21 +4,21 @@ use Rattle.std.specs.Prelude.{IfSome}
 use Rattle.dob_update.specs.Batches.{BatchView}
 use Rattle.dob_board.specs.declared.view.Stand.{Stand}
 use Rattle.dob_board.specs.Seats.{TakesOne}
-use Rattle.dob_run.specs.declared.hands.Inlet.{Inlet}
+use Rattle.dob_run.specs.declared.slots.Inlet.{Inlet}
 use Rattle.dob_chan.specs.Ends.{senders_of}
-use Rattle.dob_run.specs.Hands.{in_hand}
+use Rattle.dob_run.specs.Slots.{in_slot}
 use Rattle.dob_run.specs.Links.{offered, worked, KeepsOutlet}
-use Rattle.dob_run.specs.Endpoints.{AreCounts, AreTaken, AreOwn}
+use Rattle.dob_run.specs.Endpoints.{AreCounts, AreBatchesTaken, AreOwn}
 use Rattle.dob_run.proofs.Senders.{taken_rises}
 use Rattle.dob_run.proofs.Keeping.{outlet_same, inlet_kept, each_same}
 use Rattle.dob_run.proofs.endpoint.Endpoint.accept.Goals as goal
 
--- what is so of the batch that lay in the hand is so of the one that is handed out
-of_held : (P : BatchView → Type 0) (result hand : Option BatchView) (batch : BatchView) → result ≡ hand → hand ≡ Some batch → P batch → IfSome result P
-of_held P result hand batch is held so = subst (λ (o : Option BatchView). IfSome o P) (sym (is ∙ held)) so
+-- what is so of the batch that lay in the slot is so of the one that is handed out
+of_held : (P : BatchView → Type 0) (result slot : Option BatchView) (batch : BatchView) → result ≡ slot → slot ≡ Some batch → P batch → IfSome result P
+of_held P result slot batch is held so = subst (λ (o : Option BatchView). IfSome o P) (sym (is ∙ held)) so
 
-one_more : (old new : Inlet) (batch : BatchView) → old.hand ≡ Some batch → worked new ≡ worked old ++ in_hand old.hand → worked new ≡ worked old ++ batch ∷ []
-one_more old new batch held more = more ∙ ap (λ (h : Option BatchView). worked old ++ in_hand h) held
+one_more : (old new : Inlet) (batch : BatchView) → old.slot ≡ Some batch → worked new ≡ worked old ++ in_slot old.slot → worked new ≡ worked old ++ batch ∷ []
+one_more old new batch held more = more ∙ ap (λ (h : Option BatchView). worked old ++ in_slot h) held
 
 pub invariant_of-self-2 : goal.invariant_of-self-2
 invariant_of-self-2 c =
@@ -35,35 +35,35 @@ invariant_of-self-2 c =
       senders = search rules;
       own = subst (λ (node : ℕ). AreOwn node endpoint.outlets.items) (sym c.take.ensures.same.node) endpoint.own;
       posted = subst (λ (counts : List ℕ). AreCounts offered counts endpoint.outlets.items) (sym posted_is) endpoint.posted;
-      taken = subst (λ (p : ℕ × List ℕ). AreTaken p.0 p.1 c.release.new.self) (λ q. ((sym c.take.ensures.same.nodes) q, (sym taken_is) q)) counted;
+      taken = subst (λ (p : ℕ × List ℕ). AreBatchesTaken p.0 p.1 c.release.new.self) (λ q. ((sym c.take.ensures.same.nodes) q, (sym taken_is) q)) counted;
     }
 
 pub returns-clause-held : goal.returns-clause-held
 returns-clause-held c =
     let endpoint = c.args.self.now in
     let held = c.requires.held in
-    of_held (λ b. endpoint.inlet.hand ≡ Some b) c.release.result endpoint.inlet.hand held.0 c.release.ensures.batch held.1 held.1
+    of_held (λ b. endpoint.inlet.slot ≡ Some b) c.release.result endpoint.inlet.slot held.0 c.release.ensures.batch held.1 held.1
 
 pub returns-clause-within : goal.returns-clause-within
 returns-clause-within c =
     let endpoint = c.args.self.now in
     let held = c.requires.held in
     let within : held.0.from < endpoint.seat.nodes = subst (λ (k : ℕ). held.0.from < k) endpoint.senders (endpoint.inlet.within held.0 held.1) in
-    of_held (λ b. b.from < endpoint.seat.nodes) c.release.result endpoint.inlet.hand held.0 c.release.ensures.batch held.1 within
+    of_held (λ b. b.from < endpoint.seat.nodes) c.release.result endpoint.inlet.slot held.0 c.release.ensures.batch held.1 within
 
 pub returns-clause-taken : goal.returns-clause-taken
 returns-clause-taken c =
     let endpoint = c.args.self.now in
     let held = c.requires.held in
     let one : TakesOne endpoint.seat c.take.new.self c.args.from = search rules in
-    of_held (λ b. TakesOne endpoint.seat c.take.new.self b.from) c.release.result endpoint.inlet.hand held.0 c.release.ensures.batch held.1
+    of_held (λ b. TakesOne endpoint.seat c.take.new.self b.from) c.release.result endpoint.inlet.slot held.0 c.release.ensures.batch held.1
     (subst (λ (k : ℕ). TakesOne endpoint.seat c.take.new.self k) (sym held.2) one)
 
 pub returns-clause-worked : goal.returns-clause-worked
 returns-clause-worked c =
     let endpoint = c.args.self.now in
     let held = c.requires.held in
-    of_held (λ b. (c.release.new.self.end ≡ endpoint.inlet.end) × (worked c.release.new.self ≡ worked endpoint.inlet ++ b ∷ [])) c.release.result endpoint.inlet.hand held.0
+    of_held (λ b. (c.release.new.self.end ≡ endpoint.inlet.end) × (worked c.release.new.self ≡ worked endpoint.inlet ++ b ∷ [])) c.release.result endpoint.inlet.slot held.0
     c.release.ensures.batch held.1 (c.release.ensures.end, one_more endpoint.inlet c.release.new.self held.0 held.1 c.release.ensures.worked)
 
 pub returns-clause-keeps : goal.returns-clause-keeps

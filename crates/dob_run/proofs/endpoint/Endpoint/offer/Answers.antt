@@ -1,8 +1,8 @@
--- An offer leaves the counts and the offered batches, at most 2^40, as they were, and empty hands stay empty.
+-- An offer leaves the counts and the offered batches, at most 2^40, as they were, and empty slots stay empty.
 use Rattle.std.proofs.Common.{◌≡◌, ◌≤◌, ◌^◌, ◌⊎◌, inl, inr, ◌∙◌, length, Some, None, rules, arith, refl, sym, ap, subst}
 use Rattle.std.specs.Prelude.{slice_get}
 use Rattle.dob_pieces.proofs.Elements.{read_there}
-use Rattle.dob_run.specs.declared.hands.Outlet.{Outlet}
+use Rattle.dob_run.specs.declared.slots.Outlet.{Outlet}
 use Rattle.dob_run.specs.Links.{offered, IsFull, KeepsOutlet}
 use Rattle.dob_run.proofs.Counted.{counts_stay, own_set, there_set}
 use Rattle.dob_run.proofs.Keeping.{outlet_same, inlet_same, one_kept, seat_same}
@@ -36,14 +36,14 @@ returns-clause-offered g c =
     let at : slice_get endpoint.outlets.items c.args.to ≡ Some old = read_there endpoint.outlets.items c.args.to old (search rules) c.index_mut.ensures.value in
     (old, c.offer.new.self, at, (c.offer.ensures.keeps, c.offer.ensures.offered), refl)
 
-pub returns-clause-hands : goal.returns-clause-hands
-returns-clause-hands g c =
+pub returns-clause-slots : goal.returns-clause-slots
+returns-clause-slots g c =
     let endpoint = c.args.self.now in
     let old = c.index_mut.result.now in
     let at : slice_get endpoint.outlets.items c.args.to ≡ Some old = read_there endpoint.outlets.items c.args.to old (search rules) c.index_mut.ensures.value in
-    one_kept (λ (x y : Outlet). x.hand ≡ None → y.hand ≡ None) (λ x e. e) endpoint.outlets.items c.args.to old c.offer.new.self at (emptied old c.offer.new.self c.offer.ensures.hand)
+    one_kept (λ (x y : Outlet). x.slot ≡ None → y.slot ≡ None) (λ x e. e) endpoint.outlets.items c.args.to old c.offer.new.self at (emptied old c.offer.new.self c.offer.ensures.slot)
   where
-    emptied : (x y : Outlet) → (y.hand ≡ x.hand) ⊎ (y.hand ≡ None) → x.hand ≡ None → y.hand ≡ None
+    emptied : (x y : Outlet) → (y.slot ≡ x.slot) ⊎ (y.slot ≡ None) → x.slot ≡ None → y.slot ≡ None
     emptied x y kept none = elim kept [ inl same ↦ same ∙ none | inr out ↦ out ]
 
 pub returns-clause-keeps : goal.returns-clause-keeps
@@ -62,4 +62,4 @@ returns-clause-full g c =
     let endpoint = c.args.self.now in
     λ after at stuck.
     let is : c.offer.new.self ≡ after = there_set endpoint.outlets.items c.args.to c.offer.new.self after at in
-    subst (λ (o : Outlet). IsFull o) is (c.offer.ensures.full (λ none. stuck (sym (ap (λ (o : Outlet). o.hand) is) ∙ none)))
+    subst (λ (o : Outlet). IsFull o) is (c.offer.ensures.full (λ none. stuck (sym (ap (λ (o : Outlet). o.slot) is) ∙ none)))

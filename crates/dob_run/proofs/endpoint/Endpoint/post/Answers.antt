@@ -6,7 +6,7 @@ use Rattle.dob_board.specs.declared.view.Stand.{Stand}
 use Rattle.dob_chan.specs.declared.ends.SendEnd.{SendEnd}
 use Rattle.dob_chan.specs.Ends.{place_of}
 use Rattle.dob_run.specs.Links.{offered, KeepsOutlet}
-use Rattle.dob_run.specs.Endpoints.{AreCounts, AreTaken, AreOwn}
+use Rattle.dob_run.specs.Endpoints.{AreCounts, AreBatchesTaken, AreOwn}
 use Rattle.dob_run.proofs.Counted.{counts_rise, own_set}
 use Rattle.dob_run.proofs.Keeping.{outlet_same, outlet_kept, inlet_same, one_kept}
 use Rattle.dob_run.proofs.endpoint.Endpoint.post.Goals as goal
@@ -34,7 +34,7 @@ invariant_of-self c =
           (own_set endpoint.seat.node endpoint.outlets.items c.args.to old c.hold.new.self endpoint.own at (ap (λ (e : SendEnd). place_of e) c.hold.ensures.end));
       posted = subst (λ (counts : List ℕ). AreCounts offered counts (slice_set endpoint.outlets.items c.args.to c.hold.new.self)) (sym posted_is)
           (counts_rise offered endpoint.seat.posted.items endpoint.outlets.items c.args.to old c.hold.new.self endpoint.posted at (omega (arith, endpoint.seat.posted_len, c.requires.node)) more);
-      taken = subst (λ (p : ℕ × List ℕ). AreTaken p.0 p.1 endpoint.inlet) (λ q. ((sym c.post.ensures.same.nodes) q, (sym taken_is) q)) endpoint.taken;
+      taken = subst (λ (p : ℕ × List ℕ). AreBatchesTaken p.0 p.1 endpoint.inlet) (λ q. ((sym c.post.ensures.same.nodes) q, (sym taken_is) q)) endpoint.taken;
     }
 
 pub returns-clause-offered : goal.returns-clause-offered

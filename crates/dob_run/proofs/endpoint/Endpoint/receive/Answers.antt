@@ -1,4 +1,4 @@
--- What is received into the hand isn't worked yet: the counts and the worked batches stay, and the rest is kept.
+-- What is received into the slot isn't worked yet: the counts and the worked batches stay, and the rest is kept.
 use Rattle.std.proofs.Common.{refl, ◌∙◌}
 use Rattle.dob_run.specs.Links.{KeepsOutlet}
 use Rattle.dob_run.proofs.Senders.{taken_still}

@@ -1,4 +1,4 @@
--- A node that cuts a batch was black and had cut fewer than 2^40; with the batch in the hand the runner is lawful.
+-- A node that cuts a batch was black and had cut fewer than 2^40; with the batch in the slot the runner is lawful.
 use Rattle.std.proofs.Common.{◌≡◌, ◌<◌, ◌≤◌, ◌^◌, true, refl, sym, ap, ◌∙◌, subst, inl, inr, arith, Ok, Err, Some, None, IfSome, Option, Result}
 use Rattle.std.proofs.lemmas.Bool.{cases_Bool}
 use Rattle.dob_pieces.proofs.Elements.{some_at}

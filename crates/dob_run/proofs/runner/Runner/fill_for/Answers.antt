@@ -1,4 +1,4 @@
--- The hand is filled just where it is empty and there is something to send.
+-- The slot is filled just where it is empty and there is something to send.
 use Rattle.std.proofs.Common.{arith}
 use Rattle.std.proofs.lemmas.Bool.{both_ways}
 use Rattle.dob_pieces.proofs.Elements.{some_at}

@@ -1,4 +1,4 @@
--- A batch lies in the hand, and the items left make a whole one, just where the node holds the runner up.
+-- A batch lies in the slot, and the items left make a whole one, just where the node holds the runner up.
 use Rattle.std.proofs.Common.{arith}
 use Rattle.std.proofs.lemmas.Bool.{leb-true, le-leb}
 use Rattle.dob_pieces.proofs.Elements.{some_at}

@@ -1,4 +1,4 @@
--- The hand's filling and the offer of its batch make one step, and the offer leaves the runner lawful, sent or not.
+-- The slot's filling and the offer of its batch make one step, and the offer leaves the runner lawful, sent or not.
 use Rattle.std.proofs.Common.{refl, ap, ◌∙◌, inl}
 use Rattle.dob_run.specs.TurnRounds.{SendsTo}
 use Rattle.dob_run.specs.Runners.{GoesOn}
@@ -18,7 +18,7 @@ invariant_of-self g c =
       own = λ found. f.own (own_still f.endpoint.seat c.offer.new.self.seat (ap (λ s. s.halt) c.offer.ensures.seat) (ap (λ s. s.node) c.offer.ensures.seat) found);
       agrees = f.agrees;
       lawful = λ _. offered_again f.family f.size c.args.to f.node f.endpoint c.offer.new.self (f.lawful (inl went.unfailed)) c.offer.ensures.seat c.offer.ensures.offered c.offer.ensures.inlet
-          (out_still f.endpoint c.offer.new.self (ap (λ s. s.nodes) c.offer.ensures.seat) c.offer.ensures.hands);
+          (out_still f.endpoint c.offer.new.self (ap (λ s. s.nodes) c.offer.ensures.seat) c.offer.ensures.slots);
     }
 
 pub returns-in_err-fill_for : goal.returns-in_err-fill_for

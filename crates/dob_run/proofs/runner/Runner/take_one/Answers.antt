@@ -1,5 +1,5 @@
 -- The runner is lawful whether no batch came or one was applied; a refused one blackened its seat before any end, and one for which
--- there is no memory lies in the hand.
+-- there is no memory lies in the slot.
 use Rattle.std.proofs.Common.{◌≡◌, ◌≢◌, ◌<◌, true, None, Err, refl, sym, ap, subst, arith, ◌∙◌, ◌++◌, ℕ, inl, inr}
 use Rattle.dob_board.specs.declared.view.Stand.{Stand}
 use Rattle.dob_board.specs.Seats.{TakesOne, TakesNone}
@@ -7,7 +7,7 @@ use Rattle.dob_board.specs.declared.seat.NodeSeat.{NodeSeat}
 use Rattle.dob_stops.specs.declared.cause.Cause.TheVariants.{Memory}
 use Rattle.dob_node.specs.declared.node.Node.{Node}
 use Rattle.dob_node.specs.Nodes.{IsSound, IsUnchanged}
-use Rattle.dob_run.specs.declared.hands.Inlet.{Inlet}
+use Rattle.dob_run.specs.declared.slots.Inlet.{Inlet}
 use Rattle.dob_run.specs.declared.endpoint.Endpoint.{Endpoint}
 use Rattle.dob_run.specs.declared.runner.Runner.{Runner}
 use Rattle.dob_run.specs.LawfulRunners.{IsLawfulRunner}
@@ -21,7 +21,7 @@ use Rattle.dob_run.proofs.Lawfuls.{recoloured, same_inlet, applied_batch, unchan
 use Rattle.dob_run.proofs.Taking.{takes_none, takes_one, of_other, fits_node, unchanged_same}
 use Rattle.dob_run.proofs.runner.Runner.take_one.Goals as goal
 
--- the runner is lawful with what came into the hand
+-- the runner is lawful with what came into the slot
 received : (r : Runner) (mid : Endpoint) → r.failed ≡ None → mid.seat ≡ r.endpoint.seat → mid.outlets ≡ r.endpoint.outlets → worked mid.inlet ≡ worked r.endpoint.inlet →
     IsLawfulRunner r.family r.size r.node mid
 received r mid going seat outlets again = (let law = r.lawful (inl going) in

@@ -1,7 +1,7 @@
 -- Each world stands, or it has stopped.
 use Rattle.std.proofs.Common.{◌≡◌}
-use Rattle.dob_world.specs.Standing.{IsKept}
+use Rattle.dob_world.specs.Standing.{StandsOrStopped}
 use Rattle.dob_tests_nodes.proofs.world.stops.a_stopped_world_is_as_before.Given as goal
 
 abbrev pub invariant-loop-number : goal.invariant-loop-number
-invariant-loop-number g l = IsKept l.world × IsKept l.twin × (l.world.n ≡ 2) × (l.twin.n ≡ 2)
+invariant-loop-number g l = StandsOrStopped l.world × StandsOrStopped l.twin × (l.world.n ≡ 2) × (l.twin.n ≡ 2)

@@ -5,7 +5,7 @@ use Rattle.dob_share.specs.declared.news.Item.{Item}
 use Rattle.dob_update.specs.declared.part.Part.{Part}
 use Rattle.dob_update.specs.Batches.{OutboxView, BatchView, IsCut}
 use Rattle.dob_update.specs.Parts.{settlements_of, behind, items_of_parts}
-use Rattle.dob_update.specs.Runs.{IsRun}
+use Rattle.dob_update.specs.Runs.{IsItemRun}
 use Rattle.dob_update.proofs.Runs.{run_cut, IsCut-from_parts, total-front}
 use Rattle.dob_update.proofs.PartItems.{items_of_parts-length, items_of_parts-front, items_of_parts-behind, no_items_of_parts, listed_behind}
 use Rattle.dob_update.proofs.outbox.Outbox.cut.Goals as goal
@@ -34,8 +34,8 @@ new-batch-requires c =
     let items_are : c.in_ok-items.items.items ≡ take k all
     = c.in_ok-items.ensures ∙ ap (λ (ps : List Part). items_of_parts ps old.classes.items) (c.deref.ensures.value ∙ c.in_ok-parts.ensures)
     ∙ items_of_parts-front k old.parts.items old.classes.items (omega (arith, counted)) (omega (arith, counted, within)) in
-    subst (λ (xs : List Item). IsRun old.family old.n old.to c.in_ok-parts.parts.items old.skip xs) (sym items_are)
-    (subst (λ (ps : List Part). IsRun old.family old.n old.to ps old.skip (take k all)) (sym c.in_ok-parts.ensures)
+    subst (λ (xs : List Item). IsItemRun old.family old.n old.to c.in_ok-parts.parts.items old.skip xs) (sym items_are)
+    (subst (λ (ps : List Part). IsItemRun old.family old.n old.to ps old.skip (take k all)) (sym c.in_ok-parts.ensures)
     (run_cut old.family old.n old.to old.parts.items old.skip k all c.self.invariant.rest (omega (arith, c.if-taken-eq0.false)) (omega (arith, long, counted, within))))
 
 pub drop_parts-self-inside-requires-clause-whole : goal.drop_parts-self-inside-requires-clause-whole

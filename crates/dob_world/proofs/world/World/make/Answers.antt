@@ -1,12 +1,12 @@
 -- What a node does by itself is what the event does.
 use Rattle.std.proofs.Common.{sym, subst, IfErr}
 use Rattle.dob_world.specs.declared.event.Event.{Event}
-use Rattle.dob_world.specs.Effects.{IsDone, IsSkipped, IsStopped}
+use Rattle.dob_world.specs.Effects.{IsEventDone, IsSkipped, IsStopped}
 use Rattle.dob_world.proofs.world.World.make.Goals as goal
 
 pub returns-in-Own-clause-done : goal.returns-in-Own-clause-done
 returns-in-Own-clause-done c = λ done.
-    subst (λ (e : Event). IsDone e c.args.self.now c.own.new.self) (sym c.in-Own.is) (c.own.ensures.done done)
+    subst (λ (e : Event). IsEventDone e c.args.self.now c.own.new.self) (sym c.in-Own.is) (c.own.ensures.done done)
 
 pub returns-in-Own-clause-skipped : goal.returns-in-Own-clause-skipped
 returns-in-Own-clause-skipped c = λ skipped.

@@ -3,7 +3,7 @@ use Rattle.std.proofs.Common.{◌≡◌, ◌<◌, ℕ, refl, sym, ◌∙◌, sub
 use Rattle.dob_safra.specs.declared.event.RingEvent.TheVariants as ring
 use Rattle.dob_safra.specs.Rings.{Moved}
 use Rattle.dob_world.specs.declared.event.Event.TheVariants.{Pass}
-use Rattle.dob_world.specs.Events.{CanHappen, MayEnd}
+use Rattle.dob_world.specs.Events.{CanHappen, WorldMayEnd}
 use Rattle.dob_world.specs.Shown.{setting_of, state_of, ring_of}
 use Rattle.dob_world.proofs.InPlace.{node_there}
 use Rattle.dob_world.proofs.Cuts.{cuts_same}
@@ -37,7 +37,7 @@ returns-clause-done c = λ e.
     let low : c.args.node < c.args.self.now.n = c.if-node-self.false in
     let there = node_there k nodes lanes stand.places c.args.node node low c.index.ensures in
     let at : detector.token.at ≡ c.args.node = sym c.if-node-self-2.false in
-    let not_yet : c.args.node ≡ 0 → MayEnd k (state_of c.args.self.now) → ⊥ = λ first may. elim c.else-node-eq0.branch [
+    let not_yet : c.args.node ≡ 0 → WorldMayEnd k (state_of c.args.self.now) → ⊥ = λ first may. elim c.else-node-eq0.branch [
       | else-node-eq0-via-then-node-eq0+else-may_end w ↦
           let both = sym (w.may_end.ensures.1 (announceable_there k nodes lanes detector steps stand may.1)) ∙ w.if-may_end.false in cc
       | else-node-eq0-via-else-node-eq0 w ↦ w.if-node-eq0.false first

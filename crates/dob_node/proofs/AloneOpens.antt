@@ -1,0 +1,178 @@
+-- One node that owns all classes, as it is opened: it is lawful.
+use Rattle.std.proofs.Common.{◌≡◌, ℕ, zero, suc, ◌+◌, ◌*◌, ◌%◌, ◌<◌, inl, inr, refl, sym, ap, ◌∙◌, subst}
+use Rattle.std.proofs.Common.{arith, List, [], ◌++◌, length, take, get_or, Result, Ok, Err, IfOk}
+use Rattle.std.specs.List.{All}
+use Rattle.std.proofs.lemmas.Bool.{cases_order}
+use Rattle.std.proofs.lemmas.Option.{slice_get-get_or}
+use Rattle.dob_pieces.specs.declared.profile.Family.{Family}
+use Rattle.dob_moves.specs.declared.position_status.Status.{Status}
+use Rattle.dob_moves.specs.declared.position_status.Status.TheVariants.{Stuck, Open}
+use Rattle.dob_moves.specs.MoveLists.{moves_of}
+use Rattle.dob_moves.specs.Statuses.{HasStatus}
+use Rattle.dob_moves.proofs.Cases.{one_status}
+use Rattle.dob_rank.specs.Families.{classes_of}
+use Rattle.dob_rank.specs.Families.{class_setup}
+use Rattle.dob_value.specs.declared.value.Value.TheVariants.{Draw}
+use Rattle.dob_value.specs.Follows.{IsEntry}
+use Rattle.dob_unmove.specs.Edges.{predecessors}
+use Rattle.dob_share.specs.declared.news.Settlement.{Settlement}
+use Rattle.dob_share.specs.declared.news.Item.{Item}
+use Rattle.dob_share.specs.declared.opening.Opening.{Opening}
+use Rattle.dob_share.specs.Owners.{owner_of}
+use Rattle.dob_share.specs.Cells.{SameCell, CellValue, fresh}
+use Rattle.dob_share.specs.Openings.{opening_of}
+use Rattle.dob_share.specs.Shares.{places_of, IsOwn, status_at, cell_at}
+use Rattle.dob_share.proofs.Applied.{CellValue-same}
+use Rattle.dob_update.specs.Items.{items_from}
+use Rattle.dob_node.specs.Histories.{value_of, IsChained}
+use Rattle.dob_node.specs.Quiet.{FollowsAtStatus}
+use Rattle.dob_node.specs.Openings.{IsOpening, AreOpenings}
+use Rattle.dob_node.specs.Lawful.{known_of, AreLawfulNodes}
+use Rattle.dob_node.specs.Falls.{IsFirst, HaveFalls}
+use Rattle.dob_node.specs.OpeningLists.{opening_value, opening_settlements, status_in}
+use Rattle.dob_node.specs.declared.node.Node.{Node}
+use Rattle.dob_node.specs.Nodes.{IsSound, IsOpened}
+use Rattle.dob_node.specs.Alone.{alone_history, alone_applied, alone_items, cells_below, IsAlone, HasCome, HasMade}
+use Rattle.dob_node.proofs.Beginnings.{or_else, closed_follows, opened_value, opened_chained, opened_entries}
+use Rattle.dob_node.proofs.ValuesFollow.{SumsUp-same}
+use Rattle.dob_node.proofs.Totals.{start_sums}
+use Rattle.dob_node.proofs.AloneParts.{cell_below, one_owner}
+use Rattle.dob_node.proofs.Rises.{opened_first, fresh_within, falls_start}
+
+-- ---- what is listed
+
+pub listed_opening : (family : Family) (openings : List Opening) (class : ℕ) → AreOpenings family openings → class < classes_of family →
+    IsOpening family.profile (class_setup family class) (opening_of openings class)
+listed_opening family openings class are low =
+    let none : Opening = record { status = Stuck; moves = 0 } in
+    are.each class (get_or openings class none) (slice_get-get_or openings class none (subst (λ (n : ℕ). class < n) (sym are.whole) low))
+
+-- ---- the settlements of the opening are those of a node that is the only one
+
+alone_place : (k : ℕ) → k * 1 + 0 ≡ k
+alone_place k = omega arith
+
+value_opened : (status : ℕ → Status) (k p : ℕ) → p < k → value_of (opening_settlements status 1 0 k) p ≡ or_else (opening_value (status p)) Draw
+value_opened status k p low =
+    subst (λ (q : ℕ). value_of (opening_settlements status 1 0 k) q ≡ or_else (opening_value (status q)) Draw) (alone_place p)
+    (opened_value 1 0 (omega arith) status k p low)
+
+-- ---- the node
+
+fresh_draw : (moves : ℕ) → CellValue (fresh moves) Draw
+fresh_draw moves = (refl, inr (λ plies. refl))
+
+module _ (family : Family) (openings : List Opening) (node : Node) (are : AreOpenings family openings) (opened : IsOpened openings family 0 1 node)
+    (sound : IsSound node) where
+  abbrev pub classes : ℕ
+  classes = classes_of family
+
+  abbrev pub status : ℕ → Status
+  status = status_in openings
+
+  abbrev pub h : List Settlement
+  h = opening_settlements status 1 0 classes
+
+  own : (class : ℕ) → class < classes → IsOwn node.share class
+  own class low = (sound.kept.owned class).1 (
+    subst (λ (m : ℕ). class % m ≡ node.id) (sym opened.of.2) (one_owner class ∙ sym opened.of.1),
+    subst (λ (st : Family). class < classes_of st) (sym opened.of.0) low,
+  )
+
+  is_opening : (class : ℕ) → class < classes → IsOpening family.profile (class_setup family class) (opening_of openings class)
+  is_opening class low = listed_opening family openings class are low
+
+  -- as many places as classes
+  all_places : places_of node.share ≡ classes
+  all_places = elim (cases_order (places_of node.share) classes) [
+    | inl same ↦ same
+    | inr order ↦ elim order [
+      | inl less ↦
+          let there : places_of node.share * 1 + 0 < length openings = subst (λ (m : ℕ). places_of node.share * 1 + 0 < m) (sym are.whole)
+          (let same : places_of node.share * 1 + 0 ≡ places_of node.share = alone_place (places_of node.share) in omega arith) in
+          let low : places_of node.share < places_of node.share = (opened.places (places_of node.share)).1 there in
+          absurd (omega arith)
+      | inr more ↦
+          let there : classes * 1 + 0 < length openings = (opened.places classes).0 more in
+          let low : classes * 1 + 0 < classes = subst (λ (m : ℕ). classes * 1 + 0 < m) are.whole there in
+          absurd (let same : classes * 1 + 0 ≡ classes = alone_place classes in omega arith)
+    ]
+  ]
+
+  history_is : node.history.settlements ≡ h
+  history_is = opened.history ∙ ap (λ k. opening_settlements status 1 0 k) all_places
+
+  cell_is : (p : ℕ) → p < classes → SameCell (cells_below classes node.share p) (fresh (length (moves_of family.profile (class_setup family p))))
+  cell_is p low = subst (λ c. SameCell c (fresh (length (moves_of family.profile (class_setup family p))))) (sym (cell_below classes node.share p low))
+      (subst (λ m. SameCell (cell_at node.share p) (fresh m)) (is_opening p low).moves (opened.cells p (own p low)))
+
+  value_is : (p : ℕ) (s : Status) → p < classes → HasStatus family.profile (class_setup family p) s → value_of h p ≡ or_else (opening_value s) Draw
+  value_is p s low is = value_opened status classes p low
+      ∙ ap (λ st. or_else (opening_value st) Draw) (one_status family.profile (class_setup family p) (status p) s (is_opening p low).status is)
+
+  none_applied : (i : ℕ) → alone_applied [] i 0 ≡ []
+  none_applied zero = refl
+  none_applied (suc i) = refl
+
+  at_zero : (P : ℕ → List Settlement → Type 0) → P 0 h → (i : ℕ) → i < 1 → P i (alone_history h i)
+  at_zero P base zero low = base
+  at_zero P base (suc i) low = absurd (omega arith)
+
+  chained : (i : ℕ) → i < 1 → IsChained classes 1 i (alone_history h i)
+  chained = at_zero (λ i xs. IsChained classes 1 i xs)
+      (opened_chained 1 0 (omega arith) status classes classes (λ q less. let same : q * 1 + 0 ≡ q = alone_place q in omega arith))
+
+  falls : HaveFalls family 1 (alone_history h) (cells_below classes node.share)
+  falls = falls_start family 1 (alone_history h) (cells_below classes node.share) chained
+      (at_zero (λ i xs. All (λ (s : Settlement). IsFirst s.now) xs) (opened_first status 1 0 classes))
+      (λ class low. fresh_within classes (length (moves_of family.profile (class_setup family class))) (cells_below classes node.share class) (cell_is class low))
+
+  lawful : AreLawfulNodes family 1 (alone_history h) (alone_applied []) (cells_below classes node.share) (value_of h)
+  lawful = record {
+    chained = chained;
+    entries = at_zero (λ i xs. All (λ (s : Settlement). IsEntry s.now) xs) (opened_entries 1 0 (omega arith) status classes);
+    begun = begun;
+    sums = λ p low is. SumsUp-same (known_of family 1 (alone_history h) (alone_applied []) p) (cells_below classes node.share p)
+        (fresh (length (moves_of family.profile (class_setup family p)))) (cell_is p low)
+        (start_sums family p low 1 (alone_history h) (λ i. alone_applied [] i (owner_of 1 p)) (λ i. subst (λ k. alone_applied [] i k ≡ []) (sym (one_owner p)) (none_applied i)));
+    cell_values = λ p low is. subst (λ v. CellValue (cells_below classes node.share p) v) (sym (value_is p Open low is))
+        (CellValue-same (cells_below classes node.share p) (fresh (length (moves_of family.profile (class_setup family p)))) Draw (cell_is p low) (fresh_draw (length (moves_of family.profile (class_setup family p)))));
+    over = λ p s low is closed. subst (λ v. FollowsAtStatus s [] v) (sym (value_is p s low is)) (closed_follows s closed);
+    values = λ p low. ap (λ k. value_of (alone_history h k) p) (sym (one_owner p));
+  }
+    where
+      begun : (i j : ℕ) → i < 1 → j < 1 → (rest : List Item) × (items_from (predecessors family) 1 j (alone_history h i) ≡ alone_applied [] i j ++ rest)
+      begun zero zero low_i low_j = (items_from (predecessors family) 1 0 h, refl)
+      begun zero (suc j) low_i low_j = absurd (omega arith)
+      begun (suc i) j low_i low_j = absurd (omega arith)
+
+  pub alone_opened : IsAlone node []
+  alone_opened = record {
+    sound = sound;
+    alone = (opened.of.2, opened.of.1);
+    statuses = λ class low. subst (λ st. HasStatus st.profile (class_setup st class) (status_at node.share class)) (sym opened.of.0)
+        (at class (subst (λ (st : Family). class < classes_of st) opened.of.0 low));
+    emitted = ap (λ k. alone_items node.family (take k node.history.settlements)) opened.nothing.0 ∙ sym opened.nothing.1;
+    lawful = subst (λ st. AreLawfulNodes st 1 (alone_history node.history.settlements) (alone_applied []) (cells_below (classes_of st) node.share)
+        (value_of node.history.settlements)) (sym opened.of.0)
+        (subst (λ xs. AreLawfulNodes family 1 (alone_history xs) (alone_applied []) (cells_below classes node.share) (value_of xs)) (sym history_is) lawful);
+    falls = subst (λ st. HaveFalls st 1 (alone_history node.history.settlements) (cells_below (classes_of st) node.share)) (sym opened.of.0)
+        (subst (λ xs. HaveFalls family 1 (alone_history xs) (cells_below classes node.share)) (sym history_is) falls);
+  }
+    where
+      at : (class : ℕ) → class < classes → HasStatus family.profile (class_setup family class) (status_at node.share class)
+      at class low = subst (λ s. HasStatus family.profile (class_setup family class) s) (sym (opened.statuses class (own class low))) (is_opening class low).status
+
+  pub made_none : HasMade 0 node
+  made_none = (
+    [],
+    alone_opened,
+    ap (λ (k : ℕ). k + 0) opened.nothing.0,
+    subst (λ st. HasCome st 0 node) (sym opened.of.0) (openings, are, opened, sound),
+  )
+
+-- it is so of the node that an opening gives, where it gives one
+pub made_none_ok : {E : Type 0} (family : Family) (openings : List Opening) (given : Result Node E) → AreOpenings family openings →
+    IfOk given (λ node. IsOpened openings family 0 1 node) → IfOk given (λ node. IsSound node) → IfOk given (λ node. HasMade 0 node)
+made_none_ok family openings (Ok node) are opened sound = made_none family openings node are opened sound
+made_none_ok family openings (Err why) are opened sound = tt

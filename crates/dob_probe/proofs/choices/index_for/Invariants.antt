@@ -1,8 +1,0 @@
--- No move of the list so far is worse.
-use Rattle.std.proofs.Common.{ℕ, ◌<◌, get_or}
-use Rattle.dob_probe.specs.declared.choices.ValuedMove.{ValuedMove}
-use Rattle.dob_probe.specs.Choices.{IsBetter}
-use Rattle.dob_probe.proofs.choices.index_for.Given as goal
-
-abbrev pub invariant-loop-index : goal.invariant-loop-index
-invariant-loop-index l = (k : ℕ) (d : ValuedMove) → k < l.index → ¬ IsBetter l.value (get_or l.list k d).value

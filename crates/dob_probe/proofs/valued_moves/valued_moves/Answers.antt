@@ -1,0 +1,14 @@
+-- By a consistent table the moves have the right values.
+use Rattle.std.proofs.Common.{refl, subst}
+use Rattle.dob_pieces.specs.declared.profile.Family.{Family}
+use Rattle.dob_rank.specs.Families.{IsPositionOf}
+use Rattle.dob_value.proofs.Consistency.{consistent_is_right}
+use Rattle.dob_probe.proofs.ByValue.{valued_rightly}
+use Rattle.dob_probe.proofs.valued_moves.valued_moves.Goals as goal
+
+pub returns-clause-right : goal.returns-clause-right
+returns-clause-right c = λ consistent.
+    let table = c.args.table.now in
+    let is = subst (λ (family : Family). IsPositionOf family c.args.position.now.setup) c.family.ensures.family c.in_ok-check_member.ensures.member in
+    valued_rightly table (consistent_is_right table.family table.values consistent) c.args.position.now.setup is c.in_ok-moves_of_set.field-0.items
+    c.in_ok-moves_of_set.ensures

@@ -1,0 +1,160 @@
+// The moves of a position with their values by a table, best first.
+ghost use Rattle.std.specs.Prelude.{◌≡◌, ◌⊎◌, ◌↔◌, ◌<◌, ◌≤◌, ℕ, length, get_or, Contains, AllPairs, IsTrue, IfOk, IfErr, OnOk, Err};
+ghost use Rattle.dob_pieces.specs.declared.setup.Setup.{Setup};
+ghost use Rattle.dob_pieces.specs.Profiles.{IsAllowed};
+ghost use Rattle.dob_moves.specs.Moves.{place};
+ghost use Rattle.dob_moves.specs.Statuses.{AreMoves, CanCatch};
+ghost use Rattle.dob_rank.specs.Families.{IsPositionOf};
+ghost use Rattle.dob_rank.specs.Order.{IsPositionOfSet};
+ghost use Rattle.dob_value.specs.Values.{HasValue};
+ghost use Rattle.dob_value.specs.Follows.{IsConsistent, IsEntry, IsTable};
+ghost use Rattle.dob_probe.specs.ValuedMoves.{AreValuedMoves, ComesBefore, IsBetter, seen_from_before};
+ghost use Rattle.dob_probe.specs.Faults.{IsFaultOfMoves};
+ghost use Rattle.dob_probe.specs.Lines.{GivenBy};
+
+use crate::fault::Fault;
+use crate::members::check_member;
+use crate::successors::value_to;
+use dob_moves::{Move, first_catch, moves};
+use dob_pieces::{Memory, Position};
+use dob_value::{Table, Value};
+use std::alloc::Global;
+
+/// A move with the value that the side that makes it then has.
+#[derive(Clone, Copy, Debug, PartialEq, Eq)]
+pub struct ValuedMove {
+    pub the_move: Move,
+    pub value: Value,
+}
+
+/// The moves of the position, each with its value for the side that makes it: a win in one ply more than what it leads to is
+/// lost in, a loss in one ply more than what it leads to is won in, or a draw. Best first: wins by the least distance, draws,
+/// losses by the greatest; equal ones in the move order. Where the lion can be caught there is its first catch alone, a win in
+/// 1 ply, and none where the mover has lost already. Since a table's distances are at most 65,534, one ply more fits.
+///
+/// # Errors
+///
+/// `FarChick` just where the table's profile doesn't allow the position; `OtherSet` just where it does, and the position
+/// isn't of the table's set; `Memory`.
+pub fn valued_moves(
+    alloc: Global,
+    table: &Table,
+    position: &Position,
+) -> Result<Vec<ValuedMove>, Fault>
+    ensures moves { IfOk result (λ list. AreValuedMoves table.now.family.profile (GivenBy table.now) position.now.setup list.items) }
+    ensures fault { IfErr result (IsFaultOfMoves table.now position.now.setup) }
+    ensures member { OnOk result (IsPositionOf table.now.family position.now.setup) }
+    ensures far { (IsAllowed table.now.family.profile position.now.setup → ⊥) → result ≡ Err Fault.FarChick }
+    ensures other { IsAllowed table.now.family.profile position.now.setup → (IsPositionOfSet table.now.family.set position.now.setup → ⊥)
+        → result ≡ Err Fault.OtherSet }
+    ensures right { IsConsistent table.now.family table.now.values →
+        IfOk result (λ list. AreValuedMoves table.now.family.profile (HasValue table.now.family.profile) position.now.setup list.items) }
+{
+    check_member(table.family(), position)?;
+    Ok(moves_of_set(alloc, table, position)?)
+}
+
+// The moves with their values of a position of the table's set.
+//
+// Error: `Memory`.
+fn moves_of_set(
+    alloc: Global,
+    table: &Table,
+    position: &Position,
+) -> Result<Vec<ValuedMove>, Memory>
+    requires whole { IsTable table.now.family table.now.values }
+    requires member { IsPositionOf table.now.family position.now.setup }
+    ensures { IfOk result (λ list. AreValuedMoves table.now.family.profile (GivenBy table.now) position.now.setup list.items) }
+{
+    if let Some(the_move) = first_catch(position) {
+        let mut list = Vec::new(alloc);
+        let value = Value::Win(1);
+        list.push(ValuedMove { the_move, value })?;
+        return Ok(list);
+    }
+    let the_moves = moves(alloc, table.family().profile, position)?;
+    moves_by_value(alloc, table, position, &the_moves)
+}
+
+// Those moves of the position with their values, best first.
+//
+// Error: `Memory`.
+fn moves_by_value(
+    alloc: Global,
+    table: &Table,
+    position: &Position,
+    the_moves: &[Move],
+) -> Result<Vec<ValuedMove>, Memory>
+    requires whole { IsTable table.now.family table.now.values }
+    requires member { IsPositionOf table.now.family position.now.setup }
+    requires the_moves { AreMoves table.now.family.profile position.now.setup the_moves.now }
+    requires free { ¬ CanCatch position.now.setup }
+    ensures { IfOk result (λ list. AreValuedMoves table.now.family.profile (GivenBy table.now) position.now.setup list.items) }
+{
+    let mut list = Vec::new(alloc);
+    for the_move in the_moves {
+        let value = value_seen(value_to(table, position, *the_move));
+        let valued = ValuedMove {
+            the_move: *the_move,
+            value,
+        };
+        insert_by_value(&mut list, valued)?;
+    }
+    Ok(list)
+}
+
+/// The value that the side that made a move has, where the position after it has that value for the other side.
+pub fn value_seen(value: Value) -> Value
+    requires { IsEntry value }
+    ensures { result ≡ seen_from_before value }
+{
+    match value {
+        Value::Win(plies) => Value::Loss(plies + 1),
+        Value::Loss(plies) => Value::Win(plies + 1),
+        Value::Draw => Value::Draw,
+    }
+}
+
+/// Inserts a move that is later in the move order than all that are listed.
+///
+/// # Errors
+///
+/// `Memory`.
+pub fn insert_by_value(list: &mut Vec<ValuedMove>, more: ValuedMove) -> Result<(), Memory>
+    requires later { (other : ValuedMove) → Contains list.old.items other → place other.the_move < place more.the_move }
+    requires ordered { AllPairs ComesBefore list.old.items }
+    ensures ordered { OnOk result (AllPairs ComesBefore list.new.items) }
+    ensures items { OnOk result ((other : ValuedMove) → Contains list.new.items other ↔ (Contains list.old.items other ⊎ (other ≡ more))) }
+{
+    let index = index_for(list, more.value);
+    list.insert(index, more)?;
+    Ok(())
+}
+
+// How many of the list stand before a later move of that value: all before the first that is worse.
+fn index_for(list: &[ValuedMove], value: Value) -> usize
+    ensures within { result ≤ length list.now }
+    ensures before { (k : ℕ) (d : ValuedMove) → k < result → ¬ IsBetter value (get_or list.now k d).value }
+    ensures first { (d : ValuedMove) → result < length list.now → IsBetter value (get_or list.now result d).value }
+{
+    for index in 0..list.len() {
+        if is_better(value, list[index].value) {
+            return index;
+        }
+    }
+    list.len()
+}
+
+// Whether the first value is better.
+fn is_better(value: Value, other: Value) -> bool
+    ensures { IsTrue result ↔ IsBetter value other }
+{
+    match (value, other) {
+        (Value::Win(plies), Value::Win(others)) => plies < others,
+        (Value::Win(_), Value::Draw | Value::Loss(_)) => true,
+        (Value::Draw, Value::Loss(_)) => true,
+        (Value::Draw, Value::Win(_) | Value::Draw) => false,
+        (Value::Loss(plies), Value::Loss(others)) => plies > others,
+        (Value::Loss(_), Value::Win(_) | Value::Draw) => false,
+    }
+}

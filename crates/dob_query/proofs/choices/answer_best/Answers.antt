@@ -1,8 +1,0 @@
--- The lines tell the moves that were found.
-use Rattle.std.proofs.Common.{◌∙◌, ap}
-use Rattle.dob_query.specs.Choices.{best_line}
-use Rattle.dob_query.proofs.choices.answer_best.Goals as goal
-
-pub returns-clause-ok : goal.returns-clause-ok
-returns-clause-ok g c =
-    (c.in_ok-choices.choices.items, c.in_ok-choices.ensures.ok, c.in_ok-best_line.ensures ∙ ap best_line c.deref.ensures.value)
