@@ -73,7 +73,7 @@ The file is the same whatever their number.
 
 The file has 2 bytes a class and 53 more, and its build takes some 9 bytes of memory a class.
 `dobutsu count --set 111` gives the classes of a set: 765360 of three pieces, which take a second or two.
-The whole game, `222`, has 588021930, which take a quarter of an hour, 16 GB of memory and 1.2 GB of disk.
+The whole game, `222`, has 588021930, which take a quarter of an hour, 5 to 8 GB of memory and 1.2 GB of disk.
 
 The table is written to FILE with `.part` behind it, and takes the place of FILE when it is whole and on
 the disk: until then FILE is as it was, whatever happens. A pipe, a device or a link is written where it is.
