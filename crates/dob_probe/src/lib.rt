@@ -11,7 +11,7 @@ mod members;
 mod probes;
 mod puzzles;
 mod successors;
-mod the_moves;
+mod valued_moves;
 mod walks;
 
 pub use checks::{check, check_class};
@@ -21,5 +21,5 @@ pub use lines::line;
 pub use members::check_member;
 pub use probes::probe;
 pub use puzzles::{Puzzle, first_puzzles};
-pub use the_moves::{ValuedMove, insert_by_value, value_seen, valued_moves};
+pub use valued_moves::{ValuedMove, insert_by_value, value_seen, valued_moves};
 pub use walks::Walk;

@@ -17,7 +17,7 @@ mod shows;
 mod stats;
 mod tables;
 mod tally;
-mod the_moves;
+mod valued_moves;
 mod values;
 
 pub use counts::answer_count;
@@ -34,5 +34,5 @@ pub use shelf::{MemShelf, Shelf, ShelfFault};
 pub use shows::answer_show;
 pub use stats::answer_stats;
 pub use tables::{answer_check, answer_line, answer_probe};
-pub use the_moves::{answer_best, answer_moves};
+pub use valued_moves::{answer_best, answer_moves};
 pub use values::answer_value;
