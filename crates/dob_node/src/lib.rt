@@ -1,21 +1,21 @@
 // One node of a build: the history of the classes that it owns, and what it has to tell and to apply.
 #![tactic(auto)]
 
-mod alone;
 mod entries;
 mod fault;
 mod history;
 pub mod laws;
 mod node;
+mod one_owner;
 mod openings;
 mod outboxes;
 mod start_statuses;
 mod taking;
 
-pub use alone::alone;
 pub use dob_share::Opening;
 pub use dob_stops::{Cause, Stopped};
 pub use entries::have_entries;
 pub use fault::Fault;
 pub use node::{MAX_BATCHES, Node, Part};
+pub use one_owner::alone;
 pub use openings::{opening, opening_in};

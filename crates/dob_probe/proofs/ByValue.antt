@@ -19,7 +19,7 @@ use Rattle.dob_value.specs.declared.value.Value.TheVariants.{Win, Loss, Draw}
 use Rattle.dob_value.specs.Values.{HasValue}
 use Rattle.dob_value.specs.Follows.{ClassTable, IsValueTable}
 use Rattle.dob_value.proofs.Successors.{moves_keep_the_family}
-use Rattle.dob_probe.specs.declared.valued_moves.ValuedMove.{ValuedMove}
+use Rattle.dob_probe.specs.declared.by_value.ValuedMove.{ValuedMove}
 use Rattle.dob_probe.specs.ValuedMoves.{seen_from_before, IsBetter, ComesBefore, HasMoveValue, AreValuedMoves}
 use Rattle.dob_probe.specs.Lines.{GivenBy}
 use Rattle.dob_probe.proofs.Best.{to_value, of_value}

@@ -2,6 +2,7 @@
 // value table, whoever made it.
 #![tactic(auto)]
 
+mod by_value;
 mod checks;
 mod fault;
 mod groups;
@@ -11,9 +12,9 @@ mod members;
 mod probes;
 mod puzzles;
 mod successors;
-mod valued_moves;
 mod walks;
 
+pub use by_value::{ValuedMove, insert_by_value, value_seen, valued_moves};
 pub use checks::{check, check_class};
 pub use fault::Fault;
 pub use groups::{Group, add_slots, groups_of, slots_between};
@@ -21,5 +22,4 @@ pub use lines::line;
 pub use members::check_member;
 pub use probes::probe;
 pub use puzzles::{Puzzle, first_puzzles};
-pub use valued_moves::{ValuedMove, insert_by_value, value_seen, valued_moves};
 pub use walks::Walk;

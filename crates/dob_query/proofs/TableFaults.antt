@@ -22,7 +22,7 @@ use Rattle.dob_query.specs.Endings.{Answers, AnswersOver, Ending}
 use Rattle.dob_query.specs.Each.{IsGivenTo}
 use Rattle.dob_query.specs.Program.{IsValueLineOf, IsValueOf}
 use Rattle.dob_query.specs.ValuedMoves.{AnswersBest, AnswersBestRight, AnswersMoves, AnswersMovesRight, AreMovesOf, AreRightMovesOf, TellsMoves, best_line, move_lines}
-use Rattle.dob_probe.specs.declared.valued_moves.ValuedMove.{ValuedMove}
+use Rattle.dob_probe.specs.declared.by_value.ValuedMove.{ValuedMove}
 use Rattle.dob_query.specs.Tables.{AnswersProbe, AnswersProbeRight, HasValueFile, IsCheckFault, IsFileOf, IsOpeningFault, IsPositionFault, IsProbingFault, IsShut}
 use Rattle.dob_query.specs.Tables.{IsProbeLine, IsTextOf}
 

@@ -7,7 +7,7 @@ use Rattle.dob_text.specs.MoveText.{move_text}
 use Rattle.dob_rank.specs.Families.{IsPositionOf}
 use Rattle.dob_value.specs.Follows.{ClassTable}
 use Rattle.dob_value.specs.Values.{HasValue}
-use Rattle.dob_probe.specs.declared.valued_moves.ValuedMove.{ValuedMove}
+use Rattle.dob_probe.specs.declared.by_value.ValuedMove.{ValuedMove}
 use Rattle.dob_probe.specs.ValuedMoves.{AreValuedMoves}
 use Rattle.dob_probe.specs.Lines.{GivenBy}
 use Rattle.dob_query.specs.Endings.{AnswersOver, Ending}

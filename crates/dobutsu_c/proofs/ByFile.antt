@@ -14,7 +14,7 @@ use Rattle.dob_dbfile.specs.declared.header.Format.{Format}
 use Rattle.dob_dbfile.specs.Faults.{CountsClasses}
 use Rattle.dob_dbfile.specs.Format.{IsFile}
 use Rattle.dob_dbfile.proofs.Looked.{table_family, table_has_record, table_record}
-use Rattle.dob_probe.specs.declared.valued_moves.ValuedMove.{ValuedMove}
+use Rattle.dob_probe.specs.declared.by_value.ValuedMove.{ValuedMove}
 use Rattle.dob_probe.specs.ValuedMoves.{AreValuedMoves, HasMoveValue}
 use Rattle.dob_probe.specs.Lines.{GivenBy}
 use Rattle.dob_probe.proofs.Best.{of_value}

@@ -6,7 +6,7 @@ use Rattle.dob_pieces.specs.declared.setup.Setup.{Setup}
 use Rattle.dob_moves.specs.declared.game_move.Move.{Move}
 use Rattle.dob_moves.specs.Moves.{place}
 use Rattle.dob_moves.specs.Statuses.{AreMoves}
-use Rattle.dob_probe.specs.declared.valued_moves.ValuedMove.{ValuedMove}
+use Rattle.dob_probe.specs.declared.by_value.ValuedMove.{ValuedMove}
 
 -- each listed move is one of the first the_moves
 abbrev pub AreOfFirst : List Move → ℕ → List ValuedMove → Type 0

@@ -10,7 +10,7 @@ ghost use Rattle.dob_value.specs.Values.{HasValue};
 ghost use Rattle.dob_dbfile.specs.Devices.{whole};
 ghost use Rattle.dob_dbfile.specs.Faults.{IsNoLonger};
 ghost use Rattle.dob_dbfile.specs.Format.{IsFile};
-ghost use Rattle.dob_probe.specs.declared.valued_moves.ValuedMove.{ValuedMove as Valued};
+ghost use Rattle.dob_probe.specs.declared.by_value.ValuedMove.{ValuedMove as Valued};
 ghost use Rattle.dob_probe.specs.ValuedMoves.{AreValuedMoves};
 ghost use Rattle.dobutsu_c.specs.declared.fault.Fault.{Fault as AnyFault};
 ghost use Rattle.dobutsu_c.specs.Faults.{number_of};

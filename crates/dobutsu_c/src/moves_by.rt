@@ -12,7 +12,7 @@ ghost use Rattle.dob_index.specs.Index.{IsIndex, IsMarked};
 ghost use Rattle.dob_dbfile.specs.declared.header.Format.{Format as AnyFormat};
 ghost use Rattle.dob_dbfile.specs.Faults.{NamesFamily};
 ghost use Rattle.dob_dbfile.specs.Format.{IsFile};
-ghost use Rattle.dob_probe.specs.declared.valued_moves.ValuedMove.{ValuedMove as Valued};
+ghost use Rattle.dob_probe.specs.declared.by_value.ValuedMove.{ValuedMove as Valued};
 ghost use Rattle.dob_probe.specs.ValuedMoves.{AreValuedMoves};
 ghost use Rattle.dobutsu_c.specs.declared.fault.Fault.{Fault as AnyFault};
 ghost use Rattle.dobutsu_c.specs.ByIndex.{IsIndexFor, IsHeldBy};

@@ -1,6 +1,6 @@
 -- What is told are the moves that were listed, or the one fault.
 use Rattle.std.proofs.Common.{rules, ap, subst, ◌∙◌, List}
-use Rattle.dob_probe.specs.declared.valued_moves.ValuedMove.{ValuedMove}
+use Rattle.dob_probe.specs.declared.by_value.ValuedMove.{ValuedMove}
 use Rattle.dobutsu_c.specs.Faults.{number_of}
 use Rattle.dobutsu_c.specs.Moves.{AreWritten}
 use Rattle.dobutsu_c.proofs.ByFile.{moves_right}

@@ -5,7 +5,7 @@ use Rattle.dob_pieces.specs.declared.setup.Setup.{Setup}
 use Rattle.dob_rank.specs.Families.{IsPositionOf}
 use Rattle.dob_value.specs.declared.value.Value.{Value}
 use Rattle.dob_value.proofs.Successors.{move_goes}
-use Rattle.dob_probe.specs.declared.valued_moves.ValuedMove.{ValuedMove}
+use Rattle.dob_probe.specs.declared.by_value.ValuedMove.{ValuedMove}
 use Rattle.dob_probe.proofs.ByValue.{AreListed, listed_none, listed_earlier, listed_more, listed_all}
 use Rattle.dobutsu_c.specs.Probes.{IsGiven}
 use Rattle.dobutsu_c.proofs.Exact.{one_given}

@@ -1,6 +1,6 @@
 -- By the right index what is told are the moves that were listed, or the one fault.
 use Rattle.std.proofs.Common.{rules, subst, ◌∙◌, List}
-use Rattle.dob_probe.specs.declared.valued_moves.ValuedMove.{ValuedMove}
+use Rattle.dob_probe.specs.declared.by_value.ValuedMove.{ValuedMove}
 use Rattle.dobutsu_c.specs.Moves.{AreWritten}
 use Rattle.dobutsu_c.proofs.ByFile.{moves_right}
 use Rattle.dobutsu_c.proofs.Exact.{no_fault}

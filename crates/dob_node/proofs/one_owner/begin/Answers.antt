@@ -2,7 +2,7 @@
 use Rattle.std.proofs.Common.{subst}
 use Rattle.dob_node.specs.Openings.{AreOpenings}
 use Rattle.dob_node.proofs.AloneOpens.{made_none_ok}
-use Rattle.dob_node.proofs.alone.begin.Goals as goal
+use Rattle.dob_node.proofs.one_owner.begin.Goals as goal
 
 pub returns-clause-made : goal.returns-clause-made
 returns-clause-made c =

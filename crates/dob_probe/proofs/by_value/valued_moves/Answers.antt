@@ -4,7 +4,7 @@ use Rattle.dob_pieces.specs.declared.profile.Family.{Family}
 use Rattle.dob_rank.specs.Families.{IsPositionOf}
 use Rattle.dob_value.proofs.Consistency.{consistent_is_right}
 use Rattle.dob_probe.proofs.ByValue.{valued_rightly}
-use Rattle.dob_probe.proofs.valued_moves.valued_moves.Goals as goal
+use Rattle.dob_probe.proofs.by_value.valued_moves.Goals as goal
 
 pub returns-clause-right : goal.returns-clause-right
 returns-clause-right c = λ consistent.

@@ -4,7 +4,7 @@ use Rattle.dob_pieces.specs.declared.profile.Family.{Family}
 use Rattle.dob_rank.specs.Families.{classes_of}
 use Rattle.dob_value.proofs.Parity.{IfOk-both}
 use Rattle.dob_node.proofs.AloneEnds.{shows_entry, alone_given}
-use Rattle.dob_node.proofs.alone.table_of.Goals as goal
+use Rattle.dob_node.proofs.one_owner.table_of.Goals as goal
 
 pub from_fn-requires-clause-entries : goal.from_fn-requires-clause-entries
 from_fn-requires-clause-entries c = λ class value low has.

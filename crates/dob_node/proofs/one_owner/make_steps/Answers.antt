@@ -3,7 +3,7 @@ use Rattle.std.proofs.Common.{subst}
 use Rattle.dob_pieces.specs.declared.profile.Family.{Family}
 use Rattle.dob_node.specs.Alone.{HasStoppedAlone}
 use Rattle.dob_node.proofs.TakenLists.{carried}
-use Rattle.dob_node.proofs.alone.make_steps.Goals as goal
+use Rattle.dob_node.proofs.one_owner.make_steps.Goals as goal
 
 pub returns-in_err-step-clause-stopped : goal.returns-in_err-step-clause-stopped
 returns-in_err-step-clause-stopped c =

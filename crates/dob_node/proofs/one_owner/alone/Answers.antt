@@ -5,7 +5,7 @@ use Rattle.dob_pieces.specs.declared.profile.Family.{Family}
 use Rattle.dob_node.specs.declared.node.Node.{Node}
 use Rattle.dob_node.specs.Alone.{HasMade, IsDone, IsTooDeepWithin, IsUnderWay}
 use Rattle.dob_node.proofs.AloneStops.{never_too_deep}
-use Rattle.dob_node.proofs.alone.alone.Goals as goal
+use Rattle.dob_node.proofs.one_owner.alone.Goals as goal
 
 pub returns-in_err-ended-clause-too_deep : goal.returns-in_err-ended-clause-too_deep
 returns-in_err-ended-clause-too_deep c = λ same.

@@ -2,7 +2,7 @@
 use Rattle.std.proofs.Common.{sym, ◌∙◌}
 use Rattle.dob_node.proofs.AloneEnds.{under_way}
 use Rattle.dob_node.proofs.AloneStops.{fault_deep, fault_fits, done_idle, idle_done}
-use Rattle.dob_node.proofs.alone.finish.Goals as goal
+use Rattle.dob_node.proofs.one_owner.finish.Goals as goal
 
 pub returns-clause-done : goal.returns-clause-done
 returns-clause-done c =

@@ -5,7 +5,7 @@ use Rattle.dob_node.specs.Alone.{HasMade, HasStoppedAlone}
 use Rattle.dob_node.proofs.AloneSteps.{made_applied, made_expanded}
 use Rattle.dob_node.proofs.TakenLists.{carried}
 use Rattle.dob_node.proofs.AloneStops.{stopped_alone}
-use Rattle.dob_node.proofs.alone.step.Goals as goal
+use Rattle.dob_node.proofs.one_owner.step.Goals as goal
 
 pub returns-in_err-apply_own-clause-stopped : goal.returns-in_err-apply_own-clause-stopped
 returns-in_err-apply_own-clause-stopped c =

@@ -1,9 +1,9 @@
 -- Before the first that is worse the list stays sorted, and has one move more.
 use Rattle.std.proofs.Common.{◌≡◌, ◌<◌, ◌↔◌, ◌⊎◌, ℕ, ◌≤◌, sym, subst, length, get_or, Contains, AllPairs, List}
-use Rattle.dob_probe.specs.declared.valued_moves.ValuedMove.{ValuedMove}
+use Rattle.dob_probe.specs.declared.by_value.ValuedMove.{ValuedMove}
 use Rattle.dob_probe.specs.ValuedMoves.{IsBetter, ComesBefore}
 use Rattle.dob_probe.proofs.ByValue.{insert_has, insert_sorted}
-use Rattle.dob_probe.proofs.valued_moves.insert_by_value.Goals as goal
+use Rattle.dob_probe.proofs.by_value.insert_by_value.Goals as goal
 
 pub returns-clause-ordered : goal.returns-clause-ordered
 returns-clause-ordered c =

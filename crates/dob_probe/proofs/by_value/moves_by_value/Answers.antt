@@ -2,11 +2,11 @@
 use Rattle.std.proofs.Common.{refl, sym, subst, List}
 use Rattle.std.proofs.lemmas.Option.{slice_get_read}
 use Rattle.dob_value.proofs.Successors.{move_goes}
-use Rattle.dob_probe.specs.declared.valued_moves.ValuedMove.{ValuedMove}
+use Rattle.dob_probe.specs.declared.by_value.ValuedMove.{ValuedMove}
 use Rattle.dob_probe.specs.Lines.{GivenBy}
 use Rattle.dob_probe.proofs.Entries.{given_is_entry, one_given}
 use Rattle.dob_probe.proofs.ByValue.{AreListed, listed_none, listed_earlier, listed_more, listed_all}
-use Rattle.dob_probe.proofs.valued_moves.moves_by_value.Goals as goal
+use Rattle.dob_probe.proofs.by_value.moves_by_value.Goals as goal
 
 pub loop-the_move-init : goal.loop-the_move-init
 loop-the_move-init c =
