@@ -42,7 +42,8 @@ static uint32_t ask_by(const uint8_t *held, size_t length, const uint64_t *words
         if (moves == NULL)
             exit(3);
         moved = dobutsu_moves_by(held, length, words, len, text, text_len, moves, rooms[n], &count);
-        if (moved >= 32 || (moved != DOBUTSU_OK ? count != 77 : count > DOBUTSU_MOST_MOVES) || (moved != fault && fault != DOBUTSU_INDEX && moved != DOBUTSU_INDEX))
+        if (moved >= 32 || (moved != DOBUTSU_OK ? count != 77 : count > DOBUTSU_MOST_MOVES) ||
+            (moved != fault && fault != DOBUTSU_INDEX && moved != DOBUTSU_INDEX))
             exit(10);
         free(moves);
     }

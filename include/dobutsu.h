@@ -101,7 +101,7 @@ uint64_t dobutsu_index_words(uint32_t chicks, uint32_t elephants, uint32_t giraf
    fewer than dobutsu_index_words says. It takes some hundredths of a second for two pieces of each kind. */
 uint32_t dobutsu_index(uint32_t chicks, uint32_t elephants, uint32_t giraffes, uint32_t profile, uint64_t *words, size_t words_len);
 
-/* What dobutsu_probe and dobutsu_moves tell, by an index. With the index of the file's family as dobutsu_index wrote it the answers are just theirs, and right
+/* What dobutsu_probe and dobutsu_moves give, by an index. With the index of the file's family as dobutsu_index wrote it the answers are just theirs, and right
    where the file is the family's table. With any other numbers a call still returns, reads nothing outside of them, and answers some value, a fault that
    dobutsu_probe may answer, or 29: where the first number isn't that of an index of the file's family, where there are fewer numbers than it has, or where
    they lead outside of the file. */

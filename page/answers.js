@@ -1,10 +1,10 @@
-// What an open file tells of a position: its value, its moves' values, the best line, and exercises. Each number of a class comes from the
+// What an open file says of a position: its value, its moves' values, the best line, and exercises. Each number of a class comes from the
 // engine, each record from the file.
 const Answers = (() => {
   "use strict";
   const Core = DobutsuCore;
   // For exercises a file of at most `small` classes is read whole. Of a larger one `windows` windows of `window` classes are drawn, and `tried`
-  // candidates in each; what lengths there are is told by `samples` windows of `sample` classes.
+  // candidates in each; what lengths there are is known by `samples` windows of `sample` classes.
   const limits = { small: 1 << 20, window: 1 << 16, windows: 200, tried: 8, sample: 1 << 12, samples: 48 };
   const MOST_LINES = 5000;
 

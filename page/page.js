@@ -1,4 +1,4 @@
-// The page as a whole: it asks the open files about the position on the board, draws what they tell, and takes clicks, keys and files.
+// The page as a whole: it asks the open files about the position on the board, draws what they answer, and takes clicks, keys and files.
 (() => {
   const Core = DobutsuCore;
   const { text } = Texts;
@@ -7,7 +7,7 @@
   const element = (id) => document.getElementById(id);
 
   let chosen = null; // the place that is chosen on the board
-  let found = null; // what the file tells of the position that is shown
+  let found = null; // what the file says of the position that is shown
   let line = null; // its best line
   let turn = 0; // what is looked up for an earlier position is dropped
   let slow = null; // the timer behind which a look-up is called slow
@@ -116,7 +116,7 @@
   }
   const canStep = () => !!line && line.steps.length > 0 && !options.isHidden && !Setup.isOn();
 
-  // ---- what is told of the position
+  // ---- what is shown of the position
 
   function drawControls() {
     const { cursor, plies } = Game.state, isOn = Setup.isOn();
@@ -148,7 +148,7 @@
   };
   const drawMoves = (list) => View.drawMoves(list, Game.now(), ofThisTurn(tryMove));
 
-  // Looks the position up and tells what was found, or why nothing is; what comes too late is dropped.
+  // Looks the position up and shows what was found, or why nothing is; what comes too late is dropped.
   async function tell(isLate) {
     const { position, side, isOver } = Game.now(), { profile } = Game.state, table = Files.tableFor(profile, position);
     if (isOver) { drawMoves([]); return tellNothing(text("over", text("sides")[1 - side])); }

@@ -1,4 +1,4 @@
-// The cards beside the board: files, value, moves, best line, moves played. What is told is given; nothing is looked up here.
+// The cards beside the board: files, value, moves, best line, moves played. What is shown is given; nothing is looked up here.
 const View = (() => {
   "use strict";
   const Core = DobutsuCore;

@@ -1,5 +1,5 @@
-// The proved engine: the exports of crates/dobutsu_web, compiled for WebAssembly. What is told of the game is told by them; this puts texts and numbers
-// into the module's memory, puts its calls in order and keeps what they told. The module stands in the page, since a page of a file may fetch nothing.
+// The proved engine: the exports of crates/dobutsu_web, compiled for WebAssembly. What is said of the game is their answer; this puts texts and numbers
+// into the module's memory, puts its calls in order and keeps what they answered. The module stands in the page, since a page of a file may fetch nothing.
 window.DobutsuWasm = {
   async open(Core) {
     "use strict";
@@ -28,7 +28,7 @@ window.DobutsuWasm = {
     const placeOf = (move) => (move.from < 0 ? 144 + 12 * LETTERS.indexOf(move.letter) : 12 * move.from) + move.to;
     const squareOf = (number) => (number === NO_SQUARE ? -1 : number);
 
-    // The row of each block that was met, by which a class number is told at once. It lies at ROW while it is used.
+    // The row of each block that was met, by which a class number is found at once. It lies at ROW while it is used.
     const rows = new Map(), classes = new Map(); // classes: how many the headers said, by family
     let used = "";
     const familyOf = (profile, position) => Core.setOf(position).join("") + profile;

@@ -9,12 +9,14 @@ of_chick=$'classes 2124\nwin 1553\nloss 527\ndraw 44'
 expect 0 '~^classes 1116$' '' build --set=001 --nodes=16 --out="$other"
 expect 0 '~^classes 1116$' '' build --set 001 --nodes 1 --out "$built"
 for case in '100|1|one_chick_2' '000|2|lions_alone_2' '000|1|lions_alone_2' '100|2|one_chick_2' '000|3|lions_alone_2' \
-    '100|3|one_chick_2' '000|16|lions_alone_2' '000|+02|lions_alone_2'; do
+    '100|3|one_chick_2' '000|16|lions_alone_2' '100||one_chick_2' '000||lions_alone_2' '000|+02|lions_alone_2'; do
     IFS='|' read -r set nodes name <<<"$case"
     if [ "$set" = 000 ]; then lines="$of_lions"; else lines="$of_chick"; fi
-    expect 0 "$lines" '' build --set "$set" --nodes "$nodes" --out "$built"
+    given=(build --set "$set" --out "$built")
+    [ -z "$nodes" ] || given+=(--nodes "$nodes") # else as many as there are processors
+    expect 0 "$lines" '' "${given[@]}"
     if cmp -s "$built" "testdata/$name.db"; then good=yes; else good=no; fi
-    note "the file of $set by $nodes nodes is testdata/$name.db" "$good"
+    note "the file of $set by ${nodes:-no number of} nodes is testdata/$name.db" "$good"
 done
 expect 0 'consistent' '' check --db "$other"
 expect 0 "$of_lions" '' build --nodes=+016 --out "$other" --set 000
@@ -81,7 +83,7 @@ for moment in $(seq 20); do
 done
 note "builds killed at 20 moments leave the file as it was, or whole" "$same"
 cp testdata/lions_alone.db "$work/kept.db"
-(ulimit -f 2; trap '' XFSZ; "$top/crates/dobutsu/out/dobutsu" build --set 100 --nodes 2 --out "$work/kept.db") >"$work/out" 2>"$work/err" && status=0 || status=$?
+(ulimit -f 2; trap '' XFSZ; "$program" build --set 100 --nodes 2 --out "$work/kept.db") >"$work/out" 2>"$work/err" && status=0 || status=$?
 if [ "$status" = 3 ] && [ "$(cat "$work/err")" = 'dobutsu: E24 Io' ] && cmp -s "$work/kept.db" testdata/lions_alone.db \
     && [ ! -e "$work/kept.db.part" ]; then good=yes; else good=no; fi
 note "a build whose file may not grow leaves the one that was there, and no part" "$good"

@@ -1,4 +1,4 @@
-# The pages: what they name is there, and what is made by a script is as it makes it.
+# The pages: what they name exists, and what a script makes is as it makes it.
 
 good=no
 if tools/check-pages >"$work/out"; then good=yes; fi

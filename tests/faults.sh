@@ -1,4 +1,4 @@
-# Faults: devices that are full, and files that are cut, longer or have another byte.
+# Faults: devices that are full, and files that are cut, too long or changed in a byte.
 
 # A full device as standard output: status 3 and the fault's line; as standard error: the status stays.
 if [ -c /dev/full ]; then
@@ -39,7 +39,7 @@ for case in 'empty|E15 Truncated' 'cut|E15 Truncated' 'at_0|E16 Magic' 'at_11|E1
     expect 1 '' "dobutsu: $fault" line --db "$work/$name.db" "$long"
 done
 
-# `look` reads the header and one record: it tells what is wrong with these, and nothing else.
+# `look` reads the header and one record: it says what is wrong with these, and nothing else.
 head -c 54 "$lions" >"$work/short.db"
 for case in 'empty|E15 Truncated' 'short|E15 Truncated' 'at_0|E16 Magic' 'at_11|E17 SetByte' 'at_12|E18 ClassCount'; do
     IFS='|' read -r name fault <<<"$case"

@@ -1,4 +1,4 @@
-# The subcommands that ask a file, draw, or write a file anew: what they print, and which files they leave.
+# The subcommands that ask a file, draw, or convert a file: what they print, and which files they leave.
 
 # Files: the one of lions alone (testdata, from outside values), files that aren't there, a folder, and files that are none.
 expect 0 'consistent' '' check --db "$lions"
@@ -96,7 +96,7 @@ answers_of look 1 "$position"'\n.../.../..l/L.. - -\n' 'E15 Truncated\nloss 2\n'
 expect 3 '' 'dobutsu: E24 Io' look --each --db "$work/none.db"
 expect 1 '' 'dobutsu: E15 Truncated' look --each --db /dev/null
 expect 3 '' 'dobutsu: E24 Io' look --each --db "$lions" <"$work"
-# positions that one move alone wins soonest; a length that no puzzle has is told before the file is looked for
+# positions that one move alone wins soonest; a length that no puzzle has is refused before the file is looked for
 expect 0 '.../..l/L../... - -  La2-a3
 ..l/.../L../... - -  La2-a3
 l../.../.L./... - -  Lb2-c3' '' puzzles --db "$lions" --plies 3 --count 5

@@ -1,4 +1,4 @@
-# Lack of memory: each allocation of the program refused in turn, with and without a file.
+# Out of memory: each allocation of the program refused in turn, with and without a file.
 # Takes minutes.
 
 refuse() {
@@ -17,13 +17,13 @@ done
 printf '%s\n' "$position" "$long" x '.../.../..l/L.. - -' >"$work/lines"
 refuse --input "$work/lines" probe --db "$lions" --each
 refuse --input "$work/lines" look --db "$lions" --each
-# a build and a picture tell lack of memory too where they make their file, and leave the file that was there
+# a build and a picture report out of memory too where they make their file, and leave the file that was there
 cp testdata/one_chick.db "$work/kept.db"
 ./dobutsu show --svg "$work/first.svg" "$position" >"$work/out"
 refuse --keeps "$work/kept.db" build --set 000 --nodes 2 --out "$work/kept.db"
 refuse --keeps "$work/kept.db" migrate --db "$lions" --out "$work/kept.db"
 refuse --keeps "$work/first.svg" show --db "$lions" --svg "$work/first.svg" '.../.l./.L./... - -'
-# worlds and crews, whose answers tell all that they hold, and a share whose lists have segments of four items
+# worlds and crews, whose answers print all that they hold, and a share whose lists have segments of four items
 answers=crates/dob_answers/out/dob_answers
 [ -x "$answers" ] || (cd crates/dob_answers && rt run) </dev/null >/dev/null 2>&1
 for question in 'drive 000 2 2 1 20000' 'alone 000 100000' 'built 000 2 1 1' 'apply 000 53 d>l4 d>w3 w3>w1'; do

@@ -2,7 +2,7 @@
 # Takes minutes.
 
 # Three programs in C over the archive, and one in Python over the shared object. `examples/probe.c`
-# tells what `probe` does of these positions and of those of testdata, in each profile, `examples/explore.py` what `moves` does too, and
+# prints what `probe` does of these positions and of those of testdata, in each profile, `examples/explore.py` what `moves` does too, and
 # `examples/hostile.c` reads nothing past the end of files and indexes that are cut or changed. The header is one of C++ too.
 make_release || note "the release of which the library is a part" no
 compile() { cc -std=c99 -D_POSIX_C_SOURCE=200809L -Wall -Wextra -Werror -pedantic "$@" -I"$release" "$release/libdobutsu.a" >"$work/out" 2>&1; }
@@ -19,13 +19,13 @@ compile -g -fsanitize=address examples/hostile.c -o "$work/hostile" || same=no
 for name in lions_alone one_chick lions_alone_2; do "$work/hostile" "testdata/$name.db" "$position" >"$work/out" 2>&1 || same=no; done
 note "examples/hostile.c over cut and changed files and indexes: $(tail -1 "$work/out")" "$same"
 
-# Whether the program and the example tell the same of each position of a file, values and faults.
-tell_alike() {
+# Whether the program and the example print the same of each position of a file, values and faults.
+answer_alike() {
     local file="$1" asked="$2" text
     while IFS= read -r text; do
         "$program" probe --db "$file" "$text" 2>&1 | sed 's/^dobutsu: \(E[0-9]*\) .*/\1/'
-    done <"$asked" >"$work/told"
-    [ -s "$asked" ] && "$work/probe_c" "$file" <"$asked" >"$work/told_c" 2>&1 && cmp -s "$work/told" "$work/told_c"
+    done <"$asked" >"$work/printed"
+    [ -s "$asked" ] && "$work/probe_c" "$file" <"$asked" >"$work/printed_c" 2>&1 && cmp -s "$work/printed" "$work/printed_c"
 }
 # Prints the positions of some 200 classes of a file, as they are spread over it.
 spread() {
@@ -44,24 +44,24 @@ printf '%s\n' 'x' '' 'C.l/.../.../L.. - -' 'L../.../.../..l - -' '..l/.../L../..
 for name in {A,B}_{000,100,010,001,200}; do
     "$program" build --rules "${name%_*}" --set "${name#*_}" --nodes 3 --out "$work/$name.db" >"$work/out" 2>&1 || same=no
     spread "$work/$name.db" >"$work/$name.asked" || same=no
-    tell_alike "$work/$name.db" "$work/$name.asked" || same=no
-    tell_alike "$work/$name.db" "$work/texts" || same=no
+    answer_alike "$work/$name.db" "$work/$name.asked" || same=no
+    answer_alike "$work/$name.db" "$work/texts" || same=no
 done
-note "examples/probe.c tells what probe does, by files of five sets and both profiles" "$same"
+note "examples/probe.c prints what probe does, by files of five sets and both profiles" "$same"
 same=yes
 for name in A_000 A_100 A_200 B_100; do
     mapfile -t texts <"$work/$name.asked"
     for text in "${texts[@]}" 'x' '..l/.../.../L.. C -'; do
-        told="$("$program" probe --db "$work/$name.db" "$text" 2>&1 | sed 's/^dobutsu: \(E[0-9]*\) .*/\1/')"
-        printf '%s\n' "$told"
-        case "$told" in E*) continue ;; esac
+        said="$("$program" probe --db "$work/$name.db" "$text" 2>&1 | sed 's/^dobutsu: \(E[0-9]*\) .*/\1/')"
+        printf '%s\n' "$said"
+        case "$said" in E*) continue ;; esac
         "$program" moves --db "$work/$name.db" "$text" | sed '/^end$/d'
-    done >"$work/told"
-    python3 examples/explore.py "$release/libdobutsu.so" "$work/$name.db" "${texts[@]}" 'x' '..l/.../.../L.. C -' >"$work/told_c" 2>&1
-    cmp -s "$work/told" "$work/told_c" || same=no
+    done >"$work/printed"
+    python3 examples/explore.py "$release/libdobutsu.so" "$work/$name.db" "${texts[@]}" 'x' '..l/.../.../L.. C -' >"$work/printed_c" 2>&1
+    cmp -s "$work/printed" "$work/printed_c" || same=no
 done
-note "examples/explore.py tells what probe and moves do" "$same"
-# The best move is the first that `moves` tells, and what follows is what `line` tells.
+note "examples/explore.py prints what probe and moves do" "$same"
+# The best move is the first that `moves` prints, and what follows is what `line` prints.
 same=yes
 compile -O2 examples/solve.c -o "$work/solve" || same=no
 for name in {A,B}_{100,111}; do
@@ -74,30 +74,30 @@ for name in {A,B}_{100,111}; do
         else
             echo "$("$program" moves --db "$work/$name.db" "$text" | head -1): $line"
         fi
-    done <"$work/$name.asked" >"$work/told"
-    "$work/solve" "$work/$name.db" <"$work/$name.asked" >"$work/told_c" 2>&1 || same=no
-    [ -s "$work/told" ] && cmp -s "$work/told" "$work/told_c" || same=no
+    done <"$work/$name.asked" >"$work/printed"
+    "$work/solve" "$work/$name.db" <"$work/$name.asked" >"$work/printed_c" 2>&1 || same=no
+    [ -s "$work/printed" ] && cmp -s "$work/printed" "$work/printed_c" || same=no
 done
-note "examples/solve.c tells what moves and line do, by files of two sets and both profiles" "$same"
-# A file whose digest is right, and the value of whose class 1 isn't: the library tells the class that the program does.
+note "examples/solve.c prints what moves and line do, by files of two sets and both profiles" "$same"
+# A file whose digest is right, and the value of whose class 1 isn't: the library names the class that the program does.
 same=yes
-python3 - "$release/libdobutsu.so" testdata/lions_alone_2.db "$work/wrong.db" >"$work/told_c" 2>&1 <<'PYTHON' || same=no
+python3 - "$release/libdobutsu.so" testdata/lions_alone_2.db "$work/wrong.db" >"$work/printed_c" 2>&1 <<'PYTHON' || same=no
 import ctypes
 import hashlib
 import sys
 file = bytearray(open(sys.argv[2], "rb").read())
 check = ctypes.CDLL(sys.argv[1]).dobutsu_check
-def told(file):
+def checked(file):
     broken = ctypes.c_uint64(77)
     fault = check((ctypes.c_char * len(file))(*file), ctypes.c_size_t(len(file)), ctypes.byref(broken))
     return f"E{fault} Inconsistent class {broken.value}" if fault == 21 else f"{fault} {broken.value}"
-assert told(file) == "0 77", told(file)
+assert checked(file) == "0 77", checked(file)
 file[23:25] = b"\0\0" if file[23:25] != b"\0\0" else b"\2\0"
-assert told(file) == "20 77", told(file)
+assert checked(file) == "20 77", checked(file)
 file[-32:] = hashlib.sha256(file[:-32]).digest()
 open(sys.argv[3], "wb").write(file)
-print("dobutsu:", told(file))
+print("dobutsu:", checked(file))
 PYTHON
-"$program" check --db "$work/wrong.db" >"$work/told" 2>&1
-cmp -s "$work/told" "$work/told_c" || same=no
-note "dobutsu_check tells what check does of a wrong value: $(cat "$work/told_c")" "$same"
+"$program" check --db "$work/wrong.db" >"$work/printed" 2>&1
+cmp -s "$work/printed" "$work/printed_c" || same=no
+note "dobutsu_check answers what check does of a wrong value: $(cat "$work/printed_c")" "$same"

@@ -18,10 +18,10 @@ has_chromium() {
 
 # Adds the counts of a test that prints `N passed, M failed` as its last line, and its failures.
 add_counts() {
-    local told counts
-    told="$("$@" 2>"$work/err")"
-    echo "$told" | grep '^FAILED' || true
-    read -r -a counts <<<"$(echo "$told" | tail -1)"
+    local printed counts
+    printed="$("$@" 2>"$work/err")"
+    echo "$printed" | grep '^FAILED' || true
+    read -r -a counts <<<"$(echo "$printed" | tail -1)"
     if [[ "${counts[1]-} ${counts[3]-}" = 'passed, failed' ]]; then
         passed=$((passed + counts[0]))
         failed=$((failed + counts[2]))
@@ -69,6 +69,6 @@ if has_chromium; then
         fi
     fi
 else
-    leave_out 4 'the page in a browser, by either engine and with planted faults, and the proved engine against the program, since chromium is not there and can not be installed'
+    leave_out 4 'the page in a browser, by either engine and with planted faults, and the proved engine against the program, since there is no chromium'
 fi
 if [ "$left_out" -gt 0 ]; then echo "page: $left_out of 6 tests left out"; fi

@@ -51,31 +51,31 @@ for text in ("x", "", "..l/.../L../... C EG", "C.l/.../.../L.. - -"):
     print(text)
 PYTHON
     while IFS= read -r text; do
-        if told="$("$program" probe --db "$file" "$text" 2>/dev/null)"; then
-            printf '%s\n' "$told"
+        if printed="$("$program" probe --db "$file" "$text" 2>/dev/null)"; then
+            printf '%s\n' "$printed"
             "$program" moves --db "$file" "$text" | sed 's/^end$//'
             "$program" line --db "$file" "$text" | sed 's/^\(end\|draw\)$//'
         else
             "$program" probe --db "$file" "$text" 2>&1 | sed 's/^dobutsu: \(E[0-9]*\) .*/\1/'
         fi
-    done <"$work/asked" >"$work/told"
-    "$program" stats --db "$file" | grep -E '^(win|loss|draw) [0-9]+$|^longest' >>"$work/told"
+    done <"$work/asked" >"$work/printed"
+    "$program" stats --db "$file" | grep -E '^(win|loss|draw) [0-9]+$|^longest' >>"$work/printed"
     for engine in plain "$release/libdobutsu.so"; do
         PYTHONPATH=python python3 "$work/ask.py" "$engine" "$file" <"$work/asked" >"$work/said" 2>&1
-        [ -s "$work/said" ] && cmp -s "$work/told" "$work/said" || same=no
+        [ -s "$work/said" ] && cmp -s "$work/printed" "$work/said" || same=no
     done
 done
-note "the package tells what the program does, by the library and without it: $(tail -1 "$work/said")" "$same"
+note "the package answers what the program does, by the library and without it: $(tail -1 "$work/said")" "$same"
 
 # The wheel of the archive, in an environment where nothing else is, with no network.
 same=yes
 python3 -m venv "$work/new" >"$work/out" 2>&1 || same=no
 "$work/new/bin/pip" install -q --no-index --no-cache-dir "$release"/python/dobutsu-*.whl >"$work/out" 2>&1 || same=no
-told="$(cd "$work" && env -i new/bin/python -c '
+printed="$(cd "$work" && env -i new/bin/python -c '
 import sys
 from dobutsu import Table
 table = Table(sys.argv[1])
 print(table.engine, table[sys.argv[2]])' "$top/testdata/lions_alone_2.db" "$position" 2>&1)"
-[ "$told" = 'libdobutsu 0.1.0 win 3' ] || same=no
+[ "$printed" = 'libdobutsu 0.1.0 win 3' ] || same=no
 rm -rf "$work/new"
-note "the wheel, installed with no network: $told" "$same"
+note "the wheel, installed with no network: $printed" "$same"

@@ -10,23 +10,25 @@ for name in lions_alone one_chick lions_alone_2 one_chick_2; do
     texts=("${rows[@]% = *}")
     same=yes
     for row in "${rows[@]}"; do
-        told="$("$program" probe --db "testdata/$name.db" "${row% = *}" 2>&1)"
-        printf '%s\n' "$told"
-        [ "$("$program" look --db "testdata/$name.db" "${row% = *}" 2>&1)" = "$told" ] || echo "$row" >>"$work/wrong"
-        case "$row" in *' = '*) [ "$told" = "${row#* = }" ] || echo "$row" >>"$work/wrong" ;; esac
+        printed="$("$program" probe --db "testdata/$name.db" "${row% = *}" 2>&1)"
+        printf '%s\n' "$printed"
+        [ "$("$program" look --db "testdata/$name.db" "${row% = *}" 2>&1)" = "$printed" ] || echo "$row" >>"$work/wrong"
+        case "$row" in *' = '*) [ "$printed" = "${row#* = }" ] || echo "$row" >>"$work/wrong" ;; esac
     done >"$work/probed"
     [ ! -e "$work/wrong" ] || same=no
     python3 tools/read_db.py "testdata/$name.db" "${texts[@]}" >"$work/read" 2>&1
     cmp -s "$work/probed" "$work/read" || same=no
     note "probe, look and tools/read_db.py on ${#rows[@]} positions of testdata/$name.db" "$same"
-    # and `--each` tells the same of all of them, of which some are refused or none
+    # and `--each` answers the same of all of them, of which some are refused or none
     status=0
     printf '%s\n' "${texts[@]}" | "$program" probe --db "testdata/$name.db" --each >"$work/each" 2>&1 || status=$?
-    if sed 's/^dobutsu: //' "$work/probed" | cmp -s - "$work/each" && [ "$status" = "$(grep -q '^E' "$work/each" && echo 1 || echo 0)" ]; then good=yes; else good=no; fi
+    good=no
+    wanted="$(grep -q '^E' "$work/each" && echo 1 || echo 0)"
+    if sed 's/^dobutsu: //' "$work/probed" | cmp -s - "$work/each" && [ "$status" = "$wanted" ]; then good=yes; fi
     note "probe --each on ${#rows[@]} positions of testdata/$name.db: status $status" "$good"
 done
 
-# The reader's module on 200 classes of each of five sets in both profiles, as they are spread over the file: `probe` and `moves` tell the same of each,
+# The reader's module on 200 classes of each of five sets in both profiles, as they are spread over the file: `probe` and `moves` answer the same of each,
 # `stats` of all, and the best of a position's moves has the position's own value. So does `puzzles` of the first ten of some lengths.
 same=yes
 for ruled_set in {A,B}_{000,100,010,001,200}; do
@@ -73,10 +75,10 @@ PYTHON
     cmp -s "$work/counts" "$work/out" || same=no
     while IFS= read -r row; do
         text="${row%% = *}"
-        told="$("$program" probe --db "$work/$set.db" "$text")"
+        printed="$("$program" probe --db "$work/$set.db" "$text")"
         moved="$("$program" moves --db "$work/$set.db" "$text")"
-        [ "$moved" = end ] || told="$told"$'\n'"$moved"
-        [ "$text = ${told//$'\n'/ = }" = "$row" ] || same=no
+        [ "$moved" = end ] || printed="$printed"$'\n'"$moved"
+        [ "$text = ${printed//$'\n'/ = }" = "$row" ] || same=no
     done <"$work/asked"
     [ -s "$work/asked" ] || same=no
 done

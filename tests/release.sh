@@ -21,5 +21,8 @@ same=yes
 cmp -s "$release/chick.db" testdata/one_chick_2.db || same=no
 rm -f "$release/chick.db"
 ! ldd "$release/dobutsu" >"$work/out" 2>&1 || same=no
-for name in FORMAT.md RULES.md CLASSES.md PROVED dobutsu.h dobutsu.html libdobutsu.a libdobutsu.so dobutsu.1 completions/{dobutsu.bash,_dobutsu,dobutsu.fish}; do [ -s "$release/$name" ] || same=no; done
+for name in FORMAT.md RULES.md CLASSES.md PROVED dobutsu.h dobutsu.html libdobutsu.a libdobutsu.so dobutsu.1 \
+    completions/{dobutsu.bash,_dobutsu,dobutsu.fish}; do
+    [ -s "$release/$name" ] || same=no
+done
 note "the program of the release, unpacked in an empty folder" "$same"

@@ -50,7 +50,7 @@ misused '--nodes <N>' build --nodes=2 --nodes=2
 misused "'x'" build --nodes=x --help
 misused "'1.5'" build --set=000 --nodes 1.5 --help
 misused "'000'" build 000
-misused '--nodes <N>' build --set 000 --out x
+misused '--out <FILE>' build --set 000
 misused '--out <FILE>' build --set 000 --nodes 2
 misused "'x'" build --set 000 --nodes x --out "$work/none.db"
 misused "'18446744073709551616'" build --set 000 --nodes 18446744073709551616 --out "$work/none.db"
@@ -116,7 +116,8 @@ if tools/manual "$work" >"$work/out" 2>&1 && [ -n "$forms" ]; then good=yes; fi
 note "tools/manual: $(head -1 "$work/out")" "$good"
 # What bash completes behind the words.
 completes() {
-    bash -c '. "$1"; shift; COMP_WORDS=("$@"); COMP_CWORD=$(($# - 1)); _dobutsu; printf "%s\n" "${COMPREPLY[@]}"' bash "$work/completions/dobutsu.bash" "$@" | sort
+    bash -c '. "$1"; shift; COMP_WORDS=("$@"); COMP_CWORD=$(($# - 1)); _dobutsu; printf "%s\n" "${COMPREPLY[@]}"' bash \
+        "$work/completions/dobutsu.bash" "$@" | sort
 }
 same=yes
 [ "$(completes dobutsu '' | grep -v -e '^--')" = "$(echo "$forms" | sort)" ] || same=no
@@ -126,10 +127,13 @@ for form in $forms; do
     [ "$form" != help ] || continue
     sed -n "/^\\.SS $form\$/,/^\\.S[SH] /p" "$work/dobutsu.1" | grep -A1 '^\.TP' | grep -o -e '^\\fB\\-\\-[a-z]*' | sed 's/^.*-/--/' >"$work/in_page"
     echo --help >>"$work/in_page"
-    [ "$(sort "$work/in_page")" = "$(options_of "$form")" ] || same=no
-    [ "$(completes dobutsu "$form" --)" = "$(options_of "$form")" ] || same=no
-    [ "$(grep -o -e "__fish_seen_subcommand_from $form' -l [a-z]*" "$work/completions/dobutsu.fish" | sed 's/.* -l /--/' | sort)" = "$(options_of "$form")" ] || same=no
-    [ "$(sed -n "/^ *$form) _arguments/,/;;/p" "$work/completions/_dobutsu" | grep -o -e "'--[a-z]*\[" | tr -d "'[" | sort)" = "$(options_of "$form")" ] || same=no
+    options="$(options_of "$form")"
+    [ "$(sort "$work/in_page")" = "$options" ] || same=no
+    [ "$(completes dobutsu "$form" --)" = "$options" ] || same=no
+    in_fish="$(grep -o -e "__fish_seen_subcommand_from $form' -l [a-z]*" "$work/completions/dobutsu.fish" | sed 's/.* -l /--/' | sort)"
+    in_zsh="$(sed -n "/^ *$form) _arguments/,/;;/p" "$work/completions/_dobutsu" | grep -o -e "'--[a-z]*\[" | tr -d "'[" | sort)"
+    [ "$in_fish" = "$options" ] || same=no
+    [ "$in_zsh" = "$options" ] || same=no
 done
 note "the manual page and the completions name what the help does" "$same"
 for tool in 'groff -man -Tutf8 -ww -z dobutsu.1' 'bash -n completions/dobutsu.bash' 'zsh -n completions/_dobutsu' 'fish -n completions/dobutsu.fish'; do

@@ -17,7 +17,7 @@ WRONG = [
     ("", "E1"), ("..l/.../L../... -", "E1"), ("..x/.../L../... - -", "E2"), ("..l/.../L../... EC -", "E3"), ("..l/.../.../... - -", "E4"),
     ("..l/CCC/L../... - -", "E5"), ("L.l/.../.../... - -", "E6"),
 ]
-BROKEN = "its records don't follow from each other: it isn't the right table (dobutsu check tells where)"
+BROKEN = "its records don't follow from each other: it isn't the right table (dobutsu check says where)"
 PLAIN = ".l./.../.C./.L. - -"
 
 

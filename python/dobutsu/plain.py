@@ -8,8 +8,8 @@
 
 Written from docs/FORMAT.md and docs/RULES.md alone, with the standard library alone. The file is mapped into memory and
 class numbers are computed, so that a value of a file of any set takes milliseconds. Files of both formats and both profiles
-are read. The digest is read through once when a file is opened; `open_db(path, check=False)` leaves it out. The program prints `win D`, `loss D` or `draw` for each
-position, or what is wrong with the file or a text on standard error, with status 1.
+are read. The digest is read through once when a file is opened; `open_db(path, check=False)` leaves it out. The program prints
+`win D`, `loss D` or `draw` for each position, or what is wrong with the file or a text on standard error, with status 1.
 """
 import collections
 import functools

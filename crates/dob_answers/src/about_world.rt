@@ -67,7 +67,7 @@ pub(crate) fn about_world(
 
 /// What driving the world answers, and what it then shows; `none` where the rounds are too many.
 fn tell_drive(alloc: Global, mut world: World, nodes: usize, rounds: u64) -> Result<String, Fault>
-    requires nodes { world.n ≡ nodes }
+    requires nodes { world.node_count ≡ nodes }
     requires standing { IsStanding world }
     requires going { world.failed ≡ None }
     requires start { world.steps ≡ 0 }
@@ -94,7 +94,7 @@ fn are_few(rounds: u64, nodes: usize) -> bool
 
 /// The letters of the events, and what the world then shows.
 fn tell_events(alloc: Global, mut world: World, nodes: usize, events: &str) -> Result<String, Fault>
-    requires nodes { world.n ≡ nodes }
+    requires nodes { world.node_count ≡ nodes }
     requires standing { IsStanding world }
     requires kept { StandsOrStopped world }
 {
@@ -111,7 +111,7 @@ fn tell_events(alloc: Global, mut world: World, nodes: usize, events: &str) -> R
 fn happen(world: &mut World, word: &str) -> Result<char, Fault>
     requires standing { IsStanding world.old }
     requires kept { StandsOrStopped world.old }
-    ensures standing { OnOk result (IsStanding world.new × StandsOrStopped world.new × (world.new.n ≡ world.old.n)) }
+    ensures standing { OnOk result (IsStanding world.new × StandsOrStopped world.new × (world.new.node_count ≡ world.old.node_count)) }
 {
     let Some(event) = read_event(word) else {
         return Ok('?');

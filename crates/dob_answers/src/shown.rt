@@ -35,7 +35,7 @@ impl Write for Digest {
     }
 }
 
-/// What is told of the settlements and items of a world.
+/// What is shown of the settlements and items of a world.
 #[derive(Drop)]
 struct Told {
     longest: u16,
@@ -45,10 +45,10 @@ struct Told {
 }
 
 impl Told {
-    /// What is told of the world, which has so many nodes.
+    /// What is shown of the world, which has so many nodes.
     fn of(world: &World, nodes: usize) -> Result<Told, fmt::Error>
         requires standing { IsStanding world.now }
-        requires nodes { nodes ≡ world.now.n }
+        requires nodes { nodes ≡ world.now.node_count }
     {
         let mut told = Told {
             longest: 0,
@@ -107,7 +107,7 @@ fn distance(value: Value) -> u16 {
 /// What the world shows, which has so many nodes.
 pub(crate) fn show(alloc: Global, world: &World, nodes: usize) -> Result<String, Memory>
     requires standing { IsStanding world.now }
-    requires nodes { nodes ≡ world.now.n }
+    requires nodes { nodes ≡ world.now.node_count }
 {
     let steps = world.steps();
     let table = world.gather()?;

@@ -1,7 +1,7 @@
 // What is measured of a build by threads: the build, with the times before its nodes' first turn and after their last one
 // apart; how often they turned, and what went over their links. Then its parts by themselves, and all predecessors, since the
-// time of a build is told by its ratio to theirs. No call tells of the settlements that improve a value and the items that
-// these make, so that the items told are the least that the table needs.
+// time of a build is given by its ratio to theirs. No call counts the settlements that improve a value and the items that
+// these make, so that the items printed are the least that the table needs.
 use crate::builds::tell_memory;
 use crate::counts::{self, Outcomes};
 use crate::measure;
@@ -129,7 +129,7 @@ fn list_openings<R: Print + Clock + AllocGlobal + Threads + Sync>(
     )
 }
 
-// The items that tell of the table's wins and losses.
+// The items that carry the table's wins and losses.
 fn tell_needed<R: Print + AllocGlobal>(
     rt: &R,
     classes: &Classes,

@@ -36,7 +36,7 @@ fn measure_classes<R: Print + Clock + AllocGlobal + Files>(
     let classes = open(rt, family, timed)?;
     find_ranks(rt, family, timed)?;
     find_classes(rt, &classes, timed)?;
-    // before the positions are listed, since it tells of the most memory held so far
+    // before the positions are listed, since it prints the most memory held so far
     builds::run(rt, &classes, timed)?;
     rules::run(rt, &classes, timed)?;
     list_edges(rt, &classes, timed)

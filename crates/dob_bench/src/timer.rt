@@ -1,14 +1,14 @@
-// Times, told only where they are asked for, since they differ from run to run.
+// Times, printed only where they are asked for, since they differ from run to run.
 use anyhow::Result;
 use std::fmt::Display;
 use std::num::nearest_u64_to_f64;
 use std::rt::Clock;
 use std::time::Instant;
 
-// Rounds of the same work whose fastest is told.
+// Rounds of the same work whose fastest is printed.
 const ROUNDS: usize = 4;
 
-/// When a measurement began; nothing where no times are told.
+/// When a measurement began; nothing where no times are printed.
 #[derive(Clone, Copy)]
 pub(crate) struct Timer {
     start: Option<Instant>,
@@ -53,7 +53,7 @@ pub(crate) struct Rounds<T> {
 }
 
 impl<T: Copy> Rounds<T> {
-    /// Does the work four times, or once where no times are told.
+    /// Does the work four times, or once where no times are printed.
     pub(crate) fn of<R: Clock, W: FnMut() -> Result<T>>(
         rt: &R,
         timed: bool,

@@ -44,7 +44,7 @@ impl<'a, R: Clock> Watch<'a, R> {
         Ok(())
     }
 
-    // How many microseconds have gone; as many as can be where the clock doesn't tell.
+    // How many microseconds have gone; as many as can be where the clock doesn't say.
     fn gone(&self) -> u64 {
         match self.start.elapsed(self.rt) {
             Ok(span) => span

@@ -1,4 +1,4 @@
--- What the steps of a seat ask of the table, and what they tell.
+-- What the steps of a seat ask of the table, and what they show.
 use Rattle.std.proofs.Common.{◌≡◌, ◌≢◌, ℕ, zero, suc, ◌+◌, ◌^◌, ◌%◌, ◌<◌, ◌≤◌, List, [], ◌∷◌, length, set, get_or, true, refl, sym, ap, subst, arith}
 use Rattle.std.specs.Prelude.{slice_index, slice_set}
 use mathlib.Core.Option.{none}

@@ -13,7 +13,7 @@ use Rattle.dob_board.specs.declared.halt.Halt.{Halt}
 use Rattle.dob_board.specs.declared.view.Stand.{Stand}
 use Rattle.dob_board.specs.Words.{posted_word, taken_word}
 use Rattle.dob_board.specs.Views.{Shows, sees, stand_from}
-use Rattle.dob_board.specs.Histories.{GoesOn, MakesEvent, moves_of}
+use Rattle.dob_board.specs.Histories.{GoesOn, MakesEvent, token_moves_of}
 use Rattle.dob_board.specs.Plays.{Posted, Took}
 use Rattle.dob_board.proofs.Allowed.{Seated, seated, posts_tell, takes_tell, one_more, same_default}
 
@@ -89,7 +89,7 @@ goes_on first middle last on further =
 
 -- a look before an event changes neither counts nor colour
 pub makes_later : (n i j number : ℕ) (event : RingEvent) (stand after : Stand) (witnessed middle now : List BoardEvent) → GoesOn witnessed middle →
-    moves_of i middle ≡ moves_of i witnessed → MakesEvent n i event (sees stand j number) after middle now → MakesEvent n i event stand after witnessed now
+    token_moves_of i middle ≡ token_moves_of i witnessed → MakesEvent n i event (sees stand j number) after middle now → MakesEvent n i event stand after witnessed now
 makes_later n i j number event stand after witnessed middle now on still made = record {
   log = made.log;
   went_on = goes_on witnessed middle made.log on made.went_on;

@@ -82,7 +82,7 @@ finds_stand n i halt ring stand so is = record {
   announced = λ first e. e;
 }
 
--- What a step that found the halt word at one number and left it at another, and announced no end, tells.
+-- What a step that found the halt word at one number and left it at another, and announced no end, shows.
 pub record Finding (n i id : ℕ) (words : List ℕ) (views : List View) (log : List BoardEvent) (stand : Stand) (witnessed : List BoardEvent) (now : List ℕ)
     (was word : ℕ) : Type 0 where
   pub held : IsHeld n now (slice_set views id (one n i (finds stand word) log))
@@ -294,7 +294,7 @@ announces n i id words views stand witnessed held at may running =
     (ap (λ (h : ℕ). eqb h 1) running) moved few there (announces_by i held.log first) leaves now in
     (made.0, (λ ne. absurd (ne (sym (is.halt_seen ne)))), made.1)
 
--- ---- what the calls ask and are told
+-- ---- what the calls ask and learn
 
 halts_allows : (n i id slots : ℕ) (stand : Stand) (witnessed : List BoardEvent) →
     Allows (Held n) slots id (seated n i stand witnessed) 2 (λ x. x) (Halted (step slots 2 0 0 none) (seated n i stand witnessed))

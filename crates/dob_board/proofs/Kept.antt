@@ -17,7 +17,7 @@ use Rattle.dob_board.specs.declared.view.Stand.{Stand}
 use Rattle.dob_board.specs.declared.view.View.{View}
 use Rattle.dob_board.specs.Words.{ring_of}
 use Rattle.dob_board.specs.Views.{one, IsStand}
-use Rattle.dob_board.specs.Histories.{Runs, GoesOn, IsInTime, MakesEvent, Observes, halt_told, moves_of}
+use Rattle.dob_board.specs.Histories.{Runs, GoesOn, IsInTime, MakesEvent, Observes, halt_told, token_moves_of}
 use Rattle.dob_board.specs.Rule.{IsNode, IsView, IsHeld}
 
 -- what a step of node i, from one ring and halt to another, leaves to the others
@@ -59,14 +59,14 @@ goes_further witnessed log more on = (more ++ on.0, ap (λ (l : List BoardEvent)
 
 -- the view of one node is right where that node is, and has moved nothing since
 pub one_is_view : (n i id halt : ℕ) (owner : ℕ → ℕ) (ring : Ring) (log witnessed : List BoardEvent) (stand : Stand) → i < n → owner i ≡ id →
-    GoesOn witnessed log → moves_of i log ≡ moves_of i witnessed → IsStand n ring halt i stand → IsView n owner ring halt log id (one n i stand witnessed)
+    GoesOn witnessed log → token_moves_of i log ≡ token_moves_of i witnessed → IsStand n ring halt i stand → IsView n owner ring halt log id (one n i stand witnessed)
 one_is_view n i id halt owner ring log witnessed stand within owned on still is =
     record { was_witnessed = on; nodes = node; alone = λ e. unmoved; is_closed = λ e. absurd (cc) }
   where
-    unmoved : (k : ℕ) (at : Stand) → get_elem? (stand ∷ []) k ≡ some at → moves_of (i + k) log ≡ moves_of (i + k) witnessed
+    unmoved : (k : ℕ) (at : Stand) → get_elem? (stand ∷ []) k ≡ some at → token_moves_of (i + k) log ≡ token_moves_of (i + k) witnessed
     unmoved zero at e =
         let first : i ≡ i + 0 = omega arith in
-        subst (λ (x : ℕ). moves_of x log ≡ moves_of x witnessed) first still
+        subst (λ (x : ℕ). token_moves_of x log ≡ token_moves_of x witnessed) first still
     unmoved (suc k) at e = absurd (some-ne-none at (sym e))
 
     node : (k : ℕ) (at : Stand) → get_elem? (stand ∷ []) k ≡ some at → IsNode n owner ring halt id n (i + k) at
@@ -92,7 +92,7 @@ has_all n i id port halt owner ring log view within owned was closed =
 
 -- these events are none by which another node than i moves the token or announces the end
 abbrev pub AreBy : ℕ → List BoardEvent → List BoardEvent → Type 0
-AreBy i more log = (k : ℕ) → k ≢ i → moves_of k (more ++ log) ≡ moves_of k log
+AreBy i more log = (k : ℕ) → k ≢ i → token_moves_of k (more ++ log) ≡ token_moves_of k log
 
 -- the view of another seat stays right
 other_view : (n i id port halt now : ℕ) (owner : ℕ → ℕ) (old new : Ring) (log more : List BoardEvent) (view : View) → i < n → owner i ≡ id → port ≢ id →
@@ -125,10 +125,10 @@ own_node n i id words views stand witnessed held at =
 
 -- node i has moved nothing that its seat hasn't witnessed
 pub own_alone : (n i id : ℕ) (words : List ℕ) (views : List View) (stand : Stand) (witnessed : List BoardEvent) (held : IsHeld n words views) →
-    get_elem? views id ≡ some (one n i stand witnessed) → moves_of i held.log ≡ moves_of i witnessed
+    get_elem? views id ≡ some (one n i stand witnessed) → token_moves_of i held.log ≡ token_moves_of i witnessed
 own_alone n i id words views stand witnessed held at =
     let first : i + 0 ≡ i = omega arith in
-    subst (λ (x : ℕ). moves_of x held.log ≡ moves_of x witnessed) first ((held.views_are id (one n i stand witnessed) at).alone refl 0 stand refl)
+    subst (λ (x : ℕ). token_moves_of x held.log ≡ token_moves_of x witnessed) first ((held.views_are id (one n i stand witnessed) at).alone refl 0 stand refl)
 
 pub kept : (n i id : ℕ) (words after : List ℕ) (views : List View) (stand new : Stand) (witnessed more : List BoardEvent) (black : ℕ → Bool) (token : Token)
     (held : IsHeld n words views) → get_elem? views id ≡ some (one n i stand witnessed) →

@@ -4,7 +4,7 @@ pub mod Places  -- which word is which, and what a write to one leaves of the ot
 pub mod Kept  -- a step of one node's seat keeps the rule
 -- Posts, looks and takes.
 pub mod Steps  -- what the steps of a seat make of the words
-pub mod Allowed  -- what the steps ask of the table, and what they tell
+pub mod Allowed  -- what the steps ask of the table, and what they show
 pub mod Done  -- what a seat's fields are after its steps
 pub mod Takings  -- a take is a look and an event
 -- The token and the halt.

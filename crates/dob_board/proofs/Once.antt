@@ -1,4 +1,4 @@
--- The events of a log lead to one ring, as far as it is told of: in the nodes below n, the token and the end.
+-- The events of a log lead to one ring, as far as it is spoken of: in the nodes below n, the token and the end.
 use Rattle.std.proofs.Common.{◌≡◌, ℕ, suc, ◌<◌, List, [], ◌∷◌, Bool, true, false, eqb, eq-eqb, ne_eqb, sym, ap, ◌∙◌, inl, inr, arith}
 use Rattle.std.proofs.Math.IntN.{ℤ, pos, ◌-ℤ◌}
 use Rattle.std.proofs.lemmas.Bool.{cases_eq}

@@ -16,7 +16,7 @@ use Rattle.dob_board.specs.declared.view.Stand.{Stand}
 use Rattle.dob_board.specs.declared.view.View.{View}
 use Rattle.dob_board.specs.Words.{posted_word, taken_word, word_count, ring_of}
 use Rattle.dob_board.specs.Views.{one, IsStand}
-use Rattle.dob_board.specs.Histories.{moves_of}
+use Rattle.dob_board.specs.Histories.{token_moves_of}
 use Rattle.dob_board.specs.Rule.{IsNode, IsView, IsHeld, fresh, whole}
 use Rattle.dob_board.specs.Plays.{others_of, first_of}
 use Rattle.dob_board.specs.Boards.{first_words, behind}
@@ -75,7 +75,7 @@ splits n i id words views stand rest witnessed held at =
     let was = held.views_are id (view_from n i (stand ∷ rest) witnessed) at in
     let first : i + 0 ≡ i = omega arith in
     let own : IsNode n held.owner ring halt id n i stand = subst (λ (x : ℕ). IsNode n held.owner ring halt id n x stand) first (was.nodes 0 stand refl) in
-    let still : moves_of i held.log ≡ moves_of i witnessed = subst (λ (x : ℕ). moves_of x held.log ≡ moves_of x witnessed) first (was.alone refl 0 stand refl) in
+    let still : token_moves_of i held.log ≡ token_moves_of i witnessed = subst (λ (x : ℕ). token_moves_of x held.log ≡ token_moves_of x witnessed) first (was.alone refl 0 stand refl) in
     let port' : ℕ = length views in
     let owner : ℕ → ℕ = port_of i port' held.owner in
     record {
@@ -108,7 +108,7 @@ splits n i id words views stand rest witnessed held at =
                 { size_is = refl; within = node.within; owned = port_else i port' (i + suc k) held.owner apart ∙ node.owned; is_stand = node.is_stand });
             alone = λ own k at' e'.
                 let place : i + suc k ≡ suc i + k = omega arith in
-                subst (λ (x : ℕ). moves_of x held.log ≡ moves_of x witnessed) place (was.alone refl (suc k) at' e');
+                subst (λ (x : ℕ). token_moves_of x held.log ≡ token_moves_of x witnessed) place (was.alone refl (suc k) at' e');
             is_closed = λ e'. absurd (cc);
           }))
           (λ (x : (port ≢ id) × (get_elem? views port ≡ some view)).

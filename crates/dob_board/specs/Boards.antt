@@ -72,8 +72,8 @@ pub record AreRead (n : ℕ) (stands : List Stand) (log : List BoardEvent) (word
   pub count : length words ≡ word_count n
   pub words_are : (w : ℕ) → w < word_count n → IsWord n stands log w (slice_index words w)
 
--- The words as a closed view tells them: word 1 is that of the ring's token, the end is announced where word 2 is 1 and
--- nowhere else, word 2 is the halt that the events tell, and the halt and the counts are those of the nodes.
+-- The words as a closed view has them: word 1 is that of the ring's token, the end is announced where word 2 is 1 and
+-- nowhere else, word 2 is the halt that the events give, and the halt and the counts are those of the nodes.
 pub record AreAsWitnessed (view : View) (words : List ℕ) : Type 0 where
   pub is_closed : view.closed ≡ true
   pub count : length words ≡ word_count view.size

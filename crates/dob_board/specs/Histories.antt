@@ -1,4 +1,4 @@
--- The history of a board: the events so far, the newest first, and what calls tell of it.
+-- The history of a board: the events so far, the newest first, and what calls say of it.
 use Rattle.std.specs.Prelude.{◌≡◌, ⊤, ℕ, suc, ◌+◌, cond, List, [], ◌∷◌, ◌++◌, ◌==◌, false}
 use Rattle.dob_safra.specs.declared.token.Token.{Token}
 use Rattle.dob_safra.specs.declared.event.RingEvent.{RingEvent}
@@ -9,7 +9,7 @@ use Rattle.dob_safra.specs.Rings.{Ring, IsStart, IsLawfulRing, Moved}
 use Rattle.dob_board.specs.declared.view.Stand.{Stand}
 use Rattle.dob_board.specs.Views.{Shows}
 
--- the halt word as the events tell it: 1 after the announcement, 2 + i after the failure of node i
+-- the halt word as the events give it: 1 after the announcement, 2 + i after the failure of node i
 abbrev pub halt_told : List BoardEvent → ℕ
 halt_told [] = 0
 halt_told (OfRing (Post from to) ∷ log) = halt_told log
@@ -19,13 +19,13 @@ halt_told (OfRing Announce ∷ log) = 1
 halt_told (Failure node ∷ log) = 2 + node
 
 -- how often node i passed the token or, as node 0, announced the end
-abbrev pub moves_of : ℕ → List BoardEvent → ℕ
-moves_of i [] = 0
-moves_of i (OfRing (Post from to) ∷ log) = moves_of i log
-moves_of i (OfRing (Take from to) ∷ log) = moves_of i log
-moves_of i (OfRing (Pass node) ∷ log) = cond (node == i) (suc (moves_of i log)) (moves_of i log)
-moves_of i (OfRing Announce ∷ log) = cond (i == 0) (suc (moves_of i log)) (moves_of i log)
-moves_of i (Failure node ∷ log) = moves_of i log
+abbrev pub token_moves_of : ℕ → List BoardEvent → ℕ
+token_moves_of i [] = 0
+token_moves_of i (OfRing (Post from to) ∷ log) = token_moves_of i log
+token_moves_of i (OfRing (Take from to) ∷ log) = token_moves_of i log
+token_moves_of i (OfRing (Pass node) ∷ log) = cond (node == i) (suc (token_moves_of i log)) (token_moves_of i log)
+token_moves_of i (OfRing Announce ∷ log) = cond (i == 0) (suc (token_moves_of i log)) (token_moves_of i log)
+token_moves_of i (Failure node ∷ log) = token_moves_of i log
 
 -- the events lead from the start to the ring; a node fails the run only while it goes on, which changes nothing of the ring
 abbrev pub Runs : ℕ → List BoardEvent → Ring → Type 0
@@ -50,7 +50,7 @@ IsInTime Announce ring = ring.announced ≡ false
 pub record MakesEvent (n i : ℕ) (event : RingEvent) (before after : Stand) (witnessed now : List BoardEvent) : Type 0 where
   pub log : List BoardEvent
   pub went_on : GoesOn witnessed log
-  pub alone : moves_of i log ≡ moves_of i witnessed
+  pub alone : token_moves_of i log ≡ token_moves_of i witnessed
   pub is_next : now ≡ OfRing event ∷ log
   pub old : Ring
   pub new : Ring
@@ -66,7 +66,7 @@ pub record MakesEvent (n i : ℕ) (event : RingEvent) (before after : Stand) (wi
 -- node stands, and of which this is so.
 pub record Observes (n i : ℕ) (stand : Stand) (witnessed now : List BoardEvent) (IsSo : Ring → Type 0) : Type 0 where
   pub went_on : GoesOn witnessed now
-  pub alone : moves_of i now ≡ moves_of i witnessed
+  pub alone : token_moves_of i now ≡ token_moves_of i witnessed
   pub ring : Ring
   pub runs : Runs n now ring
   pub is_lawful : IsLawfulRing n ring

@@ -1,4 +1,4 @@
--- What each step tells its caller, and how views are split and joined.
+-- What each step shows its caller, and how views are split and joined.
 use Rattle.std.specs.Prelude.{◌≡◌, ◌≢◌, ℕ, suc, ◌+◌, ◌<◌, ◌≤◌, List, [], ◌∷◌, Some, slice_index}
 use Rattle.atomic_table.specs.Table.{Me, Step}
 use Rattle.dob_safra.specs.declared.token.Token.{Token}
@@ -44,7 +44,7 @@ module _ {S : Type 0} where
       (after ≡ (one me.0.size me.0.from (passes me.0.size me.0.from stand token) after.0.witnessed, me.1))
       × MakesEvent me.0.size me.0.from (Pass me.0.from) stand (passes me.0.size me.0.from stand token) me.0.witnessed after.0.witnessed
 
-  -- this node found that halt word, which all events so far tell, and the one that it knew if it knew one
+  -- this node found that halt word, which all events so far give, and the one that it knew if it knew one
   abbrev pub Found : Me S View → Stand → ℕ → Me S View → Type 0
   Found me stand word after = (after ≡ (one me.0.size me.0.from (finds stand word) after.0.witnessed, me.1))
       × (word < 2 + me.0.size) × (stand.halt ≢ 0 → word ≡ stand.halt)

@@ -11,7 +11,7 @@ use Rattle.dob_board.specs.declared.view.Stand.{Stand}
 use Rattle.dob_board.specs.declared.view.View.{View}
 use Rattle.dob_board.specs.Words.{word_count, ring_of}
 use Rattle.dob_board.specs.Views.{IsStand}
-use Rattle.dob_board.specs.Histories.{Runs, GoesOn, halt_told, moves_of}
+use Rattle.dob_board.specs.Histories.{Runs, GoesOn, halt_told, token_moves_of}
 
 -- What a seat's view says of a node is right: the view is of n nodes, the node is this seat's, and what it knows is right.
 pub record IsNode (n : ℕ) (owner : ℕ → ℕ) (ring : Ring) (halt port size node : ℕ) (stand : Stand) : Type 0 where
@@ -33,11 +33,11 @@ pub record IsView (n : ℕ) (owner : ℕ → ℕ) (ring : Ring) (halt : ℕ) (lo
   pub was_witnessed : GoesOn view.witnessed log
   pub nodes : (k : ℕ) (stand : Stand) → get_elem? view.stands k ≡ some stand → IsNode n owner ring halt port view.size (view.from + k) stand
   pub alone : view.own ≡ true → (k : ℕ) (stand : Stand) → get_elem? view.stands k ≡ some stand →
-      moves_of (view.from + k) log ≡ moves_of (view.from + k) view.witnessed
+      token_moves_of (view.from + k) log ≡ token_moves_of (view.from + k) view.witnessed
   pub is_closed : view.closed ≡ true → IsClosed n log view
 
 -- The words and the views of a board of n nodes are right: word 0 is n; word 1 is the token's; the ring that the words
--- show, with some colours, is lawful, and the events of some log led to it; word 2 is the halt that they tell; and each view is
+-- show, with some colours, is lawful, and the events of some log led to it; word 2 is the halt that they give; and each view is
 -- right.
 pub record IsHeld (n : ℕ) (words : List ℕ) (views : List View) : Type 0 where
   pub size : IsSize n

@@ -12,7 +12,7 @@ use Rattle.dob_board.specs.declared.view.Stand.{Stand}
 use Rattle.dob_board.specs.declared.seat.NodeSeat.{NodeSeat}
 use Rattle.dob_board.specs.declared.board.Closed.{Closed}
 use Rattle.dob_board.specs.Words.{posted_word, taken_word, word_count, halt_word}
-use Rattle.dob_board.specs.Histories.{Runs, GoesOn, MakesEvent, Observes, HasPosted, HasHalt, halt_told, moves_of}
+use Rattle.dob_board.specs.Histories.{Runs, GoesOn, MakesEvent, Observes, HasPosted, HasHalt, halt_told, token_moves_of}
 use Rattle.dob_board.specs.Views.{Shows, stand_from, sees, takes_more, counter_of, finds}
 
 -- what the seat knows of its node
@@ -82,13 +82,13 @@ KnewEnd old halt = old.node ≡ 0 → halt ≡ Ended → old.halt ≡ Ended
 abbrev pub ObservesHalt : NodeSeat → NodeSeat → Halt → Type 0
 ObservesHalt old new halt = Observes old.nodes old.node (stand_of new) (witnessed_by old) (witnessed_by new) (HasHalt (halt_word halt))
 
--- The events that the seat has witnessed tell of that halt: none of them is a failure, or an announcement, where the run goes on.
+-- The events that the seat has witnessed agree with that halt: none of them is a failure, or an announcement, where the run goes on.
 abbrev pub TellsHalt : NodeSeat → Halt → Type 0
 TellsHalt seat halt = halt_word halt ≡ halt_told (witnessed_by seat)
 
 -- the seat's node didn't pass the token, and announced no end
 abbrev pub MovesNothing : NodeSeat → NodeSeat → Type 0
-MovesNothing old new = moves_of old.node (witnessed_by new) ≡ moves_of old.node (witnessed_by old)
+MovesNothing old new = token_moves_of old.node (witnessed_by new) ≡ token_moves_of old.node (witnessed_by old)
 
 -- the halt where that one was found, and the node said that it failed the run if it went on
 abbrev pub failed_after : Halt → ℕ → Halt
@@ -132,7 +132,7 @@ log_of closed = closed.rest.me.0.witnessed
 
 -- What happened on a board of n nodes with these seats until it was closed, the first of it as the seat of node 0 has witnessed:
 -- it led to this lawful ring, which shows how each node stands; word 1 is that of its token; its end is announced where word 2 is
--- 1, and nowhere else; and word 2 is the halt that the events tell.
+-- 1, and nowhere else; and word 2 is the halt that the events give.
 pub record IsBoardHistory (n : ℕ) (seats : List NodeSeat) (closed : Closed) : Type 0 where
   pub witnessed : (seat : NodeSeat) → slice_get seats 0 ≡ Some seat → GoesOn (witnessed_by seat) (log_of closed)
   pub ring : Ring

@@ -1,7 +1,7 @@
 // How a board is opened.
 ghost use Rattle.std.specs.Prelude.{◌≡◌, ◌≢◌, ℕ, suc, ◌+◌, ◌≤◌, ◌<◌, ◌↔◌, [], Err, Some, IfOk, map, slice_get, length, replicate, vec_len};
 ghost use Rattle.std.specs.Arc.{arc_value};
-ghost use Rattle.dob_safra.specs.Tokens.{IsPacked, first_token, most_nodes};
+ghost use Rattle.dob_safra.specs.Tokens.{IsPacked, first_token};
 ghost use Rattle.dob_safra.specs.Laws.{IsSize};
 ghost use Rattle.dob_board.specs.declared.fault.Fault.TheVariants as fault;
 ghost use Rattle.dob_board.specs.Words.{word_count};
@@ -15,7 +15,7 @@ use crate::view::View;
 use crate::words::{NODES, TOKEN, word_count};
 use crate::{Board, Fault, Halt, NodeSeat};
 use atomic_table::{Seat, Table};
-use dob_safra::{Token, is_size, pack};
+use dob_safra::{NodeCount, Token, pack};
 use std::alloc::{AllocError, Global};
 use std::sync::Arc;
 
@@ -32,13 +32,13 @@ impl Board {
         ensures seats { IfOk result (λ opened. AreSeats opened.0.rest.table_id nodes opened.1.items) }
         ensures fresh { IfOk result (λ opened. map stand_of opened.1.items ≡ replicate nodes (fresh nodes)) }
     {
-        if !is_size(nodes) {
+        let Some(count) = NodeCount::new(nodes) else {
             return Err(Fault::Nodes);
-        }
-        let words = start_words(alloc, nodes)?;
+        };
+        let words = start_words(alloc, count)?;
         let (table, mut rest) = Table::of_words(alloc, &words, &nodes)?;
         let shared = Arc::new(alloc, table)?;
-        let seats = all_seats(alloc, &shared, &mut rest, nodes)?;
+        let seats = all_seats(alloc, &shared, &mut rest, count)?;
         let board = Board {
             shared,
             rest,
@@ -50,12 +50,11 @@ impl Board {
 }
 
 // The words at the start.
-fn start_words(alloc: Global, nodes: usize) -> Result<Vec<u64>, AllocError>
-    requires { nodes ≤ most_nodes }
+fn start_words(alloc: Global, nodes: NodeCount) -> Result<Vec<u64>, AllocError>
     ensures { IfOk result (λ words. (word : ℕ) × IsPacked first_token word × (words.items ≡ first_words nodes word)) }
 {
     let mut words = vec![in alloc; 0; word_count(nodes)]?;
-    words[NODES] = nodes as u64;
+    words[NODES] = nodes.get() as u64;
     words[TOKEN] = pack(Token::first());
     Ok(words)
 }
@@ -65,9 +64,8 @@ fn all_seats(
     alloc: Global,
     shared: &Arc<Words>,
     rest: &mut Seat<(), View>,
-    nodes: usize,
+    nodes: NodeCount,
 ) -> Result<Vec<NodeSeat>, AllocError>
-    requires few { nodes ≤ most_nodes }
     requires board { (arc_value shared.now).shared.table_id.words ≡ word_count nodes }
     requires key { (arc_value shared.now).shared.key ≡ nodes }
     requires of_board { rest.old.table_id ≡ (arc_value shared.now).shared.table_id }
@@ -77,8 +75,9 @@ fn all_seats(
     ensures seats { IfOk result (λ seats. AreSeats rest.old.table_id nodes seats.items) }
     ensures fresh { IfOk result (λ seats. map stand_of seats.items ≡ replicate nodes (fresh nodes)) }
 {
-    let mut seats = Vec::with_capacity(alloc, nodes)?;
-    for node in 0..nodes {
+    let count = nodes.get();
+    let mut seats = Vec::with_capacity(alloc, count)?;
+    for node in 0..count {
         let seat = next_seat(alloc, shared, rest, node, nodes)?;
         seats.push(seat)?;
     }
@@ -91,9 +90,8 @@ fn next_seat(
     shared: &Arc<Words>,
     rest: &mut Seat<(), View>,
     node: usize,
-    nodes: usize,
+    nodes: NodeCount,
 ) -> Result<NodeSeat, AllocError>
-    requires few { nodes ≤ most_nodes }
     requires within { node < nodes }
     requires board { (arc_value shared.now).shared.table_id.words ≡ word_count nodes }
     requires key { (arc_value shared.now).shared.key ≡ nodes }
@@ -105,6 +103,7 @@ fn next_seat(
     ensures fresh { IfOk result (λ seat. stand_of seat ≡ fresh nodes) }
 {
     let board = Arc::try_clone(shared)?;
+    let nodes = nodes.get();
     let posted = vec![in alloc; 0; nodes]?;
     let taken = vec![in alloc; 0; nodes]?;
     let seen = vec![in alloc; 0; nodes]?;

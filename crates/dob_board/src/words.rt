@@ -4,6 +4,7 @@ ghost use Rattle.dob_board.specs.Words.{posted_word, taken_word, word_count, hal
 ghost use Rattle.dob_safra.specs.Tokens.{most_nodes};
 
 use crate::Halt;
+use dob_safra::NodeCount;
 
 // The word of the number of nodes.
 pub(crate) const NODES: usize = 0;
@@ -27,10 +28,10 @@ pub(crate) const ENDED: u64 = 1;
 pub(crate) const FAILED: u64 = 2;
 
 /// How many words a board of so many nodes has.
-pub(crate) fn word_count(nodes: usize) -> usize
-    requires { nodes ≤ most_nodes }
+pub(crate) fn word_count(nodes: NodeCount) -> usize
     ensures { result ≡ word_count nodes }
 {
+    let nodes = nodes.get();
     COUNTS + 2 * nodes * nodes
 }
 

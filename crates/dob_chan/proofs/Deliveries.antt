@@ -90,7 +90,7 @@ begins_it l = ([], sym (append-nil l))
 begins_more : {X : Type 0} → (front whole : List X) (x : X) → IsBeginning front whole → IsBeginning front (whole ++ x ∷ [])
 begins_more front whole x is = (is.0 ++ x ∷ [], ap (λ l. l ++ x ∷ []) is.1 ∙ append_assoc front is.0 (x ∷ []))
 
--- what was told goes on when one batch more is sent, or taken
+-- what was learned goes on when one batch more is sent, or taken
 sent_on : (told : Told) (sent taken : List BatchView) (x : BatchView) → GoesOn told sent taken → GoesOn told (sent ++ x ∷ []) taken
 sent_on told sent taken x is = (begins_more told.sent sent x is.0, is.1)
 
@@ -192,7 +192,7 @@ sender_stays : (senders : ℕ) (seat : ℕ → Option ℕ) (sent taken : List Ba
     → FitsSender senders seat sent taken pass v → FitsSender senders seat sent (taken ++ x ∷ []) pass v
 sender_stays senders seat sent taken x pass v fits p = let f = fits p in (f.0, f.1, f.2, f.3, taken_on v.told sent taken x f.4)
 
--- what is told of so much that was sent, where one batch more is taken
+-- what is learned of so much that was sent, where one batch more is taken
 abbrev told_next : List BatchView → List BatchView → BatchView → Told
 told_next sent taken x = record { sent = sent; taken = taken ++ x ∷ [] }
 

@@ -28,7 +28,7 @@ taken_by end = (view end.pass).taken
 abbrev pub taken_of : TakeEnd → ℕ → List BatchView
 taken_of end from = batches_of from (taken_by end)
 
--- what the end was told of its inbox, by its last batch
+-- what the end learned of its inbox, by its last batch
 abbrev pub send_told : SendEnd → Told
 send_told end = (view end.pass).told
 
@@ -74,11 +74,11 @@ abbrev pub AreStill : List SendEnd → List SendEnd → Type 0
 AreStill olds news = (length news ≡ length olds)
     × ((k : ℕ) (old new : SendEnd) → slice_get olds k ≡ Some old → slice_get news k ≡ Some new → SendsToSame old new)
 
--- At some moment after what was told the inbox was full of batches of its senders, and that sender had sent just its own.
+-- At some moment after what was learned the inbox was full of batches of its senders, and that sender had sent just its own.
 abbrev pub WasFull : ℕ → ℕ → ℕ → List BatchView → Told → Type 0
 WasFull capacity senders from own told = (held : List BatchView) × (length held ≡ capacity) × AreLast senders from own told held
 
--- At some moment after what was told the inbox was empty: what had been sent was what was taken.
+-- At some moment after what was learned the inbox was empty: what had been sent was what was taken.
 abbrev pub WasEmpty : List BatchView → Told → Type 0
 WasEmpty taken told = (held : List BatchView) × (length held ≡ 0) × AreNext taken told held
 

@@ -9,24 +9,25 @@ use crate::ends::{Full, Inbox, SendEnd, TakeEnd};
 use crate::rule::{Counts, Note, Opens, Sends, Takes};
 use crossbeam_queue::Pass;
 use dob_pieces::Memory;
-use dob_update::Batch;
+use dob_safra::NodeCount;
+use dob_update::{Batch, Capacity};
 use std::alloc::{AllocError, Global};
 use std::sync::{Arc, Wait};
 
-/// A new inbox for so many senders, at least 1 and at most 16, that holds at most `capacity` batches, which is above 0:
-/// the sending end of each, in order, and the taking end. `Memory` where there is none for them.
+/// A new inbox for so many senders, that holds at most `capacity` batches: the sending end of each, in order, and the taking
+/// end. `Memory` where there is none for them.
 pub fn inbox(
     alloc: Global,
-    senders: usize,
-    capacity: usize,
+    senders: NodeCount,
+    capacity: Capacity,
 ) -> Result<(Vec<SendEnd>, TakeEnd), Memory>
-    requires { (0 < senders) × (senders ≤ 16) × (0 < capacity) }
     ensures senders { IfOk result (λ ends. (senders_of ends.1 ≡ senders) × AreEndsOf ends.1 ends.0.items) }
     ensures opened { IfOk result (λ ends. AreOpened ends.1.pass capacity senders ends.0.items) }
     ensures nothing { IfOk result (λ ends. taken_by ends.1 ≡ []) }
 {
-    let (queue, mut pass) = Inbox::ruled(alloc, capacity)?;
+    let (queue, mut pass) = Inbox::ruled(alloc, capacity.get())?;
     let inbox = Arc::new(alloc, queue)?;
+    let senders = senders.get();
     count(&inbox, &mut pass, senders);
     let sends = open_all(alloc, &inbox, &mut pass, senders)?;
     let taken = vec![in alloc; 0; senders]?;
@@ -37,7 +38,6 @@ pub fn inbox(
 fn count(inbox: &Inbox, pass: &mut Pass<Batch, Note>, senders: usize)
     requires seat { IsPassOf inbox.now pass.old }
     requires role { view pass.old ≡ taking 0 0 [] [] untold }
-    requires few { senders ≤ 16 }
     ensures seat { IsPassOf inbox.now pass.new }
     ensures role { view pass.new ≡ taking senders 0 [] [] untold }
 {
@@ -55,7 +55,6 @@ fn open_all(
 ) -> Result<Vec<SendEnd>, AllocError>
     requires seat { IsPassOf (arc_value inbox.now) pass.old }
     requires role { view pass.old ≡ taking senders 0 [] [] untold }
-    requires few { senders ≤ 16 }
     ensures seat { IsPassOf (arc_value inbox.now) pass.new }
     ensures role { IfOk result (λ _. view pass.new ≡ taking senders senders [] [] untold) }
     ensures opened { IfOk result (λ sends. (length sends.items ≡ senders) × AreOpened pass.new (ruled_capacity (arc_value inbox.now)) senders sends.items) }
@@ -108,7 +107,7 @@ impl SendEnd {
     }
 
     /// Sends a batch of its owner, if the inbox has room; tries once. `Full` with the batch only where the inbox held its
-    /// capacity, of all senders together, at some moment of the call; then nothing is sent. The end is told what all had sent
+    /// capacity, of all senders together, at some moment of the call; then nothing is sent. The end learns what all had sent
     /// and what was taken when its batch went in, and the inbox was full after that. Its promises hold if it returns.
     pub fn offer<R: Wait>(&mut self, rt: &R, batch: Batch) -> Result<(), Full>
         requires few { length (sent_by self.old) < most_batches }
@@ -138,7 +137,7 @@ impl TakeEnd {
     }
 
     /// Takes the next batch, if the inbox has one; tries once. `None` only where it was empty at some moment of the call. With a
-    /// batch the end is told what had been sent when it came out, and the inbox was empty after that. Its promises hold if it
+    /// batch the end learns what had been sent when it came out, and the inbox was empty after that. Its promises hold if it
     /// returns.
     pub fn next<R: Wait>(&mut self, rt: &R) -> Option<Batch>
         ensures same { TakesFromSame self.old self.new }

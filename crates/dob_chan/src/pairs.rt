@@ -6,18 +6,19 @@ use crate::ends::{RejoinFault, Rejoined, SendEnd, TakeEnd};
 use crate::inboxes::inbox;
 use crate::rejoins::rejoin_inbox;
 use dob_pieces::Memory;
+use dob_safra::NodeCount;
+use dob_update::Capacity;
 use std::alloc::Global;
 use std::sync::Wait;
 
-/// The two ends of a new inbox of one sender, the owner 0, that holds at most `capacity` batches, which is above 0. `Memory`
-/// where there is none for them.
-pub fn pair(alloc: Global, capacity: usize) -> Result<(SendEnd, TakeEnd), Memory>
-    requires { 0 < capacity }
+/// The two ends of a new inbox of one sender, the owner 0, that holds at most `capacity` batches. `Memory` where there is none
+/// for them.
+pub fn pair(alloc: Global, capacity: Capacity) -> Result<(SendEnd, TakeEnd), Memory>
     ensures paired { IfOk result (λ ends. ArePaired ends.0 ends.1) }
     ensures capacity { IfOk result (λ ends. capacity_of ends.0 ≡ capacity) }
     ensures nothing { IfOk result (λ ends. (sent_by ends.0 ≡ []) × (taken_by ends.1 ≡ [])) }
 {
-    let (sends, take) = inbox(alloc, 1, capacity)?;
+    let (sends, take) = inbox(alloc, NodeCount::one(), capacity)?;
     Ok((only_one(sends), take))
 }
 

@@ -3,14 +3,14 @@ use crossbeam_queue::protocol::{Join, Lesson, Outcome, Protocol, Split};
 use dob_update::Batch;
 use std::collections::LinkedList;
 
-/// What was told of an inbox: the batches that had been sent, by all senders, and those that had been taken. No value of it is
+/// What was learned of an inbox: the batches that had been sent, by all senders, and those that had been taken. No value of it is
 /// made.
 pub(crate) struct Told {
     pub sent: LinkedList<Batch>,
     pub taken: LinkedList<Batch>,
 }
 
-/// What a pass of an inbox may do, send as one of the senders or take, what it has sent and taken, and what it was told. The
+/// What a pass of an inbox may do, send as one of the senders or take, what it has sent and taken, and what it has learned. The
 /// taking pass also knows how many senders' passes were made, and what those sent that have ended. No value of it is made.
 pub(crate) struct Note {
     pub senders: usize,
@@ -72,7 +72,7 @@ impl Join<Note> for Ends {
     ghost spent = { resting };
 }
 
-/// What a send tells: the batch is the last that was sent, and all that happened before; and what it learns where the inbox is
+/// What a send shows: the batch is the last that was sent, and all that happened before; and what it learns where the inbox is
 /// full.
 pub(crate) struct Sends;
 
@@ -89,7 +89,7 @@ impl Lesson<Batch, Note> for Sends {
     ghost fact = { λ v held. AreLast v.senders v.from v.sent v.told held };
 }
 
-/// What a receipt tells: the batch is the last that was taken, and of one of the senders, and all that happened before; and
+/// What a receipt shows: the batch is the last that was taken, and of one of the senders, and all that happened before; and
 /// what it learns where the inbox is empty.
 pub(crate) struct Takes;
 
@@ -107,7 +107,7 @@ impl Lesson<Batch, Note> for Takes {
     ghost fact = { λ v held. AreNext v.taken v.told held };
 }
 
-/// What a receipt tells where senders have ended: no more is taken of them than they sent; and where the inbox is empty,
+/// What a receipt shows where senders have ended: no more is taken of them than they sent; and where the inbox is empty,
 /// what was taken of them is what they sent.
 pub(crate) struct Left;
 

@@ -14,11 +14,11 @@ use std::thread::Threads;
 /// How many classes are looked at between two words to a watch: a power of 2, so that a place among them is a mask.
 const EACH: u64 = 65_536;
 
-/// Is told how far a check is.
+/// Receives how far a check is.
 pub trait Watch {
     ghost use Rattle.std.specs.Prelude.{ℕ};
 
-    // By `told watch classes` it may have been told so.
+    // By `told watch classes` it may have learned so.
     ghost told: { Self → ℕ → Type 0 };
 
     /// Told that so many more classes were looked at, 65,536 at most. More may have been, and which they are is left open.
@@ -26,7 +26,7 @@ pub trait Watch {
         ensures { told self.now classes };
 }
 
-// Nobody is told.
+// Nobody learns of it.
 struct Unwatched;
 
 impl Watch for Unwatched {
@@ -102,7 +102,7 @@ fn tell<W: Watch>(watch: &W, count: u64, class: u64)
     }
 }
 
-// How many more classes the watch is told of at that one of so many.
+// How many more classes are reported to the watch at that one of so many.
 fn news_at(count: u64, class: u64) -> u64
     requires { class < count }
     ensures adds { told_of count class + result ≡ told_of count (class + 1) }

@@ -15,7 +15,7 @@ pub record IsTableOfRuns (family : Family) (block lions : ℕ) (table : StretchT
   pub block_is : table.block ≡ block
   pub run_is : table.run ≡ lions
 
--- the table of a run, if its lions don't tell its marks
+-- the table of a run, if its lions don't give its marks
 abbrev pub HasTable : Family → ℕ → ℕ → ℕ → List StretchTable → Type 0
 HasTable family block run number tables = run_kind (run % lion_pairs) ≡ Mixed →
     (number < length tables) × ((other : StretchTable) → IsTableOfRuns family block (run % lion_pairs) (slice_index_or tables number other))

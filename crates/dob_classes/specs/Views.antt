@@ -19,7 +19,7 @@ abbrev pub seen_hands : Side → Hands → Hands
 seen_hands Mover hands = hands
 seen_hands Enemy hands = record { mover = hands.enemy; enemy = hands.mover }
 
--- 1 where a piece is foreign to the side, 0 where it is its own; the mover tells it so
+-- 1 where a piece is foreign to the side, 0 where it is its own; the mover sees it so
 abbrev pub seen_owner : Side → ℕ → ℕ
 seen_owner Mover owner = owner
 seen_owner Enemy owner = 1 - owner

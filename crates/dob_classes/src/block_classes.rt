@@ -1,5 +1,5 @@
 // The classes of one block of a family: for each of its runs the number of classes before it, and tables of marks for the runs in which the lions don't
-// tell which positions are representatives. A run's positions are numbered among those of the family.
+// say which positions are representatives. A run's positions are numbered among those of the family.
 ghost use Rattle.std.specs.Prelude.{◌≡◌, true, ◌<◌, ◌≤◌, ◌+◌, ◌%◌, IfOk, vec_len, ℕ, List};
 ghost use Rattle.dob_rank.specs.Numbers.{product, digits_of, block_bases, block_size, start_of};
 ghost use Rattle.dob_rank.specs.Marks.{marks_below};
@@ -203,7 +203,7 @@ impl BlockClasses {
     }
 }
 
-/// The number of a run's table, which is made for the first run of its lions; none is needed where these tell its marks.
+/// The number of a run's table, which is made for the first run of its lions; none is needed where these say its marks.
 ///
 /// # Errors
 ///

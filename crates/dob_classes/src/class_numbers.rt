@@ -18,7 +18,7 @@ use dob_rank::set_ranks::spot_of;
 
 /// The number of the class of a position of the family: how many representatives stand before the earlier of it and its
 /// mirror image. It takes no memory, and at most some hundredths of a second for two pieces of each kind: where many
-/// numbers are asked for, `Classes` tells each at once.
+/// numbers are asked for, `Classes` gives each at once.
 pub fn class_number(family: Family, position: &Position) -> u64
     requires { IsPositionOf family position.now.setup }
     ensures class { IsInClass family position.now.setup result }

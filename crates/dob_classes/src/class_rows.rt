@@ -1,4 +1,4 @@
-// Class numbers by a row of numbers for each block, which the caller keeps: no memory is taken, and a number is told at once where its block's row is there.
+// Class numbers by a row of numbers for each block, which the caller keeps: no memory is taken, and a number is found at once where its block's row is there.
 ghost use Rattle.std.specs.Prelude.{◌≡◌, ◌<◌, ◌≤◌, ◌+◌, length};
 ghost use Rattle.dob_rank.specs.Families.{IsPositionOf, IsInClass, is_marked, class_number as number_of_class};
 ghost use Rattle.dob_classes.specs.BlockRows.{IsRow};

@@ -34,7 +34,7 @@ pub struct Walk {
 }
 
 impl MixedRun {
-    ghost use Rattle.dob_classes.specs.Walks.{IsWalk, marks_before};
+    ghost use Rattle.dob_classes.specs.Walks.{IsWalk, IsStretchIn, marks_before};
 
     /// A walk that begins at that place, or at the run's end.
     pub fn walk_from(&self, place: u64) -> Walk
@@ -50,7 +50,7 @@ impl MixedRun {
         }
     }
 
-    /// Walks on to that place, or to the run's end, and tells how many representatives stand on the way.
+    /// Walks on to that place, or to the run's end, and counts the representatives on the way.
     pub fn walk_to(&self, walk: &mut Walk, place: u64) -> u64
         requires walk { IsWalk self.now walk.old }
         requires further { walk.old.place ≤ place }
@@ -70,14 +70,15 @@ impl MixedRun {
         count
     }
 
-    // One step further, to the end of the places that are alike or to that place, and how many representatives stand on the way.
-    fn step(&self, walk: Walk, place: u64) -> (Walk, u64)
+    /// One step further, to the end of the places that are alike or to that place, and how many representatives stand on the way.
+    pub(crate) fn step(&self, walk: Walk, place: u64) -> (Walk, u64)
         requires walk { IsWalk self.now walk }
         requires further { walk.place < place }
         requires within { place ≤ run_size self.now.family.set self.now.block }
         ensures walk { IsWalk self.now result.0 }
         ensures further { walk.place < result.0.place }
         ensures within { result.0.place ≤ place }
+        ensures alike { IsStretchIn self.now.family self.now.block self.now.run walk.number result.0.number result.0.is_marked }
         ensures count { marks_before self.now walk.number + result.1 ≡ marks_before self.now result.0.number }
     {
         let (is_marked, end) = self.stretch_at(walk);

@@ -1,6 +1,6 @@
 // The positions of a family in a run of its set, numbered among themselves: in profile A by their places, in profile B by how many chicks' forms are
 // allowed before theirs.
-ghost use Rattle.std.specs.Prelude.{◌≡◌, ◌<◌, ◌≤◌, slice_index};
+ghost use Rattle.std.specs.Prelude.{◌≡◌, ◌<◌, ◌≤◌};
 ghost use Rattle.dob_pieces.specs.Profiles.{IsAllowed};
 ghost use Rattle.dob_pieces.specs.declared.profile.Profile.TheVariants.{B};
 ghost use Rattle.dob_pieces.specs.declared.setup.Setup.{Setup};
@@ -9,22 +9,20 @@ ghost use Rattle.dob_rank.specs.BoardMasks.{AreMasksOfBoard};
 ghost use Rattle.dob_rank.specs.Order.{IsPositionOfSet};
 ghost use Rattle.dob_rank.specs.Families.{family_of, IsPositionOf};
 ghost use Rattle.dob_classes.specs.FamilyRuns.{is_there};
-ghost use Rattle.dob_rank.specs.Weights.{local_in, squares_by, others_by, others_squares, others_forms};
 ghost use Rattle.dob_rank.specs.Marks.{marks_below};
-ghost use Rattle.dob_rank.specs.Numbers.{product, block_bases, block_of, choose, free_squares};
-ghost use Rattle.dob_rank.specs.Runs.{AreFewOnBoard, runs_in, run_size, run_of, local_of};
+ghost use Rattle.dob_rank.specs.Numbers.{product, block_bases, block_of};
+ghost use Rattle.dob_rank.specs.Runs.{runs_in, run_size, run_of, local_of};
 
 use crate::bits::bitboards::Bitboards;
 use crate::bits::shown_spots::spot_shown;
 use crate::far_counts::count_upto;
 use dob_pieces::{Family, PieceSet, Position, Profile};
-use dob_rank::block::{self, DIGITS, EachKind};
 use dob_rank::far_rows::before_choice;
 use dob_rank::masks::Masks;
-use dob_rank::radix;
-use dob_rank::ranks::{add_product, allowed_forms, weight_of};
+use dob_rank::ranks::{allowed_forms, place_behind};
 use dob_rank::runs::{LIONS, Spot};
 use dob_rank::set_ranks::{digits_of, numbers_on_board, spot_by};
+use dob_rank::{block, radix};
 
 /// How many positions of the family a run has before that place, or before its end. Within its callers, since in profile A it is the place.
 #[inline(always)]
@@ -91,32 +89,8 @@ fn far_spot(set: PieceSet, position: &Position, masks: Masks) -> (u64, Spot)
     let digits = digits_of(position, masks, &on_board);
     let run = block::spot_from(set, &on_board, &digits).run;
     let forms = allowed_forms(&position.setup.board, masks.chicks, on_board[0]);
-    let local = far_local(&on_board, &digits, run % LIONS, forms);
+    let lions = run % LIONS;
+    let chosen = before_choice(on_board[0], lions, digits[5]);
+    let local = place_behind(&on_board, &digits, lions, chosen, forms);
     (block, Spot { run, local })
-}
-
-/// How many positions of profile B stand before one in its run: that of those lions and digits, and of so many allowed forms of the chicks before.
-fn far_local(on_board: &EachKind, digits: &[u64; DIGITS], lions: u64, forms: u64) -> u64
-    requires few { AreFewOnBoard on_board.now }
-    requires lions { lions < LIONS }
-    requires choice { slice_index digits.now 5 < choose free_squares (slice_index on_board.now 0) }
-    requires squares { squares_by on_board.now digits.now < others_squares on_board.now }
-    requires others { others_by on_board.now digits.now < others_forms on_board.now }
-    requires forms { forms ≤ 20 }
-    ensures { result ≡ local_in B on_board.now digits.now lions forms }
-{
-    let chicks = on_board[0];
-    let choices = block::choices_in(on_board);
-    let squares = digits[6] * choices[2] + digits[7];
-    let placed = add_product(
-        before_choice(chicks, lions, digits[5]),
-        choices[1] * choices[2],
-        squares * weight_of(chicks, lions, digits[5]) + forms,
-    );
-    let giraffes = block::power(2, on_board[2]);
-    add_product(
-        placed,
-        block::power(2, on_board[1]) * giraffes,
-        digits[9] * giraffes + digits[10],
-    )
 }

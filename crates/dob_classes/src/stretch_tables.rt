@@ -1,5 +1,5 @@
 // The marks of a family's positions in a run whose lions both stand on column b, as stretches of numbers that are all marked or all not: the stretches
-// of the set's places (src/stretches.rt), each as long as the family has positions there.
+// of the set's places (src/class_walks.rt), each as long as the family has positions there.
 ghost use Rattle.std.specs.Prelude.{◌≡◌, true, ◌<◌, ◌%◌, IfOk};
 ghost use Rattle.dob_rank.specs.Numbers.{product, block_bases};
 ghost use Rattle.dob_rank.specs.Marks.{marks_below};
@@ -8,8 +8,8 @@ ghost use Rattle.dob_classes.specs.FamilyRuns.{run_size_in, local_marks_in};
 ghost use Rattle.dob_classes.specs.Stretches.{AreStretches};
 ghost use Rattle.dob_rank.specs.declared.runs.RunKind.TheVariants.{Mixed};
 
-use crate::spots::count_before;
-use crate::stretches::{Stretch, push_stretch, stretch_from};
+use crate::class_walks::MixedRun;
+use crate::stretches::{Stretch, push_stretch};
 use dob_pieces::{Family, Memory};
 use dob_rank::block;
 use std::alloc::Global;
@@ -48,22 +48,17 @@ impl StretchTable {
         ensures run { IfOk result (λ stretches. stretches.run ≡ run) }
     {
         let size = block::run_size_in(family.set, block);
-        let bases = block::local_bases_in(family.set, block);
+        let mixed = MixedRun { family, block, run };
+        let mut walk = mixed.walk_from(0);
         let mut list = Vec::new(alloc);
-        let mut place = 0;
-        let mut start = 0;
         let mut count = 0;
         let mut last = false;
-        while place < size {
-            let (is_marked, end) = stretch_from(family.set, block, run, place, &bases);
-            let next = count_before(family, block, run, end);
-            push_stretch(&mut list, start, count, is_marked, last)?;
-            last = is_marked;
-            if is_marked {
-                count += next - start;
-            }
-            place = end;
-            start = next;
+        while walk.place < size {
+            let (next, marks) = mixed.step(walk, size);
+            push_stretch(&mut list, walk.number, count, next.is_marked, last)?;
+            last = next.is_marked;
+            count += marks;
+            walk = next;
         }
         Ok(StretchTable {
             family,

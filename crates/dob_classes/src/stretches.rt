@@ -47,7 +47,7 @@ pub(crate) fn push_stretch(
     Ok(())
 }
 
-/// Whether the places from one on are marked, and where that ends at the latest that one image tells.
+/// Whether the places from one on are marked, and where that ends at the latest that one image shows.
 pub(crate) fn stretch_from(
     set: PieceSet,
     block: u64,

@@ -1,5 +1,5 @@
--- What a build leaves, `probe` finds: the value by definition.
-use Rattle.std.proofs.Common.{◌≡◌, ◌∙◌, ℕ, List, arith, inl, inr, refl, sym}
+-- What the words ask for is done, and what a build leaves, `probe` finds: the value by definition.
+use Rattle.std.proofs.Common.{◌≡◌, ◌∙◌, ℕ, List, Option, arith, inl, inr, option_map, refl, subst, sym}
 use Rattle.std.specs.Prelude.{IsTrue}
 use Rattle.dob_stops.specs.declared.fault.Fault.TheVariants as run_fault
 use Rattle.dob_dbfile.specs.declared.fault.Fault.TheVariants as file_fault
@@ -7,19 +7,29 @@ use Rattle.dob_dbfile.specs.Format.{bytes_of}
 use Rattle.dob_dbfile.specs.Sinks.{Change}
 use Rattle.dob_probe.specs.declared.fault.Fault.TheVariants as table_fault
 use Rattle.dob_query.specs.declared.fault.Fault.{Fault}
-use Rattle.dob_query.specs.declared.fault.Fault.TheVariants.{Text, SetText, TooDeep, Run, File, Table, PuzzlePlies, Memory, Io}
+use Rattle.dob_query.specs.declared.fault.Fault.TheVariants as fault
+use Rattle.dob_query.specs.declared.fault.Fault.TheVariants.{SetText, TooDeep, Run, File, Table, PuzzlePlies, Memory, Io}
 use Rattle.dob_query.specs.Faults.{status_of}
-use Rattle.dob_query.specs.Endings.{Ending, TellsOneFault}
-use Rattle.dob_query.specs.Shelves.{ShelfChange, ShelfState}
+use Rattle.dob_query.specs.Endings.{AnswersOver, Ending, TellsOneFault}
+use Rattle.dob_query.specs.Program.{AnswersValue}
+use Rattle.dob_shelf.specs.Shelves.{ShelfChange, ShelfState, shelf_change}
+use Rattle.dob_query.specs.Tables.{AnswersProbe, AnswersProbeRight, HasValueFile}
+use Rattle.dob_words.specs.Forms.{Text}
+use Rattle.dob_words.specs.Words.{asks, meaning_of, number_in, profile_named}
+use Rattle.dob_words.specs.Readings.{IsOrder, IsReadingOf}
+use Rattle.dob_words.specs.declared.command.Order.{Order}
+use Rattle.dob_words.specs.declared.command.Reading.{Reading}
+use Rattle.dob_words.specs.declared.command.Reading.TheVariants as reading
 use Rattle.dob_cli.specs.Builds.{AnswersBuild}
-use Rattle.dob_query.specs.Tables.{HasValueFile}
-use Rattle.dob_cli.specs.Laws.{BuildThenProbe}
-use Rattle.dob_words.specs.Words.{profile_named}
+use Rattle.dob_cli.specs.Laws.{BuildThenProbe, WordsAreAnswered}
+use Rattle.dob_cli.specs.Orders.{AnswersOrder, AnswersRight}
+use Rattle.dob_cli.specs.Runs.{Does, LacksMemory, Ran}
+use Rattle.dob_cli.proofs.Orders.{done_build, done_probe, done_value, probe_told}
 use Rattle.dob_pieces.specs.declared.profile.Profile.{Profile}
 
 -- no fault has the status of what is done
 not_done : (fault : Fault) → status_of fault ≡ 0 → ⊥
-not_done (Text f) e = omega (arith, e)
+not_done (fault.Text f) e = omega (arith, e)
 not_done SetText e = omega (arith, e)
 not_done TooDeep e = omega (arith, e)
 not_done (Run run_fault.Nodes) e = omega (arith, e)
@@ -48,7 +58,7 @@ no_fault_told fault status err (inl told) done = not_done fault (sym told.0 ∙ 
 no_fault_told fault status err (inr told) done = not_done Memory (sym told.0 ∙ done)
 
 -- the file of a build that was done is that of a value table
-file_kept : (c : ShelfChange) (profile : Profile) (set : List ℕ) (nodes : ℕ) (file : List ℕ) (e : Ending) → IsTrue c.before.tells
+file_kept : (c : ShelfChange) (profile : Profile) (set : List ℕ) (nodes : Option ℕ) (file : List ℕ) (e : Ending) → IsTrue c.before.tells
     → AnswersBuild c profile set nodes file e → e.status ≡ 0 → HasValueFile (c.after.has file) profile
 file_kept c profile set nodes file e tells (inl t) done = record {
   table = t.right.0.table;
@@ -61,7 +71,47 @@ file_kept c profile set nodes file e tells (inl t) done = record {
 file_kept c profile set nodes file e tells (inr (inl t)) done = absurd (no_fault_told t.fault e.status e.err t.told done)
 file_kept c profile set nodes file e tells (inr (inr t)) done = absurd (no_fault_told Io e.status e.err t.told done)
 
+-- ---- what the words ask for
+
+-- lack of memory is a fault of every order
+memory_answered : (c : ShelfChange) (AreLines : List ℕ → Type 0) (Holds : Fault → Type 0) (e : Ending) → Holds Memory → LacksMemory c e
+    → AnswersOver c AreLines Holds e
+memory_answered c AreLines Holds e holds lacks =
+    inr (inl (record { fault = Memory; holds = (holds, lacks.2); told = inl lacks.0.0; silent = lacks.0.1 }))
+
+-- the order that the words ask for is done, or no memory was left for them
+order_done : (c : ShelfChange) (words : List Text) (e : Ending) (name : Text) (texts : List (Option Text)) (P : Type 0) → meaning_of words ≡ asks name texts
+    → ((o : Order) → IsOrder name texts o → AnswersOrder c o e → AnswersRight c o e → P) → (LacksMemory c e → P) → Ran c words e → P
+order_done c words e name texts P asked does lacks ran = elim ran.done [
+  | inl done ↦ go done.read (subst (λ m. IsReadingOf m done.read) asked done.meant) done.done
+  | inr none ↦ lacks none
+]
+  where
+    go : (r : Reading) → IsReadingOf (asks name texts) r → Does c r e → P
+    go (reading.Order o) is done = does o is done.answers done.right
+    go (reading.Help _) is done = absurd is
+    go reading.Version is done = absurd is
+    go (reading.Usage _) is done = absurd is
+
+pub words_answered : (before after : ShelfState) → WordsAreAnswered before after
+words_answered before after words e ran =
+    let c : ShelfChange = shelf_change before after in record {
+      value = λ rules text asked.
+          order_done c words e _ _ (AnswersValue c (profile_named rules) text e) asked (λ o is answers right. done_value c e rules text o is answers)
+          (memory_answered c _ _ e tt) ran;
+      build = λ rules set nodes file progress asked.
+          order_done c words e _ _ (AnswersBuild c (profile_named rules) set (option_map number_in nodes) file e) asked
+          (λ o is answers right. done_build c e rules set nodes file progress o is answers) (λ lacks. memory_answered c _ _ e lacks.1 lacks) ran;
+      probe_right = λ file text asked profile.
+          order_done c words e _ _ (HasValueFile (c.before.has file) profile → AnswersProbeRight c profile file text e) asked
+          (done_probe c e (λ x t. HasValueFile (c.before.has x) profile → AnswersProbeRight c profile x t e) file text (λ f t answers right. right profile))
+          (λ lacks _. memory_answered c _ _ e tt lacks) ran;
+      probe = λ file text asked.
+          order_done c words e _ _ (AnswersProbe c file text e) asked
+          (done_probe c e (λ x t. AnswersProbe c x t e) file text (λ f t answers right. probe_told c e f t answers)) (memory_answered c _ _ e tt) ran;
+    }
+
 pub build_then_probe : (before built probed : ShelfState) → BuildThenProbe before built probed
 build_then_probe before built probed = λ building probing rules set nodes file position progress first next is_build is_probe tells ran done after.
-    after.probe_right (profile_named rules) file position is_probe
-    (file_kept _ (profile_named rules) set _ file first tells (ran.build rules set nodes file progress is_build) done)
+    (words_answered built probed probing next after).probe_right file position is_probe (profile_named rules)
+    (file_kept _ (profile_named rules) set _ file first tells ((words_answered before built building first ran).build rules set nodes file progress is_build) done)

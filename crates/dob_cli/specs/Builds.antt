@@ -1,5 +1,5 @@
 -- What the program owes where it is asked to build a database file.
-use Rattle.std.specs.Prelude.{◌≡◌, ◌≢◌, ℕ, IsTrue, List}
+use Rattle.std.specs.Prelude.{◌≡◌, ◌≢◌, ℕ, IsTrue, List, None, Option, Result, Some, String}
 use Rattle.dob_pieces.specs.declared.piece_set.PieceSet.{PieceSet}
 use Rattle.dob_pieces.specs.Sets.{set_text}
 use Rattle.dob_pieces.specs.declared.profile.Profile.{Profile}
@@ -12,15 +12,22 @@ use Rattle.dob_run.specs.BoundedRun.{IsUnheld}
 use Rattle.dob_dbfile.specs.Format.{bytes_of}
 use Rattle.dob_query.specs.declared.fault.Fault.{Fault}
 use Rattle.dob_query.specs.declared.fault.Fault.TheVariants.{SetText, Run, File, Memory, Io}
-use Rattle.dob_query.specs.Shelves.{HasJust, SameFiles, ShelfChange}
+use Rattle.dob_shelf.specs.Shelves.{HasJust, SameFiles, ShelfChange}
 use Rattle.dob_query.specs.Keeping.{IsKeepingFault, class_lines}
-use Rattle.dob_query.specs.Endings.{AnswersOver, Ending}
+use Rattle.dob_query.specs.Endings.{AnswersOver, Ending, GivesLines}
 
--- So many nodes built the table, by batches of 256 items: it is the value table by the rules of the profile of the piece set that the text
--- names, there are 1 to 16 nodes, and the run of just so many ended with it.
-pub record IsTableFor (profile : Profile) (text : List ℕ) (nodes : ℕ) (table : ClassTable) : Type 0 where
+-- so many nodes, where a number is given; else some number from 1 to 16
+abbrev pub AreNodes : Option ℕ → ℕ → Type 0
+AreNodes (Some number) nodes = nodes ≡ number
+AreNodes None nodes = IsSize nodes
+
+-- Nodes built the table, so many where a number is given, by batches of 256 items: it is the value table by the rules of the profile of the piece
+-- set that the text names, there are 1 to 16 nodes, and the run of just so many ended with it.
+pub record IsTableFor (profile : Profile) (text : List ℕ) (number : Option ℕ) (table : ClassTable) : Type 0 where
   pub named : text ≡ set_text table.family.set
   pub rules : table.family.profile ≡ profile
+  pub nodes : ℕ
+  pub asked : AreNodes number nodes
   pub few : IsSize nodes
   pub right : IsValueTable table.family table.values
   pub built : Built
@@ -29,27 +36,31 @@ pub record IsTableFor (profile : Profile) (text : List ℕ) (nodes : ℕ) (table
 
 -- The lines tell of the value table of the text's piece set, and under the name the shelf has just its file, where it tells
 -- its bytes.
-pub record AreBuildLines (c : ShelfChange) (profile : Profile) (text : List ℕ) (nodes : ℕ) (file lines : List ℕ) : Type 0 where
+pub record AreBuildLines (c : ShelfChange) (profile : Profile) (text : List ℕ) (number : Option ℕ) (file lines : List ℕ) : Type 0 where
   pub table : ClassTable
-  pub built : IsTableFor profile text nodes table
+  pub built : IsTableFor profile text number table
   pub kept : IsTrue c.before.tells → HasJust file (bytes_of table) c.after.has
   pub same : lines ≡ class_lines table.values
 
 -- The fault of building, by its moment. While each file has what it had: no set has the text; or the run by so many nodes,
 -- with batches of 256 and inboxes of 64, was refused or stopped, no node of it held back by a gate; or memory was refused,
 -- for the words, for the lines or for making the file. Then the table is there, and keeping its file failed.
-abbrev pub IsBuildFault : ShelfChange → Profile → List ℕ → ℕ → List ℕ → Fault → Type 0
-IsBuildFault c profile text nodes file SetText = ((set : PieceSet) → text ≢ set_text set) × SameFiles c.before.has c.after.has
-IsBuildFault c profile text nodes file (Run fault) =
-    (set : PieceSet) × (text ≡ set_text set) × HasBuildFault nodes 256 64 fault × IsUnheld fault
+abbrev pub IsBuildFault : ShelfChange → Profile → List ℕ → Option ℕ → List ℕ → Fault → Type 0
+IsBuildFault c profile text number file SetText = ((set : PieceSet) → text ≢ set_text set) × SameFiles c.before.has c.after.has
+IsBuildFault c profile text number file (Run fault) =
+    (set : PieceSet) × (text ≡ set_text set) × (nodes : ℕ) × AreNodes number nodes × HasBuildFault nodes 256 64 fault × IsUnheld fault
     × SameFiles c.before.has c.after.has
-IsBuildFault c profile text nodes file Memory = SameFiles c.before.has c.after.has
-IsBuildFault c profile text nodes file Io = (table : ClassTable) × IsTableFor profile text nodes table × IsKeepingFault c file table Io
-IsBuildFault c profile text nodes file (File fault) =
-    (table : ClassTable) × IsTableFor profile text nodes table × IsKeepingFault c file table (File fault)
-IsBuildFault c profile text nodes file _ = ⊥
+IsBuildFault c profile text number file Memory = SameFiles c.before.has c.after.has
+IsBuildFault c profile text number file Io = (table : ClassTable) × IsTableFor profile text number table × IsKeepingFault c file table Io
+IsBuildFault c profile text number file (File fault) =
+    (table : ClassTable) × IsTableFor profile text number table × IsKeepingFault c file table (File fault)
+IsBuildFault c profile text number file _ = ⊥
+
+-- what a call gives that builds such a file
+abbrev pub GivesBuild : {X : Type 0} → ShelfChange → Profile → List ℕ → Option ℕ → List ℕ → Result (String X) Fault → Type 0
+GivesBuild c profile text number file = GivesLines c (AreBuildLines c profile text number file) (IsBuildFault c profile text number file)
 
 -- What the program does where it is asked for a file of the table of the piece set that a text names, by the rules of a profile, built by
--- so many nodes. Where standard output fails it does so in lines that are right, and so the file is whole.
-abbrev pub AnswersBuild : ShelfChange → Profile → List ℕ → ℕ → List ℕ → Ending → Type 0
-AnswersBuild c profile text nodes file = AnswersOver c (AreBuildLines c profile text nodes file) (IsBuildFault c profile text nodes file)
+-- so many nodes where a number is given. Where standard output fails it does so in lines that are right, and so the file is whole.
+abbrev pub AnswersBuild : ShelfChange → Profile → List ℕ → Option ℕ → List ℕ → Ending → Type 0
+AnswersBuild c profile text number file = AnswersOver c (AreBuildLines c profile text number file) (IsBuildFault c profile text number file)

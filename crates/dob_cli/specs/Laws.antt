@@ -1,16 +1,34 @@
--- What the program does in turn.
-use Rattle.std.specs.Prelude.{◌≡◌, IsTrue, List, Option}
-use Rattle.dob_words.specs.Words.{Text, build, meaning_of, probe, profile_named}
+-- What the program does by its words, said of some of them, and what it does in turn.
+use Rattle.std.specs.Prelude.{◌≡◌, IsTrue, List, Option, option_map}
+use Rattle.dob_words.specs.Words.{Text, build, meaning_of, number_in, probe, profile_named, value}
 use Rattle.dob_query.specs.Endings.{Ending}
-use Rattle.dob_query.specs.Shelves.{ShelfState, shelf_change}
-use Rattle.dob_query.specs.Tables.{AnswersProbeRight}
+use Rattle.dob_query.specs.Program.{AnswersValue}
+use Rattle.dob_shelf.specs.Shelves.{ShelfChange, ShelfState, shelf_change}
+use Rattle.dob_query.specs.Tables.{AnswersProbe, AnswersProbeRight}
+use Rattle.dob_cli.specs.Builds.{AnswersBuild}
+use Rattle.dob_cli.specs.Orders.{ByValueFile}
 use Rattle.dob_cli.specs.Runs.{Ran}
+
+-- Words that ask for a value, a build or a probe get just that, by their own texts.
+pub record AnswersWords (c : ShelfChange) (words : List Text) (e : Ending) : Type 0 where
+  pub value : (rules : Option Text) (position : Text) → meaning_of words ≡ value rules position → AnswersValue c (profile_named rules) position e
+  pub build : (rules : Option Text) (set : Text) (nodes : Option Text) (file : Text) (progress : Option Text)
+      → meaning_of words ≡ build rules set nodes file progress
+      → AnswersBuild c (profile_named rules) set (option_map number_in nodes) file e
+  -- by the file of a value table the value told is right, by its rules
+  pub probe_right : (file position : Text) → meaning_of words ≡ probe file position
+      → ByValueFile c file (λ profile. AnswersProbeRight c profile file position e)
+  pub probe : (file position : Text) → meaning_of words ≡ probe file position → AnswersProbe c file position e
+
+-- the program does so
+abbrev pub WordsAreAnswered : ShelfState → ShelfState → Type 0
+WordsAreAnswered before after = (words : List Text) (e : Ending) → Ran (shelf_change before after) words e → AnswersWords (shelf_change before after) words e
 
 -- Where the words of a build were done, over a shelf that tells its bytes, words that probe its file tell the value that the
 -- position has by definition, by the rules of the build.
 abbrev pub BuildThenProbe : ShelfState → ShelfState → ShelfState → Type 0
 BuildThenProbe before built probed =
-    (building probing : List Text) (rules : Option Text) (set nodes file position : Text) (progress : Option Text) (first next : Ending)
+    (building probing : List Text) (rules : Option Text) (set : Text) (nodes : Option Text) (file position : Text) (progress : Option Text) (first next : Ending)
     → meaning_of building ≡ build rules set nodes file progress → meaning_of probing ≡ probe file position → IsTrue before.tells
     → Ran (shelf_change before built) building first → first.status ≡ 0
     → Ran (shelf_change built probed) probing next → AnswersProbeRight (shelf_change built probed) (profile_named rules) file position next

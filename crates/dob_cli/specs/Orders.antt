@@ -1,31 +1,33 @@
--- What the program owes for an order.
-use Rattle.std.specs.Prelude.{ℕ, Bool, List, Option}
+-- What the program owes for an order: a case in each definition for each subcommand.
+use Rattle.std.specs.Prelude.{◌≡◌, ℕ, Bool, false, List, Option, Result, Some, String}
+use Rattle.dob_pieces.specs.declared.profile.Profile.{Profile}
 use Rattle.dob_query.specs.declared.fault.Fault.{Fault}
 use Rattle.dob_words.specs.declared.command.Order.{Order}
 use Rattle.dob_words.specs.declared.command.Order.TheVariants.{Value, Count, Build, Probe, Each, Line, Check, Look, LookEach, Show, Moves, Best, Stats, Puzzles, Migrate}
-use Rattle.dob_query.specs.Endings.{AnswersOver, Ending}
-use Rattle.dob_query.specs.Shelves.{SameFiles, SameOthers, ShelfChange}
+use Rattle.dob_query.specs.declared.each.LineAnswers.{LineAnswers}
+use Rattle.dob_query.specs.Endings.{Ending, GivesLines}
+use Rattle.dob_shelf.specs.Shelves.{SameFiles, SameOthers, ShelfChange}
 use Rattle.dob_query.specs.Program.{IsFaultOf, IsValueLineOf}
 use Rattle.dob_query.specs.Sizes.{AreCountLinesOf, IsCountFaultOf}
 use Rattle.dob_cli.specs.Builds.{AreBuildLines, IsBuildFault}
-use Rattle.dob_query.specs.Looks.{IsLookFault, IsLookLine}
-use Rattle.dob_query.specs.ValuedMoves.{AreMoveLines, IsBestLine}
-use Rattle.dob_query.specs.Each.{AnswersEach}
-use Rattle.dob_query.specs.LooksEach.{AnswersLookEach}
+use Rattle.dob_query.specs.Looks.{AnswersLookRight, GivesWhole, IsLookFault, IsLookLine}
+use Rattle.dob_query.specs.ValuedMoves.{AnswersBestRight, AnswersMovesRight, AreMoveLines, IsBestLine}
+use Rattle.dob_query.specs.Each.{AnswersEachRight, AnswersLines, AreEachLines, GivesAnswers, IsEachFault, IsGivenTo}
+use Rattle.dob_query.specs.LooksEach.{AnswersLookEachRight, ArePlaceLines, IsLookedFor, IsPlacesFault}
 use Rattle.dob_query.specs.Migrations.{AreMigrateLines, IsMigrateFault}
-use Rattle.dob_query.specs.Puzzles.{ArePuzzleLines, IsPuzzlesFault}
+use Rattle.dob_query.specs.Puzzles.{AnswersPuzzlesRight, ArePuzzleLines, IsPuzzlesFault}
 use Rattle.dob_query.specs.declared.puzzles.PuzzleSearch.{PuzzleSearch}
 use Rattle.dob_words.specs.Readings.{text_given}
-use Rattle.dob_query.specs.Shows.{AreShowLines, IsShowFault, KeepsButPicture}
-use Rattle.dob_query.specs.Stats.{AreStatsLines, IsStatsFault}
-use Rattle.dob_query.specs.Tables.{IsCheckFault, IsCheckLine, IsFileOf, AreMovesLines, IsPositionFault, IsProbeLine}
+use Rattle.dob_query.specs.Shows.{AnswersShowRight, AreShowLines, IsShowFault, KeepsButPicture}
+use Rattle.dob_query.specs.Stats.{AnswersStatsRight, AreStatsLines, IsStatsFault}
+use Rattle.dob_query.specs.Tables.{AnswersLineRight, AnswersProbeRight, HasValueFile, IsCheckFault, IsCheckLine, IsFileOf, AreMovesLines, IsPositionFault, IsProbeLine}
 
 -- which puzzles are looked for: so many, won in so many plies, behind a class and in the order of a seed where these are given
 abbrev pub search_of : ℕ → ℕ → Option ℕ → Option ℕ → Bool → PuzzleSearch
 search_of plies count from seed is_numbered =
     record { plies = plies; count = count; walk = record { seed = seed; behind = from }; is_numbered = is_numbered }
 
--- the lines are right for the order, over a shelf that changes so; those of `--each` have a status of their own, in Each.antt and LooksEach.antt of dob_query
+-- the lines are right for the order, over a shelf that changes so; those of `--each` come below, since a line may be refused there
 abbrev pub AreLinesFor : ShelfChange → Order → List ℕ → Type 0
 AreLinesFor c (Value profile position) = IsValueLineOf profile position.now
 AreLinesFor c (Count profile set) = AreCountLinesOf profile set.now
@@ -50,11 +52,11 @@ IsFaultFor c (Value profile position) = IsFaultOf profile position.now
 IsFaultFor c (Count profile set) = IsCountFaultOf set.now
 IsFaultFor c (Build profile set nodes file is_watched) = IsBuildFault c profile set.now nodes file.now
 IsFaultFor c (Probe file position) = IsPositionFault (c.before.has file.now) position.now
-IsFaultFor c (Each file) = λ fault. ⊥
+IsFaultFor c (Each file) = IsEachFault c file.now
 IsFaultFor c (Line file is_numbered position) = IsPositionFault (c.before.has file.now) position.now
 IsFaultFor c (Check file is_watched) = IsCheckFault (c.before.has file.now)
 IsFaultFor c (Look file position) = IsLookFault (c.before.has file.now) position.now
-IsFaultFor c (LookEach file) = λ fault. ⊥
+IsFaultFor c (LookEach file) = IsPlacesFault c file.now
 IsFaultFor c (Show file picture position) = IsShowFault c (text_given file) (text_given picture) position.now
 IsFaultFor c (Moves file position) = IsPositionFault (c.before.has file.now) position.now
 IsFaultFor c (Best file position) = IsPositionFault (c.before.has file.now) position.now
@@ -75,12 +77,44 @@ IsByLines (Each file) = ⊥
 IsByLines (LookEach file) = ⊥
 IsByLines _ = Unit {0}
 
--- what the program does with such an order
-abbrev pub AnswersByLines : ShelfChange → Order → Ending → Type 0
-AnswersByLines c order = AnswersOver c (AreLinesFor c order) (IsFaultFor c order)
+-- such lines, of which none is refused
+abbrev pub AllTold : (List ℕ → Type 0) → Bool → List ℕ → Type 0
+AllTold AreLines is_refused lines = (is_refused ≡ false) × AreLines lines
+
+-- the lines are right for the order, where a line is refused or none is
+abbrev pub AreToldFor : ShelfChange → Order → Bool → List ℕ → Type 0
+AreToldFor c (Each file) = AreEachLines IsGivenTo c file.now
+AreToldFor c (LookEach file) = ArePlaceLines (IsLookedFor (GivesWhole (c.before.has file.now))) c file.now
+AreToldFor c order = AllTold (AreLinesFor c order)
+
+-- what a call gives that finds the lines for the order
+abbrev pub GivesLinesFor : {X : Type 0} → ShelfChange → Order → Result (String X) Fault → Type 0
+GivesLinesFor c order = GivesLines c (AreLinesFor c order) (IsFaultFor c order)
+
+-- the same for any order, with whether a line is refused
+abbrev pub GivesFor : ShelfChange → Order → Result LineAnswers Fault → Type 0
+GivesFor c order = GivesAnswers c (AreToldFor c order) (IsFaultFor c order)
 
 -- what the program does with the order
 abbrev pub AnswersOrder : ShelfChange → Order → Ending → Type 0
-AnswersOrder c (Each file) = AnswersEach c file.now
-AnswersOrder c (LookEach file) = AnswersLookEach c file.now
-AnswersOrder c order = AnswersByLines c order
+AnswersOrder c order = AnswersLines c (AreToldFor c order) (IsFaultFor c order)
+
+-- where this is the file of a value table, it is right by the rules of that table's profile
+abbrev pub ByValueFile : ShelfChange → List ℕ → (Profile → Type 0) → Type 0
+ByValueFile c file IsRight = (profile : Profile) → HasValueFile (c.before.has file) profile → IsRight profile
+
+-- by the file of a value table the order is answered rightly
+abbrev pub AnswersRight : ShelfChange → Order → Ending → Type 0
+AnswersRight c (Probe file position) e = ByValueFile c file.now (λ profile. AnswersProbeRight c profile file.now position.now e)
+AnswersRight c (Each file) e = ByValueFile c file.now (λ profile. AnswersEachRight c profile file.now e)
+AnswersRight c (Line file is_numbered position) e = ByValueFile c file.now (λ profile. AnswersLineRight c profile file.now is_numbered position.now e)
+AnswersRight c (Look file position) e = ByValueFile c file.now (λ profile. AnswersLookRight c profile file.now position.now e)
+AnswersRight c (LookEach file) e = ByValueFile c file.now (λ profile. AnswersLookEachRight c profile file.now e)
+AnswersRight c (Show (Some file) picture position) e =
+    ByValueFile c file.now (λ profile. AnswersShowRight c profile file.now (text_given picture) position.now e)
+AnswersRight c (Moves file position) e = ByValueFile c file.now (λ profile. AnswersMovesRight c profile file.now position.now e)
+AnswersRight c (Best file position) e = ByValueFile c file.now (λ profile. AnswersBestRight c profile file.now position.now e)
+AnswersRight c (Stats file is_csv) e = ByValueFile c file.now (λ profile. AnswersStatsRight c profile file.now is_csv e)
+AnswersRight c (Puzzles file plies count from seed is_numbered) e =
+    ByValueFile c file.now (λ profile. AnswersPuzzlesRight c profile file.now (search_of plies count from seed is_numbered) e)
+AnswersRight c _ e = Unit {0}

@@ -1,22 +1,25 @@
 // Building a database file.
-ghost use Rattle.std.specs.Prelude.{◌≡◌, IfOk, IfErr, OnOk, string_bytes};
-ghost use Rattle.dob_query.specs.Shelves.{FailsWhere, SameOthers, shelf_change};
-ghost use Rattle.dob_query.specs.Faults.{is_io_error};
+ghost use Rattle.std.specs.Prelude.{◌≡◌, IfOk, IfErr, OnOk};
+ghost use Rattle.dob_shelf.specs.Shelves.{SameOthers, shelf_change};
 ghost use Rattle.dob_run.specs.BoundedRun.{IsUnheld};
 ghost use Rattle.dob_run.specs.Built.{IsBuilt};
 ghost use Rattle.dob_run.specs.Faults.{AreWithin, HasBuildFault};
-ghost use Rattle.dob_cli.specs.Builds.{AreBuildLines, IsBuildFault};
+ghost use Rattle.dob_safra.specs.Laws.{IsSize};
+ghost use Rattle.dob_cli.specs.Builds.{AreNodes, GivesBuild};
 
 use dob_classes::count_classes;
 use dob_pieces::{Family, PieceSet, Profile};
-use dob_query::{Console, Fault, Progress, Shelf, keep_table, lines_of, tell_need};
+use dob_query::{Console, Lines, Progress, Shelf, keep_table, lines_of, tell_need};
 use dob_run::{BATCH, Built, CAPACITY, Gate, run_nodes};
 use std::alloc::Global;
 use std::sync::Wait;
-use std::thread::Threads;
+use std::thread::{Threads, available_parallelism};
 
-/// Builds the table of the piece set that the text names, by the rules of the profile and by so many nodes, and keeps it under
-/// the name. The lines that tell how many classes have which value. Its promises hold if it returns.
+/// The most nodes that a build takes by itself.
+const MOST_NODES: usize = 16;
+
+/// Builds the table of the piece set that the text names, by the rules of the profile and by so many nodes, or by `usual_nodes`, and
+/// keeps it under the name. The lines that tell how many classes have which value. Its promises hold if it returns.
 ///
 /// The file is made when the table is there, and the lines too, and kept when it is whole. A fault before it is made leaves all
 /// files as they were. After that the disk's file is as it was until it is kept; in memory it is empty. Where it is watched,
@@ -27,21 +30,40 @@ pub(crate) fn answer_build<R: Threads + Wait + Sync + Console, S: Shelf>(
     shelf: &mut S,
     profile: Profile,
     text: &str,
-    nodes: u64,
+    nodes: Option<u64>,
     file: &str,
     is_watched: bool,
-) -> Result<String, Fault>
-    ensures ok { IfOk result (λ lines. AreBuildLines (shelf_change (S.state shelf.old) (S.state shelf.new)) profile text.now nodes file.now (string_bytes lines)) }
-    ensures err { IfErr result (IsBuildFault (shelf_change (S.state shelf.old) (S.state shelf.new)) profile text.now nodes file.now) }
+) -> Lines
+    ensures answered { GivesBuild (shelf_change (S.state shelf.old) (S.state shelf.new)) profile text.now nodes file.now result }
     ensures others { SameOthers file.now (S.state shelf.old).has (S.state shelf.new).has }
-    ensures failed { FailsWhere (shelf_change (S.state shelf.old) (S.state shelf.new)) (is_io_error result) }
 {
     let set = PieceSet::read(text)?;
     let family = Family { set, profile };
-    let built = run_watched(rt, alloc, family, nodes as usize, is_watched)?;
+    let count = nodes_for(rt, nodes);
+    let built = run_watched(rt, alloc, family, count, is_watched)?;
     let lines = lines_of(rt, alloc, &built.table)?;
     keep_table(alloc, shelf, file, &built.table)?;
     Ok(lines)
+}
+
+// As many nodes as are asked for.
+fn nodes_for(rt: &impl Threads, nodes: Option<u64>) -> usize
+    ensures { AreNodes nodes result }
+{
+    match nodes {
+        Some(nodes) => nodes as usize,
+        None => usual_nodes(rt),
+    }
+}
+
+// As many nodes as there are processors, as far as a ring may have so many; one where that isn't known.
+fn usual_nodes(rt: &impl Threads) -> usize
+    ensures { IsSize result }
+{
+    match available_parallelism(rt) {
+        Ok(processors) => processors.get().clamp(1, MOST_NODES),
+        Err(_unknown) => 1,
+    }
 }
 
 // Builds the family's table by so many nodes. Where it is watched, the console is told of it.

@@ -1,7 +1,12 @@
-// Laws of what the program does in turn, each the contract of a function that does nothing.
-ghost use Rattle.dob_cli.specs.Laws.{BuildThenProbe};
+// Laws of what the program does, each the contract of a function that does nothing.
+ghost use Rattle.dob_cli.specs.Laws.{BuildThenProbe, WordsAreAnswered};
 
 use dob_query::Shelf;
+
+/// Words that ask for a value, a build or a probe get just that.
+pub fn words_are_answered<S: Shelf>(before: &S, after: &S)
+    ensures { WordsAreAnswered (S.state before.now) (S.state after.now) }
+{}
 
 /// After a build that was done, over a shelf that tells its bytes, `probe` of its file tells the value that the position has
 /// by definition.

@@ -4,12 +4,9 @@ ghost use Rattle.std.specs.IoError.{error_kind};
 ghost use Rattle.std.specs.declared.io.ErrorKind.TheVariants.{OutOfMemory};
 ghost use Rattle.std.specs.Vec.Iter.{into_iter_items};
 ghost use Rattle.dob_dbfile.specs.Sinks.{Says, change};
-ghost use Rattle.dob_cli.specs.Runs.{Ran, RanOn, RanOver, TellsNoText, contents};
-ghost use Rattle.dob_query.specs.Each.{AnswersEach};
-ghost use Rattle.dob_query.specs.LooksEach.{AnswersLookEach};
-ghost use Rattle.dob_cli.specs.Orders.{AnswersByLines, AnswersOrder, AreLinesFor, IsByLines, IsFaultFor, KeepsFiles, search_of};
-ghost use Rattle.dob_query.specs.Shelves.{FailsWhere, SameFiles, shelf_change};
-ghost use Rattle.dob_query.specs.Faults.{is_io_error};
+ghost use Rattle.dob_cli.specs.Runs.{Ran, RanOver, TellsNoText, contents};
+ghost use Rattle.dob_cli.specs.Orders.{AnswersOrder, GivesFor, GivesLinesFor, IsByLines, KeepsFiles, search_of};
+ghost use Rattle.dob_shelf.specs.Shelves.{SameFiles, shelf_change};
 ghost use Rattle.dob_query.specs.Endings.{TellsAs, TellsFaultAs, TellsMemory, TellsOneFault, ended};
 ghost use Rattle.dob_query.specs.declared.fault.Fault.TheVariants.{Memory};
 
@@ -17,9 +14,9 @@ use crate::builds::answer_build;
 use dob_dbfile::{Lent, Sink, put_all, write_all};
 use dob_probe::Walk;
 use dob_query::{
-    Console, Fault, PuzzleSearch, Shelf, answer_best, answer_check, answer_count, answer_each,
-    answer_line, answer_look, answer_look_each, answer_migrate, answer_moves, answer_probe,
-    answer_puzzles, answer_show, answer_stats, answer_value,
+    Console, Fault, LineAnswers, Lines, PuzzleSearch, Shelf, answer_best, answer_check,
+    answer_count, answer_each, answer_line, answer_look, answer_look_each, answer_migrate,
+    answer_moves, answer_probe, answer_puzzles, answer_show, answer_stats, answer_value,
 };
 use dob_words::command::{Order, Reading, read_words};
 use std::alloc::{AllocError, Global};
@@ -105,66 +102,32 @@ fn run_order<S: Shelf, O: Sink, E: Sink>(
         (ended result (change (O.state out.old) (O.state out.new)) (change (E.state err.old) (E.state err.new))) }
     ensures files { KeepsFiles (shelf_change (S.state shelf.old) (S.state shelf.new)) order.entry }
 {
-    match order {
-        Order::Each(file) => run_each(alloc, file, shelf, out, err),
-        Order::LookEach(file) => run_look_each(alloc, file, shelf, out, err),
-        _ => run_by_lines(rt, alloc, order, shelf, out, err),
-    }
-}
-
-// Answers each line of standard input by the file of that name.
-fn run_each<S: Shelf, O: Sink, E: Sink>(
-    alloc: Global,
-    file: &str,
-    shelf: &mut S,
-    out: &mut O,
-    err: &mut E,
-) -> u8
-    ensures done { AnswersEach (shelf_change (S.state shelf.old) (S.state shelf.new)) file.now
-        (ended result (change (O.state out.old) (O.state out.new)) (change (E.state err.old) (E.state err.new))) }
-    ensures files { SameFiles (S.state shelf.old).has (S.state shelf.new).has }
-{
-    match answer_each(alloc, shelf, file) {
+    match answers_for(rt, alloc, order, shelf) {
         Ok(answers) => tell(alloc, answers.status(), answers.lines.as_str(), out, err),
         Err(fault) => tell_fault(alloc, fault, err),
     }
 }
 
-// Looks for each line of standard input in the file of that name.
-fn run_look_each<S: Shelf, O: Sink, E: Sink>(
-    alloc: Global,
-    file: &str,
-    shelf: &mut S,
-    out: &mut O,
-    err: &mut E,
-) -> u8
-    ensures done { AnswersLookEach (shelf_change (S.state shelf.old) (S.state shelf.new)) file.now
-        (ended result (change (O.state out.old) (O.state out.new)) (change (E.state err.old) (E.state err.new))) }
-    ensures files { SameFiles (S.state shelf.old).has (S.state shelf.new).has }
-{
-    match answer_look_each(alloc, shelf, file) {
-        Ok(answers) => tell(alloc, answers.status(), answers.lines.as_str(), out, err),
-        Err(fault) => tell_fault(alloc, fault, err),
-    }
-}
-
-// Does what is ordered, where lines tell it.
-fn run_by_lines<S: Shelf, O: Sink, E: Sink>(
+// What is told of what is ordered: a line for each of standard input, or lines of which none is refused.
+fn answers_for<S: Shelf>(
     rt: &(impl Threads + Wait + Sync + Console),
     alloc: Global,
     order: Order<'_>,
     shelf: &mut S,
-    out: &mut O,
-    err: &mut E,
-) -> u8
-    requires lined { IsByLines order }
-    ensures done { AnswersByLines (shelf_change (S.state shelf.old) (S.state shelf.new)) order.entry
-        (ended result (change (O.state out.old) (O.state out.new)) (change (E.state err.old) (E.state err.new))) }
+) -> Result<LineAnswers, Fault>
+    ensures answered { GivesFor (shelf_change (S.state shelf.old) (S.state shelf.new)) order.entry result }
     ensures files { KeepsFiles (shelf_change (S.state shelf.old) (S.state shelf.new)) order.entry }
 {
-    match answer(rt, alloc, order, shelf) {
-        Ok(lines) => tell(alloc, 0, lines.as_str(), out, err),
-        Err(fault) => tell_fault(alloc, fault, err),
+    match order {
+        Order::Each(file) => answer_each(alloc, shelf, file),
+        Order::LookEach(file) => answer_look_each(alloc, shelf, file),
+        _ => {
+            let lines = answer(rt, alloc, order, shelf)?;
+            Ok(LineAnswers {
+                lines,
+                is_refused: false,
+            })
+        }
     }
 }
 
@@ -174,12 +137,10 @@ fn answer<S: Shelf>(
     alloc: Global,
     order: Order<'_>,
     shelf: &mut S,
-) -> Result<String, Fault>
+) -> Lines
     requires lined { IsByLines order }
-    ensures ok { IfOk result (λ lines. AreLinesFor (shelf_change (S.state shelf.old) (S.state shelf.new)) order.entry (string_bytes lines)) }
-    ensures err { IfErr result (IsFaultFor (shelf_change (S.state shelf.old) (S.state shelf.new)) order.entry) }
+    ensures answered { GivesLinesFor (shelf_change (S.state shelf.old) (S.state shelf.new)) order.entry result }
     ensures files { KeepsFiles (shelf_change (S.state shelf.old) (S.state shelf.new)) order.entry }
-    ensures failed { FailsWhere (shelf_change (S.state shelf.old) (S.state shelf.new)) (is_io_error result) }
 {
     match order {
         Order::Value { profile, position } => answer_value(alloc, profile, position),
@@ -294,7 +255,7 @@ pub fn run_given<S: Shelf, O: Sink, E: Sink>(
     out: &mut O,
     err: &mut E,
 ) -> u8
-    ensures words { IfOk given (λ args. RanOn (shelf_change (S.state shelf.old) (S.state shelf.new)) (map string_bytes (drop 1 (into_iter_items args)))
+    ensures words { IfOk given (λ args. Ran (shelf_change (S.state shelf.old) (S.state shelf.new)) (map string_bytes (drop 1 (into_iter_items args)))
         (ended result (change (O.state out.old) (O.state out.new)) (change (E.state err.old) (E.state err.new)))) }
     ensures memory { IfErr given (λ error. error_kind error ≡ OutOfMemory → TellsMemory
         (ended result (change (O.state out.old) (O.state out.new)) (change (E.state err.old) (E.state err.new)))) }
@@ -323,7 +284,7 @@ fn run_args<S: Shelf, O: Sink, E: Sink>(
     out: &mut O,
     err: &mut E,
 ) -> u8
-    ensures { RanOn (shelf_change (S.state shelf.old) (S.state shelf.new)) (map string_bytes (drop 1 (into_iter_items args)))
+    ensures { Ran (shelf_change (S.state shelf.old) (S.state shelf.new)) (map string_bytes (drop 1 (into_iter_items args)))
         (ended result (change (O.state out.old) (O.state out.new)) (change (E.state err.old) (E.state err.new))) }
 {
     match list_of(alloc, args) {
@@ -362,7 +323,7 @@ fn run_texts<S: Shelf, O: Sink, E: Sink>(
     out: &mut O,
     err: &mut E,
 ) -> u8
-    ensures { RanOn (shelf_change (S.state shelf.old) (S.state shelf.new)) (map string_bytes given.now)
+    ensures { Ran (shelf_change (S.state shelf.old) (S.state shelf.new)) (map string_bytes given.now)
         (ended result (change (O.state out.old) (O.state out.new)) (change (E.state err.old) (E.state err.new))) }
 {
     match words_of(alloc, given) {

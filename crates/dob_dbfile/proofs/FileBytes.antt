@@ -24,7 +24,7 @@ file_parts format table =
     ap (λ (front : List ℕ). front ++ sha256 (contents_in format table)) (sym (header_records format table))
     ∙ append_assoc (header_in format table) (records table.values) (sha256 (contents_in format table))
 
--- what is told of the family and the number of classes is the header's
+-- what is named of the family and the number of classes is the header's
 pub header_is : (table : ClassTable) (family : Family) (count : ℕ) (start front : List ℕ) → start ≡ [] → family ≡ table.family → count ≡ length table.values
     → front ≡ start ++ (title Second ++ set_bytes family.set ++ profile_bytes Second family.profile ++ count_bytes count) → front ≡ header_in Second table
 header_is table family count start front none named counted is =

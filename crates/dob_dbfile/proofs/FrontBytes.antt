@@ -1,5 +1,5 @@
 -- What the first bytes of a file and its length show of the whole.
-use Rattle.std.proofs.Common.{◌≡◌, ◌<◌, ◌≤◌, ◌+◌, ℕ, List, true, false, take, length, inl, inr, refl, sym, subst, ap, ◌∙◌, arith}
+use Rattle.std.proofs.Common.{◌≡◌, ◌<◌, ◌≤◌, ℕ, List, take, length, inl, inr, refl, subst, ap, arith}
 use Rattle.std.proofs.lemmas.List.{length-take}
 use Rattle.dob_pieces.specs.declared.profile.Family.{Family}
 use Rattle.dob_dbfile.specs.declared.fault.Fault.{Fault}

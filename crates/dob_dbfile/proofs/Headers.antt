@@ -119,16 +119,22 @@ module _ (n : ℕ) (bytes : List ℕ) (long : 20 ≤ n) (there : n ≤ length by
 
 -- ---- faults of the header as those of the stream
 
+-- what holds of the four faults that a header may have holds of the one that it has
+pub by_fault : (bytes : List ℕ) (Holds : Fault → Type 0) → (HasHeaderFault bytes fault.Magic → Holds fault.Magic)
+    → (HasHeaderFault bytes fault.SetByte → Holds fault.SetByte) → (HasHeaderFault bytes fault.ProfileByte → Holds fault.ProfileByte)
+    → (HasHeaderFault bytes fault.ClassCount → Holds fault.ClassCount) → (given : Fault) → HasHeaderFault bytes given → Holds given
+by_fault bytes Holds magic set profile count fault.Magic wrong = magic wrong
+by_fault bytes Holds magic set profile count fault.SetByte wrong = set wrong
+by_fault bytes Holds magic set profile count fault.ProfileByte wrong = profile wrong
+by_fault bytes Holds magic set profile count fault.ClassCount wrong = count wrong
+by_fault bytes Holds magic set profile count fault.Truncated wrong = absurd wrong
+by_fault bytes Holds magic set profile count fault.Trailing wrong = absurd wrong
+by_fault bytes Holds magic set profile count fault.Digest wrong = absurd wrong
+by_fault bytes Holds magic set profile count fault.Memory wrong = absurd wrong
+by_fault bytes Holds magic set profile count (fault.Io bytes_read) wrong = absurd wrong
+
 pub front_refused : (stream : Stream) (given : Fault) → HasHeaderFault stream.bytes given → HasFrontFault stream given
-front_refused stream fault.Magic wrong = wrong
-front_refused stream fault.SetByte wrong = wrong
-front_refused stream fault.ProfileByte wrong = wrong
-front_refused stream fault.ClassCount wrong = wrong
-front_refused stream fault.Truncated wrong = absurd wrong
-front_refused stream fault.Trailing wrong = absurd wrong
-front_refused stream fault.Digest wrong = absurd wrong
-front_refused stream fault.Memory wrong = absurd wrong
-front_refused stream (fault.Io count) wrong = absurd wrong
+front_refused stream = by_fault stream.bytes (HasFrontFault stream) (λ wrong. wrong) (λ wrong. wrong) (λ wrong. wrong) (λ wrong. wrong)
 
 -- a header that is cut short where its set is known
 pub front_cut : (stream : Stream) (format : Format) (set : PieceSet) (wanted : ℕ) (given : Fault) → NamesSet format set stream.bytes

@@ -87,18 +87,26 @@ table_family table bytes format family is file counts =
     let found = format_of bytes table file in
     (same_head format found.0 family table.family bytes counts.0 (counts_file found.0 bytes table found.1 is).0).1
 
-pub records_are_entries : RecordsAreEntries
-records_are_entries table bytes format family class value is file counts below has =
+-- behind the header, whatever format it names, stand the records and then the digest
+records_behind : (table : ClassTable) (bytes : List ℕ) (format : Format) (family : Family) (class : ℕ) → IsTable table.family table.values
+    → IsFile bytes table → CountsClasses format family bytes
+    → (digest : List ℕ) × (drop (2 * class) (records table.values ++ digest) ≡ drop (place_of format class) bytes)
+records_behind table bytes format family class is file counts =
     let found = format_of bytes table file in
     let one = same_head format found.0 family table.family bytes counts.0 (counts_file found.0 bytes table found.1 is).0 in
     let digest : List ℕ = sha256 (contents_in found.0 table) in
     let behind : drop (header_len found.0) bytes ≡ records table.values ++ digest =
-    ap (drop (header_len found.0)) found.1.same ∙ behind_header found.0 table in
-    let rest : drop (2 * class) (records table.values ++ digest) ≡ drop (place_of format class) bytes =
-    ap (drop (2 * class)) (sym behind)
-    ∙ drop-drop (2 * class) (header_len found.0) bytes
-    ∙ ap (λ (f : Format). drop (place_of f class) bytes) (sym one.0) in
-    entry_at table.values class value digest is.entries below has.entry (ap (take 2) rest ∙ has.same)
+    ap (drop (header_len found.0)) found.1.same ∙ behind_header found.0 table in (
+      digest,
+      ap (drop (2 * class)) (sym behind)
+          ∙ drop-drop (2 * class) (header_len found.0) bytes
+          ∙ ap (λ (f : Format). drop (place_of f class) bytes) (sym one.0),
+    )
+
+pub records_are_entries : RecordsAreEntries
+records_are_entries table bytes format family class value is file counts below has =
+    let behind = records_behind table bytes format family class is file counts in
+    entry_at table.values class value behind.0 is.entries below has.entry (ap (take 2) behind.1 ∙ has.same)
 
 -- the record of one of the family's classes
 pub table_record : (table : ClassTable) (bytes : List ℕ) (format : Format) (family : Family) (class : ℕ) (value : Value) → IsTable table.family table.values
@@ -112,17 +120,9 @@ table_record table bytes format family class value is file counts below has =
 pub table_has_record : (table : ClassTable) (bytes : List ℕ) (format : Format) (family : Family) (class : ℕ) (value : Value) → IsTable table.family table.values
     → IsFile bytes table → CountsClasses format family bytes → slice_get table.values class ≡ Some value → HasRecord (whole bytes) format class value
 table_has_record table bytes format family class value is file counts stands =
-    let found = format_of bytes table file in
-    let one = same_head format found.0 family table.family bytes counts.0 (counts_file found.0 bytes table found.1 is).0 in
-    let digest : List ℕ = sha256 (contents_in found.0 table) in
-    let behind : drop (header_len found.0) bytes ≡ records table.values ++ digest =
-    ap (drop (header_len found.0)) found.1.same ∙ behind_header found.0 table in
-    let rest : drop (2 * class) (records table.values ++ digest) ≡ drop (place_of format class) bytes =
-    ap (drop (2 * class)) (sym behind)
-    ∙ drop-drop (2 * class) (header_len found.0) bytes
-    ∙ ap (λ (f : Format). drop (place_of f class) bytes) (sym one.0) in
+    let behind = records_behind table bytes format family class is file counts in
     record {
       entry = subst IsEntry (get_or_from_slice_get table.values class value value stands)
           (is.entries class value (slice_get_within table.values class value stands));
-      same = ap (take 2) (sym rest) ∙ record_at table.values class value digest stands;
+      same = ap (take 2) (sym behind.1) ∙ record_at table.values class value behind.0 stands;
     }

@@ -3,7 +3,6 @@ ghost use Rattle.std.specs.Prelude.{◌≡◌, Some};
 ghost use Rattle.dob_dbfile.specs.declared.fault.Fault.TheVariants as fault;
 
 use dob_pieces::Memory;
-use std::alloc::{AllocError, AllocFailed};
 use std::error::Error;
 use std::fmt;
 
@@ -56,22 +55,6 @@ impl From<Memory> for Fault {
     ghost from_gives = { λ _ given. given ≡ fault.Memory };
 
     fn from(_lower: Memory) -> Fault {
-        Fault::Memory
-    }
-}
-
-impl From<AllocError> for Fault {
-    ghost from_gives = { λ _ given. given ≡ fault.Memory };
-
-    fn from(_lower: AllocError) -> Fault {
-        Fault::Memory
-    }
-}
-
-impl<T: Drop> From<AllocFailed<T>> for Fault {
-    ghost from_gives = { λ _ given. given ≡ fault.Memory };
-
-    fn from(_lower: AllocFailed<T>) -> Fault {
         Fault::Memory
     }
 }

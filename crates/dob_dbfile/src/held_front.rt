@@ -9,7 +9,7 @@ use crate::header::Format;
 use crate::held::{file_len, held_header};
 use dob_pieces::Family;
 
-/// The format and the family of a file of `size` bytes that begins with those of `front`, the first 21 or all of a shorter file: what `held_family` tells of the
+/// The format and the family of a file of `size` bytes that begins with those of `front`, the first 21 or all of a shorter file: what `held_family` says of the
 /// whole.
 ///
 /// # Errors

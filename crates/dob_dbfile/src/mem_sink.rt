@@ -1,4 +1,4 @@
-// A sink in memory, for tests: it takes pieces of a set length, and fails where it is told to.
+// A sink in memory, for tests: it takes pieces of a set length, and fails where a test asks for it.
 ghost use Rattle.std.specs.Prelude.{◌≡◌, ◌<◌, ◌≤◌, ◌-◌, ◌^◌, ◌||◌, [], ◌∷◌, ◌++◌, None, Some, false, true};
 ghost use Rattle.std.specs.Prelude.{IfOk, OnErr, OnOk, is_err, length, min, take};
 
@@ -38,7 +38,7 @@ impl MemSink {
     }
 
     /// This sink, now taking at most so many bytes in one call.
-    pub fn in_pieces(self, longest: usize) -> MemSink
+    pub fn in_pieces(mut self, longest: usize) -> MemSink
         requires { 0 < longest }
         ensures bytes { result.bytes.items ≡ self.bytes.items }
         ensures flushes { result.flushes.items ≡ self.flushes.items }
@@ -47,26 +47,12 @@ impl MemSink {
         ensures room { result.room ≡ self.room }
         ensures place { result.fails_at_flush ≡ self.fails_at_flush }
     {
-        let MemSink {
-            bytes,
-            flushes,
-            longest: _,
-            room,
-            fails_at_flush,
-            has_failed,
-        } = self;
-        MemSink {
-            bytes,
-            flushes,
-            longest,
-            room,
-            fails_at_flush,
-            has_failed,
-        }
+        self.longest = longest;
+        self
     }
 
     /// This sink, now failing in place of taking more than that many bytes from here on.
-    pub fn failing_after(self, room: usize) -> MemSink
+    pub fn failing_after(mut self, room: usize) -> MemSink
         ensures bytes { result.bytes.items ≡ self.bytes.items }
         ensures flushes { result.flushes.items ≡ self.flushes.items }
         ensures failed { result.has_failed ≡ self.has_failed }
@@ -74,26 +60,12 @@ impl MemSink {
         ensures room { result.room ≡ room }
         ensures place { result.fails_at_flush ≡ self.fails_at_flush }
     {
-        let MemSink {
-            bytes,
-            flushes,
-            longest,
-            room: _,
-            fails_at_flush,
-            has_failed,
-        } = self;
-        MemSink {
-            bytes,
-            flushes,
-            longest,
-            room,
-            fails_at_flush,
-            has_failed,
-        }
+        self.room = room;
+        self
     }
 
     /// This sink, now failing at each flush.
-    pub fn failing_at_flush(self) -> MemSink
+    pub fn failing_at_flush(mut self) -> MemSink
         ensures bytes { result.bytes.items ≡ self.bytes.items }
         ensures flushes { result.flushes.items ≡ self.flushes.items }
         ensures failed { result.has_failed ≡ self.has_failed }
@@ -101,22 +73,8 @@ impl MemSink {
         ensures room { result.room ≡ self.room }
         ensures place { result.fails_at_flush ≡ true }
     {
-        let MemSink {
-            bytes,
-            flushes,
-            longest,
-            room,
-            fails_at_flush: _,
-            has_failed,
-        } = self;
-        MemSink {
-            bytes,
-            flushes,
-            longest,
-            room,
-            fails_at_flush: true,
-            has_failed,
-        }
+        self.fails_at_flush = true;
+        self
     }
 
     /// The bytes that it has received.

@@ -1,4 +1,4 @@
-// A source of bytes in memory, for tests: in pieces of a set length, and failing where it is told to.
+// A source of bytes in memory, for tests: in pieces of a set length, and failing where a test asks for it.
 ghost use Rattle.std.specs.Prelude.{◌≡◌, ◌<◌, ◌≤◌, ◌+◌, ◌-◌, ◌^◌, ◌||◌, [], false, IfOk, OnErr, is_err, length, vec_len};
 ghost use Rattle.dob_dbfile.specs.Devices.{GivesFirst, Stream, after, broken, whole};
 

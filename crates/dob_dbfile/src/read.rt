@@ -13,7 +13,7 @@ use crate::device::{Failed, Source};
 use crate::fault::Fault;
 use crate::front::read_header;
 use crate::header::HEADER_LEN;
-use crate::records::{PIECE_LEN, PIECE_RECORDS, RECORD_LEN, push_codes};
+use crate::records::{PIECE_RECORDS, RECORD_LEN, piece_room, push_codes};
 use crate::transfer::read_full;
 use dob_classes::Classes;
 use dob_lists::{SegmentLength, Segments};
@@ -159,7 +159,7 @@ fn read_records<R: Source>(
     ensures failed { R.has_failed source.new ≡ (R.has_failed source.old || is_io_error result) }
 {
     let mut codes = Segments::new(alloc, SegmentLength::longest());
-    let mut buffer = vec![in alloc; 0u8; PIECE_LEN]?;
+    let mut buffer = piece_room(alloc)?;
     let room = buffer.as_mut_slice();
     'records: while codes.len() < count {
         let records = (count - codes.len()).min(PIECE_RECORDS) as usize;

@@ -1,5 +1,5 @@
 // The records of a file: two bytes for each class, the lower first.
-ghost use Rattle.std.specs.Prelude.{◌≡◌, ℕ, List, ◌+◌, ◌*◌, ◌%◌, ◌-◌, ◌<◌, ◌≤◌, ◌++◌, length, take, vec_capacity, vec_len, All, OnErr, OnOk};
+ghost use Rattle.std.specs.Prelude.{◌≡◌, ℕ, List, ◌+◌, ◌*◌, ◌%◌, ◌-◌, ◌<◌, ◌≤◌, ◌++◌, length, take, vec_capacity, vec_len, All, IfOk, OnErr, OnOk};
 ghost use Rattle.byteorder.specs.Endian.{little_bytes};
 ghost use Rattle.dob_value.specs.Codes.{code_of_value};
 ghost use Rattle.dob_value.specs.Follows.{IsEntry};
@@ -9,6 +9,7 @@ use byteorder::{ByteOrder, LittleEndian};
 use dob_lists::Segments;
 use dob_pieces::Memory;
 use dob_value::{Table, Value, code_of_value, value_of_code};
+use std::alloc::Global;
 
 /// How many bytes a record has.
 pub(crate) const RECORD_LEN: usize = 2;
@@ -18,6 +19,13 @@ pub(crate) const PIECE_LEN: usize = 4096;
 
 /// How many records those are.
 pub(crate) const PIECE_RECORDS: u64 = 2048;
+
+/// Room for the records that are read at a time.
+pub(crate) fn piece_room(alloc: Global) -> Result<Vec<u8>, Memory>
+    ensures { IfOk result (λ room. length room.items ≡ 4096) }
+{
+    Ok(vec![in alloc; 0u8; PIECE_LEN]?)
+}
 
 /// Appends a record; `Memory` only where there is no room for it.
 fn push_record(bytes: &mut Vec<u8>, code: u16) -> Result<(), Memory>

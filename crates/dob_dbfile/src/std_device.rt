@@ -5,8 +5,8 @@ ghost use Rattle.std.specs.Io.KnownBytes.{Keeps, WriteAppends};
 use crate::device::{Failed, PlacedSource, Sink, Source};
 use std::io::{Read, Seek, SeekFrom, Write};
 
-/// A reader or a writer of the standard library as a device. Of a reader's bytes nothing is told, and of a writer's
-/// just what the writer tells. Every error is a failure, one that asks for another try included, and so is a `write`
+/// A reader or a writer of the standard library as a device. Of a reader's bytes nothing is known, and of a writer's
+/// just what the writer says. Every error is a failure, one that asks for another try included, and so is a `write`
 /// that takes nothing.
 #[derive(Debug, Drop)]
 pub struct Std<T> {

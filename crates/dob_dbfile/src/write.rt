@@ -1,5 +1,5 @@
 // Writing a table as a file, piece by piece.
-ghost use Rattle.std.specs.Prelude.{◌≡◌, ◌++◌, ◌+◌, ◌*◌, ◌≤◌, ◌<◌, ◌^◌, ℕ, List, false, length, vec_capacity, IfErr, OnOk};
+ghost use Rattle.std.specs.Prelude.{◌≡◌, ◌++◌, ◌+◌, ◌*◌, ◌≤◌, ◌<◌, ◌^◌, ℕ, List, false, length, vec_capacity, IfErr, IfOk, OnOk};
 ghost use Rattle.sha2.specs.Hashers.{Holds256};
 ghost use Rattle.sha2.specs.Sha256.{sha256};
 ghost use Rattle.dob_value.specs.Follows.{IsTable};
@@ -14,6 +14,7 @@ use crate::fault::Fault;
 use crate::header::{HEADER_LEN, push_header};
 use crate::records::{PIECE_LEN, PIECE_RECORDS, RECORD_LEN, put_records};
 use crate::transfer::{put_all, write_all};
+use dob_pieces::Memory;
 use dob_value::Table;
 use sha2::{Digest, Sha256};
 use std::alloc::Global;
@@ -30,12 +31,21 @@ pub fn write_table<W: Sink>(alloc: Global, table: &Table, sink: &mut W) -> Resul
     ensures stopped { IfErr result (WriteStopsAt (change (W.state sink.old) (W.state sink.new)) (bytes_of table.now)) }
     ensures failed { (W.state sink.new).has_failed ≡ is_io_error result }
 {
-    let mut piece = Vec::with_capacity(alloc, PIECE_LEN)?;
-    push_header(&mut piece, table.family(), table.class_count())?;
+    let mut piece = header_piece(alloc, table)?;
     match put_file(table, sink, &mut piece) {
         Ok(()) => Ok(()),
         Err(FailedAfter { bytes: count }) => Err(Fault::Io(count as u64)),
     }
+}
+
+// The file's header, in a piece that has room for the records that are written at a time.
+fn header_piece(alloc: Global, table: &Table) -> Result<Vec<u8>, Memory>
+    ensures header { IfOk result (λ piece. piece.items ≡ header_in Second table.now) }
+    ensures room { IfOk result (λ piece. 4096 ≤ vec_capacity piece) }
+{
+    let mut piece = Vec::with_capacity(alloc, PIECE_LEN)?;
+    push_header(&mut piece, table.family(), table.class_count())?;
+    Ok(piece)
 }
 
 // Writes the file, whose header the piece is, and flushes the sink once at the end.

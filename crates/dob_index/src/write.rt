@@ -61,7 +61,7 @@ fn write_block(family: Family, block: u64, before: u64, words: &mut [u64], first
     (before + count_runs(family.set, block) / LIONS * count, at)
 }
 
-// Writes the entries of a run of the first hand from a place on, where its lions both stand on column b, and tells how many classes stand in it.
+// Writes the entries of a run of the first hand from a place on, where its lions both stand on column b, and counts the classes that stand in it.
 fn write_run(family: Family, block: u64, lions: u64, words: &mut [u64], at: u64) -> u64
     requires block { block < product (block_bases family.set) }
     requires lions { lions < LIONS }
@@ -88,7 +88,7 @@ fn write_run(family: Family, block: u64, lions: u64, words: &mut [u64], at: u64)
     }
 }
 
-// Writes the entries of a run from a place on, and tells how many classes stand in it.
+// Writes the entries of a run from a place on, and counts the classes that stand in it.
 fn write_entries(run: MixedRun, size: u64, words: &mut [u64], at: usize) -> u64
     requires first { run.run < LIONS }
     requires size { size ≡ run_size run.family.set run.block }

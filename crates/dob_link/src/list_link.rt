@@ -1,12 +1,12 @@
 // A link as a ring of slots.
 ghost use Rattle.std.specs.Prelude.{◌≡◌, ◌≤◌, ◌↔◌, List, [], ◌∷◌, length, IsTrue, IfOk, IfSome, IfNone};
-ghost use Rattle.dob_update.specs.Batches.{BatchView, most_batches};
+ghost use Rattle.dob_update.specs.Batches.{BatchView};
 ghost use Rattle.dob_link.specs.Links.{link_of};
 
 use crate::link::{Full, Link};
 use circular_buffer::HeapCircularBuffer;
 use dob_pieces::Memory;
-use dob_update::Batch;
+use dob_update::{Batch, Capacity};
 use std::alloc::Global;
 use std::marker::Model;
 
@@ -26,13 +26,11 @@ impl Model for ListLink {
 }
 
 impl ListLink {
-    /// An empty link with room for so many batches, from 1 to 1024. `Memory` where there is none for the slots.
-    pub fn open(alloc: Global, capacity: usize) -> Result<ListLink, Memory>
-        requires some { 1 ≤ capacity }
-        requires at_most { capacity ≤ most_batches }
+    /// An empty link with room for so many batches. `Memory` where there is none for the slots.
+    pub fn open(alloc: Global, capacity: Capacity) -> Result<ListLink, Memory>
         ensures { IfOk result (λ link. link ≡ link_of [] capacity) }
     {
-        let slots = HeapCircularBuffer::with_capacity(alloc, capacity)?;
+        let slots = HeapCircularBuffer::with_capacity(alloc, capacity.get())?;
         Ok(ListLink { slots })
     }
 

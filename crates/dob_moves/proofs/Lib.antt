@@ -14,7 +14,7 @@ pub mod Tables  -- the steps of a kind, ascending
 pub mod Reach  -- the walk over all squares finds all moves in order
 pub mod ByPlace  -- what is looked for at a place of the move order is the move there
 pub mod Masked  -- what masks say of a status
-pub mod Listed  -- masks tell the same steps and drops
+pub mod Listed  -- masks give the same steps and drops
 pub mod Verdicts  -- what the searches say of a position
 -- Lists of moves.
 pub mod Appends  -- moves appended piece by piece

@@ -1,4 +1,4 @@
--- The steps and drops that masks tell are those of the walk over all squares.
+-- The steps and drops that masks give are those of the walk over all squares.
 use Rattle.std.proofs.Common.{◌≡◌, ℕ, ◌<◌, ◌&&◌, nat_lt, Bool, true, false, bit_and, cond, List, [], ◌∷◌, Some, None, length, refl}
 use Rattle.std.proofs.Common.{sym, ap, ◌∙◌, option_to_list}
 use Rattle.std.specs.Option.{is_some}

@@ -1,4 +1,4 @@
--- The mover's piece on a square, told by the masks.
+-- The mover's piece on a square, found by the masks.
 use Rattle.std.proofs.Common.{◌≡◌, true, false, true≢false, Some, None, refl, sym}
 use Rattle.dob_pieces.specs.declared.kind.Kind.{Kind}
 use Rattle.dob_pieces.specs.declared.kind.Kind.TheVariants.{Lion, Giraffe, Elephant, Chick, Hen}

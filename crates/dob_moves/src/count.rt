@@ -1,4 +1,4 @@
-// The number of a position's moves, counted without a list of them. What is counted is told by the masks of the position and the
+// The number of a position's moves, counted without a list of them. What is counted is found by the masks of the position and the
 // mover's hand: the setups only say of what they are, and no body reads a board.
 ghost use Rattle.std.specs.Prelude.{◌≡◌, ◌↔◌, ◌≤◌, ◌*◌, ℕ, Bool, IsTrue, length};
 ghost use Rattle.dob_pieces.specs.declared.profile.Profile.TheVariants.{A};

@@ -1,4 +1,4 @@
-// The list of a position's moves: the squares that masks tell, from the lowest on, which is the move order.
+// The list of a position's moves: the squares of masks, from the lowest on, which is the move order.
 ghost use Rattle.std.specs.Prelude.{◌≡◌, [], ◌++◌, IfOk, OnOk, OnErr};
 ghost use Rattle.dob_pieces.specs.Masks.{AreMasks};
 ghost use Rattle.dob_moves.specs.Statuses.{HasStatus, AreMoves};

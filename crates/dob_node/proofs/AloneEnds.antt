@@ -14,7 +14,7 @@ use Rattle.dob_update.specs.Items.{items_from}
 use Rattle.dob_node.specs.Histories.{value_of, AreValuesBelow}
 use Rattle.dob_node.specs.Openings.{AreOpenings}
 use Rattle.dob_node.specs.Lawful.{AreLawfulNodes}
-use Rattle.dob_node.specs.declared.node.Node.{Node}
+use Rattle.dob_node.specs.NodeViews.{NodeView}
 use Rattle.dob_node.specs.Alone.{alone_history, alone_applied, alone_items, cells_below, HasCome, HasMade, IsDone, IsUnderWay}
 use Rattle.dob_node.proofs.Kept.{last_now-entry}
 use Rattle.dob_node.proofs.ShownValues.{value_shown, values_given}
@@ -23,7 +23,7 @@ use Rattle.dob_node.proofs.Ends.{lawful_is_right}
 
 -- ---- values
 
-module _ (node : Node) (steps : ℕ) (made : HasMade steps node) (class : ℕ) (low : class < classes_of node.family) where
+module _ (node : NodeView) (steps : ℕ) (made : HasMade steps node) (class : ℕ) (low : class < classes_of node.family) where
   abbrev pub history : List Settlement
   history = node.history.settlements
 
@@ -50,19 +50,19 @@ module _ (node : Node) (steps : ℕ) (made : HasMade steps node) (class : ℕ) (
 -- ---- the end
 
 -- not idle, it is under way
-pub under_way : (node : Node) (family : Family) (limit steps : ℕ) → node.family ≡ family → HasMade steps node → (steps ≡ limit) ⊎ IsDone node →
+pub under_way : (node : NodeView) (family : Family) (limit steps : ℕ) → node.family ≡ family → HasMade steps node → (steps ≡ limit) ⊎ IsDone node →
     (IsDone node → ⊥) → IsUnderWay family limit
 under_way node family limit steps of made (inr idle) busy = absurd (busy idle)
 under_way node family limit steps of made (inl same) busy =
     record { node = node; of = of; made = subst (λ (k : ℕ). HasMade k node) same made; left = busy }
 
 -- the openings that it has begun with
-openings_of : (family : Family) (steps : ℕ) (node : Node) → HasCome family steps node → (openings : List Opening) × AreOpenings family openings
+openings_of : (family : Family) (steps : ℕ) (node : NodeView) → HasCome family steps node → (openings : List Opening) × AreOpenings family openings
 openings_of family zero node come = (come.0, come.1)
 openings_of family (suc steps) node come = openings_of family steps come.0 come.1
 
 -- idle, it has the value table
-pub alone_right : (node : Node) (steps count : ℕ) (values : List Value) → HasMade steps node → IsDone node →
+pub alone_right : (node : NodeView) (steps count : ℕ) (values : List Value) → HasMade steps node → IsDone node →
     AreValuesBelow (value_of node.history.settlements) count values → count ≡ classes_of node.family → IsValueTable node.family values
 alone_right node steps count values made idle listed number =
     lawful_is_right node.family 1 (alone_history node.history.settlements) (alone_applied made.0) (cells_below (classes_of node.family) node.share)
@@ -82,7 +82,7 @@ alone_right node steps count values made idle listed number =
     all (suc i) j low_i low_j = absurd (omega arith)
 
 -- the table of the values that it shows is the value table
-pub alone_given : (node : Node) (steps : ℕ) (family : Family) (values : List Value) → HasMade steps node → IsDone node → family ≡ node.family →
+pub alone_given : (node : NodeView) (steps : ℕ) (family : Family) (values : List Value) → HasMade steps node → IsDone node → family ≡ node.family →
     AreGiven (HasValueNow node.share) (classes_of family) values → IsValueTable node.family values
 alone_given node steps family values made idle same given =
     let number = ap (λ (s : Family). classes_of s) same in

@@ -29,8 +29,8 @@ use Rattle.dob_node.specs.Quiet.{FollowsAtStatus}
 use Rattle.dob_node.specs.Openings.{IsOpening, AreOpenings}
 use Rattle.dob_node.specs.Lawful.{known_of, AreLawfulNodes}
 use Rattle.dob_node.specs.Falls.{IsFirst, HaveFalls}
-use Rattle.dob_node.specs.OpeningLists.{opening_value, opening_settlements, status_in}
-use Rattle.dob_node.specs.declared.node.Node.{Node}
+use Rattle.dob_node.specs.OpeningLists.{opening_value, opening_settlements, opening_status}
+use Rattle.dob_node.specs.NodeViews.{NodeView}
 use Rattle.dob_node.specs.Nodes.{IsSound, IsOpened}
 use Rattle.dob_node.specs.Alone.{alone_history, alone_applied, alone_items, cells_below, IsAlone, HasCome, HasMade}
 use Rattle.dob_node.proofs.Beginnings.{or_else, closed_follows, opened_value, opened_chained, opened_entries}
@@ -62,13 +62,13 @@ value_opened status k p low =
 fresh_draw : (moves : ℕ) → CellValue (fresh moves) Draw
 fresh_draw moves = (refl, inr (λ plies. refl))
 
-module _ (family : Family) (openings : List Opening) (node : Node) (are : AreOpenings family openings) (opened : IsOpened openings family 0 1 node)
+module _ (family : Family) (openings : List Opening) (node : NodeView) (are : AreOpenings family openings) (opened : IsOpened openings family 0 1 node)
     (sound : IsSound node) where
   abbrev pub classes : ℕ
   classes = classes_of family
 
   abbrev pub status : ℕ → Status
-  status = status_in openings
+  status = opening_status openings
 
   abbrev pub h : List Settlement
   h = opening_settlements status 1 0 classes
@@ -172,7 +172,7 @@ module _ (family : Family) (openings : List Opening) (node : Node) (are : AreOpe
   )
 
 -- it is so of the node that an opening gives, where it gives one
-pub made_none_ok : {E : Type 0} (family : Family) (openings : List Opening) (given : Result Node E) → AreOpenings family openings →
+pub made_none_ok : {E : Type 0} (family : Family) (openings : List Opening) (given : Result NodeView E) → AreOpenings family openings →
     IfOk given (λ node. IsOpened openings family 0 1 node) → IfOk given (λ node. IsSound node) → IfOk given (λ node. HasMade 0 node)
 made_none_ok family openings (Ok node) are opened sound = made_none family openings node are opened sound
 made_none_ok family openings (Err why) are opened sound = tt

@@ -17,7 +17,7 @@ use Rattle.dob_node.specs.Histories.{value_of}
 use Rattle.dob_node.specs.Lawful.{AreLawfulNodes}
 use Rattle.dob_node.specs.Falls.{HaveFalls}
 use Rattle.dob_node.specs.TakenItems.{AreKept, listed}
-use Rattle.dob_node.specs.declared.node.Node.{Node}
+use Rattle.dob_node.specs.NodeViews.{NodeView}
 use Rattle.dob_node.specs.Nodes.{IsSound, IsExpanded, HasApplied}
 use Rattle.dob_node.specs.Alone.{alone_history, alone_applied, alone_items, cells_below, IsAlone, IsAloneStep, HasCome, HasMade}
 use Rattle.dob_node.proofs.Settles.{emitted_more, emitted_grown, emitted_all}
@@ -25,7 +25,7 @@ use Rattle.dob_node.proofs.AloneParts.{still_lawful, still_falls}
 
 -- ---- steps
 
-one_further : (old new : Node) (steps : ℕ) → new.family ≡ old.family → HasCome old.family steps old → IsAloneStep old new → HasCome new.family (steps + 1) new
+one_further : (old new : NodeView) (steps : ℕ) → new.family ≡ old.family → HasCome old.family steps old → IsAloneStep old new → HasCome new.family (steps + 1) new
 one_further old new steps same come step = subst (λ st. HasCome st (steps + 1) new) (sym same) (rw add-one (old, come, step))
 
 -- ---- items
@@ -63,7 +63,7 @@ kept_alone : (family : Family) (n id : ℕ) (share : Share) (history : HistoryVi
 kept_alone family n id share history n_is id_is kept =
     subst (λ (m : ℕ). AreKept family m 0 share history) n_is (subst (λ (k : ℕ). AreKept family n k share history) id_is kept)
 
-module _ (old new : Node) (applied : List Item) (alone : IsAlone old applied) (sound : IsSound new) (step : HasApplied old new) where
+module _ (old new : NodeView) (applied : List Item) (alone : IsAlone old applied) (sound : IsSound new) (step : HasApplied old new) where
   family_is : new.family ≡ old.family
   family_is = step.same.0
 
@@ -72,10 +72,10 @@ module _ (old new : Node) (applied : List Item) (alone : IsAlone old applied) (s
 
   -- the items that come behind it
   abbrev later : List Item
-  later = new.own.items ++ alone_items old.family (drop old.expanded old.history.settlements)
+  later = new.own ++ alone_items old.family (drop old.expanded old.history.settlements)
 
   next : alone_items old.family old.history.settlements ≡ applied ++ step.item ∷ later
-  next = all_items old.family old.history.settlements old.expanded applied old.own.items alone.emitted
+  next = all_items old.family old.history.settlements old.expanded applied old.own alone.emitted
       ∙ ap (λ xs. applied ++ (xs ++ alone_items old.family (drop old.expanded old.history.settlements))) step.first
 
   kept : AreKept old.family 1 0 old.share old.history
@@ -99,16 +99,16 @@ module _ (old new : Node) (applied : List Item) (alone : IsAlone old applied) (s
     statuses = λ class low. subst (λ status. HasStatus new.family.profile (class_setup new.family class) status) (sym (step.taken.statuses class))
         (subst (λ st. HasStatus st.profile (class_setup st class) (status_at old.share class)) (sym family_is)
         (alone.statuses class (subst (λ st. class < classes_of st) family_is low)));
-    emitted = subst (λ st. alone_items st (take new.expanded new.history.settlements) ≡ after ++ new.own.items) (sym family_is)
-        (subst (λ k. alone_items old.family (take k new.history.settlements) ≡ after ++ new.own.items) (sym step.same.3)
-        (same_emitted old.family old.history.settlements new.history.settlements (listed step.taken.settled.0) old.expanded step.item applied old.own.items new.own.items
+    emitted = subst (λ st. alone_items st (take new.expanded new.history.settlements) ≡ after ++ new.own) (sym family_is)
+        (subst (λ k. alone_items old.family (take k new.history.settlements) ≡ after ++ new.own) (sym step.same.3)
+        (same_emitted old.family old.history.settlements new.history.settlements (listed step.taken.settled.0) old.expanded step.item applied old.own new.own
         alone.sound.emitted (ap (λ (v : HistoryView). v.settlements) step.taken.settled.2) step.first alone.emitted));
     lawful = subst (λ st. AreLawfulNodes st 1 (alone_history new.history.settlements) (alone_applied after) (cells_below (classes_of st) new.share)
         (value_of new.history.settlements)) (sym family_is) lawful_there;
     falls = subst (λ st. HaveFalls st 1 (alone_history new.history.settlements) (cells_below (classes_of st) new.share)) (sym family_is) falls_there;
   }
 
-pub made_applied : (old new : Node) → IsSound new → HasApplied old new → (steps : ℕ) → HasMade steps old → HasMade (steps + 1) new
+pub made_applied : (old new : NodeView) → IsSound new → HasApplied old new → (steps : ℕ) → HasMade steps old → HasMade (steps + 1) new
 made_applied old new sound step steps made =
     let longer : length (made.0 ++ step.item ∷ []) ≡ length made.0 + 1 = length-append made.0 (step.item ∷ []) in
     let same : new.expanded ≡ old.expanded = step.same.3 in
@@ -117,16 +117,16 @@ made_applied old new sound step steps made =
 
 -- ---- a settlement expanded
 
-module _ (old new : Node) (applied : List Item) (alone : IsAlone old applied) (sound : IsSound new) (step : IsExpanded old new) where
+module _ (old new : NodeView) (applied : List Item) (alone : IsAlone old applied) (sound : IsSound new) (step : IsExpanded old new) where
   set_same : new.family ≡ old.family
   set_same = step.same.0
 
   history_is : new.history.settlements ≡ old.history.settlements
   history_is = ap (λ (v : HistoryView). v.settlements) step.same.4
 
-  own_same : new.own.items ≡ old.own.items ++ items_of (predecessors old.family) 1 0 step.settlement
-  own_same = subst (λ (m : ℕ). new.own.items ≡ old.own.items ++ items_of (predecessors old.family) m 0 step.settlement) alone.alone.0
-      (subst (λ (k : ℕ). new.own.items ≡ old.own.items ++ items_of (predecessors old.family) old.n k step.settlement) alone.alone.1 step.own)
+  own_same : new.own ≡ old.own ++ items_of (predecessors old.family) 1 0 step.settlement
+  own_same = subst (λ (m : ℕ). new.own ≡ old.own ++ items_of (predecessors old.family) m 0 step.settlement) alone.alone.0
+      (subst (λ (k : ℕ). new.own ≡ old.own ++ items_of (predecessors old.family) old.n k step.settlement) alone.alone.1 step.own)
 
   pub alone_expanded : IsAlone new applied
   alone_expanded = record {
@@ -135,10 +135,10 @@ module _ (old new : Node) (applied : List Item) (alone : IsAlone old applied) (s
     statuses = λ class low. subst (λ share. HasStatus new.family.profile (class_setup new.family class) (status_at share class)) (sym step.same.3)
         (subst (λ st. HasStatus st.profile (class_setup st class) (status_at old.share class)) (sym set_same)
         (alone.statuses class (subst (λ st. class < classes_of st) set_same low)));
-    emitted = subst (λ st. alone_items st (take new.expanded new.history.settlements) ≡ applied ++ new.own.items) (sym set_same)
-        (subst (λ k. alone_items old.family (take k new.history.settlements) ≡ applied ++ new.own.items) (sym step.expanded)
-        (subst (λ h. alone_items old.family (take (old.expanded + 1) h) ≡ applied ++ new.own.items) (sym history_is)
-        (more_items old.family old.history.settlements old.expanded step.settlement applied old.own.items new.own.items step.first alone.emitted own_same)));
+    emitted = subst (λ st. alone_items st (take new.expanded new.history.settlements) ≡ applied ++ new.own) (sym set_same)
+        (subst (λ k. alone_items old.family (take k new.history.settlements) ≡ applied ++ new.own) (sym step.expanded)
+        (subst (λ h. alone_items old.family (take (old.expanded + 1) h) ≡ applied ++ new.own) (sym history_is)
+        (more_items old.family old.history.settlements old.expanded step.settlement applied old.own new.own step.first alone.emitted own_same)));
     lawful = subst (λ st. AreLawfulNodes st 1 (alone_history new.history.settlements) (alone_applied applied) (cells_below (classes_of st) new.share)
         (value_of new.history.settlements)) (sym set_same)
         (subst (λ h. AreLawfulNodes old.family 1 (alone_history h) (alone_applied applied) (cells_below (classes_of old.family) new.share) (value_of h)) (sym history_is)
@@ -149,7 +149,7 @@ module _ (old new : Node) (applied : List Item) (alone : IsAlone old applied) (s
         (subst (λ share. HaveFalls old.family 1 (alone_history old.history.settlements) (cells_below (classes_of old.family) share)) (sym step.same.3) alone.falls));
   }
 
-pub made_expanded : (old new : Node) → IsSound new → old.own.items ≡ [] → IsExpanded old new → (steps : ℕ) → HasMade steps old →
+pub made_expanded : (old new : NodeView) → IsSound new → old.own ≡ [] → IsExpanded old new → (steps : ℕ) → HasMade steps old →
     HasMade (steps + 1) new
 made_expanded old new sound none step steps made =
     let same : new.expanded ≡ old.expanded + 1 = step.expanded in

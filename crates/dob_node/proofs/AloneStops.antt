@@ -17,7 +17,7 @@ use Rattle.dob_stops.specs.declared.cause.Cause.{Cause}
 use Rattle.dob_stops.specs.declared.cause.Cause.TheVariants as cause
 use Rattle.dob_node.specs.declared.fault.Fault.{Fault}
 use Rattle.dob_node.specs.declared.fault.Fault.TheVariants as fault
-use Rattle.dob_node.specs.declared.node.Node.{Node}
+use Rattle.dob_node.specs.NodeViews.{NodeView}
 use Rattle.dob_node.specs.Faults.{IsFaultOf}
 use Rattle.dob_node.specs.Histories.{value_of}
 use Rattle.dob_node.specs.Lawful.{IsNextItem, CanApply}
@@ -30,15 +30,15 @@ use Rattle.dob_node.proofs.Rises.{not_too_deep}
 
 -- ---- the item that it has to apply next
 
-module _ (node : Node) (steps : ℕ) (made : HasMade steps node) (item : Item) (behind : List Item)
-    (first : node.own.items ≡ item ∷ behind) where
+module _ (node : NodeView) (steps : ℕ) (made : HasMade steps node) (item : Item) (behind : List Item)
+    (first : node.own ≡ item ∷ behind) where
   abbrev pub h : List Settlement
   h = node.history.settlements
 
   next : IsNextItem node.family 1 (alone_history h) (alone_applied made.0) 0 0 item
   next = (
     behind ++ alone_items node.family (drop node.expanded h),
-    all_items node.family h node.expanded made.0 node.own.items made.1.emitted
+    all_items node.family h node.expanded made.0 node.own made.1.emitted
         ∙ ap (λ xs. made.0 ++ (xs ++ alone_items node.family (drop node.expanded h))) first,
   )
 
@@ -69,7 +69,7 @@ pub never_too_deep : (family : Family) (limit : ℕ) → classes_of family < 655
 never_too_deep family limit few is = next_not_deep is.node is.steps is.made is.fault.item is.fault.behind is.fault.first
     (subst (λ (st : Family). classes_of st < 65535) (sym is.of) few) is.fault.reason.1
 
-pub stopped_alone : (node : Node) (steps limit : ℕ) (why : Cause) → HasMade steps node → steps < limit → HasItemFault node why → HasStoppedAlone node.family limit why
+pub stopped_alone : (node : NodeView) (steps limit : ℕ) (why : Cause) → HasMade steps node → steps < limit → HasItemFault node why → HasStoppedAlone node.family limit why
 stopped_alone node steps limit cause.TooDeep made low fault =
     record { node = node; of = refl; steps = steps; few = low; made = made; fault = fault }
 stopped_alone node steps limit (cause.Contradiction class) made low fault =
@@ -99,17 +99,17 @@ fault_fits cause.Counts given family limit class is stopped same = stopped
 -- ---- nothing left to do
 
 -- there is nobody to send to
-pub done_idle : (node : Node) (steps : ℕ) → HasMade steps node → IsDone node → IsIdle node
+pub done_idle : (node : NodeView) (steps : ℕ) → HasMade steps node → IsDone node → IsIdle node
 done_idle node steps made done = record {
   expanded = done.0;
   applied = done.1;
   sent = λ to. elim (cases_eq to 0) [
     | inl self ↦ subst (λ (k : ℕ). (outbox_to node k).items ≡ []) (made.1.alone.1 ∙ sym self) made.1.sound.nothing_to_self
     | inr other ↦
-        let one : length node.outboxes.items ≡ 1 = made.1.sound.receivers ∙ made.1.alone.0 in
-        ap (λ (o : OutboxView). o.items) (get_or-eq_default node.outboxes.items (empty_outbox node.family node.n node.id to) (omega arith))
+        let one : length node.outboxes ≡ 1 = made.1.sound.receivers ∙ made.1.alone.0 in
+        ap (λ (o : OutboxView). o.items) (get_or-eq_default node.outboxes (empty_outbox node.family node.n node.id to) (omega arith))
   ];
 }
 
-pub idle_done : (node : Node) → IsIdle node → IsDone node
+pub idle_done : (node : NodeView) → IsIdle node → IsDone node
 idle_done node idle = (idle.expanded, idle.applied)

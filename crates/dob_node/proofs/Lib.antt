@@ -29,6 +29,7 @@ pub mod Looks  -- items looked at before they are taken
 pub mod TakenLists  -- items taken one after the other
 pub mod Sends  -- empty outboxes, and what one settlement more adds to them
 pub mod TakenBack  -- outboxes from which a settlement is taken back
+pub mod Noted  -- what holds of a node's core holds of the node, whatever has failed of it
 pub mod Parts  -- the values of a node's own classes, by their places
 -- Worlds of shares and histories.
 pub mod ItemChanges  -- what an item that a share takes changes

@@ -2,20 +2,20 @@
 use Rattle.std.proofs.Common.{◌≡◌, ℕ, ap, ◌∙◌, subst}
 use Rattle.dob_pieces.specs.declared.profile.Family.{Family}
 use Rattle.dob_node.specs.TakenItems.{AreKept}
-use Rattle.dob_node.specs.declared.node.Node.{Node}
+use Rattle.dob_node.specs.NodeViews.{NodeView}
 use Rattle.dob_node.specs.Nodes.{IsSound, outbox_to}
 use Rattle.dob_node.specs.Outboxes.{outbox_in}
 
-pub outbox_same : (old new : Node) (to : ℕ) → new.family ≡ old.family → new.id ≡ old.id → new.n ≡ old.n → new.outboxes.items ≡ old.outboxes.items →
+pub outbox_same : (old new : NodeView) (to : ℕ) → new.family ≡ old.family → new.id ≡ old.id → new.n ≡ old.n → new.outboxes ≡ old.outboxes →
     outbox_to new to ≡ outbox_to old to
 outbox_same old new to family id n outboxes =
-    ap (λ s. outbox_in s new.n new.id new.outboxes.items to) family
-    ∙ ap (λ m. outbox_in old.family m new.id new.outboxes.items to) n
-    ∙ ap (λ i. outbox_in old.family old.n i new.outboxes.items to) id
+    ap (λ s. outbox_in s new.n new.id new.outboxes to) family
+    ∙ ap (λ m. outbox_in old.family m new.id new.outboxes to) n
+    ∙ ap (λ i. outbox_in old.family old.n i new.outboxes to) id
     ∙ ap (λ os. outbox_in old.family old.n old.id os to) outboxes
 
 -- a sound node keeps the cells and the history of that owner
-pub kept_sound : (family : Family) (n id : ℕ) (node : Node) → (node.family ≡ family) × (node.id ≡ id) × (node.n ≡ n) → IsSound node →
+pub kept_sound : (family : Family) (n id : ℕ) (node : NodeView) → (node.family ≡ family) × (node.id ≡ id) × (node.n ≡ n) → IsSound node →
     AreKept family n id node.share node.history
 kept_sound family n id node of sound =
     subst (λ (s : Family). AreKept s n id node.share node.history) of.0

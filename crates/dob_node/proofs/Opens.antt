@@ -27,7 +27,7 @@ use Rattle.dob_share.specs.Cells.{SameCell, fresh}
 use Rattle.dob_share.specs.Openings.{opening_of, moves_where, cell_moves, settles, settled_among}
 use Rattle.dob_share.specs.Shares.{places_of, IsOwn, status_at, cell_at}
 use Rattle.dob_node.specs.Stores.{HistoryView, start_status}
-use Rattle.dob_node.specs.OpeningLists.{opening_value, opening_settlement, opening_settlements, status_in}
+use Rattle.dob_node.specs.OpeningLists.{opening_value, opening_settlement, opening_settlements, opening_status}
 use Rattle.dob_node.specs.Openings.{AreOpenings}
 use Rattle.dob_node.specs.TakenItems.{HasParities, AreKept}
 use Rattle.dob_node.proofs.Parity.{parities_same}
@@ -93,7 +93,7 @@ places_are share openings n id who less owned place = (
 -- what is listed of its classes are their statuses
 pub status_listed : (share : Share) (openings : List Opening) (n id : ℕ) → (share.id ≡ id) × (share.n ≡ n) → id < n →
     ((class : ℕ) → IsOwn share class → status_at share class ≡ (opening_of openings class).status) →
-    (place : ℕ) → place < places_of share → start_status share.statuses place ≡ status_in openings (class_of_place n id place)
+    (place : ℕ) → place < places_of share → start_status share.statuses place ≡ opening_status openings (class_of_place n id place)
 unfolding status_at
 status_listed share openings n id who less statuses place low =
     ap (λ (k : ℕ). start_status share.statuses k) (sym (div-mul-add place n id less))
@@ -138,7 +138,7 @@ pub opened_kept : (family : Family) (openings : List Opening) (n id : ℕ) (shar
     ((class : ℕ) → IsOwn share class ↔ ((class % n ≡ id) × (class < length openings))) →
     ((class : ℕ) → IsOwn share class → SameCell (cell_at share class) (fresh (opening_of openings class).moves)) →
     share.settled ≡ settled_among (λ place. (opening_of openings (class_of_place n id place)).status) (places_of share) →
-    history ≡ record { id = id; n = n; settlements = opening_settlements (status_in openings) n id (places_of share); room = 0 } →
+    history ≡ record { id = id; n = n; settlements = opening_settlements (opening_status openings) n id (places_of share); room = 0 } →
     AreKept family n id share history
 opened_kept family openings n id share history are less few who owned cells settled is = subst (λ v. AreKept family n id share v) (sym is) (record {
   share_is = (who.1, who.0);
@@ -149,8 +149,8 @@ opened_kept family openings n id share history are less few who owned cells sett
     λ own. let there = (owned class).0 own in (there.0, subst (λ (count : ℕ). class < count) are.whole there.1),
     λ mine. (owned class).1 (mine.0, subst (λ (count : ℕ). class < count) (sym are.whole) mine.1),
   );
-  counted = settled ∙ settled_length (status_in openings) n id (places_of share);
-  classes = settled_low (status_in openings) n id (classes_of family) (places_of share)
+  counted = settled ∙ settled_length (opening_status openings) n id (places_of share);
+  classes = settled_low (opening_status openings) n id (classes_of family) (places_of share)
       (λ place low. subst (λ (count : ℕ). place * n + id < count) are.whole ((places_are share openings n id who less owned place).0 low));
   parities = λ class own. parities_same (cell_at share class) (fresh (opening_of openings class).moves) (cells class own)
       (fresh_parities (opening_of openings class).moves);

@@ -157,6 +157,18 @@ cut_there to size batch old new cut low is new_is = record {
   others = λ other default apart. ap (λ xs. get_or xs other default) new_is ∙ get_or-set_other old to other cut default apart;
 }
 
+-- the outbox that was read there
+pub outbox_read : (family : Family) (n from to : ℕ) (old : List OutboxView) (read : OutboxView) → to < length old → read ≡ get_or old to read →
+    outbox_in family n from old to ≡ read
+outbox_read family n from to old read low is = get_or_default old to (empty_outbox family n from to) read low ∙ sym is
+
+-- a batch, where one is, is cut from the outbox that was read there
+pub cut_read : (to size : ℕ) (given : Option BatchView) (old : List OutboxView) (read cut : OutboxView) → to < length old → read ≡ get_or old to read →
+    IfSome given (λ batch. IsCut read size batch cut) → IfSome given (λ batch. IsCutFrom to size batch old (set old to cut))
+cut_read to size None old read cut low is given = given
+cut_read to size (Some batch) old read cut low is given = cut_there to size batch old (set old to cut) cut low
+    (λ default. subst (λ (o : OutboxView). IsCut o size batch cut) (is ∙ get_or_default old to read default low) given) refl
+
 -- what is left has the same values, and so has what is cut
 cut_to : (family : Family) (n from to size : ℕ) (batch : BatchView) (old new : OutboxView) → IsCut old size batch new → IsOutboxTo family n from to old →
     IsOutboxTo family n from to new

@@ -16,7 +16,7 @@ use Rattle.dob_share.specs.Openings.{opening_of, settles, settled_among}
 use Rattle.dob_share.specs.Owners.{class_of_place}
 use Rattle.dob_share.specs.Shares.{places_of, IsOwn, status_at}
 use Rattle.dob_share.specs.Statuses.{StatusesView}
-use Rattle.dob_node.specs.OpeningLists.{opening_value, opening_settlement, opening_settlements, status_in}
+use Rattle.dob_node.specs.OpeningLists.{opening_value, opening_settlement, opening_settlements, opening_status}
 use Rattle.dob_node.specs.Stores.{start_status, start_settlements, starts_of, starts_count}
 use Rattle.dob_node.proofs.Beginnings.{or_else, entry_opened}
 use Rattle.dob_node.proofs.Opens.{one_settles, status_listed}
@@ -115,8 +115,8 @@ start_entry status now is = subst (λ (o : Option Value). IsEntry (or_else o Dra
 -- those of a share as it is opened are the settlements of the opening
 pub share_opened : (share : Share) (openings : List Opening) (n id : ℕ) → (share.id ≡ id) × (share.n ≡ n) → id < n →
     ((class : ℕ) → IsOwn share class → status_at share class ≡ (opening_of openings class).status) →
-    starts_of n id share.statuses ≡ opening_settlements (status_in openings) n id (places_of share)
+    starts_of n id share.statuses ≡ opening_settlements (opening_status openings) n id (places_of share)
 unfolding places_of
 share_opened share openings n id who less statuses =
-    starts_are (start_status share.statuses) (status_in openings) n id share.statuses.places
+    starts_are (start_status share.statuses) (opening_status openings) n id share.statuses.places
     (λ place low. status_listed share openings n id who less statuses place low)

@@ -9,7 +9,7 @@ use Rattle.dob_share.specs.declared.share.Share.{Share}
 use Rattle.dob_pieces.specs.declared.profile.Family.{Family}
 use Rattle.dob_stops.specs.declared.cause.Cause.{Cause}
 use Rattle.dob_stops.specs.declared.cause.Cause.TheVariants as cause
-use Rattle.dob_node.specs.declared.node.Node.{Node}
+use Rattle.dob_node.specs.NodeViews.{NodeView}
 use Rattle.dob_node.specs.Nodes.{IsUnchanged, HasTaken, HasTakenBefore}
 use Rattle.dob_node.specs.Stores.{HistoryView}
 use Rattle.dob_node.proofs.Sounds.{emitted_still}
@@ -151,7 +151,7 @@ stops_first (item ∷ items) share history some = record {
   reason = tt;
 }
 
-pub before_first : (items : List Item) (old new : Node) → 0 < length items → new.taken ≡ 0 → IsUnchanged old new →
+pub before_first : (items : List Item) (old new : NodeView) → 0 < length items → new.taken ≡ 0 → IsUnchanged old new →
     HasTakenBefore items old new cause.Memory
 before_first [] old new some none same = absurd (omega arith)
 before_first (item ∷ items) old new some none same = record {
@@ -166,7 +166,7 @@ before_first (item ∷ items) old new some none same = record {
 
 -- ---- what is taken of a node that made room before
 
-pub taken_since : (items : List Item) (old mid new : Node) → IsUnchanged old mid → HasTaken items mid new → HasTaken items old new
+pub taken_since : (items : List Item) (old mid new : NodeView) → IsUnchanged old mid → HasTaken items mid new → HasTaken items old new
 taken_since items old mid new same taken = record {
   taken = all_with_room items old.share new.share old.history mid.history new.history same.kept.1
       (subst (λ (s : Share). AreTaken items s new.share mid.history new.history) same.kept.0 taken.taken);
@@ -175,7 +175,7 @@ taken_since items old mid new same taken = record {
   outboxes = taken.outboxes ∙ same.outboxes;
 }
 
-pub before_since : (items : List Item) (old mid new : Node) (why : Cause) → IsUnchanged old mid → HasTakenBefore items mid new why →
+pub before_since : (items : List Item) (old mid new : NodeView) (why : Cause) → IsUnchanged old mid → HasTakenBefore items mid new why →
     HasTakenBefore items old new why
 before_since items old mid new why same before = record {
   front = before.front;

@@ -10,5 +10,7 @@ pub mod TakenItems
 pub mod SeenItems
 pub mod Outboxes
 pub mod OpeningLists
+pub mod NodeViews
 pub mod Nodes
+pub mod NodeSteps
 pub mod Alone

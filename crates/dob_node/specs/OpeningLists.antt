@@ -28,5 +28,5 @@ opening_settlements status n id (suc places) = let before = opening_settlements 
     before ++ opening_settlement (length before) (class_of_place n id places) (opening_value (status (class_of_place n id places)))
 
 -- the status that is listed of a class
-abbrev pub status_in : List Opening → ℕ → Status
-status_in openings class = (opening_of openings class).status
+abbrev pub opening_status : List Opening → ℕ → Status
+opening_status openings class = (opening_of openings class).status

@@ -131,34 +131,13 @@ impl History {
         Ok(())
     }
 
-    /// Applies the item to the share, and adds the settlement that it makes, if it makes one, for which there is room before
-    /// the share changes.
+    /// Applies the item to the share, by what was seen of its class, and adds the settlement that it makes, if it makes one, for which
+    /// there is room before the share changes.
     ///
     /// # Errors
     ///
     /// Which leave the share and the history as they were: `Memory`, but not where there is room; else `Contradiction` where the item doesn't fit,
     /// else `TooDeep` where its class's value would be too deep.
-    pub(crate) fn take_item(&mut self, share: &mut Share, item: Item) -> Result<(), Cause>
-        requires kept { (family : Set) × AreKept family share.old.n share.old.id share.old self.old }
-        requires entries { HasItemEntries item }
-        ensures contradiction { result ≢ Err cause.Memory → (result ≡ Err (cause.Contradiction item.to)) ↔ (¬ Fits share.old item) }
-        ensures too_deep { result ≢ Err cause.Memory → (result ≡ Err cause.TooDeep) ↔ (Fits share.old item × GoesTooDeep share.old item) }
-        ensures why { IfErr result (λ why. IsReason item share.old why) }
-        ensures memory { result ≡ Err cause.Memory → self.old.room ≡ 0 }
-        ensures room { OnOk result (self.old.room ≤ self.new.room + 1) }
-        ensures unchanged { OnErr result ((share.new ≡ share.old) × (self.new ≡ self.old)) }
-        ensures taken { OnOk result (IsTaken item share.old share.new self.old self.new) }
-        ensures kept { OnOk result ((family : Set) → AreKept family share.old.n share.old.id share.old self.old → AreKept family share.old.n share.old.id share.new self.new) }
-    {
-        let seen = share.see(item.to);
-        self.take_seen(share, item, seen)
-    }
-
-    /// Takes an item as `take_item` does, by what was seen of its class.
-    ///
-    /// # Errors
-    ///
-    /// As of `take_item`.
     pub(crate) fn take_seen(
         &mut self,
         share: &mut Share,

@@ -1,16 +1,16 @@
 // The outboxes of a node, one for each node: what it has still to send.
 ghost use Rattle.std.specs.Prelude.{◌≡◌, ℕ, ◌+◌, ◌<◌, ◌≤◌, ◌↔◌, List, [], length, vec_len, slice_index_or};
-ghost use Rattle.std.specs.Prelude.{slice_set, ◌*◌, ◌^◌, IsTrue, IsNone, IfOk, IfSome, OnOk, OnErr};
+ghost use Rattle.std.specs.Prelude.{slice_set, IsTrue, IfOk, OnOk, OnErr};
 ghost use Rattle.std.specs.List.{All};
 ghost use Rattle.dob_pieces.specs.declared.profile.Family.{Family as Set};
 ghost use Rattle.dob_unmove.specs.Edges.{predecessors};
 ghost use Rattle.dob_update.specs.Items.{items_of};
-ghost use Rattle.dob_update.specs.Batches.{OutboxView, most_items, HasOneMore, empty_outbox, added};
-ghost use Rattle.dob_node.specs.Outboxes.{outbox_in, IsOutboxTo, AreAdded, HaveOneMore, IsCutFrom};
+ghost use Rattle.dob_update.specs.Batches.{OutboxView, HasOneMore, empty_outbox, added};
+ghost use Rattle.dob_node.specs.Outboxes.{outbox_in, IsOutboxTo, AreAdded, HaveOneMore};
 
 use dob_pieces::{Family, Memory};
 use dob_share::Settlement;
-use dob_update::{Batch, Outbox, count_items};
+use dob_update::{Outbox, count_items};
 use std::alloc::Global;
 
 /// Outboxes with nothing to send, of node `from` among `n`, for each node.
@@ -101,29 +101,6 @@ fn take_back_at(outboxes: &mut Vec<Outbox>, to: usize, count: usize)
 {
     let outbox = &mut outboxes[to];
     outbox.take_back(count);
-}
-
-/// Cuts a batch of the first `size` items, from 1 to 4096, from the outbox for a node that has some.
-///
-/// # Errors
-///
-/// `Memory`, which leaves the outboxes as they were.
-pub(crate) fn cut_at(
-    outboxes: &mut Vec<Outbox>,
-    to: usize,
-    size: usize,
-) -> Result<Option<Batch>, Memory>
-    requires there { to < vec_len outboxes.old }
-    requires some { 0 < size }
-    requires at_most { size ≤ most_items }
-    requires counted { (default : OutboxView) → (slice_index_or outboxes.old.items to default).next + 1 < 2 ^ 64 }
-    ensures none { IfOk result (λ given. IsNone given → (default : OutboxView) → (slice_index_or outboxes.old.items to default).items ≡ []) }
-    ensures nothing { IfOk result (λ given. IsNone given → outboxes.new.items ≡ outboxes.old.items) }
-    ensures cut { IfOk result (λ given. IfSome given (λ batch. IsCutFrom to size batch outboxes.old.items outboxes.new.items)) }
-    ensures err { OnErr result (outboxes.new.items ≡ outboxes.old.items) }
-{
-    let outbox = &mut outboxes[to];
-    outbox.cut(size)
 }
 
 /// Whether nothing is left to send.

@@ -13,11 +13,11 @@ use dob_stops::Cause;
 /// How many items' classes are looked at before the first of the items is applied, so that the memory of all is read at once.
 const AHEAD: usize = 16;
 
-/// Applies the items in order, as `History::take_item` does each, and tells how many.
+/// Applies the items in order, as `History::take_seen` does each, and tells how many.
 ///
 /// # Errors
 ///
-/// After which just those before an item are applied: what `History::take_item` says of the item; `Memory` only where
+/// After which just those before an item are applied: what `History::take_seen` says of the item; `Memory` only where
 /// the history hadn't room for as many settlements.
 pub(crate) fn take_items(
     share: &mut Share,

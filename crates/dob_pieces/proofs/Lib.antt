@@ -1,5 +1,5 @@
 -- The lemmas, in the order in which they are read.
-pub mod Results  -- what std doesn't tell of `Result`
+pub mod Results  -- what std doesn't say of `Result`
 pub mod Lists  -- lists made piece by piece, and their order
 pub mod Elements  -- what stands where in a list, also after more things and after one was exchanged
 -- Boards.

@@ -1,4 +1,4 @@
--- What std doesn't tell of `Result`.
+-- What std doesn't say of `Result`.
 use Rattle.std.proofs.Common.{Result, Ok, Err, OnErr}
 
 -- what holds anyway holds where there is an error

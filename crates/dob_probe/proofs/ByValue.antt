@@ -267,34 +267,43 @@ listed_all profile Has p the_moves upto list free are all listed = record {
 
 -- ---- by the value table the values are the right ones
 
+-- where what it leads to has the value by another relation too, it has its value by that
+pub valued_by : (profile : Profile) (By Other : Setup → Value → Type 0) (p : Setup) (valued : ValuedMove) (has : HasMoveValue profile By p valued)
+    → (By has.outcome has.value → Other has.outcome has.value) → HasMoveValue profile Other p valued
+valued_by profile By Other p valued has gives = record {
+  goes_on = has.goes_on;
+  outcome = has.outcome;
+  goes = has.goes;
+  value = has.value;
+  has = gives has.has;
+  seen = has.seen;
+}
+
+-- and where each move has the same value by both, a list of valued moves by the one is one by the other
+pub moves_by : (profile : Profile) (By Other : Setup → Value → Type 0) (p : Setup)
+    → ((valued : ValuedMove) → HasMoveValue profile By p valued → HasMoveValue profile Other p valued)
+    → ((valued : ValuedMove) → HasMoveValue profile Other p valued → HasMoveValue profile By p valued)
+    → (list : List ValuedMove) → AreValuedMoves profile By p list → AreValuedMoves profile Other p list
+moves_by profile By Other p there back list are = record {
+  sound = λ valued listed. elim (are.sound valued listed) [
+    | inl catch ↦ inl catch
+    | inr has ↦ inr (there valued has)
+  ];
+  caught = are.caught;
+  whole = λ valued has. are.whole valued (back valued has);
+  ordered = are.ordered;
+}
+
 module _ (table : ClassTable) (right : IsValueTable table.family table.values) (p : Setup) (is : IsPositionOf table.family p) where
   by_value : (valued : ValuedMove) → HasMoveValue table.family.profile (GivenBy table) p valued → HasMoveValue table.family.profile (HasValue table.family.profile) p valued
-  by_value valued has = record {
-    goes_on = has.goes_on;
-    outcome = has.outcome;
-    goes = has.goes;
-    value = has.value;
-    has = to_value table right has.outcome has.value (moves_keep_the_family table.family p valued.the_move has.outcome is has.goes_on has.goes) has.has;
-    seen = has.seen;
-  }
+  by_value valued has =
+      valued_by table.family.profile (GivenBy table) (HasValue table.family.profile) p valued has
+      (to_value table right has.outcome has.value (moves_keep_the_family table.family p valued.the_move has.outcome is has.goes_on has.goes))
 
   by_table : (valued : ValuedMove) → HasMoveValue table.family.profile (HasValue table.family.profile) p valued → HasMoveValue table.family.profile (GivenBy table) p valued
-  by_table valued has = record {
-    goes_on = has.goes_on;
-    outcome = has.outcome;
-    goes = has.goes;
-    value = has.value;
-    has = of_value table right has.outcome has.value (moves_keep_the_family table.family p valued.the_move has.outcome is has.goes_on has.goes) has.has;
-    seen = has.seen;
-  }
+  by_table valued has =
+      valued_by table.family.profile (HasValue table.family.profile) (GivenBy table) p valued has
+      (of_value table right has.outcome has.value (moves_keep_the_family table.family p valued.the_move has.outcome is has.goes_on has.goes))
 
   pub valued_rightly : (list : List ValuedMove) → AreValuedMoves table.family.profile (GivenBy table) p list → AreValuedMoves table.family.profile (HasValue table.family.profile) p list
-  valued_rightly list are = record {
-    sound = λ valued there. elim (are.sound valued there) [
-      | inl catch ↦ inl catch
-      | inr has ↦ inr (by_value valued has)
-    ];
-    caught = are.caught;
-    whole = λ valued has. are.whole valued (by_table valued has);
-    ordered = are.ordered;
-  }
+  valued_rightly list are = moves_by table.family.profile (GivenBy table) (HasValue table.family.profile) p by_value by_table list are

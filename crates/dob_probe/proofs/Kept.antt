@@ -1,5 +1,5 @@
 -- What is kept of a list of values, as the list grows.
-use Rattle.std.proofs.Common.{◌≡◌, ℕ, ◌≤◌, inl, inr, min, max, subst, arith, List, [], ◌∷◌, ◌++◌, Bool, true, false, Option, Some, None, Contains}
+use Rattle.std.proofs.Common.{◌≡◌, ◌⊎◌, ℕ, ◌≤◌, inl, inr, min, max, subst, sym, arith, List, [], ◌∷◌, ◌++◌, Bool, true, false, Option, Some, None, Contains}
 use Rattle.std.proofs.lemmas.Bool.{cases_lt}
 use Rattle.std.proofs.lemmas.List.Elements.{Contains-push, Contains-push_cases, Contains-append_left}
 use Rattle.dob_value.specs.declared.value.Value.{Value}
@@ -19,34 +19,73 @@ summed_none kept no_loss no_win no_draw = record {
   draw = subst (TellsDraw []) (let e : false ≡ kept.has_draw = cc in e) (no_values Draw);
 }
 
-module _ (values : List Value) where
+-- of the values of one kind, given by their distances, that one is the first in an order, or there is none
+abbrev IsFirst : (ℕ → Value) → (ℕ → ℕ → Type 0) → List Value → Option ℕ → Type 0
+IsFirst Of Before values None = (plies : ℕ) → ¬ Contains values (Of plies)
+IsFirst Of Before values (Some first) = Contains values (Of first) × ((plies : ℕ) → Contains values (Of plies) → Before first plies)
+
+module _ (Of : ℕ → Value) (Before : ℕ → ℕ → Type 0) (values : List Value) where
   -- a value of another kind changes nothing
-  least_same : (least : Option ℕ) (v : Value) → ((plies : ℕ) → ¬ (v ≡ Loss plies)) → IsLeastLoss values least → IsLeastLoss (values ++ v ∷ []) least
-  least_same None v other none = λ plies there. elim (Contains-push_cases values v (Loss plies) there) [
+  first_same : (first : Option ℕ) (v : Value) → ((plies : ℕ) → ¬ (v ≡ Of plies)) → IsFirst Of Before values first
+      → IsFirst Of Before (values ++ v ∷ []) first
+  first_same None v other none = λ plies there. elim (Contains-push_cases values v (Of plies) there) [
     | inl earlier ↦ none plies earlier
     | inr same ↦ other plies same
   ]
-  least_same (Some least) v other known = (
-    Contains-append_left values (v ∷ []) (Loss least) known.0,
-    λ plies there. elim (Contains-push_cases values v (Loss plies) there) [
+  first_same (Some first) v other known = (
+    Contains-append_left values (v ∷ []) (Of first) known.0,
+    λ plies there. elim (Contains-push_cases values v (Of plies) there) [
       | inl earlier ↦ known.1 plies earlier
       | inr same ↦ absurd (other plies same)
     ],
   )
 
+  -- with one more of the kind the first is that one or the one before, whichever is before the other
+  module _ (plies : ℕ) (own : (other : ℕ) → Of plies ≡ Of other → plies ≡ other) where
+    first_alone : Before plies plies → IsFirst Of Before values None → IsFirst Of Before (values ++ Of plies ∷ []) (Some plies)
+    first_alone itself none = (
+      Contains-push values (Of plies),
+      λ other there. elim (Contains-push_cases values (Of plies) (Of other) there) [
+        | inl earlier ↦ absurd (none other earlier)
+        | inr same ↦ subst (Before plies) (own other same) itself
+      ],
+    )
+
+    first_of_two : (first new : ℕ) → (new ≡ plies) ⊎ (new ≡ first) → Before new plies
+        → ((other : ℕ) → Before first other → Before new other) → IsFirst Of Before values (Some first)
+        → IsFirst Of Before (values ++ Of plies ∷ []) (Some new)
+    first_of_two first new one late more known = (
+      elim one [
+        | inl e ↦ subst (λ (n : ℕ). Contains (values ++ Of plies ∷ []) (Of n)) (sym e) (Contains-push values (Of plies))
+        | inr e ↦ subst (λ (n : ℕ). Contains (values ++ Of plies ∷ []) (Of n)) (sym e) (Contains-append_left values (Of plies ∷ []) (Of first) known.0)
+      ],
+      λ other there. elim (Contains-push_cases values (Of plies) (Of other) there) [
+        | inl earlier ↦ more other (known.1 other earlier)
+        | inr same ↦ subst (Before new) (own other same) late
+      ],
+    )
+
+one_of_min : (a b : ℕ) → (min a b ≡ b) ⊎ (min a b ≡ a)
+one_of_min a b = elim (cases_lt b a) [
+  | inl below ↦ inl (omega (arith, below))
+  | inr upto ↦ inr (omega (arith, upto))
+]
+
+one_of_max : (a b : ℕ) → (max a b ≡ b) ⊎ (max a b ≡ a)
+one_of_max a b = elim (cases_lt a b) [
+  | inl below ↦ inl (omega (arith, below))
+  | inr upto ↦ inr (omega (arith, upto))
+]
+
+module _ (values : List Value) where
+  least_same : (least : Option ℕ) (v : Value) → ((plies : ℕ) → ¬ (v ≡ Loss plies)) → IsLeastLoss values least → IsLeastLoss (values ++ v ∷ []) least
+  least_same None v other none = first_same Loss (λ a b. a ≤ b) values None v other none
+  least_same (Some least) v other known = first_same Loss (λ a b. a ≤ b) values (Some least) v other known
+
   greatest_same : (greatest : Option ℕ) (v : Value) → ((plies : ℕ) → ¬ (v ≡ Win plies)) → IsGreatestWin values greatest →
       IsGreatestWin (values ++ v ∷ []) greatest
-  greatest_same None v other none = λ plies there. elim (Contains-push_cases values v (Win plies) there) [
-    | inl earlier ↦ none plies earlier
-    | inr same ↦ other plies same
-  ]
-  greatest_same (Some greatest) v other known = (
-    Contains-append_left values (v ∷ []) (Win greatest) known.0,
-    λ plies there. elim (Contains-push_cases values v (Win plies) there) [
-      | inl earlier ↦ known.1 plies earlier
-      | inr same ↦ absurd (other plies same)
-    ],
-  )
+  greatest_same None v other none = first_same Win (λ a b. b ≤ a) values None v other none
+  greatest_same (Some greatest) v other known = first_same Win (λ a b. b ≤ a) values (Some greatest) v other known
 
   draw_same : (draw : Bool) (v : Value) → ¬ (v ≡ Draw) → TellsDraw values draw → TellsDraw (values ++ v ∷ []) draw
   draw_same true v other there = Contains-append_left values (v ∷ []) Draw there
@@ -58,52 +97,17 @@ module _ (values : List Value) where
   -- a loss more, and a win more
   least_more : (least : Option ℕ) (plies : ℕ) → IsLeastLoss values least →
       IsLeastLoss (values ++ Loss plies ∷ []) (Some (lesser_of least plies))
-  least_more None plies none = (
-    Contains-push values (Loss plies),
-    λ other there. elim (Contains-push_cases values (Loss plies) (Loss other) there) [
-      | inl earlier ↦ absurd (none other earlier)
-      | inr same ↦ let e = same_loss plies other same in omega (arith, e)
-    ],
-  )
-  least_more (Some least) plies known = (
-    elim (cases_lt plies least) [
-      | inl below ↦
-          let e : plies ≡ min least plies = omega arith in
-          subst (λ n. Contains (values ++ Loss plies ∷ []) (Loss n)) e (Contains-push values (Loss plies))
-      | inr upto ↦
-          let e : least ≡ min least plies = omega arith in
-          subst (λ n. Contains (values ++ Loss plies ∷ []) (Loss n)) e (Contains-append_left values (Loss plies ∷ []) (Loss least) known.0)
-    ],
-    λ other there. elim (Contains-push_cases values (Loss plies) (Loss other) there) [
-      | inl earlier ↦ let le : least ≤ other = known.1 other earlier in omega arith
-      | inr same ↦ let e = same_loss plies other same in omega (arith, e)
-    ],
-  )
+  least_more None plies none = first_alone Loss (λ a b. a ≤ b) values plies (same_loss plies) (omega arith) none
+  least_more (Some least) plies known =
+      first_of_two Loss (λ a b. a ≤ b) values plies (same_loss plies) least (min least plies) (one_of_min least plies) (omega arith)
+      (λ other le. omega (arith, le)) known
 
   greatest_more : (greatest : Option ℕ) (plies : ℕ) → IsGreatestWin values greatest →
       IsGreatestWin (values ++ Win plies ∷ []) (Some (greater_of greatest plies))
-  greatest_more None plies none = (
-    Contains-push values (Win plies),
-    λ other there. elim (Contains-push_cases values (Win plies) (Win other) there) [
-      | inl earlier ↦ absurd (none other earlier)
-      | inr same ↦ let e = same_win plies other same in omega (arith, e)
-    ],
-  )
-  greatest_more (Some greatest) plies known = (
-    elim (cases_lt greatest plies) [
-      | inl below ↦
-          let e : plies ≡ max greatest plies = omega arith in
-          subst (λ n. Contains (values ++ Win plies ∷ []) (Win n)) e (Contains-push values (Win plies))
-      | inr upto ↦
-          let e : greatest ≡ max greatest plies = omega arith in
-          subst (λ n. Contains (values ++ Win plies ∷ []) (Win n)) e
-          (Contains-append_left values (Win plies ∷ []) (Win greatest) known.0)
-    ],
-    λ other there. elim (Contains-push_cases values (Win plies) (Win other) there) [
-      | inl earlier ↦ let le : other ≤ greatest = known.1 other earlier in omega arith
-      | inr same ↦ let e = same_win plies other same in omega (arith, e)
-    ],
-  )
+  greatest_more None plies none = first_alone Win (λ a b. b ≤ a) values plies (same_win plies) (omega arith) none
+  greatest_more (Some greatest) plies known =
+      first_of_two Win (λ a b. b ≤ a) values plies (same_win plies) greatest (max greatest plies) (one_of_max greatest plies) (omega arith)
+      (λ other le. omega (arith, le)) known
 
   -- a value more
   pub summed_win : (kept : Successors) (plies : ℕ) → AreSummed values kept →

@@ -1,6 +1,6 @@
 -- The only move to a value, and the puzzles of the places so far of a walk over the classes.
-use Rattle.std.proofs.Common.{◌≡◌, ℕ, ◌+◌, ◌-◌, ◌≤◌, ◌<◌, ◌⊎◌, inl, inr, refl, sym, subst, ap, ap₂, ◌∙◌, arith, List, [], ◌∷◌, ◌++◌, length, get_or}
-use Rattle.std.proofs.Common.{Bool, true, false, true≢false, is_some, Option, Some, None, Contains, AllPairs, slice_get}
+use Rattle.std.proofs.Common.{◌≡◌, ℕ, ◌+◌, ◌-◌, ◌≤◌, ◌<◌, inl, inr, sym, subst, ap, ap₂, ◌∙◌, arith, List, [], ◌∷◌, ◌++◌, length, get_or}
+use Rattle.std.proofs.Common.{true, false, true≢false, is_some, Option, Some, None, Contains, AllPairs, slice_get}
 use Rattle.std.proofs.lemmas.Bool.{cases_lt}
 use Rattle.std.proofs.lemmas.Option.{slice_get-get_or, slice_get_within, same_Some}
 use Rattle.std.proofs.lemmas.List.Elements.{Contains-push, Contains-push_cases, Contains-get_or, Contains-append_left}
@@ -18,7 +18,7 @@ use Rattle.dob_value.specs.Follows.{ClassTable, IsEntry, IsTable}
 use Rattle.dob_probe.specs.declared.puzzles.Puzzle.{Puzzle}
 use Rattle.dob_probe.specs.Checks.{HasEntry}
 use Rattle.dob_probe.specs.Lines.{GivenBy, LeadsTo}
-use Rattle.dob_probe.specs.Puzzles.{ArePuzzles, IsOnlyTo, IsPuzzle, IsWalked, place_in}
+use Rattle.dob_probe.specs.Puzzles.{ArePuzzles, IsOnlyTo, IsPuzzle, IsWalked, walk_place}
 use Rattle.dob_probe.specs.Walks.{begin_at, class_on, first_class}
 use Rattle.dob_probe.specs.declared.walks.Walk.{Walk}
 use Rattle.dob_probe.specs.SingleMoves.{IsPuzzleOf, IsSingleMove}
@@ -172,10 +172,10 @@ module _ (table : ClassTable) (plies : ℕ) (walk : Walk) where
   -- the puzzles of the walk's places below one
   pub record ArePuzzlesBelow (upto : ℕ) (list : List Puzzle) : Type 0 where
     pub sound : (puzzle : Puzzle) → Contains list puzzle
-        → (begin ≤ place_in table walk puzzle.class) × (place_in table walk puzzle.class < upto) × IsPuzzle table plies puzzle
-    pub whole : (puzzle : Puzzle) → IsPuzzle table plies puzzle → begin ≤ place_in table walk puzzle.class → place_in table walk puzzle.class < upto
+        → (begin ≤ walk_place table walk puzzle.class) × (walk_place table walk puzzle.class < upto) × IsPuzzle table plies puzzle
+    pub whole : (puzzle : Puzzle) → IsPuzzle table plies puzzle → begin ≤ walk_place table walk puzzle.class → walk_place table walk puzzle.class < upto
         → Contains list puzzle
-    pub ordered : AllPairs (λ a b. place_in table walk a.class < place_in table walk b.class) list
+    pub ordered : AllPairs (λ a b. walk_place table walk a.class < walk_place table walk b.class) list
 
   pub puzzles_none : ArePuzzlesBelow begin []
   puzzles_none = record {
@@ -190,19 +190,19 @@ module _ (table : ClassTable) (plies : ℕ) (walk : Walk) where
 
   module _ (upto class : ℕ) (here : upto < length table.values) (on : class ≡ class_on (first_class walk.seed (length table.values)) (length table.values) upto) where
     -- a puzzle of the place is of its class
-    of_place : (puzzle : Puzzle) → IsPuzzle table plies puzzle → place_in table walk puzzle.class < upto + 1 → upto ≤ place_in table walk puzzle.class
+    of_place : (puzzle : Puzzle) → IsPuzzle table plies puzzle → walk_place table walk puzzle.class < upto + 1 → upto ≤ walk_place table walk puzzle.class
         → puzzle.class ≡ class
     of_place puzzle is below later =
-        let same : place_in table walk puzzle.class ≡ upto = omega (arith, below, later) in
+        let same : walk_place table walk puzzle.class ≡ upto = omega (arith, below, later) in
         class_only _ (length table.values) upto puzzle.class (first_below walk.seed (length table.values) (omega (arith, here))) (class_of puzzle is) same ∙ sym on
 
     pub puzzles_same : (list : List Puzzle) → IsPuzzleOf table plies class None → ArePuzzlesBelow upto list → ArePuzzlesBelow (upto + 1) list
     puzzles_same list none are = record {
       sound = λ puzzle there.
           let found = are.sound puzzle there in
-          let below : place_in table walk puzzle.class < upto = found.1 in
+          let below : walk_place table walk puzzle.class < upto = found.1 in
           (found.0, omega (arith, below), found.2);
-      whole = λ puzzle is from below. elim (cases_lt (place_in table walk puzzle.class) upto) [
+      whole = λ puzzle is from below. elim (cases_lt (walk_place table walk puzzle.class) upto) [
         | inl earlier ↦ are.whole puzzle is from earlier
         | inr later ↦ absurd (none puzzle (of_place puzzle is below later) is)
       ];
@@ -212,26 +212,26 @@ module _ (table : ClassTable) (plies : ℕ) (walk : Walk) where
     pub puzzles_more : (list : List Puzzle) (more : Puzzle) → begin ≤ upto → IsPuzzleOf table plies class (Some more) → ArePuzzlesBelow upto list
         → ArePuzzlesBelow (upto + 1) (list ++ more ∷ [])
     puzzles_more list more from found are =
-        let here_is : place_in table walk more.class ≡ upto =
-        ap (place_in table walk) (found.0 ∙ on) ∙ place_class _ (length table.values) upto (first_below walk.seed (length table.values) (omega (arith, here))) here in record {
+        let here_is : walk_place table walk more.class ≡ upto =
+        ap (walk_place table walk) (found.0 ∙ on) ∙ place_class _ (length table.values) upto (first_below walk.seed (length table.values) (omega (arith, here))) here in record {
           sound = λ puzzle there. elim (Contains-push_cases list more puzzle there) [
             | inl earlier ↦
                 let known = are.sound puzzle earlier in
-                let below : place_in table walk puzzle.class < upto = known.1 in
+                let below : walk_place table walk puzzle.class < upto = known.1 in
                 (known.0, omega (arith, below), known.2)
             | inr same ↦
-                let place : place_in table walk more.class ≡ place_in table walk puzzle.class = ap (λ (x : Puzzle). place_in table walk x.class) same in
+                let place : walk_place table walk more.class ≡ walk_place table walk puzzle.class = ap (λ (x : Puzzle). walk_place table walk x.class) same in
                 (omega (arith, place, here_is, from), omega (arith, place, here_is), subst (λ x. IsPuzzle table plies x) same found.1)
           ];
-          whole = λ puzzle is first below. elim (cases_lt (place_in table walk puzzle.class) upto) [
+          whole = λ puzzle is first below. elim (cases_lt (walk_place table walk puzzle.class) upto) [
             | inl earlier ↦ Contains-append_left list (more ∷ []) puzzle (are.whole puzzle is first earlier)
             | inr later ↦
                 let class_is : more.class ≡ puzzle.class = found.0 ∙ sym (of_place puzzle is below later) in
                 subst (λ x. Contains (list ++ more ∷ []) x) (one_puzzle table plies more puzzle class_is found.1 is) (Contains-push list more)
           ];
-          ordered = all_pairs_push (λ a b. place_in table walk a.class < place_in table walk b.class) list more are.ordered
+          ordered = all_pairs_push (λ a b. walk_place table walk a.class < walk_place table walk b.class) list more are.ordered
               (λ k d within.
-              let below : place_in table walk (get_or list k d).class < upto = (are.sound (get_or list k d) (Contains-get_or list k d within)).1 in
+              let below : walk_place table walk (get_or list k d).class < upto = (are.sound (get_or list k d) (Contains-get_or list k d within)).1 in
               omega (arith, below, here_is));
         }
 
@@ -251,12 +251,12 @@ module _ (table : ClassTable) (plies : ℕ) (walk : Walk) where
     sound = sound_walked upto list are;
     ordered = are.ordered;
     few = omega (arith, full);
-    whole = λ puzzle is walked. elim (cases_lt (place_in table walk puzzle.class) upto) [
+    whole = λ puzzle is walked. elim (cases_lt (walk_place table walk puzzle.class) upto) [
       | inl earlier ↦ inl (are.whole puzzle is (behind_begin walk.behind _ (length table.values) puzzle.class (class_of puzzle is) walked) earlier)
       | inr later ↦ inr (
         full,
         λ listed there.
-            let below : place_in table walk listed.class < upto = (are.sound listed there).1 in
+            let below : walk_place table walk listed.class < upto = (are.sound listed there).1 in
             omega (arith, below, later),
       )
     ];

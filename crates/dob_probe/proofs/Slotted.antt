@@ -54,22 +54,30 @@ has_other : (v : Value) (code : ℕ) → code_of_value v ≢ code → has_code c
 has_other v code apart = search rules
 
 module _ (xs : List Value) (v : Value) where
-  -- of another code
-  slot_stays : (code : ℕ) (slot : Option Group) → code_of_value v ≢ code → HasSlot xs code slot → HasSlot (xs ++ v ∷ []) code slot
-  slot_stays code None apart none =
+  -- it is counted of its own code alone
+  counted_own : (code : ℕ) → code_of_value v ≡ code → count_by (has_code code) (xs ++ v ∷ []) ≡ count_by (has_code code) xs + 1
+  counted_own code e =
+      let more = count_push (has_code code) xs v in
+      let yes : cond {A = ℕ} (has_code code v) 1 0 ≡ 1 = ap (λ b. cond {A = ℕ} b 1 0) (has_own v code e) in
+      omega (arith, more, yes)
+
+  counted_other : (code : ℕ) → code_of_value v ≢ code → count_by (has_code code) (xs ++ v ∷ []) ≡ count_by (has_code code) xs
+  counted_other code apart =
       let more = count_push (has_code code) xs v in
       let no : cond {A = ℕ} (has_code code v) 1 0 ≡ 0 = ap (λ b. cond {A = ℕ} b 1 0) (has_other v code apart) in
-      omega (arith, more, no, none)
+      omega (arith, more, no)
+
+  -- of another code
+  slot_stays : (code : ℕ) (slot : Option Group) → code_of_value v ≢ code → HasSlot xs code slot → HasSlot (xs ++ v ∷ []) code slot
+  slot_stays code None apart none = counted_other code apart ∙ none
   slot_stays code (Some group) apart has = (
     has.0,
     record {
       entry = has.1.entry;
       classes =
-          let more = count_push (has_code (code_of_value group.value)) xs v in
-          let no : cond {A = ℕ} (has_code (code_of_value group.value) v) 1 0 ≡ 0 =
-          ap (λ b. cond {A = ℕ} b 1 0) (has_other v (code_of_value group.value) (λ e. apart (e ∙ has.0))) in
+          let more = counted_other (code_of_value group.value) (λ e. apart (e ∙ has.0)) in
           let old = has.1.classes in
-          omega (arith, more, no, old);
+          omega (arith, more, old);
       first = get_front xs (v ∷ []) group.value group.first has.1.first;
       before = λ class below there. elim (at_end xs v group.value class there) [
         | inl earlier ↦ has.1.before class below earlier
@@ -85,10 +93,7 @@ module _ (xs : List Value) (v : Value) where
     refl,
     record {
       entry = entry;
-      classes =
-          let more = count_push (has_code (code_of_value v)) xs v in
-          let yes : cond {A = ℕ} (has_code (code_of_value v) v) 1 0 ≡ 1 = ap (λ b. cond {A = ℕ} b 1 0) (has_own v (code_of_value v) refl) in
-          omega (arith, more, yes, none);
+      classes = let more = counted_own (code_of_value v) refl in omega (arith, more, none);
       first = middle xs [] v;
       before = λ class below there. elim (at_end xs v v class there) [
         | inl earlier ↦ none_counted (has_code (code_of_value v)) xs v class none (has_own v (code_of_value v) refl) earlier
@@ -101,11 +106,9 @@ module _ (xs : List Value) (v : Value) where
     record {
       entry = has.1.entry;
       classes =
-          let more = count_push (has_code (code_of_value group.value)) xs v in
-          let yes : cond {A = ℕ} (has_code (code_of_value group.value) v) 1 0 ≡ 1 =
-          ap (λ b. cond {A = ℕ} b 1 0) (has_own v (code_of_value group.value) (sym has.0)) in
+          let more = counted_own (code_of_value group.value) (sym has.0) in
           let old = has.1.classes in
-          omega (arith, more, yes, old);
+          omega (arith, more, old);
       first = get_front xs (v ∷ []) group.value group.first has.1.first;
       before = λ class below there. elim (at_end xs v group.value class there) [
         | inl earlier ↦ has.1.before class below earlier

@@ -1,5 +1,5 @@
 -- Places in the order of a walk, and their classes.
-use Rattle.std.proofs.Common.{◌≡◌, ◌⊎◌, ℕ, ◌+◌, ◌-◌, ◌≤◌, ◌<◌, inl, inr, arith, sym, ap, subst, refl, ◌∙◌, Option, Some, None, cond, nat_lt, true, false, Bool}
+use Rattle.std.proofs.Common.{◌≡◌, ◌⊎◌, ℕ, ◌+◌, ◌-◌, ◌≤◌, ◌<◌, inl, inr, arith, sym, ap, subst, Option, Some, None, cond, nat_lt, Bool}
 use Rattle.std.proofs.lemmas.Bool.{cases_lt, le-ltb, lt-ltb}
 use Rattle.dob_probe.specs.Walks.{IsBehind, begin_at, class_on, first_class, place_from}
 

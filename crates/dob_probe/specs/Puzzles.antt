@@ -1,5 +1,5 @@
 -- Puzzles of a table: classes that are won in so many plies, by one move alone.
-use Rattle.std.specs.Prelude.{◌≡◌, ◌⊎◌, ℕ, ◌-◌, ◌<◌, ◌≤◌, List, Option, length, Contains, AllPairs}
+use Rattle.std.specs.Prelude.{◌≡◌, ◌⊎◌, ℕ, ◌-◌, ◌<◌, ◌≤◌, List, length, Contains, AllPairs}
 use Rattle.dob_pieces.specs.declared.profile.Profile.{Profile}
 use Rattle.dob_pieces.specs.declared.setup.Setup.{Setup}
 use Rattle.dob_moves.specs.declared.game_move.Move.{Move}
@@ -26,8 +26,8 @@ pub record IsPuzzle (table : ClassTable) (plies : ℕ) (puzzle : Puzzle) : Type 
   pub solved : IsOnlyTo table.family.profile (GivenBy table) representative (Loss (plies - 1)) puzzle.the_move
 
 -- the place of a class in the walk's order
-abbrev pub place_in : ClassTable → Walk → ℕ → ℕ
-place_in table walk class = place_from (first_class walk.seed (length table.values)) (length table.values) class
+abbrev pub walk_place : ClassTable → Walk → ℕ → ℕ
+walk_place table walk class = place_from (first_class walk.seed (length table.values)) (length table.values) class
 
 -- the walk goes over the class
 abbrev pub IsWalked : ClassTable → Walk → ℕ → Type 0
@@ -36,8 +36,8 @@ IsWalked table walk class = IsBehind walk.behind (first_class walk.seed (length 
 -- The first puzzles of a walk, at most so many, each once: each one that isn't listed stands behind as many as were asked for.
 pub record ArePuzzles (table : ClassTable) (walk : Walk) (plies count : ℕ) (list : List Puzzle) : Type 0 where
   pub sound : (puzzle : Puzzle) → Contains list puzzle → IsPuzzle table plies puzzle × IsWalked table walk puzzle.class
-  pub ordered : AllPairs (λ a b. place_in table walk a.class < place_in table walk b.class) list
+  pub ordered : AllPairs (λ a b. walk_place table walk a.class < walk_place table walk b.class) list
   pub few : length list ≤ count
   pub whole : (puzzle : Puzzle) → IsPuzzle table plies puzzle → IsWalked table walk puzzle.class
       → Contains list puzzle
-      ⊎ ((length list ≡ count) × ((listed : Puzzle) → Contains list listed → place_in table walk listed.class < place_in table walk puzzle.class))
+      ⊎ ((length list ≡ count) × ((listed : Puzzle) → Contains list listed → walk_place table walk listed.class < walk_place table walk puzzle.class))

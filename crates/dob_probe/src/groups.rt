@@ -19,7 +19,7 @@ pub struct Group {
 }
 
 /// What is counted of each code among the classes from `first` on, before `end`, as a list in their order: nothing, or the group of its classes, whose
-/// first one is told by its place in that list. It takes some 32 bytes for each distance up to the greatest.
+/// first one is given by its place in that list. It takes some 32 bytes for each distance up to the greatest.
 ///
 /// # Errors
 ///

@@ -1,5 +1,5 @@
 // The line of a position by a table.
-ghost use Rattle.std.specs.Prelude.{◌≡◌, ◌⊎◌, ℕ, IfOk, IfErr, MatchResult, Err};
+ghost use Rattle.std.specs.Prelude.{◌≡◌, ◌⊎◌, ◌++◌, ◌∷◌, [], ℕ, IfOk, IfErr, MatchResult, OnOk, Err};
 ghost use Rattle.dob_pieces.specs.Profiles.{IsAllowed};
 ghost use Rattle.dob_rank.specs.Families.{IsPositionOf};
 ghost use Rattle.dob_rank.specs.Order.{IsPositionOfSet};
@@ -11,7 +11,7 @@ ghost use Rattle.dob_probe.specs.Faults.{IsGap, IsFaultOfLine};
 use crate::fault::Fault;
 use crate::probes::probe;
 use dob_moves::{Move, apply, first_catch, moves};
-use dob_pieces::Position;
+use dob_pieces::{Memory, Position};
 use dob_value::{Table, Value};
 use std::alloc::Global;
 
@@ -57,17 +57,24 @@ fn line_from(
     let mut line = Vec::new(alloc);
     loop {
         if let Some(catch) = first_catch(&position) {
-            line.push(catch)?;
+            push_move(&mut line, catch)?;
             return Ok(line);
         }
         let Some(wanted) = value_wanted(value) else {
             return Ok(line);
         };
         let (the_move, next) = first_to(alloc, table, &position, wanted)?;
-        line.push(the_move)?;
+        push_move(&mut line, the_move)?;
         position = next;
         value = wanted;
     }
+}
+
+// Writes the move behind the others.
+fn push_move(line: &mut Vec<Move>, the_move: Move) -> Result<(), Memory>
+    ensures { OnOk result (line.new.items ≡ line.old.items ++ the_move ∷ []) }
+{
+    Ok(line.push(the_move)?)
 }
 
 // The value to which the line's next move leads from a position with that value, if there is such a move.

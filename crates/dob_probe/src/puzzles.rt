@@ -44,22 +44,6 @@ pub fn first_puzzles(
     if plies > u16::MAX as u64 {
         return Ok(Vec::new(alloc));
     }
-    list_puzzles(alloc, table, walk, plies as u16, count)
-}
-
-// The puzzle of a class, of a distance that a table may have.
-//
-// Error: `Memory`.
-fn list_puzzles(
-    alloc: Global,
-    table: &Table,
-    walk: Walk,
-    plies: u16,
-    count: u64,
-) -> Result<Vec<Puzzle>, Memory>
-    requires { 0 < plies }
-    ensures { IfOk result (λ list. ArePuzzles table.now walk plies count list.items) }
-{
     let classes = table.class_count();
     let first = first_class(walk.seed, classes);
     let begin = begin_at(walk.behind, first, classes);
@@ -69,7 +53,12 @@ fn list_puzzles(
         if list.len() as u64 >= count {
             return Ok(list);
         }
-        if let Some(puzzle) = puzzle_of(&mut room, table, plies, class_on(first, classes, place))? {
+        if let Some(puzzle) = puzzle_of(
+            &mut room,
+            table,
+            plies as u16,
+            class_on(first, classes, place),
+        )? {
             list.push(puzzle)?;
         }
     }

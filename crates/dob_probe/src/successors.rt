@@ -145,8 +145,7 @@ fn successors_of(table: &Table, position: &Position, the_moves: &[Move]) -> Succ
 // The value of the position to which the move leads.
 pub(crate) fn value_to(table: &Table, position: &Position, the_move: Move) -> Value
     requires member { IsPositionOf table.now.family position.now.setup }
-    requires open { HasStatus table.now.family.profile position.now.setup Status.Open }
-    requires can_go { CanGo table.now.family.profile position.now.setup the_move }
+    requires the_move { HasStatus table.now.family.profile position.now.setup Status.Open × CanGo table.now.family.profile position.now.setup the_move }
     ensures { (q : Setup) → Goes table.now.family.profile position.now.setup the_move q → GivenBy table.now q result }
 {
     table.value_of(&apply(position, the_move))

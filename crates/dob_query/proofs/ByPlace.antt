@@ -1,5 +1,5 @@
 -- By the file of a value table the value that is looked up is the position's by definition, and the faults of looking are what is owed.
-use Rattle.std.proofs.Common.{◌≡◌, ◌⊎◌, ◌<◌, ℕ, List, false, inl, inr, subst, sym}
+use Rattle.std.proofs.Common.{◌≡◌, ◌⊎◌, ◌<◌, ℕ, List, inl, inr, subst, sym}
 use Rattle.dob_pieces.specs.declared.setup.Setup.{Setup}
 use Rattle.dob_pieces.specs.declared.profile.Family.{Family}
 use Rattle.dob_pieces.specs.declared.profile.Profile.{Profile}
@@ -19,16 +19,16 @@ use Rattle.dob_probe.specs.declared.fault.Fault as probing
 use Rattle.dob_probe.specs.declared.fault.Fault.TheVariants as table_fault
 use Rattle.dob_query.specs.declared.fault.Fault.{Fault}
 use Rattle.dob_query.specs.declared.fault.Fault.TheVariants.{Text, SetText, TooDeep, Run, File, Table, PuzzlePlies, Memory, Io}
-use Rattle.dob_query.specs.Faults.{fault_of_shelf, is_io}
-use Rattle.dob_query.specs.declared.shelf.ShelfFault.{ShelfFault}
-use Rattle.dob_query.specs.declared.shelf.ShelfFault.TheVariants as shelf_fault
+use Rattle.dob_query.specs.Faults.{fault_of_shelf}
+use Rattle.dob_shelf.specs.declared.shelf.ShelfFault.{ShelfFault}
+use Rattle.dob_shelf.specs.declared.shelf.ShelfFault.TheVariants as shelf_fault
 use Rattle.dob_query.specs.Endings.{Ending}
-use Rattle.dob_query.specs.Shelves.{FailsWhere, ShelfChange}
+use Rattle.dob_shelf.specs.Shelves.{ShelfChange}
 use Rattle.dob_query.specs.Program.{IsValueLineOf, IsValueOf}
 use Rattle.dob_value.specs.declared.value.Value.{Value}
 use Rattle.dob_query.specs.Tables.{HasValueFile, IsTextOf}
 use Rattle.dob_query.specs.Looks.{AnswersLook, AnswersLookRight, HasLookFault, IsFaultOfLook, IsLookFault, IsLookLine, IsLookedUp}
-use Rattle.dob_query.proofs.TableFaults.{answers_weaker, is_shut}
+use Rattle.dob_query.proofs.TableFaults.{is_shut, over_weaker}
 
 -- by the file of a value table what is looked up is the value that the position has by definition
 pub looked_right : (Has : List ℕ → Type 0) (profile : Profile) (words : List ℕ) (value : Value) → HasValueFile Has profile
@@ -61,10 +61,8 @@ line_right Has profile words lines file told =
 pub look_right : (c : ShelfChange) (profile : Profile) (file words : List ℕ) (e : Ending) → HasValueFile (c.before.has file) profile
     → AnswersLook c file words e → AnswersLookRight c profile file words e
 look_right c profile file words e right =
-    answers_weaker (λ lines. IsLookLine (c.before.has file) words lines × FailsWhere c false)
-    (λ lines. IsValueLineOf profile words lines × FailsWhere c false)
-    (λ fault. IsLookFault (c.before.has file) words fault × FailsWhere c (is_io fault)) e
-    (λ lines told. (line_right (c.before.has file) profile words lines right told.0, told.1))
+    over_weaker c (IsLookLine (c.before.has file) words) (IsValueLineOf profile words) (IsLookFault (c.before.has file) words) e
+    (λ lines. line_right (c.before.has file) profile words lines right)
 
 -- a fault of opening the file is one of looking for the position of a text
 pub shut_holds : (Has : List ℕ → Type 0) (words : List ℕ) (position : Setup) (lower : ShelfFault) → IsTextOf words position

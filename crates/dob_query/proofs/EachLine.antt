@@ -10,13 +10,13 @@ use Rattle.dob_dbfile.specs.Sinks.{Change, SinkState, change}
 use Rattle.dob_pieces.specs.declared.profile.Profile.{Profile}
 use Rattle.dob_query.specs.declared.fault.Fault.{Fault}
 use Rattle.dob_query.specs.declared.fault.Fault.TheVariants.{Text, SetText, TooDeep, Run, File, Table, PuzzlePlies, Memory, Io}
-use Rattle.dob_query.specs.declared.shelf.ShelfFault.{ShelfFault}
-use Rattle.dob_query.specs.declared.shelf.ShelfFault.TheVariants as shelf_fault
+use Rattle.dob_shelf.specs.declared.shelf.ShelfFault.{ShelfFault}
+use Rattle.dob_shelf.specs.declared.shelf.ShelfFault.TheVariants as shelf_fault
 use Rattle.dob_query.specs.Each.{AnswersEach, AnswersEachRight, AnswersLines, AreAnswers, AreEachLines, IsAnswer, IsEachFault, IsGivenTo, TellsLinesOf, answer_line, status_of_lines}
 use Rattle.dob_query.specs.Endings.{Ending, TellsAs, TellsMemory, TellsOneFault, ended}
 use Rattle.dob_query.specs.Faults.{fault_of_shelf, is_io}
 use Rattle.dob_query.specs.Program.{IsValueOf}
-use Rattle.dob_query.specs.Shelves.{FailsWhere, ShelfChange}
+use Rattle.dob_shelf.specs.Shelves.{FailsWhere, ShelfChange}
 use Rattle.dob_query.specs.Tables.{HasValueFile, IsFileOf, IsOpeningFault}
 use Rattle.dob_query.proofs.TableFaults.{value_right}
 

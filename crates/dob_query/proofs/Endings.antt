@@ -1,5 +1,6 @@
 -- How the program ends: from what it tells of lines or a fault to what it owes.
 use Rattle.std.proofs.Common.{◌≡◌, ℕ, inl, inr, List, refl}
+use Rattle.std.specs.Prelude.{Err, IfErr, IfOk, Ok, Result}
 use Rattle.dob_pieces.specs.declared.profile.Profile.{Profile}
 use Rattle.dob_pieces.specs.declared.setup.Setup.{Setup}
 use Rattle.dob_pieces.specs.Setups.{IsLegal}
@@ -10,8 +11,9 @@ use Rattle.dob_value.specs.declared.fault.Fault.TheVariants as value_fault
 use Rattle.dob_dbfile.specs.Sinks.{Change, SinkState, change}
 use Rattle.dob_query.specs.declared.fault.Fault.{Fault}
 use Rattle.dob_query.specs.declared.fault.Fault.TheVariants.{Memory}
-use Rattle.dob_query.specs.Faults.{fault_of_value}
-use Rattle.dob_query.specs.Endings.{Answers, Ending, Tells, TellsMemory, TellsOneFault, ended}
+use Rattle.dob_query.specs.Faults.{fault_of_value, is_io_error}
+use Rattle.dob_shelf.specs.Shelves.{FailsWhere, ShelfChange}
+use Rattle.dob_query.specs.Endings.{Answers, Ending, IsAnswered, Tells, TellsMemory, TellsOneFault, ended}
 use Rattle.dob_query.specs.Program.{IsFaultOf}
 
 -- a fault of finding a value is one of the text's
@@ -20,6 +22,12 @@ pub value_fault_holds : (profile : Profile) (text : List ℕ) (p : Setup) (f : v
     → IsFaultOf profile text (fault_of_value f)
 value_fault_holds profile text p value_fault.TooDeep legal spelled deep = (p, legal, spelled, deep refl)
 value_fault_holds profile text p value_fault.Memory legal spelled deep = tt
+
+-- what a call is known to have given by its result is answered
+pub answered_by : {X : Type 0} (c : ShelfChange) (Is : X → Type 0) (Holds : Fault → Type 0) (result : Result X Fault) → IfOk result Is → IfErr result Holds
+    → FailsWhere c (is_io_error result) → IsAnswered c Is Holds result
+answered_by c Is Holds (Ok x) is holds failed = (is, failed)
+answered_by c Is Holds (Err fault) is holds failed = (holds, failed)
 
 -- a fault, with nothing on standard output
 pub faulty : (AreLines : List ℕ → Type 0) (Holds : Fault → Type 0) (fault : Fault) (status : ℕ) (out : SinkState) (err : Change)

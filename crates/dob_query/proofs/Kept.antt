@@ -13,7 +13,7 @@ use Rattle.dob_dbfile.specs.Sinks.{Change}
 use Rattle.dob_dbfile.specs.Writing.{WriteStopsAt}
 use Rattle.dob_query.specs.declared.tally.Tally.{Tally}
 use Rattle.dob_query.specs.declared.fault.Fault.TheVariants.{File}
-use Rattle.dob_query.specs.Shelves.{HasJust, ShelfChange}
+use Rattle.dob_shelf.specs.Shelves.{HasJust, ShelfChange}
 use Rattle.dob_query.specs.Sizes.{count_line}
 use Rattle.dob_query.specs.Keeping.{IsKeepingFault, IsTally, class_lines}
 

@@ -5,7 +5,7 @@ use Rattle.dob_value.specs.Follows.{ClassTable}
 use Rattle.dob_dbfile.specs.declared.fault.Fault.TheVariants as file_fault
 use Rattle.dob_query.specs.declared.fault.Fault.{Fault}
 use Rattle.dob_query.specs.declared.fault.Fault.TheVariants.{Text, SetText, TooDeep, Run, File, Table, PuzzlePlies, Memory, Io}
-use Rattle.dob_query.specs.Shelves.{SameFiles, ShelfChange, ShelfState, shelf_change}
+use Rattle.dob_shelf.specs.Shelves.{SameFiles, ShelfChange, ShelfState, shelf_change}
 use Rattle.dob_query.specs.Keeping.{IsKeepingFault}
 use Rattle.dob_query.specs.Migrations.{IsMigrateFault}
 use Rattle.dob_query.specs.Tables.{IsFileOf, IsOpeningFault}

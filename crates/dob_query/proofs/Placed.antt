@@ -1,5 +1,5 @@
 -- What the lines of standard input come to by the records of a source is what is owed for looking for each, and right by the file of a value table.
-use Rattle.std.proofs.Common.{◌≡◌, ◌∙◌, ◌⊎◌, ◌<◌, ℕ, Bool, List, None, Option, Some, true, false, true≢false, ap, inl, inr, refl, subst, sym}
+use Rattle.std.proofs.Common.{◌≡◌, ◌∙◌, ℕ, Bool, List, None, Option, Some, true, true≢false, ap, inl, inr, refl, subst, sym}
 use Rattle.std.specs.Prelude.{Err, IfErr, Ok, Result}
 use Rattle.dob_pieces.specs.declared.profile.Family.{Family}
 use Rattle.dob_pieces.specs.declared.profile.Profile.{Profile}
@@ -7,20 +7,19 @@ use Rattle.dob_value.specs.declared.value.Value.{Value}
 use Rattle.dob_dbfile.specs.Devices.{Stream, whole}
 use Rattle.dob_dbfile.specs.declared.header.Format.{Format}
 use Rattle.dob_dbfile.specs.Faults.{CountsClasses}
-use Rattle.dob_dbfile.specs.declared.fault.Fault as file
 use Rattle.dob_dbfile.specs.declared.fault.Fault.TheVariants as file_fault
 use Rattle.dob_probe.specs.declared.fault.Fault.TheVariants as table_fault
 use Rattle.dob_query.specs.declared.fault.Fault.{Fault}
 use Rattle.dob_query.specs.declared.fault.Fault.TheVariants.{Text, SetText, TooDeep, Run, File, Table, PuzzlePlies, Memory, Io}
 use Rattle.dob_query.specs.Endings.{Ending}
 use Rattle.dob_query.specs.Faults.{fault_of_shelf, is_io}
-use Rattle.dob_query.specs.declared.shelf.ShelfFault.{ShelfFault}
-use Rattle.dob_query.specs.declared.shelf.ShelfFault.TheVariants as shelf_fault
+use Rattle.dob_shelf.specs.declared.shelf.ShelfFault.{ShelfFault}
+use Rattle.dob_shelf.specs.declared.shelf.ShelfFault.TheVariants as shelf_fault
 use Rattle.dob_query.specs.Looks.{GivesWhole, IsAskedFor}
 use Rattle.dob_query.specs.LooksEach.{AnswersLookEach, AnswersLookEachRight, ArePlaceLines, EndsRecords, IsClassOf, IsLookedFor, IsPlaceAnswer, IsPlacesFault}
 use Rattle.dob_query.specs.LooksEach.{IsRecordAnswer, IsRecordEnd, TellsRecords}
 use Rattle.dob_query.specs.Program.{IsValueOf}
-use Rattle.dob_query.specs.Shelves.{ShelfChange}
+use Rattle.dob_shelf.specs.Shelves.{ShelfChange}
 use Rattle.dob_query.specs.Tables.{HasValueFile}
 use Rattle.dob_query.proofs.ByPlace.{looked_right}
 use Rattle.dob_query.proofs.EachLine.{lines_weaker, tells_are}

@@ -1,5 +1,5 @@
 -- By the file of a value table what is told of it is right: lines, drawings, counts and puzzles.
-use Rattle.std.proofs.Common.{◌≡◌, ℕ, Bool, List, Option, Some, false, subst}
+use Rattle.std.proofs.Common.{ℕ, Bool, List, Option, Some, subst}
 use Rattle.dob_pieces.specs.declared.profile.Profile.{Profile}
 use Rattle.dob_pieces.specs.declared.setup.Setup.{Setup}
 use Rattle.dob_moves.specs.declared.game_move.Move.{Move}
@@ -9,14 +9,13 @@ use Rattle.dob_value.specs.Values.{HasValue}
 use Rattle.dob_probe.specs.Lines.{GivenBy, IsLine}
 use Rattle.dob_probe.proofs.Best.{lines_are_best}
 use Rattle.dob_query.specs.Endings.{Ending}
-use Rattle.dob_query.specs.Faults.{is_io}
 use Rattle.dob_query.specs.Puzzles.{AnswersPuzzles, AnswersPuzzlesRight, ArePuzzleLines, IsPuzzlesFault}
-use Rattle.dob_query.specs.Shelves.{FailsWhere, ShelfChange}
+use Rattle.dob_shelf.specs.Shelves.{ShelfChange}
 use Rattle.dob_query.specs.Shows.{AnswersShow, AnswersShowRight, AreRightShowLines, AreShowLines, IsShowFault}
 use Rattle.dob_query.specs.Stats.{AnswersStats, AnswersStatsRight, AreStatsLines, IsStatsFault}
 use Rattle.dob_query.specs.Tables.{AnswersLine, AnswersLineRight, AreMovesLines, AreRightMovesLines, HasValueFile, IsFileOf, IsPositionFault, IsRightFileOf}
 use Rattle.dob_query.specs.declared.puzzles.PuzzleSearch.{PuzzleSearch}
-use Rattle.dob_query.proofs.TableFaults.{answers_weaker, right_table}
+use Rattle.dob_query.proofs.TableFaults.{over_weaker, right_table}
 
 module _ (Has : List ℕ → Type 0) (profile : Profile) (right : HasValueFile Has profile) where
   -- the file's table is right
@@ -42,7 +41,7 @@ module _ (Has : List ℕ → Type 0) (profile : Profile) (right : HasValueFile H
     value = told.value;
     right = value_by told.table told.file told.position told.value told.given;
     moves = told.moves;
-    line = line_by told.table told.file told.position told.value told.moves told.given told.line;
+    best_line = line_by told.table told.file told.position told.value told.moves told.given told.best_line;
     same = told.same;
   }
 
@@ -75,7 +74,7 @@ show_rightly c profile file picture words lines right told =
         value = drawn.value;
         right = value_by (c.before.has file) profile right drawn.table drawn.file told.position drawn.value drawn.given;
         moves = drawn.moves;
-        line = line_by (c.before.has file) profile right drawn.table drawn.file told.position drawn.value drawn.moves drawn.given drawn.line;
+        best_line = line_by (c.before.has file) profile right drawn.table drawn.file told.position drawn.value drawn.moves drawn.given drawn.best_line;
         same = drawn.same;
       };
       kept = told.kept;
@@ -86,28 +85,20 @@ show_rightly c profile file picture words lines right told =
 module _ (c : ShelfChange) (profile : Profile) (file : List ℕ) (e : Ending) (right : HasValueFile (c.before.has file) profile) where
   pub line_right : (is_numbered : Bool) (words : List ℕ) → AnswersLine c file is_numbered words e → AnswersLineRight c profile file is_numbered words e
   line_right is_numbered words =
-      answers_weaker (λ lines. AreMovesLines (c.before.has file) is_numbered words lines × FailsWhere c false)
-      (λ lines. AreRightMovesLines profile is_numbered words lines × FailsWhere c false)
-      (λ fault. IsPositionFault (c.before.has file) words fault × FailsWhere c (is_io fault)) e
-      (λ lines told. (moves_rightly (c.before.has file) profile right is_numbered words lines told.0, told.1))
+      over_weaker c (AreMovesLines (c.before.has file) is_numbered words) (AreRightMovesLines profile is_numbered words) (IsPositionFault (c.before.has file) words) e
+      (moves_rightly (c.before.has file) profile right is_numbered words)
 
   pub show_right : (picture : Option (List ℕ)) (words : List ℕ) → AnswersShow c (Some file) picture words e → AnswersShowRight c profile file picture words e
   show_right picture words =
-      answers_weaker (λ lines. AreShowLines c (Some file) picture words lines × FailsWhere c false)
-      (λ lines. AreRightShowLines c profile picture words lines × FailsWhere c false)
-      (λ fault. IsShowFault c (Some file) picture words fault × FailsWhere c (is_io fault)) e
-      (λ lines told. (show_rightly c profile file picture words lines right told.0, told.1))
+      over_weaker c (AreShowLines c (Some file) picture words) (AreRightShowLines c profile picture words) (IsShowFault c (Some file) picture words) e
+      (λ lines. show_rightly c profile file picture words lines right)
 
   pub stats_right : (is_csv : Bool) → AnswersStats c file is_csv e → AnswersStatsRight c profile file is_csv e
   stats_right is_csv =
-      answers_weaker (λ lines. AreStatsLines (IsFileOf (c.before.has file)) is_csv lines × FailsWhere c false)
-      (λ lines. AreStatsLines (IsRightFileOf (c.before.has file) profile) is_csv lines × FailsWhere c false)
-      (λ fault. IsStatsFault (c.before.has file) fault × FailsWhere c (is_io fault)) e
-      (λ lines told. (stats_rightly (c.before.has file) profile right is_csv lines told.0, told.1))
+      over_weaker c (AreStatsLines (IsFileOf (c.before.has file)) is_csv) (AreStatsLines (IsRightFileOf (c.before.has file) profile) is_csv) (IsStatsFault (c.before.has file)) e
+      (stats_rightly (c.before.has file) profile right is_csv)
 
   pub puzzles_right : (search : PuzzleSearch) → AnswersPuzzles c file search e → AnswersPuzzlesRight c profile file search e
   puzzles_right search =
-      answers_weaker (λ lines. ArePuzzleLines (IsFileOf (c.before.has file)) search lines × FailsWhere c false)
-      (λ lines. ArePuzzleLines (IsRightFileOf (c.before.has file) profile) search lines × FailsWhere c false)
-      (λ fault. IsPuzzlesFault (c.before.has file) search.plies fault × FailsWhere c (is_io fault)) e
-      (λ lines told. (puzzles_rightly (c.before.has file) profile right search lines told.0, told.1))
+      over_weaker c (ArePuzzleLines (IsFileOf (c.before.has file)) search) (ArePuzzleLines (IsRightFileOf (c.before.has file) profile) search) (IsPuzzlesFault (c.before.has file) search.plies) e
+      (puzzles_rightly (c.before.has file) profile right search)

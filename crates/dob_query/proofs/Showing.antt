@@ -9,10 +9,10 @@ use Rattle.dob_probe.specs.declared.fault.Fault.TheVariants as table_fault
 use Rattle.dob_probe.specs.Faults.{IsFaultOfLine}
 use Rattle.dob_query.specs.declared.fault.Fault.{Fault}
 use Rattle.dob_query.specs.declared.fault.Fault.TheVariants.{Text, SetText, TooDeep, Run, File, Table, PuzzlePlies, Memory, Io}
-use Rattle.dob_query.specs.Shelves.{Files, SameFiles, SameOthers, ShelfChange, ShelfState, shelf_change}
+use Rattle.dob_shelf.specs.Shelves.{Files, SameFiles, SameOthers, ShelfChange, ShelfState, shelf_change}
 use Rattle.dob_query.specs.Shows.{IsDrawingFault, IsFaultBy, IsPictureFault, IsShowFault}
 use Rattle.dob_query.specs.Tables.{IsFileOf, IsOpeningFault, IsProbingFault, IsTextOf}
-use Rattle.dob_query.proofs.Shelves.{others_chain, others_kept}
+use Rattle.dob_shelf.proofs.Shelves.{others_chain, others_kept}
 
 -- ---- files
 

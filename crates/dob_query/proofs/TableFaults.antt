@@ -1,5 +1,6 @@
 -- The faults of a table are those of the file that it was read from, and by the file of a value table the value told is right.
 use Rattle.std.proofs.Common.{◌≡◌, ℕ, false, List, inl, inr, subst}
+use Rattle.std.specs.Prelude.{Err}
 use Rattle.dob_pieces.specs.declared.setup.Setup.{Setup}
 use Rattle.dob_pieces.specs.Profiles.{IsAllowed}
 use Rattle.dob_pieces.specs.declared.profile.Profile.{Profile}
@@ -14,14 +15,14 @@ use Rattle.dob_probe.proofs.ByValue.{valued_rightly}
 use Rattle.dob_probe.specs.Faults.{IsFaultOfCheck, IsFaultOfLine, IsFaultOfMoves, IsRefusal}
 use Rattle.dob_query.specs.declared.fault.Fault.{Fault}
 use Rattle.dob_query.specs.declared.fault.Fault.TheVariants.{Text, SetText, TooDeep, Run, File, Table, PuzzlePlies, Memory, Io}
-use Rattle.dob_query.specs.Shelves.{FailsWhere, ShelfChange}
+use Rattle.dob_shelf.specs.Shelves.{FailsWhere, ShelfChange, is_failed}
 use Rattle.dob_query.specs.Faults.{fault_of_shelf, is_io}
-use Rattle.dob_query.specs.declared.shelf.ShelfFault.{ShelfFault}
-use Rattle.dob_query.specs.declared.shelf.ShelfFault.TheVariants as shelf_fault
+use Rattle.dob_shelf.specs.declared.shelf.ShelfFault.{ShelfFault}
+use Rattle.dob_shelf.specs.declared.shelf.ShelfFault.TheVariants as shelf_fault
 use Rattle.dob_query.specs.Endings.{Answers, AnswersOver, Ending}
 use Rattle.dob_query.specs.Each.{IsGivenTo}
 use Rattle.dob_query.specs.Program.{IsValueLineOf, IsValueOf}
-use Rattle.dob_query.specs.ValuedMoves.{AnswersBest, AnswersBestRight, AnswersMoves, AnswersMovesRight, AreMovesOf, AreRightMovesOf, TellsMoves, best_line, move_lines}
+use Rattle.dob_query.specs.ValuedMoves.{AnswersBest, AnswersBestRight, AnswersMoves, AnswersMovesRight, AreMovesOf, AreRightMovesOf, TellsMoves, best_move_line, move_lines}
 use Rattle.dob_probe.specs.declared.by_value.ValuedMove.{ValuedMove}
 use Rattle.dob_query.specs.Tables.{AnswersProbe, AnswersProbeRight, HasValueFile, IsCheckFault, IsFileOf, IsOpeningFault, IsPositionFault, IsProbingFault, IsShut}
 use Rattle.dob_query.specs.Tables.{IsProbeLine, IsTextOf}
@@ -66,6 +67,11 @@ pub shelf_fault_holds : (Has : List ℕ → Type 0) (lower : ShelfFault) → ((b
     → IsOpeningFault Has (fault_of_shelf lower)
 shelf_fault_holds Has shelf_fault.Memory found = tt
 shelf_fault_holds Has shelf_fault.Failed found = is_shut Has found
+
+-- and a call failed just where that is a device's fault
+pub shelf_fails : (c : ShelfChange) (lower : ShelfFault) → FailsWhere c (is_failed {X = Unit {0}} (Err lower)) → FailsWhere c (is_io (fault_of_shelf lower))
+shelf_fails c shelf_fault.Memory failed = failed
+shelf_fails c shelf_fault.Failed failed = failed
 
 -- a fault of opening the file is one of asking for the position of a text
 pub opening_fault_holds : (Has : List ℕ → Type 0) (words : List ℕ) (position : Setup) (fault : Fault) → IsTextOf words position
@@ -117,7 +123,7 @@ module _ (Has : List ℕ → Type 0) (profile : Profile) (file : HasValueFile Ha
       }
 
 -- where lines of one kind are of another one
-pub answers_weaker : (A B : List ℕ → Type 0) (Holds : Fault → Type 0) (e : Ending) → ((lines : List ℕ) → A lines → B lines)
+answers_weaker : (A B : List ℕ → Type 0) (Holds : Fault → Type 0) (e : Ending) → ((lines : List ℕ) → A lines → B lines)
     → Answers A Holds e → Answers B Holds e
 answers_weaker A B Holds e weaker (inl t) =
     inl (record { lines = t.lines; right = weaker t.lines t.right; done = t.done; told = t.told; silent = t.silent })
@@ -125,13 +131,18 @@ answers_weaker A B Holds e weaker (inr (inl t)) = inr (inl t)
 answers_weaker A B Holds e weaker (inr (inr t)) =
     inr (inr (record { lines = t.lines; right = weaker t.lines t.right; part = t.part; told = t.told }))
 
+-- the same over a shelf
+pub over_weaker : (c : ShelfChange) (A B : List ℕ → Type 0) (Holds : Fault → Type 0) (e : Ending) → ((lines : List ℕ) → A lines → B lines)
+    → AnswersOver c A Holds e → AnswersOver c B Holds e
+over_weaker c A B Holds e weaker =
+    answers_weaker (λ lines. A lines × FailsWhere c false) (λ lines. B lines × FailsWhere c false) (λ fault. Holds fault × FailsWhere c (is_io fault)) e
+    (λ lines told. (weaker lines told.0, told.1))
+
 pub probe_right : (c : ShelfChange) (profile : Profile) (file words : List ℕ) (e : Ending) → HasValueFile (c.before.has file) profile
     → AnswersProbe c file words e → AnswersProbeRight c profile file words e
 probe_right c profile file words e right =
-    answers_weaker (λ lines. IsProbeLine (c.before.has file) words lines × FailsWhere c false)
-    (λ lines. IsValueLineOf profile words lines × FailsWhere c false)
-    (λ fault. IsPositionFault (c.before.has file) words fault × FailsWhere c (is_io fault)) e
-    (λ lines told. (line_right (c.before.has file) profile right words lines told.0, told.1))
+    over_weaker c (IsProbeLine (c.before.has file) words) (IsValueLineOf profile words) (IsPositionFault (c.before.has file) words) e
+    (line_right (c.before.has file) profile right words)
 
 -- of moves with their values, however they are told
 valued_moves_answered : (c : ShelfChange) (profile : Profile) (file words : List ℕ) (tell : List ValuedMove → List ℕ) (e : Ending)
@@ -139,10 +150,8 @@ valued_moves_answered : (c : ShelfChange) (profile : Profile) (file words : List
     → AnswersOver c (TellsMoves (AreMovesOf (c.before.has file) words) tell) (IsPositionFault (c.before.has file) words) e
     → AnswersOver c (TellsMoves (AreRightMovesOf profile words) tell) (IsPositionFault (c.before.has file) words) e
 valued_moves_answered c profile file words tell e right =
-    answers_weaker (λ lines. TellsMoves (AreMovesOf (c.before.has file) words) tell lines × FailsWhere c false)
-    (λ lines. TellsMoves (AreRightMovesOf profile words) tell lines × FailsWhere c false)
-    (λ fault. IsPositionFault (c.before.has file) words fault × FailsWhere c (is_io fault)) e
-    (λ lines told. ((told.0.0, the_moves_right (c.before.has file) profile right words told.0.0 told.0.1, told.0.2), told.1))
+    over_weaker c (TellsMoves (AreMovesOf (c.before.has file) words) tell) (TellsMoves (AreRightMovesOf profile words) tell) (IsPositionFault (c.before.has file) words) e
+    (λ lines told. (told.0, the_moves_right (c.before.has file) profile right words told.0 told.1, told.2))
 
 pub moves_right : (c : ShelfChange) (profile : Profile) (file words : List ℕ) (e : Ending) → HasValueFile (c.before.has file) profile
     → AnswersMoves c file words e → AnswersMovesRight c profile file words e
@@ -152,4 +161,4 @@ moves_right c profile file words e right =
 pub best_right : (c : ShelfChange) (profile : Profile) (file words : List ℕ) (e : Ending) → HasValueFile (c.before.has file) profile
     → AnswersBest c file words e → AnswersBestRight c profile file words e
 best_right c profile file words e right =
-    valued_moves_answered c profile file words best_line e right
+    valued_moves_answered c profile file words best_move_line e right

@@ -1,5 +1,5 @@
 -- What the program owes where it is asked by a database file for each line of standard input.
-use Rattle.std.specs.Prelude.{◌≡◌, ◌⊎◌, ℕ, Bool, false, if◌then◌else◌, is_err, List, [], ◌∷◌, ◌++◌, None, Some, Result, Ok, Err, flat_map}
+use Rattle.std.specs.Prelude.{◌≡◌, ◌⊎◌, ℕ, Bool, false, if◌then◌else◌, is_err, List, [], ◌∷◌, ◌++◌, None, Some, Result, Ok, Err, flat_map, string_bytes}
 use Rattle.std.specs.List.{list_any}
 use Rattle.std.specs.Str.Lines.{lines as lines_of}
 use Rattle.dob_pieces.specs.declared.profile.Profile.TheVariants.{A}
@@ -12,12 +12,13 @@ use Rattle.dob_value.specs.Follows.{ClassTable}
 use Rattle.dob_dbfile.specs.Sinks.{IsUntouched, Puts}
 use Rattle.dob_probe.specs.Lines.{GivenBy}
 use Rattle.dob_probe.specs.Faults.{IsRefusal}
+use Rattle.dob_query.specs.declared.each.LineAnswers.{LineAnswers}
 use Rattle.dob_query.specs.declared.fault.Fault.{Fault}
 use Rattle.dob_query.specs.declared.fault.Fault.TheVariants.{Text, File, Table, Memory, Io}
 use Rattle.dob_query.specs.Faults.{fault_text, is_io}
-use Rattle.dob_query.specs.Endings.{Ending, FailsToTell, TellsFault}
+use Rattle.dob_query.specs.Endings.{Ending, FailsToTell, IsAnswered, TellsFault}
 use Rattle.dob_query.specs.Program.{IsValueOf, value_line}
-use Rattle.dob_query.specs.Shelves.{FailsWhere, ShelfChange}
+use Rattle.dob_shelf.specs.Shelves.{FailsWhere, ShelfChange}
 use Rattle.dob_query.specs.Tables.{HasFileFault, IsFileOf, IsShut, IsTextOf}
 
 -- ---- a line
@@ -95,6 +96,13 @@ AnswersLines c AreLines Holds e =
     TellsEach (λ is_refused lines. AreLines is_refused lines × FailsWhere c false) e
     ⊎ (TellsFault (λ fault. Holds fault × FailsWhere c (is_io fault)) e
     ⊎ FailsToTell (λ lines. (is_refused : Bool) × AreLines is_refused lines × FailsWhere c false) e)
+
+-- what a call gives that has such lines
+abbrev pub GivesAnswers : ShelfChange → (Bool → List ℕ → Type 0) → (Fault → Type 0) → Result LineAnswers Fault → Type 0
+GivesAnswers c AreLines = IsAnswered c (λ answers. AreLines answers.is_refused (string_bytes answers.lines))
+
+abbrev pub GivesEach : ShelfChange → List ℕ → Result LineAnswers Fault → Type 0
+GivesEach c file = GivesAnswers c (AreEachLines IsGivenTo c file) (IsEachFault c file)
 
 abbrev pub AnswersEachBy : (ClassTable → List ℕ → Value → Type 0) → ShelfChange → List ℕ → Ending → Type 0
 AnswersEachBy IsTold c file = AnswersLines c (AreEachLines IsTold c file) (IsEachFault c file)

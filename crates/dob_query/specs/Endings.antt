@@ -1,10 +1,10 @@
 -- How the program ends: an exit status, and what it writes on standard output and standard error.
-use Rattle.std.specs.Prelude.{◌≡◌, ℕ, ◌⊎◌, false, List, [], ◌∷◌, ◌++◌, codes}
+use Rattle.std.specs.Prelude.{◌≡◌, ℕ, ◌⊎◌, false, List, [], ◌∷◌, ◌++◌, codes, Result, Ok, Err, String, string_bytes}
 use Rattle.dob_dbfile.specs.Sinks.{Change, IsUntouched, Puts, Says, Stops}
 use Rattle.dob_query.specs.declared.fault.Fault.{Fault}
 use Rattle.dob_query.specs.declared.fault.Fault.TheVariants.{Memory, Io}
 use Rattle.dob_query.specs.Faults.{fault_line, is_io, status_of}
-use Rattle.dob_query.specs.Shelves.{FailsWhere, ShelfChange}
+use Rattle.dob_shelf.specs.Shelves.{FailsWhere, ShelfChange}
 use Rattle.dob_pieces.specs.Bytes.{line_feed}
 
 -- an exit status, and what happened to standard output and standard error
@@ -53,6 +53,16 @@ Answers AreLines Holds e = TellsLines AreLines e ⊎ (TellsFault Holds e ⊎ Fai
 -- It answers so over a shelf: where it owes lines no call of the shelf failed, and where a fault, one did just where it is a device's.
 abbrev pub AnswersOver : ShelfChange → (List ℕ → Type 0) → (Fault → Type 0) → Ending → Type 0
 AnswersOver c AreLines Holds = Answers (λ lines. AreLines lines × FailsWhere c false) (λ fault. Holds fault × FailsWhere c (is_io fault))
+
+-- A call over a shelf that changes so gave what is right, and no call of the shelf failed; or it gave a fault that holds, and one failed just
+-- where it is a device's.
+abbrev pub IsAnswered : {X : Type 0} → ShelfChange → (X → Type 0) → (Fault → Type 0) → Result X Fault → Type 0
+IsAnswered c Is Holds (Ok x) = Is x × FailsWhere c false
+IsAnswered c Is Holds (Err fault) = Holds fault × FailsWhere c (is_io fault)
+
+-- the same of a text that has such lines
+abbrev pub GivesLines : {X : Type 0} → ShelfChange → (List ℕ → Type 0) → (Fault → Type 0) → Result (String X) Fault → Type 0
+GivesLines c AreLines Holds result = IsAnswered c (λ text. AreLines (string_bytes text)) Holds result
 
 -- the text on standard output and that status; or a beginning of it, and the fault of a failing output
 abbrev pub TellsAs : ℕ → List ℕ → Ending → Type 0

@@ -13,8 +13,8 @@ use Rattle.dob_stops.specs.declared.fault.Fault.TheVariants as run_fault
 use Rattle.dob_probe.specs.Faults as table
 use Rattle.dob_probe.specs.declared.fault.Fault.TheVariants as table_fault
 use Rattle.dob_pieces.specs.Bytes.{line_feed}
-use Rattle.dob_query.specs.declared.shelf.ShelfFault as shelf
-use Rattle.dob_query.specs.declared.shelf.ShelfFault.TheVariants as shelf_fault
+use Rattle.dob_shelf.specs.declared.shelf.ShelfFault as shelf
+use Rattle.dob_shelf.specs.declared.shelf.ShelfFault.TheVariants as shelf_fault
 use Rattle.dob_query.specs.declared.fault.Fault.{Fault}
 use Rattle.dob_query.specs.declared.fault.Fault.TheVariants.{Text, SetText, TooDeep, Run, File, Table, PuzzlePlies, Memory, Io}
 

@@ -1,5 +1,5 @@
 -- The lines that tell the counts of a table, and the faults of keeping its file.
-use Rattle.std.specs.Prelude.{◌≡◌, ◌<◌, ◌≤◌, ◌^◌, ℕ, Bool, true, false, IsTrue, List, [], ◌∷◌, ◌++◌, ◌⊎◌, Some, codes, length, slice_get}
+use Rattle.std.specs.Prelude.{◌≡◌, ◌<◌, ◌≤◌, ◌^◌, ℕ, Bool, true, false, IsTrue, List, [], ◌∷◌, ◌++◌, ◌⊎◌, Some, codes, length, slice_get, Result}
 use Rattle.std.specs.List.{count_by}
 use Rattle.dob_value.specs.declared.value.Value.{Value}
 use Rattle.dob_value.specs.declared.value.Value.TheVariants.{Win, Loss}
@@ -10,7 +10,8 @@ use Rattle.dob_dbfile.specs.Format.{bytes_of}
 use Rattle.dob_query.specs.declared.tally.Tally.{Tally}
 use Rattle.dob_query.specs.declared.fault.Fault.{Fault}
 use Rattle.dob_query.specs.declared.fault.Fault.TheVariants.{File, Memory, Io}
-use Rattle.dob_query.specs.Shelves.{HasJust, SameFiles, ShelfChange}
+use Rattle.dob_shelf.specs.Shelves.{HasJust, SameFiles, ShelfChange}
+use Rattle.dob_query.specs.Endings.{IsAnswered}
 use Rattle.dob_query.specs.Sizes.{count_line}
 
 -- ---- lines
@@ -57,3 +58,8 @@ IsKeepingFault c file table (File file_fault.Memory) = IsTrue c.before.tells →
 IsKeepingFault c file table (File (file_fault.Io count)) =
     (count ≤ length (bytes_of table)) × (IsTrue c.before.tells → HasJust file [] c.after.has)
 IsKeepingFault c file table _ = ⊥
+
+-- the table's file is kept, or its fault holds
+abbrev pub KeepsTable : ShelfChange → List ℕ → ClassTable → Result Unit Fault → Type 0
+KeepsTable c file table =
+    IsAnswered c (λ _. IsTrue c.before.tells → HasJust file (bytes_of table) c.after.has) (IsKeepingFault c file table)

@@ -1,5 +1,4 @@
 pub mod Faults
-pub mod Shelves
 pub mod Endings
 pub mod Program
 pub mod Tables

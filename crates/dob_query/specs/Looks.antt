@@ -1,5 +1,5 @@
 -- What the program owes where it is asked for the record of a position's class in a database file.
-use Rattle.std.specs.Prelude.{◌≡◌, ◌⊎◌, ◌<◌, ℕ, List}
+use Rattle.std.specs.Prelude.{◌≡◌, ◌⊎◌, ◌<◌, ℕ, List, Result, String}
 use Rattle.dob_pieces.specs.declared.profile.Profile.TheVariants.{A}
 use Rattle.dob_pieces.specs.declared.profile.Family.{Family}
 use Rattle.dob_pieces.specs.declared.profile.Profile.{Profile}
@@ -19,8 +19,8 @@ use Rattle.dob_probe.specs.Faults.{IsRefusal}
 use Rattle.dob_query.specs.declared.fault.Fault.{Fault}
 use Rattle.dob_query.specs.declared.fault.Fault.TheVariants.{Text, File, Table, Memory, Io}
 use Rattle.dob_query.specs.Program.{IsValueLineOf, value_line}
-use Rattle.dob_query.specs.Shelves.{ShelfChange}
-use Rattle.dob_query.specs.Endings.{AnswersOver, Ending}
+use Rattle.dob_shelf.specs.Shelves.{ShelfChange}
+use Rattle.dob_query.specs.Endings.{AnswersOver, Ending, GivesLines}
 use Rattle.dob_query.specs.Tables.{IsShut, IsTextOf}
 
 -- the position is one of the family that the stream's header names in that format, in that class
@@ -78,6 +78,10 @@ abbrev pub IsLookFault : (List ℕ → Type 0) → List ℕ → Fault → Type 0
 IsLookFault Has words (Text fault) = text.HasTextFault A words fault
 IsLookFault Has words Memory = Unit {0}
 IsLookFault Has words fault = (position : Setup) × IsTextOf words position × IsLookingFault Has position fault
+
+-- what the call gives
+abbrev pub GivesLook : {X : Type 0} → ShelfChange → List ℕ → List ℕ → Result (String X) Fault → Type 0
+GivesLook c file words = GivesLines c (IsLookLine (c.before.has file) words) (IsLookFault (c.before.has file) words)
 
 -- what the program does where it is asked to look
 abbrev pub AnswersLook : ShelfChange → List ℕ → List ℕ → Ending → Type 0

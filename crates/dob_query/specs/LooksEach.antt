@@ -13,13 +13,14 @@ use Rattle.dob_dbfile.specs.declared.header.Format.{Format}
 use Rattle.dob_dbfile.specs.Faults.{CountsClasses}
 use Rattle.dob_dbfile.specs.Looking.{HasFrontFault, HasRecord, HasRecordFault}
 use Rattle.dob_probe.specs.Faults.{IsRefusal}
+use Rattle.dob_query.specs.declared.each.LineAnswers.{LineAnswers}
 use Rattle.dob_query.specs.declared.fault.Fault.{Fault}
 use Rattle.dob_query.specs.declared.fault.Fault.TheVariants.{Text, File, Table, Memory, Io}
-use Rattle.dob_query.specs.Each.{AnswersLines, TellsLinesOf}
+use Rattle.dob_query.specs.Each.{AnswersLines, GivesAnswers, TellsLinesOf}
 use Rattle.dob_query.specs.Endings.{Ending}
 use Rattle.dob_query.specs.Looks.{GivesWhole, IsAskedFor, IsFaultOfLook, IsLookedUp}
 use Rattle.dob_query.specs.Program.{IsValueOf}
-use Rattle.dob_query.specs.Shelves.{ShelfChange}
+use Rattle.dob_shelf.specs.Shelves.{ShelfChange}
 use Rattle.dob_query.specs.Tables.{IsShut, IsTextOf}
 
 -- ---- a line, by a file that may give these streams
@@ -102,6 +103,9 @@ EndsRecords Gives Shows known Io = known ≡ None
 EndsRecords Gives Shows known _ = ⊥
 
 -- ---- what the program does
+
+abbrev pub GivesLookEach : ShelfChange → List ℕ → Result LineAnswers Fault → Type 0
+GivesLookEach c file = GivesAnswers c (ArePlaceLines (IsLookedFor (GivesWhole (c.before.has file))) c file) (IsPlacesFault c file)
 
 abbrev pub AnswersLookEach : ShelfChange → List ℕ → Ending → Type 0
 AnswersLookEach c file = AnswersLines c (ArePlaceLines (IsLookedFor (GivesWhole (c.before.has file))) c file) (IsPlacesFault c file)

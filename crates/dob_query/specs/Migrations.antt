@@ -1,14 +1,14 @@
 -- What the program owes where it is asked to write a database file anew, in the format of today.
-use Rattle.std.specs.Prelude.{◌≡◌, ◌⊎◌, ℕ, IsTrue, List, codes, length}
+use Rattle.std.specs.Prelude.{◌≡◌, ◌⊎◌, ℕ, IsTrue, List, codes, length, Result, String}
 use Rattle.dob_value.specs.Follows.{ClassTable}
 use Rattle.dob_dbfile.specs.Format.{bytes_of}
 use Rattle.dob_query.specs.declared.fault.Fault.{Fault}
 use Rattle.dob_query.specs.declared.fault.Fault.TheVariants.{Memory}
-use Rattle.dob_query.specs.Shelves.{HasJust, SameFiles, ShelfChange}
+use Rattle.dob_shelf.specs.Shelves.{HasJust, SameFiles, ShelfChange}
 use Rattle.dob_query.specs.Sizes.{count_line}
 use Rattle.dob_query.specs.Keeping.{IsKeepingFault}
 use Rattle.dob_query.specs.Tables.{IsFileOf, IsOpeningFault}
-use Rattle.dob_query.specs.Endings.{AnswersOver, Ending}
+use Rattle.dob_query.specs.Endings.{AnswersOver, Ending, GivesLines}
 
 -- The line tells how many classes the table has that the file had before, and under the other name the shelf has just that table's file in
 -- the second format, where it tells its bytes. The two names may be one.
@@ -25,6 +25,10 @@ IsMigrateFault c file out Memory = SameFiles c.before.has c.after.has
 IsMigrateFault c file out fault =
     (IsOpeningFault (c.before.has file) fault × SameFiles c.before.has c.after.has)
     ⊎ ((table : ClassTable) × IsFileOf (c.before.has file) table × IsKeepingFault c out table fault)
+
+-- what the call gives
+abbrev pub GivesMigrate : {X : Type 0} → ShelfChange → List ℕ → List ℕ → Result (String X) Fault → Type 0
+GivesMigrate c file out = GivesLines c (AreMigrateLines c file out) (IsMigrateFault c file out)
 
 -- what the program does where it is asked to keep the table of a file under another name
 abbrev pub AnswersMigrate : ShelfChange → List ℕ → List ℕ → Ending → Type 0

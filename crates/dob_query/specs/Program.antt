@@ -15,7 +15,7 @@ use Rattle.dob_query.specs.declared.fault.Fault.{Fault}
 use Rattle.dob_query.specs.declared.fault.Fault.TheVariants.{Text, TooDeep, Memory}
 use Rattle.dob_pieces.specs.Bytes.{line_feed}
 use Rattle.dob_query.specs.Endings.{AnswersOver, Ending}
-use Rattle.dob_query.specs.Shelves.{ShelfChange}
+use Rattle.dob_shelf.specs.Shelves.{ShelfChange}
 
 -- the line that tells a value, with its line feed
 abbrev pub value_line : Value → List ℕ

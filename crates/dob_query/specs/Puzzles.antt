@@ -1,5 +1,5 @@
 -- What the program owes where it is asked for puzzles of a database file.
-use Rattle.std.specs.Prelude.{◌≡◌, ◌≤◌, ◌%◌, ℕ, Bool, false, if◌then◌else◌, List, [], ◌∷◌, ◌++◌, codes, flat_map}
+use Rattle.std.specs.Prelude.{◌≡◌, ◌≤◌, ◌%◌, ℕ, Bool, false, if◌then◌else◌, List, [], ◌∷◌, ◌++◌, codes, flat_map, Result, String}
 use Rattle.std.specs.Fmt.{decimal}
 use Rattle.dob_pieces.specs.declared.profile.Family.{Family}
 use Rattle.dob_pieces.specs.declared.profile.Profile.{Profile}
@@ -15,8 +15,8 @@ use Rattle.dob_probe.specs.Puzzles.{ArePuzzles}
 use Rattle.dob_query.specs.declared.puzzles.PuzzleSearch.{PuzzleSearch}
 use Rattle.dob_query.specs.declared.fault.Fault.{Fault}
 use Rattle.dob_query.specs.declared.fault.Fault.TheVariants.{PuzzlePlies, Memory}
-use Rattle.dob_query.specs.Endings.{AnswersOver, Ending}
-use Rattle.dob_query.specs.Shelves.{ShelfChange}
+use Rattle.dob_query.specs.Endings.{AnswersOver, Ending, GivesLines}
+use Rattle.dob_shelf.specs.Shelves.{ShelfChange}
 use Rattle.dob_query.specs.Tables.{IsFileOf, IsOpeningFault, IsRightFileOf}
 
 -- a puzzle is won in so many plies: an odd number, and not at once
@@ -56,6 +56,10 @@ abbrev pub IsPuzzlesFault : (List ℕ → Type 0) → ℕ → Fault → Type 0
 IsPuzzlesFault Has plies PuzzlePlies = ¬ IsPuzzleLength plies
 IsPuzzlesFault Has plies Memory = Unit {0}
 IsPuzzlesFault Has plies fault = IsPuzzleLength plies × IsOpeningFault Has fault
+
+-- what the call gives
+abbrev pub GivesPuzzles : {X : Type 0} → ShelfChange → List ℕ → PuzzleSearch → Result (String X) Fault → Type 0
+GivesPuzzles c file search = GivesLines c (ArePuzzleLines (IsFileOf (c.before.has file)) search) (IsPuzzlesFault (c.before.has file) search.plies)
 
 -- what the program does where it is asked for puzzles
 abbrev pub AnswersPuzzles : ShelfChange → List ℕ → PuzzleSearch → Ending → Type 0

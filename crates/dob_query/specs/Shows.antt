@@ -1,5 +1,5 @@
 -- What the program owes where it is asked to show a position.
-use Rattle.std.specs.Prelude.{◌≡◌, ◌⊎◌, ℕ, IsTrue, List, [], ◌∷◌, ◌++◌, Option, None, Some}
+use Rattle.std.specs.Prelude.{◌≡◌, ◌⊎◌, ℕ, IsTrue, List, [], ◌∷◌, ◌++◌, Option, None, Some, Result, String}
 use Rattle.dob_pieces.specs.declared.profile.Profile.TheVariants.{A}
 use Rattle.dob_pieces.specs.declared.setup.Setup.{Setup}
 use Rattle.dob_pieces.specs.Bytes.{line_feed}
@@ -15,9 +15,9 @@ use Rattle.dob_value.specs.Values.{HasValue}
 use Rattle.dob_probe.specs.Lines.{GivenBy, IsLine}
 use Rattle.dob_query.specs.declared.fault.Fault.{Fault}
 use Rattle.dob_query.specs.declared.fault.Fault.TheVariants.{Text, Memory, Io}
-use Rattle.dob_query.specs.Endings.{AnswersOver, Ending}
+use Rattle.dob_query.specs.Endings.{AnswersOver, Ending, GivesLines, IsAnswered}
 use Rattle.dob_query.specs.Program.{value_line}
-use Rattle.dob_query.specs.Shelves.{Files, HasJust, SameFiles, SameOthers, ShelfChange}
+use Rattle.dob_shelf.specs.Shelves.{Files, HasJust, SameFiles, SameOthers, ShelfChange}
 use Rattle.dob_query.specs.Tables.{IsFileOf, IsProbingFault, IsTextOf}
 
 -- ---- lines
@@ -33,7 +33,7 @@ pub record AreDrawnBy (Has : List ℕ → Type 0) (position : Setup) (lines : Li
   pub value : Value
   pub given : GivenBy table position value
   pub moves : List Move
-  pub line : IsLine table.family.profile (GivenBy table) position moves
+  pub best_line : IsLine table.family.profile (GivenBy table) position moves
   pub same : lines ≡ played_drawing position value moves
 
 -- the lines draw the position, and tell its value and its best play by definition and the rules of the profile
@@ -41,7 +41,7 @@ pub record AreDrawnRight (profile : Profile) (position : Setup) (lines : List �
   pub value : Value
   pub right : HasValue profile position value
   pub moves : List Move
-  pub line : IsLine profile (HasValue profile) position moves
+  pub best_line : IsLine profile (HasValue profile) position moves
   pub same : lines ≡ played_drawing position value moves
 
 -- the lines draw the position, by the file of that name where one is named
@@ -101,6 +101,15 @@ IsShowFault c file picture words Io = (position : Setup) × IsTextOf words posit
     × ((IsFaultBy c.before.has file position Io × SameFiles c.before.has c.after.has) ⊎ IsUnkept c picture)
 IsShowFault c file picture words fault = (position : Setup) × IsTextOf words position
     × IsFaultBy c.before.has file position fault × SameFiles c.before.has c.after.has
+
+-- ---- what the calls give
+
+-- the picture's file is kept, or its fault holds
+abbrev pub KeepsPicture : ShelfChange → List ℕ → Setup → Result Unit Fault → Type 0
+KeepsPicture c name position = IsAnswered c (λ _. IsTrue c.before.tells → HasJust name (picture_of position) c.after.has) (IsPictureFault c name)
+
+abbrev pub GivesShow : {X : Type 0} → ShelfChange → Option (List ℕ) → Option (List ℕ) → List ℕ → Result (String X) Fault → Type 0
+GivesShow c file picture words = GivesLines c (AreShowLines c file picture words) (IsShowFault c file picture words)
 
 -- ---- what the program does
 

@@ -11,7 +11,7 @@ use Rattle.dob_query.specs.declared.fault.Fault.{Fault}
 use Rattle.dob_query.specs.declared.fault.Fault.TheVariants.{SetText, Memory}
 use Rattle.dob_pieces.specs.Bytes.{line_feed}
 use Rattle.dob_query.specs.Endings.{AnswersOver, Ending}
-use Rattle.dob_query.specs.Shelves.{ShelfChange}
+use Rattle.dob_shelf.specs.Shelves.{ShelfChange}
 
 -- these are the family's numbers of positions and classes
 pub record HasCounts (family : Family) (counts : Counts) : Type 0 where

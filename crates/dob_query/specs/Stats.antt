@@ -1,5 +1,5 @@
 -- What the program owes where it is asked for the statistics of a database file.
-use Rattle.std.specs.Prelude.{◌≡◌, ℕ, Bool, true, false, List, [], ◌∷◌, ◌++◌, Option, None, Some, codes, flat_map, fold}
+use Rattle.std.specs.Prelude.{◌≡◌, ℕ, Bool, true, false, List, [], ◌∷◌, ◌++◌, Option, None, Some, codes, flat_map, fold, Result, String}
 use Rattle.std.specs.Fmt.{decimal}
 use Rattle.dob_pieces.specs.declared.profile.Profile.{Profile}
 use Rattle.dob_pieces.specs.declared.setup.Setup.{Setup}
@@ -14,27 +14,27 @@ use Rattle.dob_probe.specs.Statistics.{AreGroups}
 use Rattle.dob_query.specs.declared.stats.Longest.{Longest}
 use Rattle.dob_query.specs.Keeping.{class_lines}
 use Rattle.dob_query.specs.declared.fault.Fault.{Fault}
-use Rattle.dob_query.specs.Endings.{AnswersOver, Ending}
-use Rattle.dob_query.specs.Shelves.{ShelfChange}
+use Rattle.dob_query.specs.Endings.{AnswersOver, Ending, GivesLines}
+use Rattle.dob_shelf.specs.Shelves.{ShelfChange}
 use Rattle.dob_query.specs.Tables.{IsFileOf, IsOpeningFault, IsRightFileOf}
+
+-- a value and how many classes have it, with a text between them, as `win 3,12`
+abbrev pub value_row : List ℕ → Value → ℕ → List ℕ
+value_row between (Win plies) classes = codes "win " ++ (decimal plies ++ (between ++ (decimal classes ++ line_feed ∷ [])))
+value_row between (Loss plies) classes = codes "loss " ++ (decimal plies ++ (between ++ (decimal classes ++ line_feed ∷ [])))
+value_row between Draw classes = codes "draw" ++ (between ++ (decimal classes ++ line_feed ∷ []))
 
 -- how many classes have a distance, as `win 3 12`; the draws are told before
 abbrev pub distance_line : Value → ℕ → List ℕ
-distance_line (Win plies) classes = codes "win " ++ (decimal plies ++ (space ∷ (decimal classes ++ line_feed ∷ [])))
-distance_line (Loss plies) classes = codes "loss " ++ (decimal plies ++ (space ∷ (decimal classes ++ line_feed ∷ [])))
 distance_line Draw classes = []
+distance_line distance classes = value_row (codes " ") distance classes
 
 abbrev pub group_line : Group → List ℕ
 group_line group = distance_line group.value group.classes
 
--- a value and how many classes have it, as `win 3,12`
-abbrev pub value_row : Value → ℕ → List ℕ
-value_row (Win plies) classes = codes "win " ++ (decimal plies ++ (codes "," ++ (decimal classes ++ line_feed ∷ [])))
-value_row (Loss plies) classes = codes "loss " ++ (decimal plies ++ (codes "," ++ (decimal classes ++ line_feed ∷ [])))
-value_row Draw classes = codes "draw," ++ (decimal classes ++ line_feed ∷ [])
-
+-- the same for scripts
 abbrev pub csv_row : Group → List ℕ
-csv_row group = value_row group.value group.classes
+csv_row group = value_row (codes ",") group.value group.classes
 
 -- the line of a group in one of the two ways
 abbrev pub group_text : Bool → Group → List ℕ
@@ -95,6 +95,10 @@ pub record AreStatsLines (Is : ClassTable → Type 0) (is_csv : Bool) (lines : L
 -- the fault is one of opening the file, or memory failed
 abbrev pub IsStatsFault : (List ℕ → Type 0) → Fault → Type 0
 IsStatsFault Has fault = IsOpeningFault Has fault
+
+-- what the call gives
+abbrev pub GivesStats : {X : Type 0} → ShelfChange → List ℕ → Bool → Result (String X) Fault → Type 0
+GivesStats c file is_csv = GivesLines c (AreStatsLines (IsFileOf (c.before.has file)) is_csv) (IsStatsFault (c.before.has file))
 
 -- what the program does where it is asked for the statistics of a file
 abbrev pub AnswersStats : ShelfChange → List ℕ → Bool → Ending → Type 0

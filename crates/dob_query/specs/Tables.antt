@@ -1,5 +1,5 @@
 -- What the program owes where it is asked for something of a database file.
-use Rattle.std.specs.Prelude.{◌≡◌, ◌⊎◌, ℕ, Bool, false, if◌then◌else◌, not, List, [], ◌∷◌, ◌++◌, codes}
+use Rattle.std.specs.Prelude.{◌≡◌, ◌⊎◌, ℕ, Bool, false, if◌then◌else◌, not, List, [], ◌∷◌, ◌++◌, codes, Result, String}
 use Rattle.dob_pieces.specs.declared.profile.Profile.TheVariants.{A}
 use Rattle.dob_pieces.specs.declared.profile.Profile.{Profile}
 use Rattle.dob_pieces.specs.declared.setup.Setup.{Setup}
@@ -25,8 +25,8 @@ use Rattle.dob_query.specs.declared.fault.Fault.{Fault}
 use Rattle.dob_query.specs.declared.fault.Fault.TheVariants.{Text, File, Table, Memory, Io}
 use Rattle.dob_pieces.specs.Bytes.{line_feed, space}
 use Rattle.dob_query.specs.Program.{IsValueLineOf, value_line}
-use Rattle.dob_query.specs.Shelves.{ShelfChange}
-use Rattle.dob_query.specs.Endings.{AnswersOver, Ending}
+use Rattle.dob_shelf.specs.Shelves.{ShelfChange}
+use Rattle.dob_query.specs.Endings.{AnswersOver, Ending, GivesLines}
 
 -- ---- the file; Has says which bytes it has, where that is known
 
@@ -51,6 +51,10 @@ HasFileFault Has fault = (bytes : List ℕ) → Has bytes → (fault ≡ file_fa
 -- the text is that of a position
 abbrev pub IsTextOf : List ℕ → Setup → Type 0
 IsTextOf words position = IsLegal position × Spells words position
+
+-- what is asked: the file's table, and for that position, which the text names
+abbrev pub AreAsked : (List ℕ → Type 0) → List ℕ → ClassTable → Setup → Type 0
+AreAsked Has words table position = IsFileOf Has table × IsTextOf words position
 
 -- it is the file's table, and the value table by the rules of the profile
 pub record IsRightFileOf (Has : List ℕ → Type 0) (profile : Profile) (table : ClassTable) : Type 0 where
@@ -99,7 +103,7 @@ pub record AreMovesLines (Has : List ℕ → Type 0) (is_numbered : Bool) (words
   pub value : Value
   pub given : GivenBy table position value
   pub moves : List Move
-  pub line : IsLine table.family.profile (GivenBy table) position moves
+  pub best_line : IsLine table.family.profile (GivenBy table) position moves
   pub same : lines ≡ moves_lines is_numbered value moves
 
 -- the lines tell the best play from the text's position: the line by the values that positions have by definition and the rules of the profile
@@ -109,15 +113,19 @@ pub record AreRightMovesLines (profile : Profile) (is_numbered : Bool) (words li
   pub value : Value
   pub right : HasValue profile position value
   pub moves : List Move
-  pub line : IsLine profile (HasValue profile) position moves
+  pub best_line : IsLine profile (HasValue profile) position moves
   pub same : lines ≡ moves_lines is_numbered value moves
+
+-- the line that tells that a table is consistent
+abbrev pub consistent_line : List ℕ
+consistent_line = codes "consistent" ++ line_feed ∷ []
 
 -- the lines say that the file's table is the value table
 pub record IsCheckLine (Has : List ℕ → Type 0) (lines : List ℕ) : Type 0 where
   pub table : ClassTable
   pub file : IsFileOf Has table
   pub right : IsValueTable table.family table.values
-  pub same : lines ≡ codes "consistent" ++ line_feed ∷ []
+  pub same : lines ≡ consistent_line
 
 -- ---- faults
 
@@ -158,6 +166,17 @@ IsCheckFault Has (Table table_fault.Memory) = Unit {0}
 IsCheckFault Has Memory = Unit {0}
 IsCheckFault Has Io = IsShut Has
 IsCheckFault Has _ = ⊥
+
+-- ---- what the calls give, over a shelf that changes so
+
+abbrev pub GivesProbe : {X : Type 0} → ShelfChange → List ℕ → List ℕ → Result (String X) Fault → Type 0
+GivesProbe c file words = GivesLines c (IsProbeLine (c.before.has file) words) (IsPositionFault (c.before.has file) words)
+
+abbrev pub GivesLine : {X : Type 0} → ShelfChange → List ℕ → Bool → List ℕ → Result (String X) Fault → Type 0
+GivesLine c file is_numbered words = GivesLines c (AreMovesLines (c.before.has file) is_numbered words) (IsPositionFault (c.before.has file) words)
+
+abbrev pub GivesCheck : {X : Type 0} → ShelfChange → List ℕ → Result (String X) Fault → Type 0
+GivesCheck c file = GivesLines c (IsCheckLine (c.before.has file)) (IsCheckFault (c.before.has file))
 
 -- ---- what the program does
 

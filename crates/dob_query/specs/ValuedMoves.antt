@@ -1,5 +1,5 @@
 -- What the program owes where it is asked for the moves of a position with their values by a database file.
-use Rattle.std.specs.Prelude.{◌≡◌, ℕ, false, List, [], ◌∷◌, ◌++◌, codes, flat_map}
+use Rattle.std.specs.Prelude.{◌≡◌, ℕ, false, List, [], ◌∷◌, ◌++◌, codes, flat_map, Result, String}
 use Rattle.dob_pieces.specs.declared.profile.Profile.{Profile}
 use Rattle.dob_pieces.specs.declared.setup.Setup.{Setup}
 use Rattle.dob_pieces.specs.Bytes.{line_feed, space}
@@ -10,9 +10,10 @@ use Rattle.dob_value.specs.Values.{HasValue}
 use Rattle.dob_probe.specs.declared.by_value.ValuedMove.{ValuedMove}
 use Rattle.dob_probe.specs.ValuedMoves.{AreValuedMoves}
 use Rattle.dob_probe.specs.Lines.{GivenBy}
-use Rattle.dob_query.specs.Endings.{AnswersOver, Ending}
+use Rattle.dob_query.specs.declared.fault.Fault.{Fault}
+use Rattle.dob_query.specs.Endings.{AnswersOver, Ending, GivesLines}
 use Rattle.dob_query.specs.Program.{value_line}
-use Rattle.dob_query.specs.Shelves.{ShelfChange}
+use Rattle.dob_shelf.specs.Shelves.{ShelfChange}
 use Rattle.dob_query.specs.Tables.{IsFileOf, IsPositionFault, IsTextOf}
 
 -- a move and its value, as `La2-a3 win 3`
@@ -25,9 +26,9 @@ move_lines [] = codes "end" ++ line_feed ∷ []
 move_lines the_moves = flat_map valued_move_line the_moves
 
 -- the line of the first move, or that there is none
-abbrev pub best_line : List ValuedMove → List ℕ
-best_line [] = codes "end" ++ line_feed ∷ []
-best_line (first ∷ others) = valued_move_line first
+abbrev pub best_move_line : List ValuedMove → List ℕ
+best_move_line [] = codes "end" ++ line_feed ∷ []
+best_move_line (first ∷ others) = valued_move_line first
 
 -- the moves of the text's position with their values by the file's table, best first
 pub record AreMovesOf (Has : List ℕ → Type 0) (words : List ℕ) (the_moves : List ValuedMove) : Type 0 where
@@ -52,7 +53,14 @@ abbrev pub AreMoveLines : (List ℕ → Type 0) → List ℕ → List ℕ → Ty
 AreMoveLines Has words = TellsMoves (AreMovesOf Has words) move_lines
 
 abbrev pub IsBestLine : (List ℕ → Type 0) → List ℕ → List ℕ → Type 0
-IsBestLine Has words = TellsMoves (AreMovesOf Has words) best_line
+IsBestLine Has words = TellsMoves (AreMovesOf Has words) best_move_line
+
+-- what the calls give for them
+abbrev pub GivesMoves : {X : Type 0} → ShelfChange → List ℕ → List ℕ → Result (String X) Fault → Type 0
+GivesMoves c file words = GivesLines c (AreMoveLines (c.before.has file) words) (IsPositionFault (c.before.has file) words)
+
+abbrev pub GivesBest : {X : Type 0} → ShelfChange → List ℕ → List ℕ → Result (String X) Fault → Type 0
+GivesBest c file words = GivesLines c (IsBestLine (c.before.has file) words) (IsPositionFault (c.before.has file) words)
 
 -- what the program does where it is asked for the moves of the position that a text names
 abbrev pub AnswersMoves : ShelfChange → List ℕ → List ℕ → Ending → Type 0
@@ -69,4 +77,4 @@ AnswersBest c file words = AnswersOver c (IsBestLine (c.before.has file) words) 
 
 abbrev pub AnswersBestRight : ShelfChange → Profile → List ℕ → List ℕ → Ending → Type 0
 AnswersBestRight c profile file words =
-    AnswersOver c (TellsMoves (AreRightMovesOf profile words) best_line) (IsPositionFault (c.before.has file) words)
+    AnswersOver c (TellsMoves (AreRightMovesOf profile words) best_move_line) (IsPositionFault (c.before.has file) words)

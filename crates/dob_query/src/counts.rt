@@ -2,11 +2,11 @@
 ghost use Rattle.std.specs.Prelude.{◌≡◌, IfOk, IfErr, string_bytes};
 ghost use Rattle.dob_query.specs.Sizes.{AreCountLinesOf, HasCounts, IsCountFaultOf, count_lines};
 
-use crate::fault::Fault;
+use crate::fault::Lines;
 use dob_classes::count_classes;
-use dob_pieces::{Family, PieceSet, Profile};
+use dob_pieces::{Family, Memory, PieceSet, Profile};
 use dob_rank::size;
-use std::alloc::{AllocError, Global};
+use std::alloc::Global;
 
 /// How many positions a family has, and how many classes.
 #[derive(Clone, Copy)]
@@ -16,7 +16,7 @@ pub(crate) struct Counts {
 }
 
 /// The lines that tell the numbers of positions and of classes of the piece set that the text names, by the rules of the profile.
-pub fn answer_count(alloc: Global, profile: Profile, text: &str) -> Result<String, Fault>
+pub fn answer_count(alloc: Global, profile: Profile, text: &str) -> Lines
     ensures ok { IfOk result (λ lines. AreCountLinesOf profile text.now (string_bytes lines)) }
     ensures err { IfErr result (IsCountFaultOf text.now) }
 {
@@ -26,12 +26,12 @@ pub fn answer_count(alloc: Global, profile: Profile, text: &str) -> Result<Strin
 }
 
 // The lines that tell the numbers.
-fn lines_with(alloc: Global, counts: Counts) -> Result<String, AllocError>
+fn lines_with(alloc: Global, counts: Counts) -> Result<String, Memory>
     ensures { IfOk result (λ lines. string_bytes lines ≡ count_lines counts) }
 {
     let positions = counts.positions;
     let classes = counts.classes;
-    format!(in alloc; "positions {positions}\nclasses {classes}\n")
+    Ok(format!(in alloc; "positions {positions}\nclasses {classes}\n")?)
 }
 
 // The numbers of positions and of classes of the family, which take no memory.

@@ -1,19 +1,18 @@
 // The answers to the lines of standard input, by the table of a database file.
-ghost use Rattle.std.specs.Prelude.{◌≡◌, ◌++◌, ◌||◌, [], false, IfErr, IfOk, OnOk, is_err, string_bytes};
-ghost use Rattle.dob_query.specs.Each.{AreEachLines, IsAnswer, IsEachFault, IsGivenTo, TellsLinesOf, answer_line, status_of_lines};
-ghost use Rattle.dob_query.specs.Faults.{is_io_error};
-ghost use Rattle.dob_query.specs.Shelves.{FailsWhere, SameFiles, shelf_change};
+ghost use Rattle.std.specs.Prelude.{◌≡◌, ◌++◌, ◌||◌, [], false, IfOk, OnOk, is_err, string_bytes};
+ghost use Rattle.dob_query.specs.Each.{IsAnswer, IsGivenTo, TellsLinesOf, answer_line, status_of_lines, GivesEach};
+ghost use Rattle.dob_shelf.specs.Shelves.{SameFiles, shelf_change};
 
 use crate::fault::Fault;
-use crate::inputs::first_line;
-use crate::shelf::Shelf;
+use crate::input_lines::first_line;
+use crate::positions::position_on;
 use crate::tables::open;
 use crate::values::line_of;
-use dob_pieces::Profile;
+use dob_pieces::Memory;
 use dob_probe::probe;
-use dob_text::read_position_bytes;
+use dob_shelf::Shelf;
 use dob_value::{Table, Value};
-use std::alloc::{AllocError, Global};
+use std::alloc::Global;
 
 /// The answers to some lines, each on a line of its own, and whether one of these was refused.
 #[derive(Drop)]
@@ -42,11 +41,7 @@ impl LineAnswers {
     }
 
     /// Adds an answer behind the others.
-    pub(crate) fn add(
-        &mut self,
-        alloc: Global,
-        answer: Result<Value, Fault>,
-    ) -> Result<(), AllocError>
+    pub(crate) fn add(&mut self, alloc: Global, answer: Result<Value, Fault>) -> Result<(), Memory>
         ensures lines { OnOk result (string_bytes self.new.lines ≡ string_bytes self.old.lines ++ answer_line answer) }
         ensures refused { OnOk result (self.new.is_refused ≡ (self.old.is_refused || is_err answer)) }
     {
@@ -59,11 +54,8 @@ impl LineAnswers {
 
 /// The answers to the lines of standard input by the table of the file, which is read before them.
 pub fn answer_each<S: Shelf>(alloc: Global, shelf: &mut S, file: &str) -> Result<LineAnswers, Fault>
-    ensures ok { IfOk result (λ answers. AreEachLines IsGivenTo (shelf_change (S.state shelf.old) (S.state shelf.new)) file.now
-        answers.is_refused (string_bytes answers.lines)) }
-    ensures err { IfErr result (IsEachFault (shelf_change (S.state shelf.old) (S.state shelf.new)) file.now) }
+    ensures answered { GivesEach (shelf_change (S.state shelf.old) (S.state shelf.new)) file.now result }
     ensures files { SameFiles (S.state shelf.old).has (S.state shelf.new).has }
-    ensures failed { FailsWhere (shelf_change (S.state shelf.old) (S.state shelf.new)) (is_io_error result) }
 {
     let table = open(alloc, shelf, file)?;
     let input = shelf.input()?;
@@ -71,7 +63,7 @@ pub fn answer_each<S: Shelf>(alloc: Global, shelf: &mut S, file: &str) -> Result
 }
 
 // The answers to the lines of the bytes.
-fn answers_to(alloc: Global, table: &Table, input: &[u8]) -> Result<LineAnswers, AllocError>
+fn answers_to(alloc: Global, table: &Table, input: &[u8]) -> Result<LineAnswers, Memory>
     ensures { IfOk result (λ answers. TellsLinesOf (IsAnswer (IsGivenTo table.now) table.now) input.now answers.is_refused (string_bytes answers.lines)) }
 {
     let mut answers = LineAnswers::none(alloc);
@@ -87,16 +79,16 @@ fn answers_to(alloc: Global, table: &Table, input: &[u8]) -> Result<LineAnswers,
 fn answer_to(table: &Table, line: &[u8]) -> Result<Value, Fault>
     ensures { IsAnswer (IsGivenTo table.now) table.now line.now result }
 {
-    let position = read_position_bytes(Profile::A, line)?;
+    let position = position_on(line)?;
     Ok(probe(table, &position)?)
 }
 
 // The line that tells an answer.
-fn answer_line(alloc: Global, answer: Result<Value, Fault>) -> Result<String, AllocError>
+fn answer_line(alloc: Global, answer: Result<Value, Fault>) -> Result<String, Memory>
     ensures { IfOk result (λ line. string_bytes line ≡ answer_line answer) }
 {
     match answer {
         Ok(value) => line_of(alloc, value),
-        Err(fault) => format!(in alloc; "{fault}\n"),
+        Err(fault) => Ok(format!(in alloc; "{fault}\n")?),
     }
 }

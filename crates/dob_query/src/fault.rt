@@ -2,10 +2,9 @@
 ghost use Rattle.std.specs.Prelude.{◌≡◌, Some};
 ghost use Rattle.dob_query.specs.declared.fault.Fault.TheVariants as fault;
 
-use crate::shelf::ShelfFault;
 use dob_pieces::{Memory, SetText};
+use dob_shelf::ShelfFault;
 use dob_text::TextFault;
-use std::alloc::AllocError;
 use std::error::Error;
 use std::fmt;
 
@@ -31,6 +30,9 @@ pub enum Fault {
     /// E24: standard output failed, or the file couldn't be opened or made.
     Io,
 }
+
+/// The lines of an answer, or why there are none.
+pub type Lines = Result<String, Fault>;
 
 impl Fault {
     ghost use Rattle.dob_query.specs.Faults.{is_io, status_of};
@@ -158,14 +160,6 @@ impl From<Memory> for Fault {
     ghost from_gives = { λ _ result. result ≡ fault.Memory };
 
     fn from(_lower: Memory) -> Fault {
-        Fault::Memory
-    }
-}
-
-impl From<AllocError> for Fault {
-    ghost from_gives = { λ _ result. result ≡ fault.Memory };
-
-    fn from(_lower: AllocError) -> Fault {
         Fault::Memory
     }
 }

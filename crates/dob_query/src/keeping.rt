@@ -1,16 +1,15 @@
 // The lines that tell the counts of a table, and its file.
-ghost use Rattle.std.specs.Prelude.{◌≡◌, IfOk, IfErr, OnOk, IsTrue, string_bytes};
-ghost use Rattle.dob_dbfile.specs.Format.{bytes_of};
-ghost use Rattle.dob_query.specs.Shelves.{FailsWhere, HasJust, SameOthers, shelf_change};
-ghost use Rattle.dob_query.specs.Faults.{is_io_error};
-ghost use Rattle.dob_query.specs.Keeping.{IsKeepingFault, class_lines};
+ghost use Rattle.std.specs.Prelude.{◌≡◌, IfOk, string_bytes};
+ghost use Rattle.dob_shelf.specs.Shelves.{SameOthers, shelf_change};
+ghost use Rattle.dob_query.specs.Keeping.{class_lines, KeepsTable};
 
 use crate::fault::Fault;
-use crate::shelf::Shelf;
 use crate::tally::tally_of;
 use dob_dbfile::{Failed, write_table};
+use dob_pieces::Memory;
+use dob_shelf::Shelf;
 use dob_value::Table;
-use std::alloc::{AllocError, Global};
+use std::alloc::Global;
 use std::thread::Threads;
 
 /// Keeps the table's file under the name. Where it can't be written its sink is given up.
@@ -20,10 +19,8 @@ pub fn keep_table<S: Shelf>(
     file: &str,
     table: &Table,
 ) -> Result<(), Fault>
-    ensures kept { OnOk result (IsTrue (S.state shelf.old).tells → HasJust file.now (bytes_of table.now) (S.state shelf.new).has) }
-    ensures err { IfErr result (IsKeepingFault (shelf_change (S.state shelf.old) (S.state shelf.new)) file.now table.now) }
+    ensures kept { KeepsTable (shelf_change (S.state shelf.old) (S.state shelf.new)) file.now table.now result }
     ensures others { SameOthers file.now (S.state shelf.old).has (S.state shelf.new).has }
-    ensures failed { FailsWhere (shelf_change (S.state shelf.old) (S.state shelf.new)) (is_io_error result) }
 {
     let mut sink = shelf.make(file)?;
     match write_table(alloc, table, &mut sink) {
@@ -40,11 +37,7 @@ pub fn keep_table<S: Shelf>(
 }
 
 /// The lines that tell how many classes the table has, and how many of them have which value.
-pub fn lines_of(
-    rt: &(impl Threads + Sync),
-    alloc: Global,
-    table: &Table,
-) -> Result<String, AllocError>
+pub fn lines_of(rt: &(impl Threads + Sync), alloc: Global, table: &Table) -> Result<String, Memory>
     ensures { IfOk result (λ lines. string_bytes lines ≡ class_lines table.now.values) }
 {
     let classes = table.class_count();
@@ -52,5 +45,5 @@ pub fn lines_of(
     let wins = tally.wins;
     let losses = tally.losses;
     let draws = tally.draws;
-    format!(in alloc; "classes {classes}\nwin {wins}\nloss {losses}\ndraw {draws}\n")
+    Ok(format!(in alloc; "classes {classes}\nwin {wins}\nloss {losses}\ndraw {draws}\n")?)
 }

@@ -2,17 +2,16 @@
 #![tactic(auto)]
 
 mod counts;
-mod disk;
 mod each;
 mod fault;
-mod inputs;
+mod input_lines;
 mod keeping;
 mod looks;
 mod looks_each;
 mod migrations;
+mod positions;
 mod progress;
 mod puzzles;
-mod shelf;
 mod shows;
 mod stats;
 mod tables;
@@ -21,16 +20,15 @@ mod valued_moves;
 mod values;
 
 pub use counts::answer_count;
-pub use disk::{DiskFile, DiskShelf};
+pub use dob_shelf::{DiskFile, DiskShelf, MemShelf, Shelf, ShelfFault};
 pub use each::{LineAnswers, answer_each};
-pub use fault::Fault;
+pub use fault::{Fault, Lines};
 pub use keeping::{keep_table, lines_of};
 pub use looks::answer_look;
 pub use looks_each::answer_look_each;
 pub use migrations::answer_migrate;
 pub use progress::{Console, Progress, tell_need};
 pub use puzzles::{PuzzleSearch, answer_puzzles};
-pub use shelf::{MemShelf, Shelf, ShelfFault};
 pub use shows::answer_show;
 pub use stats::answer_stats;
 pub use tables::{answer_check, answer_line, answer_probe};

@@ -1,33 +1,26 @@
 // The value of a position by the one record of a database file, whatever the file's size.
-ghost use Rattle.std.specs.Prelude.{◌≡◌, false, IfOk, IfErr, string_bytes};
+ghost use Rattle.std.specs.Prelude.{◌≡◌, false, IfOk, IfErr};
 ghost use Rattle.dob_dbfile.specs.Devices.{Stream};
 ghost use Rattle.dob_query.specs.Faults.{is_io_error};
-ghost use Rattle.dob_query.specs.Looks.{IsFaultOfLook, IsLookedUp, IsLookFault, IsLookLine};
-ghost use Rattle.dob_query.specs.Shelves.{FailsWhere, SameFiles, shelf_change};
+ghost use Rattle.dob_query.specs.Looks.{IsFaultOfLook, IsLookedUp, GivesLook};
+ghost use Rattle.dob_shelf.specs.Shelves.{SameFiles, shelf_change};
 
-use crate::fault::Fault;
-use crate::shelf::Shelf;
+use crate::fault::{Fault, Lines};
+use crate::positions::position_named;
 use crate::values::line_of;
 use dob_dbfile::{PlacedSource, read_classes, read_value};
-use dob_pieces::{Position, Profile};
+use dob_pieces::Position;
 use dob_probe::check_member;
-use dob_text::read_position;
+use dob_shelf::Shelf;
 use dob_value::Value;
 use std::alloc::Global;
 
 /// The line that tells the value of the position that the text names, by the record of its class in the file.
-pub fn answer_look<S: Shelf>(
-    alloc: Global,
-    shelf: &mut S,
-    file: &str,
-    text: &str,
-) -> Result<String, Fault>
-    ensures ok { IfOk result (λ line. IsLookLine ((S.state shelf.old).has file.now) text.now (string_bytes line)) }
-    ensures err { IfErr result (IsLookFault ((S.state shelf.old).has file.now) text.now) }
+pub fn answer_look<S: Shelf>(alloc: Global, shelf: &mut S, file: &str, text: &str) -> Lines
+    ensures answered { GivesLook (shelf_change (S.state shelf.old) (S.state shelf.new)) file.now text.now result }
     ensures files { SameFiles (S.state shelf.old).has (S.state shelf.new).has }
-    ensures failed { FailsWhere (shelf_change (S.state shelf.old) (S.state shelf.new)) (is_io_error result) }
 {
-    let position = read_position(Profile::A, text)?;
+    let position = position_named(text)?;
     let mut source = shelf.find(file)?;
     let found = look(alloc, &mut source, &position);
     shelf.close(source);

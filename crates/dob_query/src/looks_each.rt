@@ -1,22 +1,19 @@
 // The answers to the lines of standard input, each by the one record of a database file, whatever the file's size.
-ghost use Rattle.std.specs.Prelude.{◌≡◌, ◌||◌, ℕ, List, Some, false, true, IfErr, IfOk, MatchResult, string_bytes};
+ghost use Rattle.std.specs.Prelude.{◌≡◌, ◌||◌, Some, false, true, IfErr, IfOk, MatchResult, string_bytes};
 ghost use Rattle.dob_dbfile.specs.Devices.{Stream};
-ghost use Rattle.dob_dbfile.specs.Faults.{CountsClasses};
 ghost use Rattle.dob_query.specs.Each.{TellsLinesOf};
 ghost use Rattle.dob_query.specs.Faults.{is_io, is_io_error};
-ghost use Rattle.dob_query.specs.Looks.{GivesWhole};
-ghost use Rattle.dob_query.specs.LooksEach.{ArePlaceLines, IsLookedFor, IsPlacesFault, IsRecordAnswer, IsRecordEnd, TellsRecords, EndsRecords};
-ghost use Rattle.dob_query.specs.Shelves.{FailsWhere, SameFiles, shelf_change};
+ghost use Rattle.dob_query.specs.LooksEach.{IsRecordAnswer, IsRecordEnd, TellsRecords, EndsRecords, GivesLookEach};
+ghost use Rattle.dob_shelf.specs.Shelves.{SameFiles, shelf_change};
 
 use crate::each::LineAnswers;
 use crate::fault::Fault;
-use crate::inputs::first_line;
-use crate::shelf::Shelf;
+use crate::input_lines::first_line;
+use crate::positions::position_on;
 use dob_classes::Classes;
 use dob_dbfile::{Format, PlacedSource, read_classes, read_value};
-use dob_pieces::Profile;
 use dob_probe::check_member;
-use dob_text::read_position_bytes;
+use dob_shelf::Shelf;
 use dob_value::Value;
 use std::alloc::Global;
 
@@ -27,11 +24,8 @@ pub fn answer_look_each<S: Shelf>(
     shelf: &mut S,
     file: &str,
 ) -> Result<LineAnswers, Fault>
-    ensures ok { IfOk result (λ answers. ArePlaceLines (IsLookedFor (GivesWhole ((S.state shelf.old).has file.now)))
-        (shelf_change (S.state shelf.old) (S.state shelf.new)) file.now answers.is_refused (string_bytes answers.lines)) }
-    ensures err { IfErr result (IsPlacesFault (shelf_change (S.state shelf.old) (S.state shelf.new)) file.now) }
+    ensures answered { GivesLookEach (shelf_change (S.state shelf.old) (S.state shelf.new)) file.now result }
     ensures files { SameFiles (S.state shelf.old).has (S.state shelf.new).has }
-    ensures failed { FailsWhere (shelf_change (S.state shelf.old) (S.state shelf.new)) (is_io_error result) }
 {
     let mut source = shelf.find(file)?;
     let answers = answers_by(alloc, shelf, &mut source);
@@ -92,7 +86,7 @@ fn answer_at<R: PlacedSource>(
     ensures shown { (stream : Stream) → R.shows source.old stream → R.shows source.new stream }
     ensures failed { R.has_failed source.new ≡ (R.has_failed source.old || is_io_error result) }
 {
-    let position = read_position_bytes(Profile::A, line)?;
+    let position = position_on(line)?;
     check_member(classes.family, &position)?;
     Ok(read_value(source, format, classes.class_of(&position))?)
 }

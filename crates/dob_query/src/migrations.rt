@@ -1,28 +1,21 @@
 // Writing a database file anew, in the format of today.
-ghost use Rattle.std.specs.Prelude.{◌≡◌, IfOk, IfErr, codes, string_bytes};
-ghost use Rattle.dob_query.specs.Shelves.{FailsWhere, SameOthers, shelf_change};
-ghost use Rattle.dob_query.specs.Faults.{is_io_error};
-ghost use Rattle.dob_query.specs.Migrations.{AreMigrateLines, IsMigrateFault};
+ghost use Rattle.std.specs.Prelude.{◌≡◌, IfOk, codes, string_bytes};
+ghost use Rattle.dob_shelf.specs.Shelves.{SameOthers, shelf_change};
+ghost use Rattle.dob_query.specs.Migrations.{GivesMigrate};
 ghost use Rattle.dob_query.specs.Sizes.{count_line};
 
-use crate::fault::Fault;
+use crate::fault::Lines;
 use crate::keeping::keep_table;
-use crate::shelf::Shelf;
 use crate::tables::open;
-use std::alloc::{AllocError, Global};
+use dob_pieces::Memory;
+use dob_shelf::Shelf;
+use std::alloc::Global;
 
 /// Keeps the table of the file under the other name, in the second format, and gives the line that tells how many classes it
 /// has. The second file is made when the first one is read whole and the line is there, so that both may have one name.
-pub fn answer_migrate<S: Shelf>(
-    alloc: Global,
-    shelf: &mut S,
-    file: &str,
-    out: &str,
-) -> Result<String, Fault>
-    ensures ok { IfOk result (λ lines. AreMigrateLines (shelf_change (S.state shelf.old) (S.state shelf.new)) file.now out.now (string_bytes lines)) }
-    ensures err { IfErr result (IsMigrateFault (shelf_change (S.state shelf.old) (S.state shelf.new)) file.now out.now) }
+pub fn answer_migrate<S: Shelf>(alloc: Global, shelf: &mut S, file: &str, out: &str) -> Lines
+    ensures answered { GivesMigrate (shelf_change (S.state shelf.old) (S.state shelf.new)) file.now out.now result }
     ensures others { SameOthers out.now (S.state shelf.old).has (S.state shelf.new).has }
-    ensures failed { FailsWhere (shelf_change (S.state shelf.old) (S.state shelf.new)) (is_io_error result) }
 {
     let table = open(alloc, shelf, file)?;
     let line = class_line(alloc, table.class_count())?;
@@ -31,8 +24,8 @@ pub fn answer_migrate<S: Shelf>(
 }
 
 // The line that tells how many classes there are.
-fn class_line(alloc: Global, classes: u64) -> Result<String, AllocError>
+fn class_line(alloc: Global, classes: u64) -> Result<String, Memory>
     ensures { IfOk result (λ line. string_bytes line ≡ count_line (codes "classes ") classes) }
 {
-    format!(in alloc; "classes {classes}\n")
+    Ok(format!(in alloc; "classes {classes}\n")?)
 }

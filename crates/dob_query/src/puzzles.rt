@@ -1,21 +1,19 @@
 // Puzzles of a database file: positions that one move alone wins soonest.
-ghost use Rattle.std.specs.Prelude.{◌≡◌, ◌++◌, ◌∷◌, ◌<◌, ◌↔◌, [], Contains, IfOk, IfErr, IsTrue, OnOk, codes, flat_map, length, string_bytes};
+ghost use Rattle.std.specs.Prelude.{◌≡◌, ◌++◌, ◌∷◌, ◌<◌, ◌↔◌, [], Contains, IfOk, IsTrue, OnOk, codes, flat_map, length, string_bytes};
 ghost use Rattle.std.specs.Fmt.{decimal};
 ghost use Rattle.dob_pieces.specs.Bytes.{line_feed};
-ghost use Rattle.dob_query.specs.Faults.{is_io_error};
-ghost use Rattle.dob_query.specs.Tables.{IsFileOf};
-ghost use Rattle.dob_query.specs.Puzzles.{ArePuzzleLines, IsPuzzleLength, IsPuzzlesFault, line_of_puzzle, puzzle_line, puzzle_lines, puzzle_text};
-ghost use Rattle.dob_query.specs.Shelves.{FailsWhere, SameFiles, shelf_change};
+ghost use Rattle.dob_query.specs.Puzzles.{IsPuzzleLength, line_of_puzzle, puzzle_line, puzzle_lines, puzzle_text, GivesPuzzles};
+ghost use Rattle.dob_shelf.specs.Shelves.{SameFiles, shelf_change};
 
-use crate::fault::Fault;
-use crate::shelf::Shelf;
+use crate::fault::{Fault, Lines};
 use crate::tables::open;
 use dob_moves::Move;
 use dob_pieces::{Memory, Position};
 use dob_probe::{Puzzle, Walk, first_puzzles};
+use dob_shelf::Shelf;
 use dob_text::{write_move, write_position};
 use dob_value::Table;
-use std::alloc::{AllocError, Global};
+use std::alloc::Global;
 
 /// Which puzzles are looked for, and how they are told.
 #[derive(Clone, Copy)]
@@ -36,11 +34,9 @@ pub fn answer_puzzles<S: Shelf>(
     shelf: &mut S,
     file: &str,
     search: PuzzleSearch,
-) -> Result<String, Fault>
-    ensures ok { IfOk result (λ lines. ArePuzzleLines (IsFileOf ((S.state shelf.old).has file.now)) search (string_bytes lines)) }
-    ensures err { IfErr result (IsPuzzlesFault ((S.state shelf.old).has file.now) search.plies) }
+) -> Lines
+    ensures answered { GivesPuzzles (shelf_change (S.state shelf.old) (S.state shelf.new)) file.now search result }
     ensures files { SameFiles (S.state shelf.old).has (S.state shelf.new).has }
-    ensures failed { FailsWhere (shelf_change (S.state shelf.old) (S.state shelf.new)) (is_io_error result) }
 {
     if !is_puzzle_length(search.plies) {
         return Err(Fault::PuzzlePlies);
@@ -126,10 +122,10 @@ fn puzzle_text(
 }
 
 // The line behind a number and two spaces.
-fn numbered_line(alloc: Global, number: u64, line: &str) -> Result<String, AllocError>
+fn numbered_line(alloc: Global, number: u64, line: &str) -> Result<String, Memory>
     ensures { IfOk result (λ numbered. string_bytes numbered ≡ decimal number ++ (codes "  " ++ line.now)) }
 {
-    format!(in alloc; "{number}  {line}")
+    Ok(format!(in alloc; "{number}  {line}")?)
 }
 
 // The line of that position and that move.
@@ -138,12 +134,12 @@ fn puzzle_line(alloc: Global, position: &Position, the_move: Move) -> Result<Str
 {
     let text = write_position(alloc, position)?;
     let told = write_move(alloc, the_move, false)?;
-    Ok(joined_line(alloc, text.as_str(), told.as_str())?)
+    joined_line(alloc, text.as_str(), told.as_str())
 }
 
 // Both texts on a line, with two spaces between them.
-fn joined_line(alloc: Global, text: &str, the_move: &str) -> Result<String, AllocError>
+fn joined_line(alloc: Global, text: &str, the_move: &str) -> Result<String, Memory>
     ensures { IfOk result (λ line. string_bytes line ≡ text.now ++ (codes "  " ++ (the_move.now ++ line_feed ∷ []))) }
 {
-    format!(in alloc; "{text}  {the_move}\n")
+    Ok(format!(in alloc; "{text}  {the_move}\n")?)
 }

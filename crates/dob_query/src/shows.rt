@@ -1,21 +1,20 @@
 // A position drawn for a reader who is new to the game, by a database file with its value and its line, and as a picture.
-ghost use Rattle.std.specs.Prelude.{◌≡◌, IfOk, IfErr, IsTrue, OnOk, string_bytes};
-ghost use Rattle.dob_text.specs.Pictures.{picture_of};
-ghost use Rattle.dob_query.specs.Faults.{is_io_error};
+ghost use Rattle.std.specs.Prelude.{◌≡◌, IfOk, string_bytes};
+ghost use Rattle.dob_query.specs.Endings.{IsAnswered};
 ghost use Rattle.dob_words.specs.Readings.{text_given};
-ghost use Rattle.dob_query.specs.Shelves.{FailsWhere, HasJust, SameFiles, SameOthers, shelf_change};
-ghost use Rattle.dob_query.specs.Shows.{AreDrawn, AreDrawnBy, AreShowLines, IsDrawingFault, IsPictureFault, IsShowFault, KeepsButPicture, played_drawing};
+ghost use Rattle.dob_shelf.specs.Shelves.{SameFiles, SameOthers, shelf_change};
+ghost use Rattle.dob_query.specs.Shows.{AreDrawn, AreDrawnBy, IsDrawingFault, KeepsButPicture, played_drawing, GivesShow, KeepsPicture};
 ghost use Rattle.dob_query.specs.Tables.{IsProbingFault};
 
-use crate::fault::Fault;
-use crate::shelf::Shelf;
-use crate::tables::open;
+use crate::fault::{Fault, Lines};
+use crate::positions::position_named;
+use crate::tables::{best_play, open};
 use crate::values::line_of;
 use dob_dbfile::{Failed, put_all};
 use dob_moves::Move;
-use dob_pieces::{Memory, Position, Profile};
-use dob_probe::{line, probe};
-use dob_text::{draw_position, picture_position, read_position, write_line};
+use dob_pieces::{Memory, Position};
+use dob_shelf::Shelf;
+use dob_text::{draw_position, picture_position, write_line};
 use dob_value::Value;
 use std::alloc::Global;
 
@@ -27,14 +26,11 @@ pub fn answer_show<S: Shelf>(
     file: Option<&str>,
     picture: Option<&str>,
     text: &str,
-) -> Result<String, Fault>
-    ensures ok { IfOk result (λ lines. AreShowLines (shelf_change (S.state shelf.old) (S.state shelf.new)) (text_given file.entry) (text_given picture.entry)
-        text.now (string_bytes lines)) }
-    ensures err { IfErr result (IsShowFault (shelf_change (S.state shelf.old) (S.state shelf.new)) (text_given file.entry) (text_given picture.entry) text.now) }
+) -> Lines
+    ensures answered { GivesShow (shelf_change (S.state shelf.old) (S.state shelf.new)) (text_given file.entry) (text_given picture.entry) text.now result }
     ensures files { KeepsButPicture (text_given picture.entry) (S.state shelf.old).has (S.state shelf.new).has }
-    ensures failed { FailsWhere (shelf_change (S.state shelf.old) (S.state shelf.new)) (is_io_error result) }
 {
-    let position = read_position(Profile::A, text)?;
+    let position = position_named(text)?;
     let lines = drawn_lines(alloc, shelf, file, &position)?;
     match picture {
         None => Ok(lines),
@@ -51,12 +47,12 @@ fn drawn_lines<S: Shelf>(
     shelf: &mut S,
     file: Option<&str>,
     position: &Position,
-) -> Result<String, Fault>
-    ensures ok { IfOk result (λ lines. AreDrawn (S.state shelf.old).has (text_given file.entry) position.now.setup (string_bytes lines)) }
-    ensures err { IfErr result (IsDrawingFault (S.state shelf.old).has (text_given file.entry) position.now.setup) }
+) -> Lines
+    ensures answered { let c = shelf_change (S.state shelf.old) (S.state shelf.new) in
+        IsAnswered c (λ lines. AreDrawn c.before.has (text_given file.entry) position.now.setup (string_bytes lines))
+        (IsDrawingFault c.before.has (text_given file.entry) position.now.setup) result }
     ensures files { SameFiles (S.state shelf.old).has (S.state shelf.new).has }
     ensures told { (S.state shelf.new).tells ≡ (S.state shelf.old).tells }
-    ensures failed { FailsWhere (shelf_change (S.state shelf.old) (S.state shelf.new)) (is_io_error result) }
 {
     match file {
         None => Ok(draw_position(alloc, position)?),
@@ -65,21 +61,15 @@ fn drawn_lines<S: Shelf>(
 }
 
 // The lines that draw the position and tell its value and its line by the table of the file.
-fn lines_by_table<S: Shelf>(
-    alloc: Global,
-    shelf: &mut S,
-    file: &str,
-    position: &Position,
-) -> Result<String, Fault>
-    ensures ok { IfOk result (λ lines. AreDrawnBy ((S.state shelf.old).has file.now) position.now.setup (string_bytes lines)) }
-    ensures err { IfErr result (IsProbingFault ((S.state shelf.old).has file.now) position.now.setup) }
+fn lines_by_table<S: Shelf>(alloc: Global, shelf: &mut S, file: &str, position: &Position) -> Lines
+    ensures answered { let c = shelf_change (S.state shelf.old) (S.state shelf.new) in
+        IsAnswered c (λ lines. AreDrawnBy (c.before.has file.now) position.now.setup (string_bytes lines))
+        (IsProbingFault (c.before.has file.now) position.now.setup) result }
     ensures files { SameFiles (S.state shelf.old).has (S.state shelf.new).has }
     ensures told { (S.state shelf.new).tells ≡ (S.state shelf.old).tells }
-    ensures failed { FailsWhere (shelf_change (S.state shelf.old) (S.state shelf.new)) (is_io_error result) }
 {
     let table = open(alloc, shelf, file)?;
-    let value = probe(&table, position)?;
-    let moves = line(alloc, &table, position)?;
+    let (value, moves) = best_play(alloc, &table, position)?;
     Ok(played_drawing(alloc, position, value, &moves)?)
 }
 
@@ -108,10 +98,8 @@ fn keep_picture<S: Shelf>(
     name: &str,
     position: &Position,
 ) -> Result<(), Fault>
-    ensures kept { OnOk result (IsTrue (S.state shelf.old).tells → HasJust name.now (picture_of position.now.setup) (S.state shelf.new).has) }
-    ensures err { IfErr result (IsPictureFault (shelf_change (S.state shelf.old) (S.state shelf.new)) name.now) }
+    ensures kept { KeepsPicture (shelf_change (S.state shelf.old) (S.state shelf.new)) name.now position.now.setup result }
     ensures others { SameOthers name.now (S.state shelf.old).has (S.state shelf.new).has }
-    ensures failed { FailsWhere (shelf_change (S.state shelf.old) (S.state shelf.new)) (is_io_error result) }
 {
     let picture = picture_position(alloc, position)?;
     let mut sink = shelf.make(name)?;

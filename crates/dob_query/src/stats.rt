@@ -1,18 +1,16 @@
 // How many classes of a database file's table have which value, and examples of the longest win and the longest loss.
-ghost use Rattle.std.specs.Prelude.{◌≡◌, ◌++◌, ◌<◌, IfOk, IfErr, IfSome, OnOk, flat_map, length, string_bytes};
+ghost use Rattle.std.specs.Prelude.{◌≡◌, ◌++◌, ◌<◌, IfOk, IfSome, OnOk, flat_map, length, string_bytes};
 ghost use Rattle.dob_probe.specs.Statistics.{AreGroups};
-ghost use Rattle.dob_query.specs.Faults.{is_io_error};
-ghost use Rattle.dob_query.specs.Shelves.{FailsWhere, SameFiles, shelf_change};
-ghost use Rattle.dob_query.specs.Tables.{IsFileOf};
-ghost use Rattle.dob_query.specs.Stats.{AreStatsFor, AreStatsLines, AreStatsOf, IsLongestLine, IsStatsFault, csv_lines, csv_row, group_line, group_text, longest_of, longest_text, with_group};
+ghost use Rattle.dob_shelf.specs.Shelves.{SameFiles, shelf_change};
+ghost use Rattle.dob_query.specs.Stats.{AreStatsFor, AreStatsOf, IsLongestLine, csv_lines, distance_line, group_text, longest_of, longest_text, value_row, with_group, GivesStats};
 
-use crate::fault::Fault;
+use crate::fault::Lines;
 use crate::keeping::lines_of;
-use crate::shelf::Shelf;
 use crate::tables::open;
 use dob_check::statistics;
 use dob_pieces::Memory;
 use dob_probe::Group;
+use dob_shelf::Shelf;
 use dob_text::write_position;
 use dob_value::{Table, Value};
 use std::alloc::Global;
@@ -33,11 +31,9 @@ pub fn answer_stats<S: Shelf>(
     shelf: &mut S,
     file: &str,
     is_csv: bool,
-) -> Result<String, Fault>
-    ensures ok { IfOk result (λ lines. AreStatsLines (IsFileOf ((S.state shelf.old).has file.now)) is_csv (string_bytes lines)) }
-    ensures err { IfErr result (IsStatsFault ((S.state shelf.old).has file.now)) }
+) -> Lines
+    ensures answered { GivesStats (shelf_change (S.state shelf.old) (S.state shelf.new)) file.now is_csv result }
     ensures files { SameFiles (S.state shelf.old).has (S.state shelf.new).has }
-    ensures failed { FailsWhere (shelf_change (S.state shelf.old) (S.state shelf.new)) (is_io_error result) }
 {
     let table = open(alloc, shelf, file)?;
     let groups = statistics(rt, alloc, &table)?;
@@ -120,33 +116,30 @@ fn group_text(alloc: Global, is_csv: bool, group: Group) -> Result<String, Memor
     ensures { IfOk result (λ line. string_bytes line ≡ group_text is_csv group) }
 {
     if is_csv {
-        csv_row(alloc, group)
+        value_row(alloc, ",", group.value, group.classes)
     } else {
-        group_line(alloc, group)
+        distance_line(alloc, group.value, group.classes)
     }
 }
 
-// The group's value and how many classes it has.
-fn csv_row(alloc: Global, group: Group) -> Result<String, Memory>
-    ensures { IfOk result (λ line. string_bytes line ≡ csv_row group) }
+// How many classes have a distance; the draws are told before.
+fn distance_line(alloc: Global, value: Value, classes: u64) -> Result<String, Memory>
+    ensures { IfOk result (λ line. string_bytes line ≡ distance_line value classes) }
 {
-    let classes = group.classes;
-    match group.value {
-        Value::Win(plies) => Ok(format!(in alloc; "win {plies},{classes}\n")?),
-        Value::Loss(plies) => Ok(format!(in alloc; "loss {plies},{classes}\n")?),
-        Value::Draw => Ok(format!(in alloc; "draw,{classes}\n")?),
-    }
-}
-
-// The line of the group.
-fn group_line(alloc: Global, group: Group) -> Result<String, Memory>
-    ensures { IfOk result (λ line. string_bytes line ≡ group_line group) }
-{
-    let classes = group.classes;
-    match group.value {
-        Value::Win(plies) => Ok(format!(in alloc; "win {plies} {classes}\n")?),
-        Value::Loss(plies) => Ok(format!(in alloc; "loss {plies} {classes}\n")?),
+    match value {
+        Value::Win(_) | Value::Loss(_) => value_row(alloc, " ", value, classes),
         Value::Draw => Ok(String::new(alloc)),
+    }
+}
+
+// A value and how many classes have it, with that text between them.
+fn value_row(alloc: Global, between: &str, value: Value, classes: u64) -> Result<String, Memory>
+    ensures { IfOk result (λ line. string_bytes line ≡ value_row between.now value classes) }
+{
+    match value {
+        Value::Win(plies) => Ok(format!(in alloc; "win {plies}{between}{classes}\n")?),
+        Value::Loss(plies) => Ok(format!(in alloc; "loss {plies}{between}{classes}\n")?),
+        Value::Draw => Ok(format!(in alloc; "draw{between}{classes}\n")?),
     }
 }
 

@@ -2,41 +2,35 @@
 ghost use Rattle.std.specs.Prelude.{◌≡◌, ◌++◌, ◌∷◌, [], false, if◌then◌else◌, IfOk, IfErr, OnOk, string_bytes};
 ghost use Rattle.dob_text.specs.MoveText.{move_text, numbered_text};
 ghost use Rattle.dob_value.specs.Follows.{IsConsistent, IsValueTable};
-ghost use Rattle.dob_probe.specs.Faults.{IsFaultOfCheck};
-ghost use Rattle.dob_query.specs.Shelves.{FailsWhere, SameFiles, shelf_change};
-ghost use Rattle.dob_query.specs.Faults.{is_io_error};
+ghost use Rattle.dob_probe.specs.Faults.{IsFaultOfCheck, IsFaultOfLine};
+ghost use Rattle.dob_probe.specs.Lines.{GivenBy, IsLine};
+ghost use Rattle.dob_shelf.specs.Shelves.{SameFiles, shelf_change};
+ghost use Rattle.dob_query.specs.Endings.{IsAnswered};
 ghost use Rattle.dob_pieces.specs.Bytes.{line_feed};
-ghost use Rattle.dob_query.specs.Tables.{IsCheckFault, IsCheckLine, IsFileOf, AreMovesLines, IsOpeningFault, IsPositionFault};
-ghost use Rattle.dob_query.specs.Tables.{IsProbeLine, end_text, moves_lines, moves_text, space_before};
+ghost use Rattle.dob_query.specs.Tables.{IsFileOf, IsOpeningFault, GivesCheck, GivesLine, GivesProbe};
+ghost use Rattle.dob_query.specs.Tables.{consistent_line, end_text, moves_lines, moves_text, space_before};
 
-use crate::fault::Fault;
+use crate::fault::{Fault, Lines};
+use crate::positions::file_and_position;
 use crate::progress::{Console, Progress};
-use crate::shelf::Shelf;
 use crate::values::line_of;
 use dob_check::check_watched;
 use dob_dbfile::read_table;
 use dob_moves::Move;
-use dob_pieces::{Memory, Profile};
+use dob_pieces::{Memory, Position};
 use dob_probe::{line, probe};
-use dob_text::{read_position, write_line, write_move};
+use dob_shelf::Shelf;
+use dob_text::{write_line, write_move};
 use dob_value::{Table, Value};
 use std::alloc::Global;
 use std::thread::Threads;
 
 /// The line that tells the value of the position that the text names, by the table of the file.
-pub fn answer_probe<S: Shelf>(
-    alloc: Global,
-    shelf: &mut S,
-    file: &str,
-    text: &str,
-) -> Result<String, Fault>
-    ensures ok { IfOk result (λ line. IsProbeLine ((S.state shelf.old).has file.now) text.now (string_bytes line)) }
-    ensures err { IfErr result (IsPositionFault ((S.state shelf.old).has file.now) text.now) }
+pub fn answer_probe<S: Shelf>(alloc: Global, shelf: &mut S, file: &str, text: &str) -> Lines
+    ensures answered { GivesProbe (shelf_change (S.state shelf.old) (S.state shelf.new)) file.now text.now result }
     ensures files { SameFiles (S.state shelf.old).has (S.state shelf.new).has }
-    ensures failed { FailsWhere (shelf_change (S.state shelf.old) (S.state shelf.new)) (is_io_error result) }
 {
-    let position = read_position(Profile::A, text)?;
-    let table = open(alloc, shelf, file)?;
+    let (table, position) = file_and_position(alloc, shelf, file, text)?;
     let value = probe(&table, &position)?;
     Ok(line_of(alloc, value)?)
 }
@@ -49,16 +43,12 @@ pub fn answer_line<S: Shelf>(
     file: &str,
     is_numbered: bool,
     text: &str,
-) -> Result<String, Fault>
-    ensures ok { IfOk result (λ lines. AreMovesLines ((S.state shelf.old).has file.now) is_numbered text.now (string_bytes lines)) }
-    ensures err { IfErr result (IsPositionFault ((S.state shelf.old).has file.now) text.now) }
+) -> Lines
+    ensures answered { GivesLine (shelf_change (S.state shelf.old) (S.state shelf.new)) file.now is_numbered text.now result }
     ensures files { SameFiles (S.state shelf.old).has (S.state shelf.new).has }
-    ensures failed { FailsWhere (shelf_change (S.state shelf.old) (S.state shelf.new)) (is_io_error result) }
 {
-    let position = read_position(Profile::A, text)?;
-    let table = open(alloc, shelf, file)?;
-    let value = probe(&table, &position)?;
-    let moves = line(alloc, &table, &position)?;
+    let (table, position) = file_and_position(alloc, shelf, file, text)?;
+    let (value, moves) = best_play(alloc, &table, &position)?;
     Ok(moves_lines(alloc, is_numbered, value, &moves)?)
 }
 
@@ -70,14 +60,19 @@ pub fn answer_check<S: Shelf>(
     shelf: &mut S,
     file: &str,
     is_watched: bool,
-) -> Result<String, Fault>
-    ensures ok { IfOk result (λ line. IsCheckLine ((S.state shelf.old).has file.now) (string_bytes line)) }
-    ensures err { IfErr result (IsCheckFault ((S.state shelf.old).has file.now)) }
+) -> Lines
+    ensures answered { GivesCheck (shelf_change (S.state shelf.old) (S.state shelf.new)) file.now result }
     ensures files { SameFiles (S.state shelf.old).has (S.state shelf.new).has }
-    ensures failed { FailsWhere (shelf_change (S.state shelf.old) (S.state shelf.new)) (is_io_error result) }
 {
     let table = open(alloc, shelf, file)?;
     check_table(rt, alloc, &table, is_watched)?;
+    Ok(consistent_line(alloc)?)
+}
+
+// The line that tells that a table is consistent.
+fn consistent_line(alloc: Global) -> Result<String, Memory>
+    ensures { IfOk result (λ line. string_bytes line ≡ consistent_line) }
+{
     Ok("consistent\n".to_string(alloc)?)
 }
 
@@ -98,14 +93,28 @@ fn check_table(
     checked
 }
 
-// The table of the file.
+/// The value of the position by the table, and its line of best play.
+pub(crate) fn best_play(
+    alloc: Global,
+    table: &Table,
+    position: &Position,
+) -> Result<(Value, Vec<Move>), dob_probe::Fault>
+    ensures value { IfOk result (λ play. GivenBy table.now position.now.setup play.0) }
+    ensures line { IfOk result (λ play. IsLine table.now.family.profile (GivenBy table.now) position.now.setup play.1.items) }
+    ensures fault { IfErr result (IsFaultOfLine table.now position.now.setup) }
+{
+    let value = probe(table, position)?;
+    let best_line = line(alloc, table, position)?;
+    Ok((value, best_line))
+}
+
+/// The table of the file.
 pub(crate) fn open<S: Shelf>(alloc: Global, shelf: &mut S, file: &str) -> Result<Table, Fault>
-    ensures table { IfOk result (λ table. IsFileOf ((S.state shelf.old).has file.now) table) }
-    ensures fault { IfErr result (IsOpeningFault ((S.state shelf.old).has file.now)) }
+    ensures opened { let c = shelf_change (S.state shelf.old) (S.state shelf.new) in
+        IsAnswered c (IsFileOf (c.before.has file.now)) (IsOpeningFault (c.before.has file.now)) result }
     ensures files { SameFiles (S.state shelf.old).has (S.state shelf.new).has }
     ensures told { (S.state shelf.new).tells ≡ (S.state shelf.old).tells }
     ensures input { (S.state shelf.new).input ≡ (S.state shelf.old).input }
-    ensures failed { FailsWhere (shelf_change (S.state shelf.old) (S.state shelf.new)) (is_io_error result) }
 {
     let mut source = shelf.find(file)?;
     let read = read_table(alloc, &mut source);

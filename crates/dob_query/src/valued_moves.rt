@@ -1,49 +1,35 @@
 // The moves of a position with their values by the table of a database file: all of them, or the first.
-ghost use Rattle.std.specs.Prelude.{◌≡◌, ◌++◌, IfOk, IfErr, OnOk, flat_map, string_bytes};
-ghost use Rattle.dob_query.specs.ValuedMoves.{AreMoveLines, AreMovesOf, IsBestLine, best_line, valued_move_line, move_lines};
-ghost use Rattle.dob_query.specs.Faults.{is_io_error};
-ghost use Rattle.dob_query.specs.Shelves.{FailsWhere, SameFiles, shelf_change};
+ghost use Rattle.std.specs.Prelude.{◌≡◌, ◌++◌, IfOk, OnOk, flat_map, string_bytes};
+ghost use Rattle.dob_query.specs.ValuedMoves.{AreMovesOf, best_move_line, valued_move_line, move_lines, GivesBest, GivesMoves};
+ghost use Rattle.dob_shelf.specs.Shelves.{SameFiles, shelf_change};
+ghost use Rattle.dob_query.specs.Endings.{IsAnswered};
 ghost use Rattle.dob_query.specs.Tables.{IsPositionFault};
 
-use crate::fault::Fault;
-use crate::shelf::Shelf;
-use crate::tables::open;
+use crate::fault::{Fault, Lines};
+use crate::positions::file_and_position;
 use crate::values::line_of;
-use dob_pieces::{Memory, Profile};
+use dob_pieces::Memory;
 use dob_probe::{ValuedMove, valued_moves};
-use dob_text::{read_position, write_move};
+use dob_shelf::Shelf;
+use dob_text::write_move;
 use std::alloc::Global;
 
 /// The lines that tell the moves of the position that the text names, each with its value by the table of the file.
-pub fn answer_moves<S: Shelf>(
-    alloc: Global,
-    shelf: &mut S,
-    file: &str,
-    text: &str,
-) -> Result<String, Fault>
-    ensures ok { IfOk result (λ lines. AreMoveLines ((S.state shelf.old).has file.now) text.now (string_bytes lines)) }
-    ensures err { IfErr result (IsPositionFault ((S.state shelf.old).has file.now) text.now) }
+pub fn answer_moves<S: Shelf>(alloc: Global, shelf: &mut S, file: &str, text: &str) -> Lines
+    ensures answered { GivesMoves (shelf_change (S.state shelf.old) (S.state shelf.new)) file.now text.now result }
     ensures files { SameFiles (S.state shelf.old).has (S.state shelf.new).has }
-    ensures failed { FailsWhere (shelf_change (S.state shelf.old) (S.state shelf.new)) (is_io_error result) }
 {
     let the_moves = valued_moves_of(alloc, shelf, file, text)?;
     Ok(move_lines(alloc, &the_moves)?)
 }
 
 /// The line that tells the first of these moves with its value: the first move of the best play.
-pub fn answer_best<S: Shelf>(
-    alloc: Global,
-    shelf: &mut S,
-    file: &str,
-    text: &str,
-) -> Result<String, Fault>
-    ensures ok { IfOk result (λ line. IsBestLine ((S.state shelf.old).has file.now) text.now (string_bytes line)) }
-    ensures err { IfErr result (IsPositionFault ((S.state shelf.old).has file.now) text.now) }
+pub fn answer_best<S: Shelf>(alloc: Global, shelf: &mut S, file: &str, text: &str) -> Lines
+    ensures answered { GivesBest (shelf_change (S.state shelf.old) (S.state shelf.new)) file.now text.now result }
     ensures files { SameFiles (S.state shelf.old).has (S.state shelf.new).has }
-    ensures failed { FailsWhere (shelf_change (S.state shelf.old) (S.state shelf.new)) (is_io_error result) }
 {
     let the_moves = valued_moves_of(alloc, shelf, file, text)?;
-    Ok(best_line(alloc, &the_moves)?)
+    Ok(best_move_line(alloc, &the_moves)?)
 }
 
 // The moves of the position that the text names, each with its value by the table of the file, best first.
@@ -53,13 +39,12 @@ fn valued_moves_of<S: Shelf>(
     file: &str,
     text: &str,
 ) -> Result<Vec<ValuedMove>, Fault>
-    ensures ok { IfOk result (λ the_moves. AreMovesOf ((S.state shelf.old).has file.now) text.now the_moves.items) }
-    ensures err { IfErr result (IsPositionFault ((S.state shelf.old).has file.now) text.now) }
+    ensures answered { let c = shelf_change (S.state shelf.old) (S.state shelf.new) in
+        IsAnswered c (λ the_moves. AreMovesOf (c.before.has file.now) text.now the_moves.items)
+        (IsPositionFault (c.before.has file.now) text.now) result }
     ensures files { SameFiles (S.state shelf.old).has (S.state shelf.new).has }
-    ensures failed { FailsWhere (shelf_change (S.state shelf.old) (S.state shelf.new)) (is_io_error result) }
 {
-    let position = read_position(Profile::A, text)?;
-    let table = open(alloc, shelf, file)?;
+    let (table, position) = file_and_position(alloc, shelf, file, text)?;
     Ok(valued_moves(alloc, &table, &position)?)
 }
 
@@ -75,8 +60,8 @@ fn move_lines(alloc: Global, the_moves: &[ValuedMove]) -> Result<String, Memory>
 }
 
 // The line of the first move, or that there is none.
-fn best_line(alloc: Global, the_moves: &[ValuedMove]) -> Result<String, Memory>
-    ensures { IfOk result (λ line. string_bytes line ≡ best_line the_moves.now) }
+fn best_move_line(alloc: Global, the_moves: &[ValuedMove]) -> Result<String, Memory>
+    ensures { IfOk result (λ line. string_bytes line ≡ best_move_line the_moves.now) }
 {
     match the_moves {
         [] => Ok("end\n".to_string(alloc)?),

@@ -2,14 +2,14 @@
 ghost use Rattle.std.specs.Prelude.{◌≡◌, IfOk, IfErr, string_bytes};
 ghost use Rattle.dob_query.specs.Program.{IsFaultOf, IsValueLineOf, value_line};
 
-use crate::fault::Fault;
-use dob_pieces::Profile;
+use crate::fault::Lines;
+use dob_pieces::{Memory, Profile};
 use dob_text::read_position;
 use dob_value::{Value, sweep_value};
-use std::alloc::{AllocError, Global};
+use std::alloc::Global;
 
 /// The line that tells the value of the position that the text names, by the rules of the profile.
-pub fn answer_value(alloc: Global, profile: Profile, text: &str) -> Result<String, Fault>
+pub fn answer_value(alloc: Global, profile: Profile, text: &str) -> Lines
     ensures ok { IfOk result (λ line. IsValueLineOf profile text.now (string_bytes line)) }
     ensures err { IfErr result (IsFaultOf profile text.now) }
 {
@@ -19,12 +19,12 @@ pub fn answer_value(alloc: Global, profile: Profile, text: &str) -> Result<Strin
 }
 
 /// The line that tells a value.
-pub(crate) fn line_of(alloc: Global, value: Value) -> Result<String, AllocError>
+pub(crate) fn line_of(alloc: Global, value: Value) -> Result<String, Memory>
     ensures { IfOk result (λ line. string_bytes line ≡ value_line value) }
 {
     match value {
-        Value::Win(plies) => format!(in alloc; "win {plies}\n"),
-        Value::Loss(plies) => format!(in alloc; "loss {plies}\n"),
-        Value::Draw => "draw\n".to_string(alloc),
+        Value::Win(plies) => Ok(format!(in alloc; "win {plies}\n")?),
+        Value::Loss(plies) => Ok(format!(in alloc; "loss {plies}\n")?),
+        Value::Draw => Ok("draw\n".to_string(alloc)?),
     }
 }

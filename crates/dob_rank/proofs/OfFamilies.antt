@@ -1,6 +1,6 @@
 -- Families: the positions of a set that a profile allows.
 pub mod Present  -- a family's positions among the ranks of its set
-pub mod FamilyOrder  -- ranks in a family are below its size, and tell its positions
+pub mod FamilyOrder  -- ranks in a family are below its size, and give its positions
 pub mod RunPresent  -- which places of a run are of the family
 pub mod RunCounts  -- how many of them are before a place
 pub mod FamilyRuns  -- how many positions of a family a run has, and how many stand before it

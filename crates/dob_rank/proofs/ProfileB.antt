@@ -1,7 +1,7 @@
 -- Ranks of profile B, in which choices of squares have unequal weights.
 pub mod Weights  -- weighted choices, and forms that are allowed
 pub mod FarChicks  -- a board is allowed where its chicks' forms are
-pub mod RunWeights  -- marks that a part of a place tells, and layers settled later
+pub mod RunWeights  -- marks that a part of a place gives, and layers settled later
 pub mod LionBoards  -- the squares that two lions leave
 pub mod FormSquares  -- which forms the chicks of a choice may have
 pub mod FormPlaces  -- the allowed forms before those of a board

@@ -34,7 +34,7 @@ digits_of (base ∷ bases) number = (number / product bases) ∷ digits_of bases
 abbrev pub HasDigits : List ℕ → List ℕ → Type 0
 HasDigits bases digits = AllZip (λ (base digit : ℕ). digit < base) bases digits
 
--- ---- the layers of a board, numbered in the order in which a key tells their squares: lists of layers have their numbers
+-- ---- the layers of a board, numbered in the order in which a key lists their squares: lists of layers have their numbers
 
 abbrev pub order : Layer → ℕ
 order OwnLion = 0

@@ -10,7 +10,7 @@ use Rattle.dob_rank.specs.Families.{family_of, is_present}
 use Rattle.dob_rank.specs.Weights.{may_have, are_allowed, lions_in, forms_before, choice_weight}
 use Rattle.dob_rank.specs.declared.layers.Layer.TheVariants.{Chicks}
 
--- chicks of a choice of squares may have the forms that the number tells, where those lions stand
+-- chicks of a choice of squares may have the forms that the number says, where those lions stand
 abbrev pub stands : ℕ → ℕ → ℕ → ℕ → Bool
 stands lions chicks c n = are_allowed (may_have B) 4 (order Chicks) n 0 (settle (order Chicks) chicks c (lions_in lions))
 

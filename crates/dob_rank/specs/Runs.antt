@@ -11,7 +11,7 @@ use Rattle.dob_rank.specs.declared.runs.RunDigits.{RunDigits}
 use Rattle.dob_rank.specs.declared.runs.RunKind.{RunKind}
 use Rattle.dob_rank.specs.declared.runs.RunKind.TheVariants.{First, Later, Mixed}
 
--- the bases of the hands and the lions, whose digits tell the run
+-- the bases of the hands and the lions, whose digits give the run
 abbrev pub run_bases : PieceSet → List ℕ → List ℕ
 run_bases set on_board =
     (set.chicks - slice_index on_board 0 + 1) ∷ (set.elephants - slice_index on_board 1 + 1)
@@ -21,7 +21,7 @@ run_bases set on_board =
 abbrev pub run_digits : RunDigits → List ℕ
 run_digits digits = digits.hand.chicks ∷ digits.hand.elephants ∷ digits.hand.giraffes ∷ digits.own ∷ digits.enemy ∷ []
 
--- the bases of the squares and forms, whose digits tell the place in a run
+-- the bases of the squares and forms, whose digits give the place in a run
 abbrev pub local_bases : List ℕ → List ℕ
 local_bases on_board =
     let i = slice_index on_board 0 in
@@ -63,7 +63,7 @@ pub record IsInRun (set : PieceSet) (block run local : ℕ) : Type 0 where
   pub run_below : run < runs_in set block
   pub local_below : local < run_size set block
 
--- the numbers of the run that digits tell, and of the place in it
+-- the numbers of the run that digits give, and of the place in it
 abbrev pub run_number : PieceSet → List ℕ → List ℕ → ℕ
 run_number set on_board ds = number_of (run_bases set on_board) (take 5 ds)
 

@@ -23,7 +23,7 @@ all_weights w s zero (l ∷ ls) = all_weights w (suc s) zero ls
 all_weights w s (suc pieces) (l ∷ ls) =
     cond (l == order Empty) (w s * all_weights w (suc s) pieces ls) 0 + all_weights w (suc s) (suc pieces) ls
 
--- the forms that a number tells are all allowed
+-- the forms that a number says are all allowed
 abbrev pub are_allowed : (ℕ → ℕ → Bool) → ℕ → ℕ → ℕ → ℕ → List ℕ → Bool
 are_allowed ok base t number s [] = true
 are_allowed ok base t number s (l ∷ ls) =
@@ -33,7 +33,7 @@ are_allowed ok base t number s (l ∷ ls) =
 abbrev pub may_have : Profile → ℕ → ℕ → Bool
 may_have profile square form = may_stand profile square (cell_of (order Chicks) form)
 
--- chicks and hens on so many squares, the first two of these, may have the forms that the number tells
+-- chicks and hens on so many squares, the first two of these, may have the forms that the number says
 abbrev pub forms_stand : ℕ → ℕ → ℕ → ℕ → Bool
 forms_stand zero first second n = true
 forms_stand (suc zero) first second n = may_have B first (n % 4)
@@ -119,17 +119,19 @@ others_by ob ds = number_of ((2 ^ slice_index ob 1) ∷ (2 ^ slice_index ob 2) �
 unfoldable pub hand_size : Profile → ℕ → ℕ
 hand_size profile chicks = lions_before profile chicks lion_pairs
 
--- the place in a block of a hand and lions, of the digits of squares and forms, and of so many allowed forms of the chicks before
+-- the place behind so many choices of the chicks' squares with forms, of the digits of the others' squares and forms where those lions stand, and of so
+-- many allowed forms of the chicks before
+abbrev pub place_behind : Profile → List ℕ → List ℕ → ℕ → ℕ → ℕ → ℕ
+place_behind profile ob ds lions chosen forms =
+    (chosen * others_squares ob + (squares_by ob ds * choice_weight profile lions (slice_index ob 0) (slice_index ds 5) + forms)) * others_forms ob
+    + others_by ob ds
+
+-- in a block: behind the choices of the hands and lions before and those before its own
 unfoldable pub place_in : Profile → List ℕ → List ℕ → ℕ → ℕ → ℕ → ℕ
 place_in profile ob ds hands lions forms =
     let i = slice_index ob 0 in
-    let c = slice_index ds 5 in
-    let chosen = hands * hand_size profile i + lions_before profile i lions + forms_before profile lions i c in
-    (chosen * others_squares ob + (squares_by ob ds * choice_weight profile lions i c + forms)) * others_forms ob + others_by ob ds
+    place_behind profile ob ds lions (hands * hand_size profile i + lions_before profile i lions + forms_before profile lions i (slice_index ds 5)) forms
 
--- how many positions of a run of those lions stand before the one of those digits and of so many allowed forms of the chicks before
+-- in a run of those lions: behind the choices before its own
 unfoldable pub local_in : Profile → List ℕ → List ℕ → ℕ → ℕ → ℕ
-local_in profile ob ds lions forms =
-    let i = slice_index ob 0 in
-    let c = slice_index ds 5 in
-    (forms_before profile lions i c * others_squares ob + (squares_by ob ds * choice_weight profile lions i c + forms)) * others_forms ob + others_by ob ds
+local_in profile ob ds lions forms = place_behind profile ob ds lions (forms_before profile lions (slice_index ob 0) (slice_index ds 5)) forms

@@ -4,15 +4,15 @@ ghost use Rattle.std.specs.Prelude.{◌≡◌, ◌<◌, ◌≤◌, ◌+◌, ◌*
 ghost use Rattle.dob_rank.specs.Numbers.{choose, product, HasDigits, number_of, digits_of, sum_below, bases_by, block_bases, block_size, size_of_set};
 ghost use Rattle.dob_rank.specs.Runs.{runs_in, run_size, run_bases, square_bases, form_bases, local_bases, run_number, local_number, run_digits, AreFewOnBoard};
 
+use crate::radix;
 use crate::runs::{ENEMY_SQUARES, FREE_SQUARES, LIONS, OWN_SQUARES, RunDigits, Spot};
-use crate::{radix, starts};
 use dob_lists::{join_by_power, split_by_power};
 use dob_pieces::{Hand, PieceSet};
 
 /// One number for each kind of piece: chicks (hens counted with them), elephants, giraffes.
 pub type EachKind = [u64; 3];
 
-/// How many digits tell the place in a block: 0 to 2 are the numbers in hand, 3 to 7 the choices of squares of five
+/// How many digits give the place in a block: 0 to 2 are the numbers in hand, 3 to 7 the choices of squares of five
 /// layers, and 8 to 10 the forms of three kinds.
 pub const DIGITS: usize = 11;
 
@@ -252,7 +252,7 @@ fn forms_in(on_board: &EachKind) -> u64
     1 << form_bits(on_board)
 }
 
-/// How many bits tell the forms of the pieces of those numbers on the board.
+/// How many bits hold the forms of the pieces of those numbers on the board.
 fn form_bits(on_board: &EachKind) -> u64
     requires { AreFewOnBoard on_board.now }
     ensures value { 2 ^ result ≡ product (form_bases on_board.now) }
@@ -339,23 +339,4 @@ pub fn run_size_in(set: PieceSet, block: u64) -> u64
 {
     let on_board = numbers_in(set, block);
     size_of_runs(&on_board, &choices_in(&on_board))
-}
-
-/// The block in which a rank below the set's size lies, and the place there.
-pub(crate) fn find_block(set: PieceSet, rank: u64) -> (u64, u64)
-    requires { rank < size_of_set set }
-    ensures block { result.0 < product (block_bases set) }
-    ensures place { result.1 < block_size set result.0 }
-    ensures whole { sum_below (block_size set) result.0 + result.1 ≡ rank }
-{
-    let blocks = blocks(set);
-    let mut start = 0;
-    for block in 0..blocks {
-        let end = starts::block_start(set, block + 1);
-        if rank < end {
-            return (block, rank - start);
-        }
-        start = end;
-    }
-    (blocks, 0)
 }

@@ -1,4 +1,4 @@
-// Layers: what stands on a square, in the order in which a key tells the squares.
+// Layers: what stands on a square, in the order in which a key lists the squares.
 
 /// What stands on a square. Hens are counted with the chicks.
 #[derive(Clone, Copy)]

@@ -11,7 +11,6 @@
 pub mod block;
 pub mod far_places;
 pub mod far_rows;
-mod far_starts;
 pub mod forms;
 pub mod layers;
 pub mod masks;

@@ -1,5 +1,5 @@
 // The squares of each layer as the bits of a number, found in one pass over the board without branches, and what such
-// bits tell: how many squares there are, and the number of their choice.
+// bits say: how many squares there are, and the number of their choice.
 ghost use Rattle.std.specs.Prelude.{◌≡◌, ◌<◌, ◌≤◌, ◌/◌, ◌%◌, ◌^◌, ℕ, suc, List, length, map};
 ghost use Rattle.dob_rank.specs.Numbers.{order, layer, count, choice, forms_number};
 ghost use Rattle.dob_rank.specs.Masks.{layer_mask, from_mask, plane};

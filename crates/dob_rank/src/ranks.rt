@@ -12,22 +12,22 @@ ghost use Rattle.dob_rank.specs.Masks.{layer_mask};
 ghost use Rattle.dob_rank.specs.Numbers.{product, block_bases, start_of, block_of, order, layer, count, choose, free_squares, on_board as on_board_of};
 ghost use Rattle.dob_rank.specs.Order.{IsPositionOfSet};
 ghost use Rattle.dob_rank.specs.Places.{IsSpotFor};
-ghost use Rattle.dob_rank.specs.Runs.{AreFewOnBoard, lion_pairs, square_bases};
+ghost use Rattle.dob_rank.specs.Runs.{AreFewOnBoard, square_bases};
 ghost use Rattle.dob_rank.specs.Weights.{may_have, allowed_number, choice_weight, forms_before, lions_before, others_squares, others_forms};
-ghost use Rattle.dob_rank.specs.Weights.{squares_by, others_by, hand_size, place_in};
+ghost use Rattle.dob_rank.specs.Weights.{squares_by, others_by, hand_size, place_behind};
 
 use crate::block::{self, DIGITS, EachKind};
 use crate::far_places::{lions_at, local_at};
 use crate::far_rows::{before_choice, before_lions, forms_below, hand_size};
-use crate::far_starts::far_start;
 use crate::forms::form_of;
 use crate::layers::Layer;
 use crate::masks::{self, Masks};
 use crate::radix;
 use crate::runs::{FREE_SQUARES, LIONS, Spot};
 use crate::set_ranks::{
-    digits_of, numbers_on_board, piece_set_of, position_by, rank_in_set, size_of_set, unrank_in_set,
+    digits_of, numbers_on_board, piece_set_of, position_by, rank_in_set, unrank_in_set,
 };
+use crate::starts::{block_start, find_block};
 use dob_pieces::{Family, Piece, PieceSet, Position, Profile, Square};
 
 /// How many positions the family has.
@@ -36,10 +36,7 @@ pub fn size(family: Family) -> u64
     ensures number { result ≡ size_of family }
     ensures bound { result < 2 ^ 31 }
 {
-    match family.profile {
-        Profile::A => size_of_set(family.set),
-        Profile::B => far_start(family.set, block::blocks(family.set)),
-    }
+    block_start(family, block::blocks(family.set))
 }
 
 /// How many positions of its piece set that the profile allows stand before the position, which is one of them.
@@ -73,30 +70,12 @@ fn far_unrank(set: PieceSet, rank: u64) -> Position
     requires { rank < size_of (family_of set B) }
     ensures { IsRanked (family_of set B) result.setup rank }
 {
-    let (block, number) = find_far_block(set, rank);
+    let profile = Profile::B;
+    let (block, number) = find_block(Family { set, profile }, rank);
     let on_board = block::numbers_in(set, block);
     let choices = block::choices_in(&on_board);
     let spot = far_spot_at(&on_board, &choices, number);
     position_by(set, &on_board, &choices, spot)
-}
-
-/// The block in which a rank of profile B is, and how many positions of the profile the block has before it.
-fn find_far_block(set: PieceSet, rank: u64) -> (u64, u64)
-    requires { rank < size_of (family_of set B) }
-    ensures block { result.0 < product (block_bases set) }
-    ensures number { marks_below (is_present (family_of set B)) (start_of set result.0) + result.1 ≡ rank }
-    ensures within { rank < marks_below (is_present (family_of set B)) (start_of set (result.0 + 1)) }
-{
-    let blocks = block::blocks(set);
-    let mut start = 0;
-    for block in 0..blocks {
-        let end = far_start(set, block + 1);
-        if rank < end {
-            return (block, rank - start);
-        }
-        start = end;
-    }
-    (blocks, 0)
 }
 
 /// The spot of a block of those numbers on the board before which the block has so many positions of profile B.
@@ -131,7 +110,8 @@ fn far_rank(position: &Position) -> u64
     let on_board = numbers_on_board(position, masks);
     let set = piece_set_of(position, &on_board);
     let block = radix::number_of(&block::block_bases_of(set), &on_board);
-    far_start(set, block) + far_place(set, position, masks, &on_board)
+    let profile = Profile::B;
+    block_start(Family { set, profile }, block) + far_place(set, position, masks, &on_board)
 }
 
 /// How many positions of profile B stand before one of the set in its block.
@@ -144,30 +124,37 @@ fn far_place(set: PieceSet, position: &Position, masks: Masks, on_board: &EachKi
 {
     let digits = digits_of(position, masks, on_board);
     let run = block::spot_from(set, on_board, &digits).run;
+    let lions = run % LIONS;
+    let chosen = chosen_before(on_board[0], run / LIONS, lions, digits[5]);
     let forms = allowed_forms(&position.setup.board, masks.chicks, on_board[0]);
-    place_by(on_board, &digits, run, forms)
+    place_behind(on_board, &digits, lions, chosen, forms)
 }
 
-/// The place in a block that those numbers write: of a run, of the digits of squares and forms, and of so many allowed forms of the chicks before.
-fn place_by(on_board: &EachKind, digits: &[u64; DIGITS], run: u64, forms: u64) -> u64
+/// The place that those numbers write: of so many choices of the chicks' squares with forms before, of the digits of the others' squares and forms where
+/// those lions stand, and of so many allowed forms of the chicks before.
+pub fn place_behind(
+    on_board: &EachKind,
+    digits: &[u64; DIGITS],
+    lions: u64,
+    chosen: u64,
+    forms: u64,
+) -> u64
     requires few { AreFewOnBoard on_board.now }
-    requires run { run < 2 ^ 12 }
+    requires lions { lions < LIONS }
     requires choice { slice_index digits.now 5 < choose free_squares (slice_index on_board.now 0) }
     requires squares { squares_by on_board.now digits.now < others_squares on_board.now }
     requires others { others_by on_board.now digits.now < others_forms on_board.now }
+    requires chosen { chosen ≤ 2 ^ 22 }
     requires forms { forms ≤ 20 }
-    ensures value { result ≡ place_in B on_board.now digits.now (run / lion_pairs) (run % lion_pairs) forms }
+    ensures value { result ≡ place_behind B on_board.now digits.now lions chosen forms }
     ensures bound { result ≤ 2 ^ 42 }
 {
-    let chicks = on_board[0];
     let choices = block::choices_in(on_board);
-    let lions = run % LIONS;
-    let chosen = chosen_before(chicks, run / LIONS, lions, digits[5]);
     let squares = digits[6] * choices[2] + digits[7];
     let placed = add_product(
         chosen,
         choices[1] * choices[2],
-        squares * weight_of(chicks, lions, digits[5]) + forms,
+        squares * weight_of(on_board[0], lions, digits[5]) + forms,
     );
     let giraffes = block::power(2, on_board[2]);
     add_product(
@@ -178,7 +165,7 @@ fn place_by(on_board: &EachKind, digits: &[u64; DIGITS], run: u64, forms: u64) -
 }
 
 /// A product of numbers that are small enough, and a third.
-pub fn add_product(a: u64, b: u64, c: u64) -> u64
+fn add_product(a: u64, b: u64, c: u64) -> u64
     requires a { a ≤ 2 ^ 34 }
     requires b { b ≤ 2 ^ 11 }
     requires c { c ≤ 2 ^ 32 }

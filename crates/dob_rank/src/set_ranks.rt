@@ -14,16 +14,9 @@ use crate::block::{self, DIGITS, EachKind};
 use crate::layers::Layer;
 use crate::masks::{self, Masks};
 use crate::runs::Spot;
-use crate::{placing, radix, starts};
-use dob_pieces::{Hand, HandKind, Hands, PieceSet, Position, Setup};
-
-/// How many positions the piece set has.
-pub(crate) fn size_of_set(set: PieceSet) -> u64
-    ensures number { result ≡ size_of_set set }
-    ensures bound { result < 2 ^ 31 }
-{
-    starts::block_start(set, block::blocks(set))
-}
+use crate::starts::{block_start, find_block};
+use crate::{placing, radix};
+use dob_pieces::{Family, Hand, HandKind, Hands, PieceSet, Position, Profile, Setup};
 
 /// How many positions of its piece set stand before the position.
 pub(crate) fn rank_in_set(position: &Position) -> u64
@@ -33,7 +26,8 @@ pub(crate) fn rank_in_set(position: &Position) -> u64
     let on_board = numbers_on_board(position, masks);
     let set = piece_set_of(position, &on_board);
     let (block, spot) = spot_with(set, position, masks, &on_board);
-    starts::block_start(set, block) + block::place_of(&on_board, spot)
+    let profile = Profile::A;
+    block_start(Family { set, profile }, block) + block::place_of(&on_board, spot)
 }
 
 /// The position of the set that has that rank, which is below the set's size.
@@ -42,7 +36,8 @@ pub(crate) fn unrank_in_set(set: PieceSet, rank: u64) -> Position
     ensures position { IsPositionOfSet set result.setup }
     ensures number { rank_of_set set result.setup ≡ rank }
 {
-    let (block, place) = block::find_block(set, rank);
+    let profile = Profile::A;
+    let (block, place) = find_block(Family { set, profile }, rank);
     let on_board = block::numbers_in(set, block);
     let choices = block::choices_in(&on_board);
     let spot = block::spot_at(set, &on_board, &choices, place);

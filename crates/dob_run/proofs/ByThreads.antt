@@ -11,25 +11,26 @@ use Rattle.dob_stops.specs.declared.cause.Cause.{Cause}
 use Rattle.dob_stops.specs.declared.fault.Fault.{Fault}
 use Rattle.dob_stops.specs.declared.fault.Fault.TheVariants.{Nodes, Sizes, Stopped, Memory}
 use Rattle.dob_run.specs.declared.build_end.Built.{Built}
-use Rattle.dob_run.specs.declared.slots.Outlet.{Outlet}
-use Rattle.dob_run.specs.declared.runner.Runner.{Runner}
+use Rattle.dob_runner.specs.declared.slots.Outlet.{Outlet}
+use Rattle.dob_runner.specs.declared.runner.Runner.{Runner}
 use Rattle.dob_run.specs.declared.bounded_run.Turned.{Turned}
-use Rattle.dob_run.specs.declared.turn_loop.Until.{Until}
-use Rattle.dob_run.specs.declared.turn_loop.Until.TheVariants as until
+use Rattle.dob_runner.specs.declared.turn_loop.Until.{Until}
+use Rattle.dob_runner.specs.declared.turn_loop.Until.TheVariants as until
 use Rattle.dob_run.specs.Built.{IsBuilt}
 use Rattle.dob_run.specs.CrewClose.{IsCrew}
-use Rattle.dob_run.specs.Slots.{in_slot, worked_of}
-use Rattle.dob_run.specs.declared.slots.Inlet.{Inlet}
-use Rattle.dob_run.specs.Links.{offered, worked}
-use Rattle.dob_run.proofs.Senders.{few_of}
+use Rattle.dob_runner.specs.Slots.{in_slot, worked_of}
+use Rattle.dob_runner.specs.declared.slots.Inlet.{Inlet}
+use Rattle.dob_runner.specs.Links.{offered, worked}
+use Rattle.dob_runner.proofs.Senders.{few_of}
 use Rattle.dob_run.specs.BuildEnd.{HaveStopped, IsFailureOf}
 use Rattle.dob_run.specs.CrewRunners.{endpoint_of, IsNewCrew}
 use Rattle.dob_run.specs.Faults.{AreWithin, HasBuildFault}
-use Rattle.dob_run.specs.Runners.{KeepsRunner, IsReasonFor}
+use Rattle.dob_runner.specs.Runners.{KeepsRunner, IsReasonFor}
 use Rattle.dob_run.specs.BoundedRun.{IsTurned, CarriesFew, AreUnfailed, IsFirstFailed, HasLeft, StopsSo, IsUnheld}
-use Rattle.dob_run.specs.TurnLoop.{Ends, EndsBy, AreLetOn, HasRun}
+use Rattle.dob_runner.specs.TurnLoop.{Ends, EndsBy}
+use Rattle.dob_run.specs.CrewTurns.{AreLetOn, HasRun}
 use Rattle.dob_run.proofs.CrewLeaves.{for_kept, turned_is}
-use Rattle.dob_run.proofs.Keeping.{there_is}
+use Rattle.dob_runner.proofs.Keeping.{there_is}
 use Rattle.dob_run.proofs.CrewRunners.{zip_at, seat_at, seat_there, are_linked, crew_many, crew_low, outlet_at, crew_kept}
 use Rattle.dob_run.proofs.RunFaults.{stops_so}
 use Rattle.dob_run.proofs.Threaded.{all_kept}
@@ -188,7 +189,7 @@ module _ (No : ℕ → Type 0) (family : Family) (n size capacity : ℕ) (board 
   have_stopped = λ k runner at.
       let was = zip_at (Ends No until.Halted) ran.old ended k runner ran.ends at in
       let is = ran.opened.each k was.0 was.1 in
-      record { family_is = was.2.0.family ∙ is.family_is; size_is = was.2.0.size ∙ is.size_is; halted = was.2.1 }
+      record { family_is = was.2.0.family ∙ is.family_is; size_is = was.2.0.batch_size ∙ is.size_is; halted = was.2.1 }
 
   pub is_built : (result : Result Built Fault) →
       IfOk result (λ built. (m : ℕ) → HaveStopped family m ended → IsBuilt family board.nodes m built) → IfOk result (IsBuilt family n size)

@@ -31,19 +31,19 @@ use Rattle.dob_node.proofs.Ends.{lawful_is_right}
 use Rattle.dob_node.specs.declared.node.Node.{Node}
 use Rattle.dob_node.specs.Nodes.{IsIdle}
 use Rattle.dob_chan.specs.Ends.{sent_by, taken_of}
-use Rattle.dob_run.specs.declared.slots.Outlet.{Outlet}
-use Rattle.dob_run.specs.declared.slots.Inlet.{Inlet}
-use Rattle.dob_run.specs.declared.endpoint.Endpoint.{Endpoint}
-use Rattle.dob_run.specs.declared.runner.Runner.{Runner}
-use Rattle.dob_run.specs.Slots.{in_slot, held_from}
-use Rattle.dob_run.specs.Links.{offered, worked_from}
-use Rattle.dob_run.specs.Endpoints.{AreOut}
-use Rattle.dob_run.specs.Knows.{CanHaveMade, KnowsRight}
-use Rattle.dob_run.specs.LawfulRunners.{planned, items_worked, own_applied, applied_from, SendsRight, IsLawfulRunner}
+use Rattle.dob_runner.specs.declared.slots.Outlet.{Outlet}
+use Rattle.dob_runner.specs.declared.slots.Inlet.{Inlet}
+use Rattle.dob_runner.specs.declared.endpoint.Endpoint.{Endpoint}
+use Rattle.dob_runner.specs.declared.runner.Runner.{Runner}
+use Rattle.dob_runner.specs.Slots.{in_slot, held_from}
+use Rattle.dob_runner.specs.Links.{offered, worked_from}
+use Rattle.dob_runner.specs.Endpoints.{AreOut}
+use Rattle.dob_runner.specs.Knows.{CanHaveMade, KnowsRight}
+use Rattle.dob_runner.specs.LawfulRunners.{planned, items_worked, own_applied, applied_from, SendsRight, IsLawfulRunner}
 use Rattle.dob_run.specs.Finished.{IsRunnerOf, AreJoinedBy, AreFinished, AreShown}
-use Rattle.dob_run.proofs.Senders.{parts}
-use Rattle.dob_run.proofs.Applied.{applied_here, applied_else}
-use Rattle.dob_run.proofs.Summing.{sums_by}
+use Rattle.dob_runner.proofs.Senders.{parts}
+use Rattle.dob_runner.proofs.Applied.{applied_here, applied_else}
+use Rattle.dob_runner.proofs.Summing.{sums_by}
 
 closed_follows : (status : Status) (cell : Cell) (v : Value) → status ≢ Open → IsValue status cell v → FollowsAtStatus status [] v
 closed_follows Caught cell v closed is = is
@@ -136,7 +136,7 @@ module _ (family : Family) (n : ℕ) (some : 0 < n) (runners : List Runner) (are
   place : (i : ℕ) → i < n → IsRunnerOf family n i (at i)
   place i low = are.each i (at i) (there i low)
 
-  law : (i : ℕ) → i < n → IsLawfulRunner (at i).family (at i).size (at i).node (at i).endpoint
+  law : (i : ℕ) → i < n → IsLawfulRunner (at i).family (at i).batch_size (at i).node (at i).endpoint
   law i low = (place i low).lawful
 
   rest : (i : ℕ) → i < n → IsIdle (at i).node × AreOut (at i).endpoint.outlets.items
@@ -200,7 +200,7 @@ module _ (family : Family) (n : ℕ) (some : 0 < n) (runners : List Runner) (are
       long = sym ((at j).endpoint.taken i (subst (λ m. i < m) (sym (place j low_j).seat.1) low_i))
           ∙ sym (are.counts i j (at i) (at j) outlet.0 (at j).endpoint.inlet joined) ∙ (at i).endpoint.posted j outlet.0 outlet.1
 
-      sends : SendsRight (at i).node (at i).size j (offered outlet.0)
+      sends : SendsRight (at i).node (at i).batch_size j (offered outlet.0)
       sends = (law i low_i).sends j outlet.0 (λ e. apart (sym (e ∙ (place i low_i).seat.0))) outlet.1
 
   all_applied : (i j : ℕ) → i < n → j < n → applied i j ≡ items_from (predecessors family) n j (history i)

@@ -18,24 +18,24 @@ use Rattle.dob_chan.specs.declared.ends.Rejoined.{Rejoined}
 use Rattle.dob_chan.specs.Ends.{sent_by, taken_of}
 use Rattle.dob_node.specs.declared.node.Node.{Node}
 use Rattle.dob_node.specs.Nodes.{outbox_to}
-use Rattle.dob_run.specs.declared.slots.Outlet.{Outlet}
-use Rattle.dob_run.specs.declared.slots.Inlet.{Inlet}
-use Rattle.dob_run.specs.declared.endpoint.Endpoint.{Endpoint}
-use Rattle.dob_run.specs.declared.runner.Runner.{Runner}
+use Rattle.dob_runner.specs.declared.slots.Outlet.{Outlet}
+use Rattle.dob_runner.specs.declared.slots.Inlet.{Inlet}
+use Rattle.dob_runner.specs.declared.endpoint.Endpoint.{Endpoint}
+use Rattle.dob_runner.specs.declared.runner.Runner.{Runner}
 use Rattle.dob_run.specs.declared.crew_close.ClosedCrew.{ClosedCrew}
 use Rattle.dob_run.specs.declared.bounded_run.Worker.{Worker}
 use Rattle.dob_run.specs.declared.bounded_run.Turned.{Turned}
 use Rattle.dob_run.specs.CrewClose.{AreLinked, seat_in, IsCrew, row_of, slots_out, slots_in, AreClosed}
 use Rattle.dob_run.specs.InboxClose.{outlet_slot, IsJoined}
-use Rattle.dob_run.specs.Slots.{in_slot, held_from}
-use Rattle.dob_run.specs.Knows.{KnowsRight}
-use Rattle.dob_run.specs.Links.{offered, worked_from}
+use Rattle.dob_runner.specs.Slots.{in_slot, held_from}
+use Rattle.dob_runner.specs.Knows.{KnowsRight}
+use Rattle.dob_runner.specs.Links.{offered, worked_from}
 use Rattle.dob_run.specs.CrewRunners.{endpoint_of, node_of, AreRunnersFor}
-use Rattle.dob_run.specs.Runners.{KeepsRunner}
+use Rattle.dob_runner.specs.Runners.{KeepsRunner}
 use Rattle.dob_run.specs.BoundedRun.{IsWorker, IsLink, IsTurned, AreUnfailed, AreWorkers, HasLeft}
-use Rattle.dob_run.specs.LawfulRunners.{planned, applied_from, AreLast, SendsRight, IsLawfulRunner}
-use Rattle.dob_run.proofs.Senders.{parts, front}
-use Rattle.dob_run.proofs.Applied.{applied_here, applied_else}
+use Rattle.dob_runner.specs.LawfulRunners.{planned, applied_from, AreLast, SendsRight, IsLawfulRunner}
+use Rattle.dob_runner.proofs.Senders.{parts, front}
+use Rattle.dob_runner.proofs.Applied.{applied_here, applied_else}
 use Rattle.dob_run.proofs.CrewRunners.{zip_at, seat_there, are_linked, seat_at, crew_many, crew_low, outlet_at}
 use Rattle.dob_run.proofs.Places.{at_row, each_more, none_at, get_map, map_got, next_is, then_left, gone_all}
 
@@ -142,7 +142,7 @@ pub for_kept : (family : Family) (size : ℕ) (old new : List Runner) → AreRun
 for_kept family size old new are kept unfailed k runner at =
     let was = zip_at KeepsRunner old new k runner kept at in
     let is = are k was.0 was.1 in
-    record { family_is = was.2.family ∙ is.family_is; size_is = was.2.size ∙ is.size_is; unfailed = unfailed k runner at }
+    record { family_is = was.2.family ∙ is.family_is; size_is = was.2.batch_size ∙ is.size_is; unfailed = unfailed k runner at }
 
 -- what isn't left, and what is
 own_split : (whole own : List Item) → AreLast whole own → take (length whole - length own) whole ++ own ≡ whole
@@ -172,15 +172,15 @@ module _ (board : Board) (family : Family) (size : ℕ) (runners : List Runner) 
       let law = lawful_at i runner at in
       let id : runner.node.id ≡ i = law.of.1 ∙ (seat_at board runners crew i runner at).node in
       let many_nodes : runner.node.n ≡ board.nodes = law.of.2 ∙ (seat_at board runners crew i runner at).nodes in
-      let own : planned runner.node i ≡ applied_by (Some runner) i ++ runner.node.own.items =
-      ap (λ (k : ℕ). planned runner.node k) (sym id) ∙ sym (own_split (planned runner.node runner.node.id) runner.node.own.items law.own)
-      ∙ ap (λ (items : List Item). items ++ runner.node.own.items) (sym (applied_here runner.node runner.endpoint.inlet i (sym id))) in
+      let own : planned runner.node i ≡ applied_by (Some runner) i ++ runner.node.own =
+      ap (λ (k : ℕ). planned runner.node k) (sym id) ∙ sym (own_split (planned runner.node runner.node.id) runner.node.own law.own)
+      ∙ ap (λ (items : List Item). items ++ runner.node.own) (sym (applied_here runner.node runner.endpoint.inlet i (sym id))) in
       let knows : KnowsRight family board.nodes i runner.node.share runner.node.history.settlements (λ from. applied_by (Some runner) from) =
       subst (λ (p : Family × ℕ × ℕ). KnowsRight p.0 p.1 p.2 runner.node.share runner.node.history.settlements (λ from. applied_by (Some runner) from))
       (λ q. (law.of.0 q, many_nodes q, id q)) law.knows in
       let here : IsWorker family board.nodes i (λ from. applied_by (Some runner) from) worker = record {
         of = (ap (λ (n : Node). n.family) node_is ∙ law.of.0, ap (λ (n : Node). n.id) node_is ∙ id, ap (λ (n : Node). n.n) node_is ∙ many_nodes);
-        own = subst (λ (node : Node). planned node i ≡ applied_by (Some runner) i ++ node.own.items) (sym node_is) own;
+        own = subst (λ (node : Node). planned node i ≡ applied_by (Some runner) i ++ node.own) (sym node_is) own;
         knows = subst (λ (node : Node). KnowsRight family board.nodes i node.share node.history.settlements (λ from. applied_by (Some runner) from)) (sym node_is) knows;
       } in
       subst (λ (o : Option Runner). IsWorker family board.nodes i (λ from. applied_by o from) worker) (sym at) here

@@ -9,16 +9,19 @@ use Rattle.dob_pieces.proofs.Elements.{some_at}
 use Rattle.dob_board.specs.declared.board.Board.{Board}
 use Rattle.dob_board.specs.Seats.{IsSeatOf}
 use Rattle.dob_chan.specs.Ends.{IsEndOf}
-use Rattle.dob_run.specs.declared.slots.Outlet.{Outlet}
-use Rattle.dob_run.specs.declared.slots.Inlet.{Inlet}
-use Rattle.dob_run.specs.declared.endpoint.Endpoint.{Endpoint}
-use Rattle.dob_run.specs.declared.runner.Runner.{Runner}
-use Rattle.dob_run.specs.Links.{KeepsInlet}
+use Rattle.dob_runner.specs.declared.slots.Outlet.{Outlet}
+use Rattle.dob_runner.specs.declared.slots.Inlet.{Inlet}
+use Rattle.dob_runner.specs.declared.endpoint.Endpoint.{Endpoint}
+use Rattle.dob_runner.specs.declared.runner.Runner.{Runner}
+use Rattle.dob_runner.specs.Links.{KeepsInlet}
 use Rattle.dob_run.specs.CrewClose.{AreLinked, seat_in, IsCrew}
 use Rattle.dob_run.specs.CrewOpen.{IsNewEndpoint, AreNewEndpoints}
-use Rattle.dob_run.specs.Runners.{KeepsRunner, IsNew}
-use Rattle.dob_run.specs.TurnLoop.{AllSuit}
-use Rattle.dob_run.specs.CrewRunners.{endpoint_of, AreRunnersFor, IsRunnerOf}
+use Rattle.dob_runner.specs.Runners.{KeepsRunner, IsNew}
+use Rattle.dob_run.specs.declared.limits.CrewSizes.{CrewSizes}
+use Rattle.dob_runner.specs.declared.turn_loop.Until.{Until}
+use Rattle.dob_run.specs.CrewSizes.{AreThese}
+use Rattle.dob_run.specs.CrewTurns.{AllSuit, HasRun}
+use Rattle.dob_run.specs.CrewRunners.{endpoint_of, AreRunnersFor, IsRunnerOf, IsNewCrew}
 use Rattle.dob_run.proofs.Places.{get_map, map_got}
 use Rattle.dob_run.proofs.EndpointParts.{count_is}
 
@@ -125,3 +128,18 @@ crew_kept board old new crew kept = record {
       (are_linked old i j from.0 to.0 outlet_before.0 to.0.endpoint.inlet from.2 to.2 outlet_before.1 refl) in
       (sends.0.0 ∙ were.0 ∙ sym takes.0.0, sends.0.1 ∙ were.1);
 }
+
+-- what is so of a crew of those sizes is so of them as numbers
+sized : (P : ℕ → ℕ → ℕ → Type 0) (n items batches : ℕ) (sizes : CrewSizes) → AreThese n items batches sizes → P sizes.nodes sizes.batch_size sizes.capacity → P n items batches
+sized P n items batches sizes these so =
+    subst (λ (k : ℕ). P k items batches) these.nodes
+    (subst (λ (k : ℕ). P sizes.nodes k batches) these.batch_size
+    (subst (λ (k : ℕ). P sizes.nodes sizes.batch_size k) these.capacity so))
+
+pub crew_sized : (family : Family) (n items batches : ℕ) (sizes : CrewSizes) (board : Board) (runners : List Runner) → AreThese n items batches sizes →
+    IsNewCrew family sizes.nodes sizes.batch_size sizes.capacity board runners → IsNewCrew family n items batches board runners
+crew_sized family n items batches sizes board runners = sized (λ a b c. IsNewCrew family a b c board runners) n items batches sizes
+
+pub run_sized : (No : ℕ → Type 0) (until : Until) (family : Family) (n items batches : ℕ) (sizes : CrewSizes) (board : Board) (ended : List Runner) →
+    AreThese n items batches sizes → HasRun No until family sizes.nodes sizes.batch_size sizes.capacity board ended → HasRun No until family n items batches board ended
+run_sized No until family n items batches sizes board ended = sized (λ a b c. HasRun No until family a b c board ended) n items batches sizes

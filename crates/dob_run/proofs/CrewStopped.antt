@@ -20,25 +20,24 @@ use Rattle.dob_board.proofs.Halting.{same_halt}
 use Rattle.dob_chan.specs.declared.ends.Rejoined.{Rejoined}
 use Rattle.dob_chan.specs.Ends.{sent_by, taken_of}
 use Rattle.dob_stops.specs.declared.cause.Cause.{Cause}
-use Rattle.dob_node.specs.declared.node.Node.{Node}
 use Rattle.dob_share.specs.declared.share.Share.{Share}
 use Rattle.dob_node.specs.Nodes.{IsIdle}
 use Rattle.dob_stops.specs.declared.fault.Fault.{Fault}
 use Rattle.dob_stops.specs.declared.fault.Fault.TheVariants.{Nodes, Sizes, Stopped, Memory}
-use Rattle.dob_run.specs.declared.slots.Outlet.{Outlet}
-use Rattle.dob_run.specs.declared.slots.Inlet.{Inlet}
-use Rattle.dob_run.specs.declared.runner.Runner.{Runner}
+use Rattle.dob_runner.specs.declared.slots.Outlet.{Outlet}
+use Rattle.dob_runner.specs.declared.slots.Inlet.{Inlet}
+use Rattle.dob_runner.specs.declared.runner.Runner.{Runner}
 use Rattle.dob_run.specs.declared.crew_close.ClosedCrew.{ClosedCrew as Left}
 use Rattle.dob_run.specs.declared.build_end.Built.{Built}
-use Rattle.dob_run.specs.Slots.{in_slot, held_from}
-use Rattle.dob_run.specs.Links.{offered, worked_from}
-use Rattle.dob_run.proofs.Senders.{parts}
-use Rattle.dob_run.specs.Endpoints.{AreOut}
+use Rattle.dob_runner.specs.Slots.{in_slot, held_from}
+use Rattle.dob_runner.specs.Links.{offered, worked_from}
+use Rattle.dob_runner.proofs.Senders.{parts}
+use Rattle.dob_runner.specs.Endpoints.{AreOut}
 use Rattle.dob_run.specs.CrewClose.{seat_in, IsCrew, AreClosed}
 use Rattle.dob_run.specs.InboxClose.{IsJoined}
 use Rattle.dob_run.specs.CrewRunners.{endpoint_of, node_of}
 use Rattle.dob_run.specs.BoundedRun.{IsFirstFailed}
-use Rattle.dob_run.specs.LawfulRunners.{IsLawfulRunner}
+use Rattle.dob_runner.specs.LawfulRunners.{IsLawfulRunner}
 use Rattle.dob_run.specs.Built.{needed, IsLinkDone, IsBuilt}
 use Rattle.dob_run.specs.Finished.{AreJoinedBy, AreFinished, AreShown}
 use Rattle.dob_run.specs.BuildEnd.{HaveStopped, IsFailure, IsFailureOf, failed_of, share_in, IsOwner, AreOwners, AreShownBelow}
@@ -114,7 +113,7 @@ module _ (board : Board) (family : Family) (size : ℕ) (runners : List Runner) 
     late_failure Memory first = absurd first
 
     -- where each runner is lawful, whether it gave up afterwards or not
-    law_own : (k : ℕ) (runner : Runner) → slice_get runners k ≡ Some runner → IsLawfulRunner runner.family runner.size runner.node runner.endpoint
+    law_own : (k : ℕ) (runner : Runner) → slice_get runners k ≡ Some runner → IsLawfulRunner runner.family runner.batch_size runner.node runner.endpoint
     law_own k runner at = runner.lawful (inr (inl (same_halt runner.endpoint.seat.halt Ended (halt_is k runner at ∙ ended))))
 
     law : (k : ℕ) (runner : Runner) → slice_get runners k ≡ Some runner → IsLawfulRunner family size runner.node runner.endpoint

@@ -14,7 +14,7 @@ use Rattle.dob_chan.specs.Ends.{sent_by, taken_by, taken_of, place_of, AreEndsOf
 use Rattle.dob_pieces.proofs.Elements.{at_end, some_at, get_front, get_set_other}
 use Rattle.dob_run.specs.Rows.{StandsAt, AreRows, AreDealt, AreInOrder}
 use Rattle.dob_run.specs.InboxClose.{IsJoined, AreEnds, AreJoined}
-use Rattle.dob_run.proofs.Counted.{there_set}
+use Rattle.dob_runner.proofs.Counted.{there_set}
 use Rattle.dob_run.proofs.Places.{next_is, then_left, gone_all, behind, none_stands}
 
 module _ {X Z : Type 0} where

@@ -8,8 +8,8 @@ use Rattle.dob_chan.specs.declared.ends.SendEnd.{SendEnd}
 use Rattle.dob_chan.specs.declared.ends.TakeEnd.{TakeEnd}
 use Rattle.dob_chan.specs.Ends.{taken_by, senders_of, IsEndOf, AreEndsOf, AreOpened}
 use Rattle.dob_pieces.proofs.Elements.{at_end}
-use Rattle.dob_run.specs.declared.slots.Outlet.{Outlet}
-use Rattle.dob_run.specs.declared.slots.Inlet.{Inlet}
+use Rattle.dob_runner.specs.declared.slots.Outlet.{Outlet}
+use Rattle.dob_runner.specs.declared.slots.Inlet.{Inlet}
 use Rattle.dob_run.specs.Rows.{StandsAt, AreRows, AreDealt}
 use Rattle.dob_run.specs.InboxOpen.{AreOutlets, IsLaid, IsUntaken, IsOneLaid, AreLaidUpto}
 use Rattle.dob_run.proofs.Places.{each_more, none_at, next_is, then_left, gone_all}

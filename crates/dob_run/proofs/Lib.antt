@@ -1,24 +1,11 @@
 -- The lemmas, in the order in which they are read. First lists and counts.
 pub mod Places  -- what stands where in a list, and in one that was changed
-pub mod Counted  -- the counts of links, after one link changed
-pub mod Senders  -- what came out of an inbox, of one sender
 -- The openings of the classes.
 pub mod Scanned  -- what was found of each class, in the order of the classes
 pub mod Openings  -- each family has openings, whether they were listed or not
 -- What a node knows, and what it has for the others.
-pub mod Summing  -- the sum of what is known, as an equation and as a relation
-pub mod Knowing  -- what a node knows stays right, whatever it takes
-pub mod FirstKnown  -- what a node knows when it is opened
-pub mod Planned  -- what a node planned, after its history went on
 pub mod Needed  -- enough batches were cut for what the classes have to tell
 -- The steps of a runner.
-pub mod Applied  -- what a node has applied from each node, after each step
-pub mod Keeping  -- what links, endpoints and runners keep, through each step
-pub mod Lawfuls  -- each step of a runner leaves it lawful
-pub mod TurnParts  -- what the parts of a turn do, by what their steps do
-pub mod Taking  -- what taking from an inbox does
-pub mod Sending  -- what sending to one node after another does
-pub mod Pacing  -- how many batches go over each link in so many turns
 -- The inboxes and endpoints of a crew.
 pub mod InboxesClosed  -- things dealt, rows joined and inboxes ended one by one
 pub mod InboxesOpened  -- inboxes laid one by one

@@ -23,10 +23,10 @@ use Rattle.dob_update.specs.Batches.{BatchView, items_of_batches}
 use Rattle.dob_node.specs.declared.node.Node.{Node}
 use Rattle.dob_node.specs.Histories.{last_now, value_of}
 use Rattle.dob_node.specs.Nodes.{IsIdle}
-use Rattle.dob_run.specs.declared.slots.Outlet.{Outlet}
-use Rattle.dob_run.specs.declared.endpoint.Endpoint.{Endpoint}
-use Rattle.dob_run.specs.Links.{offered}
-use Rattle.dob_run.specs.LawfulRunners.{SendsRight, IsLawfulRunner}
+use Rattle.dob_runner.specs.declared.slots.Outlet.{Outlet}
+use Rattle.dob_runner.specs.declared.endpoint.Endpoint.{Endpoint}
+use Rattle.dob_runner.specs.Links.{offered}
+use Rattle.dob_runner.specs.LawfulRunners.{SendsRight, IsLawfulRunner}
 use Rattle.dob_run.specs.Built.{edges_to, needed}
 
 -- ---- sums over numbers that follow one another

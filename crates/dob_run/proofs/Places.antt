@@ -5,7 +5,7 @@ use Rattle.std.proofs.lemmas.List.{append-nil}
 use Rattle.std.specs.Prelude.{slice_get}
 use Rattle.std.specs.List.{range_with_len}
 use Rattle.dob_update.specs.Batches.{BatchView}
-use Rattle.dob_run.specs.Slots.{held_from, slot_row}
+use Rattle.dob_runner.specs.Slots.{held_from, slot_row}
 use Rattle.std.specs.declared.vec.Vec.{Vec}
 use Rattle.std.proofs.lemmas.Option.{slice_get_within, same_Some}
 use Rattle.dob_pieces.proofs.Elements.{at_end}

@@ -4,9 +4,9 @@ use Rattle.dob_pieces.specs.declared.profile.Family.{Family}
 use Rattle.dob_board.specs.declared.board.Board.{Board}
 use Rattle.dob_stops.specs.declared.fault.Fault.{Fault}
 use Rattle.dob_stops.specs.declared.fault.Fault.TheVariants.{Nodes, Sizes, Stopped, Memory}
-use Rattle.dob_run.specs.declared.runner.Runner.{Runner}
-use Rattle.dob_run.specs.declared.turn_loop.Until.{Until}
-use Rattle.dob_run.specs.TurnLoop.{HasRun}
+use Rattle.dob_runner.specs.declared.runner.Runner.{Runner}
+use Rattle.dob_runner.specs.declared.turn_loop.Until.{Until}
+use Rattle.dob_run.specs.CrewTurns.{HasRun}
 use Rattle.dob_run.specs.Faults.{HasSizeFault, HasCrewFault, HasBuildFault}
 use Rattle.dob_run.specs.BoundedRun.{StopsSo, IsUnheld}
 

@@ -16,11 +16,11 @@ use Rattle.dob_board.specs.Seats.{AreSeats, IsSeatOf, stand_of}
 use Rattle.dob_board.proofs.Halting.{same_halt}
 use Rattle.dob_chan.specs.Inboxes.{batches_of}
 use Rattle.dob_chan.specs.Ends.{IsEndOf}
-use Rattle.dob_run.specs.declared.slots.Outlet.{Outlet}
-use Rattle.dob_run.specs.declared.slots.Inlet.{Inlet}
-use Rattle.dob_run.specs.declared.endpoint.Endpoint.{Endpoint}
-use Rattle.dob_run.specs.Slots.{in_slot}
-use Rattle.dob_run.specs.Links.{offered, worked}
+use Rattle.dob_runner.specs.declared.slots.Outlet.{Outlet}
+use Rattle.dob_runner.specs.declared.slots.Inlet.{Inlet}
+use Rattle.dob_runner.specs.declared.endpoint.Endpoint.{Endpoint}
+use Rattle.dob_runner.specs.Slots.{in_slot}
+use Rattle.dob_runner.specs.Links.{offered, worked}
 use Rattle.dob_run.specs.Rows.{StandsAt}
 use Rattle.dob_run.specs.InboxOpen.{IsLaid, IsUntaken, AreLaid}
 use Rattle.dob_run.specs.CrewClose.{AreLinked, seat_in}

@@ -17,8 +17,8 @@ use Rattle.dob_node.specs.declared.node.Node.{Node}
 use Rattle.dob_share.specs.declared.share.Share.{Share}
 use Rattle.dob_node.proofs.Kept.{last_now-entry}
 use Rattle.dob_node.proofs.Rest.{below_owner}
-use Rattle.dob_run.specs.declared.endpoint.Endpoint.{Endpoint}
-use Rattle.dob_run.specs.LawfulRunners.{IsLawfulRunner}
+use Rattle.dob_runner.specs.declared.endpoint.Endpoint.{Endpoint}
+use Rattle.dob_runner.specs.LawfulRunners.{IsLawfulRunner}
 use Rattle.dob_run.specs.BuildEnd.{IsOwner, AreOwners, IsShownByOwner, IsCodeShown, AreShownBelow}
 use Rattle.dob_run.specs.Scans.{AreFrom}
 use Rattle.dob_run.proofs.Places.{map_got}

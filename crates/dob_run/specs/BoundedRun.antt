@@ -13,25 +13,25 @@ use Rattle.dob_node.specs.declared.node.Node.{Node}
 use Rattle.dob_node.specs.Nodes.{outbox_to}
 use Rattle.dob_stops.specs.declared.fault.Fault.{Fault}
 use Rattle.dob_stops.specs.declared.fault.Fault.TheVariants.{Nodes, Sizes, Stopped, Memory}
-use Rattle.dob_run.specs.declared.slots.Outlet.{Outlet}
-use Rattle.dob_run.specs.declared.slots.Inlet.{Inlet}
-use Rattle.dob_run.specs.declared.runner.Runner.{Runner}
+use Rattle.dob_runner.specs.declared.slots.Outlet.{Outlet}
+use Rattle.dob_runner.specs.declared.slots.Inlet.{Inlet}
+use Rattle.dob_runner.specs.declared.runner.Runner.{Runner}
 use Rattle.dob_run.specs.declared.bounded_run.Worker.{Worker}
 use Rattle.dob_run.specs.declared.bounded_run.Turned.{Turned}
 use Rattle.dob_run.specs.CrewClose.{AreLinked, seat_in, slots_out, slots_in}
 use Rattle.dob_run.specs.InboxClose.{IsJoined}
-use Rattle.dob_run.specs.Slots.{in_slot}
-use Rattle.dob_run.specs.Knows.{KnowsRight}
-use Rattle.dob_run.specs.declared.turn_loop.Until.{Until}
+use Rattle.dob_runner.specs.Slots.{in_slot}
+use Rattle.dob_runner.specs.Knows.{KnowsRight}
+use Rattle.dob_runner.specs.declared.turn_loop.Until.{Until}
 use Rattle.dob_run.specs.CrewRunners.{endpoint_of}
-use Rattle.dob_run.specs.TurnLoop.{HasRun}
-use Rattle.dob_run.specs.LawfulRunners.{planned}
+use Rattle.dob_run.specs.CrewTurns.{HasRun}
+use Rattle.dob_runner.specs.LawfulRunners.{planned}
 
 -- The worker is that of node i. It has applied what its node planned for itself and isn't left in its own list, and knows just
 -- what the items applied say: its cells are what these make of them.
 pub record IsWorker (family : Family) (n i : ℕ) (applied : ℕ → List Item) (worker : Worker) : Type 0 where
   pub of : (worker.node.family ≡ family) × (worker.node.id ≡ i) × (worker.node.n ≡ n)
-  pub own : planned worker.node i ≡ applied i ++ worker.node.own.items
+  pub own : planned worker.node i ≡ applied i ++ worker.node.own
   pub knows : KnowsRight family n i worker.node.share worker.node.history.settlements applied
 
 -- The link from one worker's node to another's: what was sent is what was received and then what waits; the counts are those

@@ -1,5 +1,5 @@
 -- A crew whose runners have all stopped, and what is made of it.
-use Rattle.std.specs.Prelude.{◌≡◌, ◌≢◌, ⊤, ℕ, ◌<◌, ◌⊎◌, List, Option, None, Some, length, slice_get}
+use Rattle.std.specs.Prelude.{◌≡◌, ◌≢◌, ⊤, ℕ, ◌<◌, ◌⊎◌, List, Option, None, Some, slice_get}
 use Rattle.dob_pieces.specs.declared.profile.Family.{Family}
 use Rattle.dob_rank.specs.Families.{classes_of}
 use Rattle.dob_value.specs.declared.value.Value.{Value}
@@ -14,12 +14,12 @@ use Rattle.dob_node.specs.declared.node.Node.{Node}
 use Rattle.dob_share.specs.declared.share.Share.{Share}
 use Rattle.dob_stops.specs.declared.fault.Fault.{Fault}
 use Rattle.dob_stops.specs.declared.fault.Fault.TheVariants.{Nodes, Sizes, Stopped, Memory}
-use Rattle.dob_run.specs.declared.runner.Runner.{Runner}
+use Rattle.dob_runner.specs.declared.runner.Runner.{Runner}
 
 -- The runner works for that family with batches of at most that size, and its seat knows that the run ended or failed.
 pub record IsStoppedRunner (family : Family) (size : ℕ) (runner : Runner) : Type 0 where
   pub family_is : runner.family ≡ family
-  pub size_is : runner.size ≡ size
+  pub size_is : runner.batch_size ≡ size
   pub halted : runner.endpoint.seat.halt ≢ Running
 
 -- so has each of them

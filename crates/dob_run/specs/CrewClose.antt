@@ -9,13 +9,13 @@ use Rattle.dob_chan.specs.declared.ends.SendEnd.{SendEnd}
 use Rattle.dob_chan.specs.declared.ends.TakeEnd.{TakeEnd}
 use Rattle.dob_chan.specs.declared.ends.Rejoined.{Rejoined}
 use Rattle.dob_chan.specs.Ends.{IsEndOf}
-use Rattle.dob_run.specs.declared.slots.Outlet.{Outlet}
-use Rattle.dob_run.specs.declared.slots.Inlet.{Inlet}
-use Rattle.dob_run.specs.declared.endpoint.Endpoint.{Endpoint}
+use Rattle.dob_runner.specs.declared.slots.Outlet.{Outlet}
+use Rattle.dob_runner.specs.declared.slots.Inlet.{Inlet}
+use Rattle.dob_runner.specs.declared.endpoint.Endpoint.{Endpoint}
 use Rattle.dob_run.specs.declared.crew_close.ClosedCrew.{ClosedCrew}
 use Rattle.dob_run.specs.declared.crew_close.Parts.{Parts}
 use Rattle.dob_run.specs.Rows.{StandsAt, AreRows, AreDealt}
-use Rattle.dob_run.specs.Slots.{slot_row}
+use Rattle.dob_runner.specs.Slots.{slot_row}
 use Rattle.dob_run.specs.InboxClose.{outlet_end, outlet_slot, IsJoined}
 
 -- the outlet of i for j and the inlet of j

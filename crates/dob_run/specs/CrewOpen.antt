@@ -2,9 +2,9 @@
 use Rattle.std.specs.Prelude.{◌≡◌, ℕ, List, [], Some, None, true, slice_get}
 use Rattle.dob_board.specs.declared.halt.Halt.TheVariants.{Running}
 use Rattle.dob_chan.specs.Ends.{capacity_of}
-use Rattle.dob_run.specs.declared.slots.Outlet.{Outlet}
-use Rattle.dob_run.specs.declared.endpoint.Endpoint.{Endpoint}
-use Rattle.dob_run.specs.Links.{offered, worked}
+use Rattle.dob_runner.specs.declared.slots.Outlet.{Outlet}
+use Rattle.dob_runner.specs.declared.endpoint.Endpoint.{Endpoint}
+use Rattle.dob_runner.specs.Links.{offered, worked}
 
 -- Nothing has gone over the links of the endpoint, which sends to inboxes of that capacity; its seat is black and knows of no halt.
 pub record IsNewEndpoint (capacity : ℕ) (endpoint : Endpoint) : Type 0 where

@@ -3,11 +3,11 @@ use Rattle.std.specs.Prelude.{◌≡◌, ℕ, List, None, Some, map, slice_get}
 use Rattle.dob_pieces.specs.declared.profile.Family.{Family}
 use Rattle.dob_board.specs.declared.board.Board.{Board}
 use Rattle.dob_node.specs.declared.node.Node.{Node}
-use Rattle.dob_run.specs.declared.endpoint.Endpoint.{Endpoint}
-use Rattle.dob_run.specs.declared.runner.Runner.{Runner}
+use Rattle.dob_runner.specs.declared.endpoint.Endpoint.{Endpoint}
+use Rattle.dob_runner.specs.declared.runner.Runner.{Runner}
 use Rattle.dob_run.specs.CrewClose.{IsCrew}
 use Rattle.dob_run.specs.CrewOpen.{IsNewEndpoint}
-use Rattle.dob_run.specs.Runners.{IsNew}
+use Rattle.dob_runner.specs.Runners.{IsNew}
 
 abbrev pub endpoint_of : Runner → Endpoint
 endpoint_of runner = runner.endpoint
@@ -18,7 +18,7 @@ node_of runner = runner.node
 -- the runner works for that family, with batches of at most that size, and hasn't failed
 pub record IsRunnerFor (family : Family) (size : ℕ) (runner : Runner) : Type 0 where
   pub family_is : runner.family ≡ family
-  pub size_is : runner.size ≡ size
+  pub size_is : runner.batch_size ≡ size
   pub unfailed : runner.failed ≡ None
 
 -- so does each of them

@@ -10,16 +10,16 @@ use Rattle.dob_share.specs.Shares.{HasValueNow}
 use Rattle.dob_update.specs.Batches.{BatchView}
 use Rattle.dob_node.specs.Openings.{AreOpenings}
 use Rattle.dob_chan.specs.Ends.{sent_by, taken_of}
-use Rattle.dob_run.specs.declared.slots.Outlet.{Outlet}
-use Rattle.dob_run.specs.declared.slots.Inlet.{Inlet}
-use Rattle.dob_run.specs.declared.runner.Runner.{Runner}
-use Rattle.dob_run.specs.LawfulRunners.{IsLawfulRunner}
+use Rattle.dob_runner.specs.declared.slots.Outlet.{Outlet}
+use Rattle.dob_runner.specs.declared.slots.Inlet.{Inlet}
+use Rattle.dob_runner.specs.declared.runner.Runner.{Runner}
+use Rattle.dob_runner.specs.LawfulRunners.{IsLawfulRunner}
 
 -- the runner is lawful, and stands at that place of a crew of n for the family
 pub record IsRunnerOf (family : Family) (n place : ℕ) (runner : Runner) : Type 0 where
   pub seat : (runner.endpoint.seat.node ≡ place) × (runner.endpoint.seat.nodes ≡ n)
   pub family_is : runner.family ≡ family
-  pub lawful : IsLawfulRunner runner.family runner.size runner.node runner.endpoint
+  pub lawful : IsLawfulRunner runner.family runner.batch_size runner.node runner.endpoint
 
 -- the outlet of runner i for j and the inlet of j
 pub record AreJoinedBy (runners : List Runner) (i j : ℕ) (sender taker : Runner) (outlet : Outlet) (inlet : Inlet) : Type 0 where

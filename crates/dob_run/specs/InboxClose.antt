@@ -7,7 +7,7 @@ use Rattle.dob_chan.specs.declared.ends.TakeEnd.{TakeEnd}
 use Rattle.dob_chan.specs.declared.ends.Rejoined.{Rejoined}
 use Rattle.dob_chan.specs.Inboxes.{IsLawfulInbox}
 use Rattle.dob_chan.specs.Ends.{sent_by, taken_of, AreEndsOf}
-use Rattle.dob_run.specs.declared.slots.Outlet.{Outlet}
+use Rattle.dob_runner.specs.declared.slots.Outlet.{Outlet}
 use Rattle.dob_run.specs.Rows.{StandsAt, AreRows}
 
 abbrev pub outlet_end : Outlet → SendEnd

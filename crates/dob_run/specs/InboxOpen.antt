@@ -3,8 +3,8 @@ use Rattle.std.specs.Prelude.{◌≡◌, ℕ, List, [], None, Some, length, slic
 use Rattle.std.specs.declared.vec.Vec.{Vec}
 use Rattle.dob_chan.specs.declared.ends.SendEnd.{SendEnd}
 use Rattle.dob_chan.specs.Ends.{sent_by, taken_by, senders_of, capacity_of, IsEndOf}
-use Rattle.dob_run.specs.declared.slots.Outlet.{Outlet}
-use Rattle.dob_run.specs.declared.slots.Inlet.{Inlet}
+use Rattle.dob_runner.specs.declared.slots.Outlet.{Outlet}
+use Rattle.dob_runner.specs.declared.slots.Inlet.{Inlet}
 use Rattle.dob_run.specs.Rows.{StandsAt, AreRows}
 
 -- an outlet with each of the ends, whose slot is empty

@@ -3,11 +3,11 @@ use Rattle.std.specs.Prelude.{◌≡◌, ℕ, List, Some, length, slice_get}
 use Rattle.std.specs.declared.vec.Vec.{Vec}
 use Rattle.dob_board.specs.declared.seat.NodeSeat.{NodeSeat}
 use Rattle.dob_chan.specs.Ends.{senders_of}
-use Rattle.dob_run.specs.declared.slots.Outlet.{Outlet}
-use Rattle.dob_run.specs.declared.slots.Inlet.{Inlet}
-use Rattle.dob_run.specs.declared.endpoint.Endpoint.{Endpoint}
-use Rattle.dob_run.specs.Links.{offered}
-use Rattle.dob_run.specs.Endpoints.{AreCounts, AreBatchesTaken, AreOwn}
+use Rattle.dob_runner.specs.declared.slots.Outlet.{Outlet}
+use Rattle.dob_runner.specs.declared.slots.Inlet.{Inlet}
+use Rattle.dob_runner.specs.declared.endpoint.Endpoint.{Endpoint}
+use Rattle.dob_runner.specs.Links.{offered}
+use Rattle.dob_runner.specs.Endpoints.{AreCounts, AreBatchesTaken, AreOwn}
 
 -- the row and the inlet are of the seat's size, the row is for its node, and it has counted their batches
 pub record CanSeat (seat : NodeSeat) (outlets : List Outlet) (inlet : Inlet) : Type 0 where

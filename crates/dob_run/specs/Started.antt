@@ -1,10 +1,10 @@
 -- Runners whose threads were started, and what became of them.
 use Rattle.std.specs.Prelude.{◌≡◌, ℕ, Bool}
-use Rattle.dob_run.specs.declared.runner.Runner.{Runner}
+use Rattle.dob_runner.specs.declared.runner.Runner.{Runner}
 use Rattle.dob_run.specs.declared.threads.Started.{Started}
 use Rattle.dob_run.specs.declared.threads.Started.TheVariants.{Runs, GaveUp}
-use Rattle.dob_run.specs.declared.turn_loop.Until.{Until}
-use Rattle.dob_run.specs.TurnLoop.{EndsBy}
+use Rattle.dob_runner.specs.declared.turn_loop.Until.{Until}
+use Rattle.dob_runner.specs.TurnLoop.{EndsBy}
 
 module _ {G : Type 0} (Says : G → ℕ → Bool → Type 0) where
   -- The thread of the runner runs for so long, with that gate, and promises what it keeps; or none could be made, and the runner

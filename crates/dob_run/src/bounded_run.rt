@@ -3,20 +3,18 @@ ghost use Rattle.std.specs.Prelude.{◌≡◌, ◌<◌, ◌≤◌, IfOk, IfErr, 
 ghost use Rattle.dob_run.specs.CrewClose.{IsCrew, row_of};
 ghost use Rattle.dob_run.specs.CrewRunners.{endpoint_of, node_of};
 ghost use Rattle.dob_run.specs.Faults.{AreWithin, HasBuildFault};
-ghost use Rattle.dob_run.specs.Runners.{says_no};
-ghost use Rattle.dob_run.specs.TurnLoop.{until_turns};
+ghost use Rattle.dob_runner.specs.Runners.{says_no};
+ghost use Rattle.dob_runner.specs.TurnLoop.{until_turns};
 ghost use Rattle.dob_run.specs.BoundedRun.{IsTurned, CarriesFew, AreUnfailed, IsFirstFailed, StopsSo, AreWorkers, HasLeft};
 
 use crate::crew_close::{ClosedCrew, close_endpoints};
-use crate::endpoint::Endpoint;
-use crate::gate::Gate;
-use crate::runner::Runner;
+use crate::limits::CrewSizes;
 use crate::threads::run_crew;
-use crate::turn_loop::Until;
 use dob_board::{Board, Closed};
 use dob_chan::Rejoined;
 use dob_node::{Cause, Node};
 use dob_pieces::{Family, Memory};
+use dob_runner::{Endpoint, Gate, Runner, Until};
 use dob_stops::Fault;
 use dob_update::Batch;
 use std::alloc::Global;
@@ -40,8 +38,8 @@ pub struct Turned {
     pub links: Vec<Rejoined>,
 }
 
-/// Lets each of `n` nodes of the family make `turns` turns, in a thread of its own, with batches of at most `batch` items
-/// and inboxes that hold at most `capacity` batches, and without the halt word and the token: each asks the gate at the
+/// Lets each of `nodes` nodes of the family make `turns` turns, in a thread of its own, with batches of at most `batch_size`
+/// items and inboxes that hold at most `capacity` batches, and without the halt word and the token: each asks the gate at the
 /// start of each turn. At most one batch a turn goes over each link. One that fails ends, and the others make their turns. Its
 /// promises hold if it returns.
 ///
@@ -52,20 +50,20 @@ pub fn run_turns<R: Threads + Wait + Sync, G: Gate + Sync>(
     rt: &R,
     alloc: Global,
     family: Family,
-    n: usize,
-    batch: usize,
+    nodes: usize,
+    batch_size: usize,
     capacity: usize,
     turns: u64,
     gate: &G,
 ) -> Result<Turned, Fault>
-    ensures turned { IfOk result (IsTurned family n batch) }
-    ensures few { IfOk result (CarriesFew n turns) }
-    ensures within { OnOk result (AreWithin n batch capacity) }
-    ensures fault { IfErr result (HasBuildFault n batch capacity) }
-    ensures stopped { IfErr result (StopsSo IsFirstFailed (says_no (G.says gate.now)) (until_turns turns) family n batch capacity) }
+    ensures turned { IfOk result (IsTurned family nodes batch_size) }
+    ensures few { IfOk result (CarriesFew nodes turns) }
+    ensures within { OnOk result (AreWithin nodes batch_size capacity) }
+    ensures fault { IfErr result (HasBuildFault nodes batch_size capacity) }
+    ensures stopped { IfErr result (StopsSo IsFirstFailed (says_no (G.says gate.now)) (until_turns turns) family nodes batch_size capacity) }
 {
-    let until = Until::Turns(turns);
-    let (_, board, ended) = run_crew(rt, alloc, family, n, batch, capacity, gate, &until)?;
+    let sizes = CrewSizes::new(nodes, batch_size, capacity)?;
+    let (_, board, ended) = run_crew(rt, alloc, family, &sizes, gate, &Until::Turns(turns))?;
     find_failed(&ended)?;
     let turned = close_crew(rt, alloc, board, ended)?;
     Ok(turned)
@@ -167,13 +165,4 @@ fn workers_of(
         })?;
     }
     Ok(workers)
-}
-
-impl Runner {
-    // Why the runner has failed, if it has.
-    fn failure(&self) -> Option<Cause>
-        ensures { result ≡ self.now.failed }
-    {
-        self.failed
-    }
 }

@@ -2,13 +2,12 @@
 ghost use Rattle.std.specs.Prelude.{◌≡◌, ℕ, Some, IfOk, OnOk, slice_get, vec_len, length, []};
 ghost use Rattle.dob_run.specs.CrewClose.{IsCrew, HasAdded, ArePartsOf, AreClosed};
 
-use crate::endpoint::Endpoint;
 use crate::inbox_close::{part_outlets, rejoin_all, spread_slot};
 use crate::rows::{deal, empty_rows};
-use crate::slots::Inlet;
 use dob_board::{Board, Closed, NodeSeat};
 use dob_chan::{Rejoined, SendEnd, TakeEnd};
 use dob_pieces::Memory;
+use dob_runner::{Endpoint, Inlet};
 use dob_update::Batch;
 use std::alloc::Global;
 use std::sync::Wait;

@@ -1,7 +1,6 @@
 // How a crew begins: with a board, and for each of its nodes a seat, its ends of the inboxes, and a runner.
-ghost use Rattle.std.specs.Prelude.{◌≡◌, ◌<◌, ◌≤◌, ℕ, IfOk, IfErr, OnOk, vec_len, map, replicate, length};
+ghost use Rattle.std.specs.Prelude.{◌≡◌, ℕ, IfOk, IfErr, OnOk, vec_len, map, replicate, length};
 ghost use Rattle.std.specs.List.{AllZip};
-ghost use Rattle.dob_safra.specs.Laws.{IsSize};
 ghost use Rattle.dob_board.specs.Rule.{fresh};
 ghost use Rattle.dob_board.specs.Seats.{AreSeats, stand_of};
 ghost use Rattle.dob_run.specs.InboxOpen.{AreLaid};
@@ -11,65 +10,46 @@ ghost use Rattle.dob_run.specs.CrewOpen.{IsNewEndpoint, AreNewEndpoints};
 ghost use Rattle.dob_run.specs.CrewRunners.{IsRunnerOf, IsNewCrew};
 ghost use Rattle.dob_run.specs.Faults.{AreWithin, HasCrewFault};
 ghost use Rattle.dob_run.specs.Seating.{AreSeated, CanSeat, CanSeatAll};
-ghost use Rattle.dob_update.specs.Batches.{most_items};
 
-use crate::endpoint::Endpoint;
 use crate::inbox_open::lay;
-use crate::limits::size_passed;
-use crate::runner::Runner;
-use crate::slots::{Inlet, Outlet};
+use crate::limits::CrewSizes;
 use dob_board::{Board, NodeSeat};
 use dob_classes::Classes;
 use dob_lists::{SegmentLength, Segments};
 use dob_node::{Node, Opening, opening};
 use dob_pieces::{Family, Memory};
+use dob_runner::{Endpoint, Inlet, Outlet, Runner};
+use dob_safra::NodeCount;
 use dob_stops::Fault;
+use dob_update::{BatchSize, Capacity};
 use rayon::prelude::*;
 use std::alloc::Global;
 use std::thread::Threads;
 
-/// A board, and the runner of each of `n` nodes that own the classes, in order, before their first turn. They cut batches of
-/// at most `batch` items, and each one's inbox holds at most `capacity` batches. The nodes are opened by threads, side by side.
+/// A board, and the runner of each of `nodes` nodes that own the classes, in order, before their first turn. They cut batches
+/// of at most `batch_size` items, and each one's inbox holds at most `capacity` batches. The nodes are opened by threads, side
+/// by side.
 ///
 /// # Errors
 ///
-/// Tested in this order: `Nodes` where `n` isn't 1 to 16; `Sizes` where `batch` isn't 1 to 4096 or `capacity` not 1
-/// to 1024; `Memory`.
+/// Tested in this order: `Nodes` where `nodes` isn't 1 to 16; `Sizes` where `batch_size` isn't 1 to 4096 or `capacity`
+/// not 1 to 1024; `Memory`.
 pub fn crew(
     rt: &(impl Threads + Sync),
     alloc: Global,
     classes: &Classes,
-    n: usize,
-    batch: usize,
+    nodes: usize,
+    batch_size: usize,
     capacity: usize,
 ) -> Result<(Board, Vec<Runner>), Fault>
-    ensures opened { IfOk result (λ opened. IsNewCrew classes.now.family n batch capacity opened.0 opened.1.items) }
-    ensures within { OnOk result (AreWithin n batch capacity) }
-    ensures fault { IfErr result (HasCrewFault n batch capacity) }
+    ensures opened { IfOk result (λ opened. IsNewCrew classes.now.family nodes batch_size capacity opened.0 opened.1.items) }
+    ensures within { OnOk result (AreWithin nodes batch_size capacity) }
+    ensures fault { IfErr result (HasCrewFault nodes batch_size capacity) }
 {
-    if let Some(fault) = size_passed(n, batch, capacity) {
-        return Err(fault);
-    }
-    match open_crew(rt, alloc, classes, n, batch, capacity) {
-        Ok(opened) => Ok(opened),
-        Err(_) => Err(Fault::Memory),
-    }
-}
-
-// A crew as above, of sizes within their limits.
-fn open_crew(
-    rt: &(impl Threads + Sync),
-    alloc: Global,
-    classes: &Classes,
-    n: usize,
-    batch: usize,
-    capacity: usize,
-) -> Result<(Board, Vec<Runner>), Memory>
-    requires { AreWithin n batch capacity }
-    ensures { IfOk result (λ opened. IsNewCrew classes.now.family n batch capacity opened.0 opened.1.items) }
-{
+    let sizes = CrewSizes::new(nodes, batch_size, capacity)?;
     let openings = opening(alloc, classes, SegmentLength::longest())?;
-    crew_of(rt, alloc, classes.family, openings, n, batch, capacity)
+    let opened = crew_of(rt, alloc, classes.family, openings, &sizes)?;
+    Ok(opened)
 }
 
 /// A crew as above, by what was found of each class of the family, which is given up.
@@ -82,16 +62,13 @@ pub(crate) fn crew_of(
     alloc: Global,
     family: Family,
     openings: Segments<Opening>,
-    n: usize,
-    batch: usize,
-    capacity: usize,
+    sizes: &CrewSizes,
 ) -> Result<(Board, Vec<Runner>), Memory>
-    requires openings { AreOpenings family openings }
-    requires within { AreWithin n batch capacity }
-    ensures { IfOk result (λ opened. IsNewCrew family n batch capacity opened.0 opened.1.items) }
+    requires { AreOpenings family openings }
+    ensures { IfOk result (λ opened. IsNewCrew family sizes.now.nodes sizes.now.batch_size sizes.now.capacity opened.0 opened.1.items) }
 {
-    let (board, endpoints) = open_endpoints(alloc, n, capacity)?;
-    let runners = runners_of(rt, alloc, family, &openings, endpoints, batch)?;
+    let (board, endpoints) = open_endpoints(alloc, sizes.nodes, sizes.capacity)?;
+    let runners = runners_of(rt, alloc, family, &openings, endpoints, sizes.batch_size)?;
     Ok((board, runners))
 }
 
@@ -102,13 +79,11 @@ fn runners_of(
     family: Family,
     openings: &Segments<Opening>,
     endpoints: Vec<Endpoint>,
-    size: usize,
+    batch_size: BatchSize,
 ) -> Result<Vec<Runner>, Memory>
     requires openings { AreOpenings family openings.now }
-    requires some { 0 < size }
-    requires at_most { size ≤ most_items }
     requires new { (capacity : ℕ) × AreNewEndpoints capacity endpoints.items }
-    ensures { IfOk result (λ runners. AllZip (IsRunnerOf family size) endpoints.items runners.items) }
+    ensures { IfOk result (λ runners. AllZip (IsRunnerOf family batch_size) endpoints.items runners.items) }
 {
     endpoints
         .into_par_iter()
@@ -116,11 +91,9 @@ fn runners_of(
         .map(
             |endpoint: Endpoint| -> Result<Runner, Memory>
                 requires openings { AreOpenings family openings.now }
-                requires some { 0 < size }
-                requires at_most { size ≤ 4096 }
                 requires new { (capacity : ℕ) × IsNewEndpoint capacity endpoint }
-                ensures { IfOk result (IsRunnerOf family size endpoint) }
-            { open_runner(alloc, family, openings, endpoint, size) },
+                ensures { IfOk result (IsRunnerOf family batch_size endpoint) }
+            { open_runner(alloc, family, openings, endpoint, batch_size) },
         )
         .collect::<Result<Vec<Runner>, Memory>>(rt, alloc)?
 }
@@ -131,13 +104,11 @@ fn open_runner(
     family: Family,
     openings: &Segments<Opening>,
     endpoint: Endpoint,
-    size: usize,
+    batch_size: BatchSize,
 ) -> Result<Runner, Memory>
     requires openings { AreOpenings family openings.now }
-    requires some { 0 < size }
-    requires at_most { size ≤ most_items }
     requires new { (capacity : ℕ) × IsNewEndpoint capacity endpoint }
-    ensures { IfOk result (IsRunnerOf family size endpoint) }
+    ensures { IfOk result (IsRunnerOf family batch_size endpoint) }
 {
     let node = Node::open(
         alloc,
@@ -146,30 +117,28 @@ fn open_runner(
         endpoint.seat.node,
         endpoint.seat.nodes,
     )?;
-    Ok(Runner::new(node, endpoint, family, size))
+    Ok(Runner::new(node, endpoint, family, batch_size))
 }
 
-/// A board of `n` nodes, 1 to 16, and the endpoint of each of them, in order, with inboxes that hold at most `capacity`
-/// batches. Nothing is posted or sent yet.
+/// A board of so many nodes and the endpoint of each of them, in order, with inboxes that hold at most `capacity` batches.
+/// Nothing is posted or sent yet.
 ///
 /// # Errors
 ///
 /// `Memory`.
 pub(crate) fn open_endpoints(
     alloc: Global,
-    n: usize,
-    capacity: usize,
+    nodes: NodeCount,
+    capacity: Capacity,
 ) -> Result<(Board, Vec<Endpoint>), Memory>
-    requires size { IsSize n }
-    requires some { 0 < capacity }
-    ensures nodes { IfOk result (λ opened. opened.0.nodes ≡ n) }
+    ensures nodes { IfOk result (λ opened. opened.0.nodes ≡ nodes) }
     ensures crew { IfOk result (λ opened. IsCrew opened.0 opened.1.items) }
     ensures new { IfOk result (λ opened. AreNewEndpoints capacity opened.1.items) }
 {
-    let Ok((board, seats)) = Board::open(alloc, n) else {
+    let Ok((board, seats)) = Board::open(alloc, nodes.get()) else {
         return Err(Memory);
     };
-    let (rows, inlets) = lay(alloc, n, capacity)?;
+    let (rows, inlets) = lay(alloc, nodes, capacity)?;
     let endpoints = seat_all(alloc, seats, rows, inlets)?;
     Ok((board, endpoints))
 }

@@ -2,13 +2,13 @@
 ghost use Rattle.std.specs.Prelude.{◌≡◌, ◌≢◌, ◌<◌, ℕ, IfOk, Some, map, vec_len};
 ghost use Rattle.dob_update.specs.Batches.{BatchView};
 ghost use Rattle.dob_chan.specs.Ends.{taken_by, AreEndsOf, AreRejoined};
-ghost use Rattle.dob_run.specs.Slots.{held_from, slot_row};
+ghost use Rattle.dob_runner.specs.Slots.{held_from, slot_row};
 ghost use Rattle.dob_run.specs.InboxClose.{outlet_end, outlet_slot, AreEnds, AreJoined};
 
 use crate::rows::{deal, empty_rows, join};
-use crate::slots::Outlet;
 use dob_chan::{Rejoined, SendEnd, TakeEnd, rejoin_inbox};
 use dob_pieces::Memory;
+use dob_runner::Outlet;
 use dob_update::Batch;
 use std::alloc::Global;
 use std::sync::Wait;

@@ -1,15 +1,16 @@
 // How the inboxes of a crew are laid: one for each node, with an outlet of each node to it.
-ghost use Rattle.std.specs.Prelude.{◌≡◌, ◌<◌, ◌≤◌, IfOk, length};
-ghost use Rattle.dob_safra.specs.Laws.{IsSize};
+ghost use Rattle.std.specs.Prelude.{◌≡◌, IfOk, length};
 ghost use Rattle.dob_run.specs.InboxOpen.{AreOutlets, IsOneLaid, AreLaid};
 
 use crate::rows::{deal, empty_rows};
-use crate::slots::{Inlet, Outlet};
 use dob_chan::{SendEnd, inbox};
 use dob_pieces::Memory;
+use dob_runner::{Inlet, Outlet};
+use dob_safra::NodeCount;
+use dob_update::Capacity;
 use std::alloc::Global;
 
-/// The outlets of `n` nodes, 1 to 16, in rows, and their inlets: the outlet of node i for node j sends to the inbox from which
+/// The outlets of so many nodes, in rows, and their inlets: the outlet of node i for node j sends to the inbox from which
 /// the inlet of node j takes, as the sender i. Each inbox holds at most `capacity` batches.
 ///
 /// # Errors
@@ -17,17 +18,16 @@ use std::alloc::Global;
 /// `Memory`.
 pub(crate) fn lay(
     alloc: Global,
-    n: usize,
-    capacity: usize,
+    nodes: NodeCount,
+    capacity: Capacity,
 ) -> Result<(Vec<Vec<Outlet>>, Vec<Inlet>), Memory>
-    requires size { IsSize n }
-    requires some { 0 < capacity }
-    ensures { IfOk result (λ laid. AreLaid capacity n laid.0.items laid.1.items) }
+    ensures { IfOk result (λ laid. AreLaid capacity nodes laid.0.items laid.1.items) }
 {
-    let mut rows = empty_rows(alloc, n)?;
-    let mut inlets = Vec::with_capacity(alloc, n)?;
-    for _ in 0..n {
-        let (outlets, inlet) = lay_one(alloc, n, capacity)?;
+    let count = nodes.get();
+    let mut rows = empty_rows(alloc, count)?;
+    let mut inlets = Vec::with_capacity(alloc, count)?;
+    for _ in 0..count {
+        let (outlets, inlet) = lay_one(alloc, nodes, capacity)?;
         deal(outlets, &mut rows)?;
         inlets.push(inlet)?;
     }
@@ -35,12 +35,14 @@ pub(crate) fn lay(
 }
 
 // One inbox more: the outlet of each node to it, and its inlet.
-fn lay_one(alloc: Global, n: usize, capacity: usize) -> Result<(Vec<Outlet>, Inlet), Memory>
-    requires size { IsSize n }
-    requires some { 0 < capacity }
-    ensures { IfOk result (λ laid. IsOneLaid capacity n laid.0.items laid.1) }
+fn lay_one(
+    alloc: Global,
+    nodes: NodeCount,
+    capacity: Capacity,
+) -> Result<(Vec<Outlet>, Inlet), Memory>
+    ensures { IfOk result (λ laid. IsOneLaid capacity nodes laid.0.items laid.1) }
 {
-    let (sends, take) = inbox(alloc, n, capacity)?;
+    let (sends, take) = inbox(alloc, nodes, capacity)?;
     let outlets = outlets_of(alloc, sends)?;
     Ok((outlets, Inlet::new(take)))
 }

@@ -1,23 +1,21 @@
 // A thread for each runner of a crew.
-ghost use Rattle.std.specs.Prelude.{◌≡◌, IfOk, IfErr};
+ghost use Rattle.std.specs.Prelude.{◌≡◌, ℕ, IfOk};
 ghost use Rattle.std.specs.List.{AllZip};
-ghost use Rattle.dob_run.specs.Faults.{HasCrewFault};
-ghost use Rattle.dob_run.specs.TurnLoop.{Suits, AllSuit, EndsBy, AreLetOn, HasRun};
-ghost use Rattle.dob_run.specs.Runners.{says_no};
+ghost use Rattle.dob_run.specs.CrewSizes.{AreThese};
+ghost use Rattle.dob_runner.specs.TurnLoop.{Suits, EndsBy};
+ghost use Rattle.dob_run.specs.CrewTurns.{AllSuit, AreLetOn, HasRun};
+ghost use Rattle.dob_runner.specs.Runners.{says_no};
 ghost use Rattle.dob_run.specs.Started.{IsStartOf, IsEndOf};
 
 use crate::crew_open::crew_of;
-use crate::gate::Gate;
-use crate::limits::classes_within;
-use crate::runner::Runner;
+use crate::limits::CrewSizes;
 use crate::scans::scan;
-use crate::turn_loop::Until;
 use dob_board::Board;
 use dob_classes::Classes;
 use dob_lists::SegmentLength;
 use dob_node::Cause;
 use dob_pieces::{Family, Memory};
-use dob_stops::Fault;
+use dob_runner::{Gate, Runner, Until};
 use std::alloc::Global;
 use std::snapshot::Snapshot;
 use std::sync::Wait;
@@ -44,31 +42,29 @@ pub(crate) enum Started<G: Gate> {
     GaveUp(Runner),
 }
 
-/// Opens a crew of `n` nodes of the family, with batches of at most `batch` items and inboxes that hold at most `capacity`
-/// batches, and lets its runners make their turns as below. Threads find what is known of each class; that is given up before
-/// the first turn. The board, and what became of each runner. Its promises hold if it returns.
+/// Opens a crew of these sizes for the family, and lets its runners make their turns as below. Threads find what is known of
+/// each class; that is given up before the first turn. The classes, the board, and what became of each runner. Its promises
+/// hold if it returns.
 ///
 /// # Errors
 ///
-/// Those of `classes_within`; `Memory`, which gives the crew up.
+/// `Memory`, which gives the crew up.
 pub(crate) fn run_crew<R: Threads + Wait + Sync, G: Gate + Sync>(
     rt: &R,
     alloc: Global,
     family: Family,
-    n: usize,
-    batch: usize,
-    capacity: usize,
+    sizes: &CrewSizes,
     gate: &G,
     until: &Until,
-) -> Result<(Classes, Board, Vec<Runner>), Fault>
+) -> Result<(Classes, Board, Vec<Runner>), Memory>
     ensures family { IfOk result (λ ran. ran.0.family ≡ family) }
-    ensures ran { IfOk result (λ ran. HasRun (says_no (G.says gate.now)) until.now family n batch capacity ran.1 ran.2.items) }
+    ensures ran { IfOk result (λ ran. (nodes batch_size capacity : ℕ) → AreThese nodes batch_size capacity sizes.now →
+        HasRun (says_no (G.says gate.now)) until.now family nodes batch_size capacity ran.1 ran.2.items) }
     ensures let_on { IfOk result (λ ran. AreLetOn (G.says gate.now) until.now ran.2.items) }
-    ensures fault { IfErr result (HasCrewFault n batch capacity) }
 {
-    let classes = classes_within(alloc, family, n, batch, capacity)?;
+    let classes = Classes::open(alloc, family)?;
     let openings = scan(rt, alloc, &classes, SegmentLength::longest())?;
-    let (board, runners) = crew_of(rt, alloc, family, openings, n, batch, capacity)?;
+    let (board, runners) = crew_of(rt, alloc, family, openings, sizes)?;
     let ended = run_each(rt, alloc, runners, &classes, gate, until)?;
     Ok((classes, board, ended))
 }

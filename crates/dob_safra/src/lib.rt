@@ -1,20 +1,20 @@
 // Safra's termination detection on a ring of at most 16 nodes (Dijkstra, EWD998). Each node has a counter, which
 // rises by one at each batch that it posts and falls by one at each batch that it takes, and a colour. A token goes
-// round the ring from node to node; when it comes back to node 0, its sum and its colour tell whether batches may
+// round the ring from node to node; when it comes back to node 0, its sum and its colour show whether batches may
 // still be in flight.
 #![tactic(auto)]
 
 mod event;
 mod fault;
 pub mod laws;
+mod node_count;
 mod rules;
-mod size;
 mod token;
 mod word;
 
 pub use event::RingEvent;
 pub use fault::Nodes;
+pub use node_count::NodeCount;
 pub use rules::{may_announce, passed};
-pub use size::is_size;
 pub use token::Token;
 pub use word::{pack, unpack};

@@ -106,7 +106,7 @@ module _ (slots : List Slot) (pool : List ℕ) (place : ℕ) (slot : Slot)
   run_within = let most : slot.left + slot.used ≤ room_at slots (length pool) place = room_left in
       let end : slot.start + room_at slots (length pool) place ≤ length pool = run_end in omega arith
 
-  -- where the run begins, if it is told of its place
+  -- where the run begins, if it is known of its place
   pub start_told : (start : ℕ) → start ≡ start_at slots (length pool) place → slot.start ≡ start
   start_told start is = ap (λ s. s.start) slot_is ∙ sym is
 

@@ -16,7 +16,7 @@ use Rattle.dob_share.specs.Pools.{vacant}
 use Rattle.dob_share.specs.Slots.{beyond, slot_at, cell_in}
 use Rattle.dob_share.specs.Openings.{opening_of, moves_where, cell_moves, slots_where, new_slot, AreOpened}
 use Rattle.dob_share.specs.Statuses.{opens, IsStatusOf, word_of, open_at, opens_below}
-use Rattle.dob_share.specs.Shares.{IsOwn, cell_where, number_of, status_at, cell_at}
+use Rattle.dob_share.specs.Shares.{IsOwn, cell_where, open_number, status_at, cell_at}
 use Rattle.dob_share.proofs.Applied.{same_itself}
 use Rattle.dob_share.proofs.Opened.{cell_fresh, longer, none_opened, one_more}
 use Rattle.dob_share.proofs.Words.{rank_less, status_told}
@@ -154,7 +154,7 @@ module _ (share : Share) (openings : List Opening)
         (cell_fresh share.slots share.pool (subst (λ xs. AreOpened share.slots xs) (sym pool_is) below.opened) number)
 
     pub cell_here_fresh : (class : ℕ) → IsOwn share class → SameCell (cell_at share class) (fresh (cell_moves (opening_of openings class)))
-    unfolding cell_at number_of
+    unfolding cell_at open_number
     cell_here_fresh class own = cell_by_status (open_at share.statuses.words (class / share.n))
         (cell_in share.slots share.pool (opens_below share.statuses.words (class / share.n))) (opening_of openings class).status (opening_of openings class).moves
         (told class own).opens_is (open_cell class own)

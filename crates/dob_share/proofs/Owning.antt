@@ -13,7 +13,7 @@ use Rattle.dob_share.specs.Values.{Better}
 use Rattle.dob_share.specs.Cells.{Cell, CellValue, SameCell, CellCanTake, changed, fresh}
 use Rattle.dob_share.specs.Slots.{start_at, cell_in, IsShortCell}
 use Rattle.dob_share.specs.Steps.{IsTooDeep}
-use Rattle.dob_share.specs.Shares.{places_of, IsOwn, IsOwnOpen, IsSeen, status_at, number_of, cell_where, cell_at, IsValue, HasValueNow, Fits, GoesTooDeep, SameClasses}
+use Rattle.dob_share.specs.Shares.{places_of, IsOwn, IsOwnOpen, IsSeen, status_at, open_number, cell_where, cell_at, IsValue, HasValueNow, Fits, GoesTooDeep, SameClasses}
 use Rattle.dob_share.specs.Statuses.{StatusesView, open_at, opens_below, status_in}
 use Rattle.dob_share.proofs.Applied.{CellValue-same, read, same_itself}
 use Rattle.dob_share.proofs.Words.{open_at_open, rank_less, rank_same}
@@ -37,15 +37,15 @@ is_open : (share : Share) (class : ℕ) → IsOwnOpen share class → open_at sh
 unfolding IsOwnOpen status_at
 is_open share class open_here = open_at_open share.statuses.words (class / share.n) open_here.1
 
-pub number_within : (share : Share) (class number : ℕ) → IsOwnOpen share class → number ≡ number_of share class → number < length share.slots
-unfolding IsOwnOpen IsOwn number_of
+pub number_within : (share : Share) (class number : ℕ) → IsOwnOpen share class → number ≡ open_number share class → number < length share.slots
+unfolding IsOwnOpen IsOwn open_number
 number_within share class number open_here is = subst (λ (k : ℕ). k < length share.slots) (sym is)
     (subst (λ (k : ℕ). opens_below share.statuses.words (class / share.n) < k) (sym share.opens)
     (rank_less share.statuses.words (class / share.n) share.statuses.places open_here.0.1 (is_open share class open_here)))
 
 -- what is seen of a class: that it is open, its cell's number, and where its run begins
 pub seen_open : (share : Share) (class : ℕ) (seen : Seen) → IsSeen share class (Some seen) →
-    IsOwnOpen share class × (seen.place ≡ number_of share class) × (seen.start ≡ start_at share.slots (length share.pool) seen.place)
+    IsOwnOpen share class × (seen.place ≡ open_number share class) × (seen.start ≡ start_at share.slots (length share.pool) seen.place)
 unfolding IsSeen
 seen_open share class seen is = is
 
@@ -54,19 +54,19 @@ unfolding IsSeen
 seen_none share class is = is
 
 pub seen_here : (share : Share) (class : ℕ) (look : Option Seen) (seen : Seen) → look ≡ Some seen → IsSeen share class look →
-    IsOwnOpen share class × (seen.place ≡ number_of share class) × (seen.start ≡ start_at share.slots (length share.pool) seen.place)
+    IsOwnOpen share class × (seen.place ≡ open_number share class) × (seen.start ≡ start_at share.slots (length share.pool) seen.place)
 seen_here share class look seen e is = seen_open share class seen (subst (λ o. IsSeen share class o) e is)
 
 pub seen_nowhere : (share : Share) (class : ℕ) (look : Option Seen) → look ≡ None → IsSeen share class look → IsOwnOpen share class → ⊥
 seen_nowhere share class look e is = seen_none share class (subst (λ o. IsSeen share class o) e is)
 
-pub seen_some : (share : Share) (class place : ℕ) (slot : Slot) → IsOwnOpen share class → place ≡ number_of share class →
+pub seen_some : (share : Share) (class place : ℕ) (slot : Slot) → IsOwnOpen share class → place ≡ open_number share class →
     slot ≡ get_or share.slots place slot → IsSeen share class (Some (record { place = place; start = slot.start }))
 unfolding IsSeen
 seen_some share class place slot open_here is read_is =
     (open_here, is, ap (λ s. s.start) (read share.slots share.pool place slot (number_within share class place open_here is) read_is))
 
-seen_told : (share : Share) (class : ℕ) (seen : Seen) → IsOwnOpen share class → seen.place ≡ number_of share class →
+seen_told : (share : Share) (class : ℕ) (seen : Seen) → IsOwnOpen share class → seen.place ≡ open_number share class →
     seen.start ≡ start_at share.slots (length share.pool) seen.place → IsSeen share class (Some seen)
 unfolding IsSeen
 seen_told share class seen open_here is start = (open_here, is, start)
@@ -81,8 +81,8 @@ open_back old new id_same n_same same class own = (
   ap (λ (k : ℕ). status_in new.statuses.words (class / k)) n_same ∙ ap (λ (s : StatusesView). status_in s.words (class / old.n)) same ∙ own.1,
 )
 
-number_same : (old new : Share) → new.n ≡ old.n → new.statuses ≡ old.statuses → (class : ℕ) → number_of new class ≡ number_of old class
-unfolding number_of
+number_same : (old new : Share) → new.n ≡ old.n → new.statuses ≡ old.statuses → (class : ℕ) → open_number new class ≡ open_number old class
+unfolding open_number
 number_same old new n_same same class = ap (λ (k : ℕ). opens_below new.statuses.words (class / k)) n_same
     ∙ ap (λ (s : StatusesView). opens_below s.words (class / old.n)) same
 
@@ -91,21 +91,21 @@ unfolding IsSeen
 seen_not share class not = not
 
 cell_form : (share : Share) (class : ℕ) →
-    cell_at share class ≡ cell_where (open_at share.statuses.words (class / share.n)) (cell_in share.slots share.pool (number_of share class))
+    cell_at share class ≡ cell_where (open_at share.statuses.words (class / share.n)) (cell_in share.slots share.pool (open_number share class))
 unfolding cell_at
 cell_form share class = refl
 
-pub cell_there : (share : Share) (class place : ℕ) → IsOwnOpen share class → place ≡ number_of share class →
+pub cell_there : (share : Share) (class place : ℕ) → IsOwnOpen share class → place ≡ open_number share class →
     cell_in share.slots share.pool place ≡ cell_at share class
 cell_there share class place open_here is = ap (λ (k : ℕ). cell_in share.slots share.pool k) is
-    ∙ sym (cell_form share class ∙ ap (λ (k : ℕ). cell_where k (cell_in share.slots share.pool (number_of share class))) (is_open share class open_here))
+    ∙ sym (cell_form share class ∙ ap (λ (k : ℕ). cell_where k (cell_in share.slots share.pool (open_number share class))) (is_open share class open_here))
 
 -- the value of an own class that is open, by its cell
 pub open_has : (share : Share) (class : ℕ) (value : Value) → status_at share class ≡ Open →
     CellValue (cell_in share.slots share.pool (opens_below share.statuses.words (class / share.n))) value → HasValueNow share class value
-unfolding cell_at status_at number_of
+unfolding cell_at status_at open_number
 open_has share class value is has = subst (λ s. IsValue s (cell_at share class) value) (sym is)
-    (subst (λ (b : ℕ). CellValue (cell_where b (cell_in share.slots share.pool (number_of share class))) value)
+    (subst (λ (b : ℕ). CellValue (cell_where b (cell_in share.slots share.pool (open_number share class))) value)
     (sym (open_at_open share.statuses.words (class / share.n) is)) has)
 
 where_same : (b : ℕ) (x y : Cell) → b < 2 → (b ≡ 1 → SameCell x y) → SameCell (cell_where b x) (cell_where b y)
@@ -151,7 +151,7 @@ open_id : (share : Share) (class : ℕ) → IsOwnOpen share class → class % sh
 unfolding IsOwnOpen IsOwn
 open_id share class own = own.0.0
 
-module _ (old : Share) (item : Item) (place : ℕ) (open_here : IsOwnOpen old item.to) (is : place ≡ number_of old item.to) where
+module _ (old : Share) (item : Item) (place : ℕ) (open_here : IsOwnOpen old item.to) (is : place ≡ open_number old item.to) where
   pub misfit_here : {A : Type 0} (r : Result A Fault) → ((r ≡ Err (Contradiction item.to)) ↔ (CellCanTake item.was item.now (cell_in old.slots old.pool place) → ⊥)) →
       ((r ≡ Err (Contradiction item.to)) ↔ (Fits old item → ⊥))
   misfit_here r h = (
@@ -181,7 +181,7 @@ module _ (old : Share) (item : Item) (place : ℕ) (open_here : IsOwnOpen old it
     open_new : IsOwnOpen new item.to
     open_new = open_back old new id_same n_same same item.to open_here
 
-    place_new : place ≡ number_of new item.to
+    place_new : place ≡ open_number new item.to
     place_new = is ∙ sym (number_same old new n_same same item.to)
 
     pub classes_same : SameClasses old new
@@ -203,25 +203,25 @@ module _ (old : Share) (item : Item) (place : ℕ) (open_here : IsOwnOpen old it
         (subst (λ c. SameCell (cell_in new.slots new.pool place) (changed item.was item.now c)) (cell_there old item.to place open_here is) alike)
 
     -- an own class that is open has another cell
-    other_number : (class : ℕ) → IsOwn old class → (class ≡ item.to → ⊥) → open_at old.statuses.words (class / old.n) ≡ 1 → number_of old class ≡ place → ⊥
-    unfolding number_of
+    other_number : (class : ℕ) → IsOwn old class → (class ≡ item.to → ⊥) → open_at old.statuses.words (class / old.n) ≡ 1 → open_number old class ≡ place → ⊥
+    unfolding open_number
     other_number class own n one e = n (apart old.n old.id class item.to (own_id old class own) (open_id old item.to open_here)
         (rank_same old.statuses.words (class / old.n) (item.to / old.n) one (is_open old item.to open_here) (e ∙ is)))
 
-    cell_then : (class : ℕ) → cell_at new class ≡ cell_where (open_at old.statuses.words (class / old.n)) (cell_in new.slots new.pool (number_of old class))
+    cell_then : (class : ℕ) → cell_at new class ≡ cell_where (open_at old.statuses.words (class / old.n)) (cell_in new.slots new.pool (open_number old class))
     cell_then class = cell_form new class
-        ∙ ap (λ (k : ℕ). cell_where (open_at new.statuses.words (class / k)) (cell_in new.slots new.pool (number_of new class))) n_same
-        ∙ ap (λ (s : StatusesView). cell_where (open_at s.words (class / old.n)) (cell_in new.slots new.pool (number_of new class))) same
+        ∙ ap (λ (k : ℕ). cell_where (open_at new.statuses.words (class / k)) (cell_in new.slots new.pool (open_number new class))) n_same
+        ∙ ap (λ (s : StatusesView). cell_where (open_at s.words (class / old.n)) (cell_in new.slots new.pool (open_number new class))) same
         ∙ ap (λ (k : ℕ). cell_where (open_at old.statuses.words (class / old.n)) (cell_in new.slots new.pool k)) (number_same old new n_same same class)
 
     pub others_kept : ((other : ℕ) → (other ≡ place → ⊥) → SameCell (cell_in new.slots new.pool other) (cell_in old.slots old.pool other)) →
         (class : ℕ) → IsOwn old class → (class ≡ item.to → ⊥) → SameCell (cell_at new class) (cell_at old class)
     others_kept others class own n =
         subst (λ c. SameCell c (cell_at old class)) (sym (cell_then class))
-        (subst (λ c. SameCell (cell_where (open_at old.statuses.words (class / old.n)) (cell_in new.slots new.pool (number_of old class))) c) (sym (cell_form old class))
-        (where_same (open_at old.statuses.words (class / old.n)) (cell_in new.slots new.pool (number_of old class)) (cell_in old.slots old.pool (number_of old class))
+        (subst (λ c. SameCell (cell_where (open_at old.statuses.words (class / old.n)) (cell_in new.slots new.pool (open_number old class))) c) (sym (cell_form old class))
+        (where_same (open_at old.statuses.words (class / old.n)) (cell_in new.slots new.pool (open_number old class)) (cell_in old.slots old.pool (open_number old class))
         (let low : open_at old.statuses.words (class / old.n) < 2 = omega arith in low)
-        (λ one. others (number_of old class) (other_number class own n one))))
+        (λ one. others (open_number old class) (other_number class own n one))))
 
     pub value_then : (value : Value) → CellValue (cell_in new.slots new.pool place) value → HasValueNow new item.to value
     value_then value has = value_there new item.to value (open_status new item.to open_new)
@@ -255,7 +255,7 @@ short_where (suc zero) cell low short = short refl
 short_where (suc (suc b)) cell low short = absurd (omega arith)
 
 pub cell_short : (share : Share) (class : ℕ) → IsOwn share class → IsShortCell (cell_at share class)
-unfolding IsOwn cell_at number_of
+unfolding IsOwn cell_at open_number
 cell_short share class own = short_where (open_at share.statuses.words (class / share.n))
     (cell_in share.slots share.pool (opens_below share.statuses.words (class / share.n)))
     (let low : open_at share.statuses.words (class / share.n) < 2 = omega arith in low)

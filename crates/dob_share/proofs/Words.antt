@@ -61,7 +61,7 @@ in_word words w (suc k) few =
     let all : opens_below words (w * 64 + suc k) ≡ opens_below words (w * 64 + k) + open_at words (w * 64 + k) = ap (opens_below words) next in
     omega arith
 
--- what a word tells, and how many bits are set in it before the place
+-- what a word says, and how many bits are set in it before the place
 rank_is : (words : List StatusWord) (place before : ℕ) → AreCounted words → place / 64 < length words →
     before ≡ bits_below (get_or words (place / 64) no_word).opens (place % 64) →
     (get_or words (place / 64) no_word).before + before ≡ opens_below words place

@@ -27,8 +27,8 @@ unfoldable pub status_at : Share → ℕ → Status
 status_at share class = status_in share.statuses.words (class / share.n)
 
 -- the number of the cell of an own class that is open
-unfoldable pub number_of : Share → ℕ → ℕ
-number_of share class = opens_below share.statuses.words (class / share.n)
+unfoldable pub open_number : Share → ℕ → ℕ
+open_number share class = opens_below share.statuses.words (class / share.n)
 
 -- the cell where the class is open, else that of a class without moves
 abbrev pub cell_where : ℕ → Cell → Cell
@@ -37,7 +37,7 @@ cell_where (suc _) cell = cell
 
 -- the cell of an own class
 unfoldable pub cell_at : Share → ℕ → Cell
-cell_at share class = cell_where (open_at share.statuses.words (class / share.n)) (cell_in share.slots share.pool (number_of share class))
+cell_at share class = cell_where (open_at share.statuses.words (class / share.n)) (cell_in share.slots share.pool (open_number share class))
 
 -- the value of a class with that status and cell
 abbrev pub IsValue : Status → Cell → Value → Type 0
@@ -73,7 +73,7 @@ IsOwnOpen share class = IsOwn share class × (status_at share class ≡ Open)
 -- what is seen of the class ahead of its items: its cell's number, and where its run begins, where it is the share's own and open
 unfoldable pub IsSeen : Share → ℕ → Option Seen → Type 0
 IsSeen share class look = MatchOption look (¬ IsOwnOpen share class)
-    (λ seen. IsOwnOpen share class × (seen.place ≡ number_of share class) × (seen.start ≡ start_at share.slots (length share.pool) seen.place))
+    (λ seen. IsOwnOpen share class × (seen.place ≡ open_number share class) × (seen.start ≡ start_at share.slots (length share.pool) seen.place))
 
 -- What the share gives for an item to the class: nothing where its value has stayed, else its settlement, from the value
 -- that it had to a better one, with the next number.

@@ -74,6 +74,6 @@ abbrev pub opens_below : List StatusWord → ℕ → ℕ
 opens_below words zero = 0
 opens_below words (suc place) = opens_below words place + open_at words place
 
--- each word tells how many are open before it
+-- each word says how many are open before it
 abbrev pub AreCounted : List StatusWord → Type 0
 AreCounted words = (w : ℕ) → w < length words → (slice_index_or words w no_word).before ≡ opens_below words (w * 64)

@@ -1,4 +1,4 @@
-// The cells of one owner's classes: what the settlements of other classes, told item by item, make of their values.
+// The cells of one owner's classes: what the settlements of other classes, item by item, make of their values.
 #![tactic(auto)]
 
 mod cells;

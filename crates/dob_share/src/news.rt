@@ -1,4 +1,4 @@
-// What owners tell one another: settlements, and the items that they make.
+// What owners send one another: settlements, and the items that they make.
 use dob_value::Value;
 
 /// A change of the value of a class. `number` is its place in the history of the class's owner, counted from 0.

@@ -21,7 +21,7 @@ use dob_pieces::Memory;
 use dob_value::Value;
 use std::alloc::Global;
 
-// How many moves a class has at most: a slot tells fewer than 64 entries in use.
+// How many moves a class has at most: a slot counts fewer than 64 entries in use.
 const MOST_MOVES: u8 = 63;
 
 /// What is seen of an own class that is open: the number of its cell, and where the cell's run begins.
@@ -50,7 +50,7 @@ impl Share {
     ghost use Rattle.std.specs.Prelude.{Option};
     ghost use Rattle.dob_share.specs.declared.share.Seen.{Seen};
     ghost use Rattle.dob_share.specs.Cells.{SameCell, changed, fresh};
-    ghost use Rattle.dob_share.specs.Shares.{places_of, IsOwn, status_at, number_of, cell_at, HasValueNow, Fits, GoesTooDeep, SameClasses, IsOwnOpen, IsSeen, HasSettled};
+    ghost use Rattle.dob_share.specs.Shares.{places_of, IsOwn, status_at, open_number, cell_at, HasValueNow, Fits, GoesTooDeep, SameClasses, IsOwnOpen, IsSeen, HasSettled};
 
     /// The share of owner `id` among `n`, at most 16, of the classes that are listed, with what each is at the start. Only open
     /// classes have cells. It makes all the room that `apply` will need, in segments as long as those of the list.
@@ -232,9 +232,9 @@ impl Share {
     }
 
     // The number of the cell of an own class that is open.
-    #[tactic(auto, unfolding(crate::specs::Shares::IsOwn, crate::specs::Shares::status_at, crate::specs::Shares::IsOwnOpen, crate::specs::Shares::number_of))]
+    #[tactic(auto, unfolding(crate::specs::Shares::IsOwn, crate::specs::Shares::status_at, crate::specs::Shares::IsOwnOpen, crate::specs::Shares::open_number))]
     fn cell_number(&self, class: u64) -> Option<usize>
-        ensures { MatchOption result (¬ IsOwnOpen self.now class) (λ number. IsOwnOpen self.now class × (number ≡ number_of self.now class)) }
+        ensures { MatchOption result (¬ IsOwnOpen self.now class) (λ number. IsOwnOpen self.now class × (number ≡ open_number self.now class)) }
     {
         let n = self.n as u64;
         if class % n != self.id as u64 {

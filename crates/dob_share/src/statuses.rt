@@ -153,9 +153,10 @@ fn word_at(
     let mut tried = 0;
     for k in 0..64 {
         let status = listed_status(openings, places, id, n, first + u64::from(k));
-        opens = with_digit(opens, k, open_digit(status));
-        caught = with_digit(caught, k, caught_digit(status));
-        tried = with_digit(tried, k, tried_digit(status));
+        let (is_open, is_caught, is_tried) = digits_of(status);
+        opens = with_digit(opens, k, is_open);
+        caught = with_digit(caught, k, is_caught);
+        tried = with_digit(tried, k, is_tried);
     }
     StatusWord {
         opens,
@@ -183,36 +184,20 @@ fn listed_status(
     opening_at(openings, place * n as u64 + id as u64).status
 }
 
-// One for an open class, else nought.
-fn open_digit(status: Status) -> u64
-    ensures digit { result ≡ opens status }
-    ensures low { result < 2 }
+// One for each of an open class, one that is caught and one that is tried, else nought.
+fn digits_of(status: Status) -> (u64, u64, u64)
+    ensures open { result.0 ≡ opens status }
+    ensures caught { result.1 ≡ catches status }
+    ensures tried { result.2 ≡ tries status }
+    ensures low_open { result.0 < 2 }
+    ensures low_caught { result.1 < 2 }
+    ensures low_tried { result.2 < 2 }
 {
     match status {
-        Status::Open => 1,
-        Status::Caught | Status::Tried | Status::Stuck => 0,
-    }
-}
-
-// One for a class that is caught, else nought.
-fn caught_digit(status: Status) -> u64
-    ensures digit { result ≡ catches status }
-    ensures low { result < 2 }
-{
-    match status {
-        Status::Caught => 1,
-        Status::Open | Status::Tried | Status::Stuck => 0,
-    }
-}
-
-// One for a class that is tried, else nought.
-fn tried_digit(status: Status) -> u64
-    ensures digit { result ≡ tries status }
-    ensures low { result < 2 }
-{
-    match status {
-        Status::Tried => 1,
-        Status::Open | Status::Caught | Status::Stuck => 0,
+        Status::Open => (1, 0, 0),
+        Status::Caught => (0, 1, 0),
+        Status::Tried => (0, 0, 1),
+        Status::Stuck => (0, 0, 0),
     }
 }
 

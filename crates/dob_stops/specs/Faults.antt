@@ -1,4 +1,4 @@
--- What each fault of a run by threads is called.
+-- What each fault of a world or a build by threads is called.
 use Rattle.std.specs.Prelude.{ℕ, List}
 use Rattle.dob_pieces.specs.Faults.{memory_text}
 use Rattle.dob_update.specs.Faults.{sizes_text}

@@ -1,4 +1,4 @@
-// Why a build by threads gives nothing.
+// Why a world or a build by threads gives nothing.
 ghost use Rattle.std.specs.Prelude.{◌≡◌, Some};
 ghost use Rattle.dob_stops.specs.declared.fault.Fault.TheVariants as fault;
 
@@ -7,14 +7,14 @@ use dob_pieces::Memory;
 use std::error::Error;
 use std::fmt;
 
-/// Why a build by threads isn't begun, or gives nothing.
+/// Why a world or a build by threads isn't begun, or gives nothing.
 #[derive(Clone, Copy, Debug, PartialEq, Eq)]
 pub enum Fault {
     /// E9: the number of nodes isn't 1 to 16.
     Nodes,
-    /// E10: the greatest size of a batch isn't 1 to 4096, or the capacity of an inbox isn't 1 to 1024.
+    /// E10: the greatest size of a batch isn't 1 to 4096, or the capacity of a link or an inbox isn't 1 to 1024.
     Sizes,
-    /// E14: a node of the build has stopped.
+    /// E14: a node of the world or of the build has stopped.
     Stopped { node: usize, cause: Cause },
     /// E23: a growth was refused, since no memory was left for it.
     Memory,

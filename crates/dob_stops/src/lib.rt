@@ -1,4 +1,4 @@
-// Why a node stops, and why a build by threads gives nothing: below the nodes, so that who only tells of it need not wait for them.
+// Why a node stops, and why a build by threads gives nothing: below the nodes, so that a crate which only prints it need not wait for them.
 #![tactic(auto)]
 
 mod cause;

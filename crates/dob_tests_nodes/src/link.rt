@@ -2,7 +2,7 @@
 use crate::outboxes::filled;
 use dob_link::{Link, ListLink};
 use dob_pieces::Memory;
-use dob_update::Batch;
+use dob_update::{Batch, BatchSize, Capacity};
 use std::alloc::Global;
 use std::process::Abort;
 
@@ -12,7 +12,11 @@ fn batches(rt: &impl Abort, alloc: Global) -> Result<Vec<Batch>, Memory> {
     let mut list = Vec::new(alloc);
     for _ in 0..3 {
         assert!(rt; outbox.cut_count() < 3);
-        list.push(outbox.cut(2)?.expect(rt, "a batch"))?;
+        list.push(
+            outbox
+                .cut(BatchSize::new(2).expect(rt, "a size"))?
+                .expect(rt, "a batch"),
+        )?;
     }
     Ok(list)
 }
@@ -27,7 +31,7 @@ fn hands_back(rt: &impl Abort, link: &mut impl Link, batch: Batch) -> Batch {
     link.offer(batch).expect_err(rt, "no room").batch
 }
 
-// Takes the next batch, of which this is told.
+// Takes the next batch, of which this is so.
 fn gives(rt: &impl Abort, link: &mut impl Link, expected: (u64, usize)) {
     assert!(rt; told(&link.next().expect(rt, "a batch")) == expected);
 }
@@ -43,7 +47,8 @@ fn told(batch: &Batch) -> (u64, usize) {
 #[test]
 fn a_full_link_hands_the_batch_back(rt: HostRuntime) -> Result<(), Memory> {
     let mut list = batches(&rt, rt.alloc())?;
-    let mut link = ListLink::open(rt.alloc(), 1)?;
+    let one = Capacity::new(1).expect(&rt, "a capacity");
+    let mut link = ListLink::open(rt.alloc(), one)?;
     let third = list.pop().expect(&rt, "the third");
     let second = list.pop().expect(&rt, "the second");
     takes(&rt, &mut link, list.pop().expect(&rt, "the first"));

@@ -12,7 +12,7 @@ use dob_moves::{Status, status_and_count};
 use dob_node::{Node, Opening, alone, opening};
 use dob_pieces::{Family, Hand, Hands, Kind, Piece, Position, Profile, Side};
 use dob_share::{Fault, Item, Share};
-use dob_update::Batch;
+use dob_update::{Batch, BatchSize};
 use dob_value::{Value, sweep_table};
 use std::alloc::Global;
 use std::process::Abort;
@@ -150,7 +150,7 @@ fn one_of_two<A: Abort>(rt: &A, alloc: Global, classes: &Classes, id: usize) -> 
     Node::open(alloc, &openings, classes.family, id, 2).expect(rt, "a node")
 }
 
-// What a node sends of one class's settlements: the classes told, and how many items each batch leaves out.
+// What a node sends of one class's settlements: the classes listed, and how many items each batch leaves out.
 #[derive(Drop)]
 struct Log {
     class: u64,
@@ -159,7 +159,7 @@ struct Log {
 }
 
 impl Log {
-    // Nothing told yet of that class.
+    // Nothing sent yet of that class.
     fn new(alloc: Global, class: u64) -> Log {
         Log {
             class,
@@ -168,7 +168,7 @@ impl Log {
         }
     }
 
-    // Whether those classes were told, in batches that leave out so many items.
+    // Whether those classes were sent, in batches that leave out so many items.
     fn has(&self, told: &[u64], skips: &[usize]) -> bool {
         self.told.as_slice() == told && self.skips.as_slice() == skips
     }
@@ -211,6 +211,7 @@ fn send<A: Abort>(
     ensures n { (node.new.n ≡ 2) × (receiver.new.n ≡ 2) }
     ensures id { (node.new.id ≡ node.old.id) × (receiver.new.id ≡ to) }
 {
+    let size = BatchSize::new(size).expect(rt, "a size");
     let Some(batch) = node.cut_for(to, size).expect(rt, "a batch") else {
         return false;
     };

@@ -10,16 +10,30 @@ use dob_value::Value;
 use std::alloc::Global;
 use std::process::Abort;
 
+const CAUGHT: Opening = Opening {
+    status: Status::Caught,
+    moves: 0,
+};
+
+const STUCK: Opening = Opening {
+    status: Status::Stuck,
+    moves: 0,
+};
+
+const OPEN_BY_FIVE: Opening = Opening {
+    status: Status::Open,
+    moves: 5,
+};
+
 // 54 classes: class 0 is caught, class 1 is stuck, all others are open with five moves.
 fn openings(alloc: Global) -> Result<Segments<Opening>, Memory> {
     let mut list = Segments::new(alloc, SegmentLength::longest());
     for class in 0..54 {
-        let (status, moves) = match class {
-            0 => (Status::Caught, 0),
-            1 => (Status::Stuck, 0),
-            _ => (Status::Open, 5),
-        };
-        list.push(Opening { status, moves })?;
+        list.push(match class {
+            0 => CAUGHT,
+            1 => STUCK,
+            _ => OPEN_BY_FIVE,
+        })?;
     }
     Ok(list)
 }
@@ -32,6 +46,12 @@ fn share_of(rt: &impl Abort, alloc: Global, id: usize, n: usize) -> Share
     let list = openings(alloc).expect(rt, "memory");
     Share::open(alloc, &list, id, n).expect(rt, "a share")
 }
+
+/// A change of what one move of a class leads to, with the share's answer: the settlement's values, or the refusal.
+type Change = (u64, Value, Value, Result<Option<(Value, Value)>, Fault>);
+
+// The class of whose moves most changes are.
+const OPEN: u64 = 17;
 
 // What the share answers to a change of one move of the class.
 fn answer<A: Abort>(
@@ -57,16 +77,12 @@ fn answer<A: Abort>(
     }
 }
 
-// The share answers that.
-fn answers<A: Abort>(
-    rt: &A,
-    share: &mut Share,
-    to: u64,
-    was: Value,
-    now: Value,
-    expected: Result<Option<(Value, Value)>, Fault>,
-) {
-    assert_eq!(rt; answer(rt, share, to, was, now), expected);
+// The share answers so to the changes, one after another.
+fn answers<A: Abort>(rt: &A, share: &mut Share, changes: &[Change]) {
+    for (to, was, now, expected) in changes {
+        let found = answer(rt, share, *to, *was, *now);
+        assert_eq!(rt; found, *expected);
+    }
 }
 
 #[test]
@@ -84,152 +100,105 @@ fn shares_have_their_places(rt: HostRuntime) {
     assert!(rt; owner(17, 16) == 1);
 }
 
-#[test]
-fn items_that_do_not_fit(rt: HostRuntime) {
-    let mut share = share_of(&rt, rt.alloc(), 0, 1);
-    answers(
-        &rt,
-        &mut share,
-        17,
+const UNFIT: &[Change] = &[
+    (
+        OPEN,
         Value::Win(7),
         Value::Win(5),
-        Err(Fault::Contradiction(17)),
-    );
-    answers(
-        &rt,
-        &mut share,
-        0,
-        Value::Draw,
-        Value::Win(5),
-        Err(Fault::Contradiction(0)),
-    );
-    answers(
-        &rt,
-        &mut share,
-        1,
-        Value::Draw,
-        Value::Win(5),
-        Err(Fault::Contradiction(1)),
-    );
-    answers(
-        &rt,
-        &mut share,
+        Err(Fault::Contradiction(OPEN)),
+    ),
+    (0, Value::Draw, Value::Win(5), Err(Fault::Contradiction(0))),
+    (1, Value::Draw, Value::Win(5), Err(Fault::Contradiction(1))),
+    (
         54,
         Value::Draw,
         Value::Win(5),
         Err(Fault::Contradiction(54)),
-    );
+    ),
+];
+
+#[test]
+fn items_that_do_not_fit(rt: HostRuntime) {
+    let mut share = share_of(&rt, rt.alloc(), 0, 1);
+    answers(&rt, &mut share, UNFIT);
 }
+
+const LOSING: &[Change] = &[
+    (OPEN, Value::Draw, Value::Win(7), Ok(None)),
+    (OPEN, Value::Draw, Value::Win(7), Ok(None)),
+    (OPEN, Value::Draw, Value::Win(3), Ok(None)),
+    (OPEN, Value::Draw, Value::Win(9), Ok(None)),
+    (
+        OPEN,
+        Value::Draw,
+        Value::Win(5),
+        Ok(Some((Value::Draw, Value::Loss(10)))),
+    ),
+    (
+        OPEN,
+        Value::Win(9),
+        Value::Win(1),
+        Ok(Some((Value::Loss(10), Value::Loss(8)))),
+    ),
+    (OPEN, Value::Win(7), Value::Win(5), Ok(None)),
+    (
+        OPEN,
+        Value::Draw,
+        Value::Win(5),
+        Err(Fault::Contradiction(OPEN)),
+    ),
+];
 
 #[test]
 fn all_moves_lose(rt: HostRuntime) {
     let mut share = share_of(&rt, rt.alloc(), 1, 2);
-    for plies in [7, 7, 3, 9] {
-        answers(
-            &rt,
-            &mut share,
-            17,
-            Value::Draw,
-            Value::Win(plies),
-            Ok(None),
-        );
-    }
-    answers(
-        &rt,
-        &mut share,
-        17,
-        Value::Draw,
-        Value::Win(5),
-        Ok(Some((Value::Draw, Value::Loss(10)))),
-    );
-    answers(
-        &rt,
-        &mut share,
-        17,
-        Value::Win(9),
-        Value::Win(1),
-        Ok(Some((Value::Loss(10), Value::Loss(8)))),
-    );
-    answers(&rt, &mut share, 17, Value::Win(7), Value::Win(5), Ok(None));
-    answers(
-        &rt,
-        &mut share,
-        17,
-        Value::Draw,
-        Value::Win(5),
-        Err(Fault::Contradiction(17)),
-    );
+    answers(&rt, &mut share, LOSING);
 }
+
+// A distance past the limit is refused where it counts.
+const DEEP: Change = (OPEN, Value::Draw, Value::Loss(65534), Err(Fault::TooDeep));
+
+const AT_THE_LIMIT: &[Change] = &[
+    DEEP,
+    (
+        OPEN,
+        Value::Draw,
+        Value::Loss(3),
+        Ok(Some((Value::Draw, Value::Win(4)))),
+    ),
+    (OPEN, Value::Draw, Value::Loss(65534), Ok(None)),
+];
 
 #[test]
 fn distances_at_the_limit(rt: HostRuntime) {
     let mut share = share_of(&rt, rt.alloc(), 0, 1);
-    answers(
-        &rt,
-        &mut share,
-        17,
-        Value::Draw,
-        Value::Loss(65534),
-        Err(Fault::TooDeep),
-    );
-    answers(
-        &rt,
-        &mut share,
-        17,
-        Value::Draw,
-        Value::Loss(3),
-        Ok(Some((Value::Draw, Value::Win(4)))),
-    );
-    answers(
-        &rt,
-        &mut share,
-        17,
-        Value::Draw,
-        Value::Loss(65534),
-        Ok(None),
-    );
+    answers(&rt, &mut share, AT_THE_LIMIT);
 }
+
+const REFUSED: &[Change] = &[
+    DEEP,
+    (OPEN, Value::Draw, Value::Win(7), Ok(None)),
+    (OPEN, Value::Draw, Value::Win(7), Ok(None)),
+    (OPEN, Value::Draw, Value::Win(7), Ok(None)),
+    (OPEN, Value::Draw, Value::Win(7), Ok(None)),
+    (
+        OPEN,
+        Value::Draw,
+        Value::Win(7),
+        Ok(Some((Value::Draw, Value::Loss(8)))),
+    ),
+];
 
 // After a distance that is refused each of the five moves is still left.
 #[test]
 fn a_refused_distance_changes_nothing(rt: HostRuntime) {
     let mut share = share_of(&rt, rt.alloc(), 0, 1);
-    answers(
-        &rt,
-        &mut share,
-        17,
-        Value::Draw,
-        Value::Loss(65534),
-        Err(Fault::TooDeep),
-    );
-    for _move in 0..4 {
-        answers(&rt, &mut share, 17, Value::Draw, Value::Win(7), Ok(None));
-    }
-    answers(
-        &rt,
-        &mut share,
-        17,
-        Value::Draw,
-        Value::Win(7),
-        Ok(Some((Value::Draw, Value::Loss(8)))),
-    );
+    answers(&rt, &mut share, REFUSED);
 }
 
 #[test]
 fn values_of_classes(rt: HostRuntime) {
-    let caught = Opening {
-        status: Status::Caught,
-        moves: 0,
-    };
-    let stuck = Opening {
-        status: Status::Stuck,
-        moves: 0,
-    };
-    let open = Opening {
-        status: Status::Open,
-        moves: 5,
-    };
-    let list = listed(&rt, rt.alloc(), &[caught, stuck, open]);
+    let list = listed(&rt, rt.alloc(), &[CAUGHT, STUCK, OPEN_BY_FIVE]);
     let mut share = Share::open(rt.alloc(), &list, 0, 1).expect(&rt, "a share");
     assert!(rt; share.value(0) == Value::Win(1));
     assert!(rt; share.value(1) == Value::Loss(0));

@@ -3,13 +3,12 @@ ghost use Rattle.std.specs.Prelude.{◌≡◌, OnOk};
 ghost use Rattle.dob_pieces.specs.declared.profile.Family.{Family as Set};
 ghost use Rattle.dob_update.specs.Batches.{OutboxView};
 
-use crate::outboxes::{add, filled, won};
+use crate::outboxes::{add, filled, items_made, won};
 use crate::sets::classes_of;
 use dob_classes::Classes;
 use dob_pieces::Memory;
 use dob_share::Settlement;
-use dob_unmove::back;
-use dob_update::{Batch, Outbox, count_items, push_items};
+use dob_update::{Batch, BatchSize, Outbox};
 use dob_value::Value;
 use std::alloc::Global;
 use std::process::Abort;
@@ -27,11 +26,7 @@ fn add_and_take_back(
     requires to { outbox.old.to ≡ 1 }
     ensures { OnOk result (outbox.new ≡ outbox.old) }
 {
-    assert!(rt; settlement.class < classes.class_count());
-    let predecessors = back(alloc, classes, settlement.class)?;
-    let mut items = Vec::new(alloc);
-    push_items(&mut items, settlement, &predecessors, 2, 1)?;
-    assert!(rt; count_items(&predecessors, 2, 1) == items.len());
+    let items = items_made(rt, alloc, classes, settlement)?;
     outbox.add(settlement, &items)?;
     outbox.take_back(items.len());
     Ok(())
@@ -39,11 +34,12 @@ fn add_and_take_back(
 
 // The next batch of at most so many items.
 fn cut(rt: &impl Abort, outbox: &mut Outbox, size: usize) -> Result<Batch, Memory> {
-    assert!(rt; 0 < size && size <= 4096 && outbox.cut_count() < 100);
+    assert!(rt; outbox.cut_count() < 100);
+    let size = BatchSize::new(size).expect(rt, "a size");
     Ok(outbox.cut(size)?.expect(rt, "a batch"))
 }
 
-// The classes that the batch tells.
+// The classes that the batch lists.
 fn told(alloc: Global, batch: &Batch) -> Result<Vec<u64>, Memory> {
     let mut classes = Vec::new(alloc);
     for item in batch.items() {
@@ -52,7 +48,7 @@ fn told(alloc: Global, batch: &Batch) -> Result<Vec<u64>, Memory> {
     Ok(classes)
 }
 
-// The classes that a batch tells are these, after so many left out, and of so many settlements.
+// The classes that a batch lists are these, after so many left out, and of so many settlements.
 fn tells(
     rt: &impl Abort,
     alloc: Global,
@@ -68,7 +64,7 @@ fn tells(
     Ok(())
 }
 
-// Cuts the next batch, which is of one settlement and tells these classes, after so many left out: its number.
+// Cuts the next batch, which is of one settlement and lists these classes, after so many left out: its number.
 fn cut_one(
     rt: &impl Abort,
     alloc: Global,
@@ -133,7 +129,8 @@ fn batches_over_settlements(rt: HostRuntime) -> Result<(), Memory> {
     cut_over_settlements(&rt, alloc, &mut outbox)?;
     cut_one(&rt, alloc, &mut outbox, 4096, &[17, 27], 1)?;
     assert!(rt; outbox.cut_count() < 100);
-    assert!(rt; outbox.cut(1)?.is_none());
+    let one = BatchSize::new(1).expect(&rt, "a size");
+    assert!(rt; outbox.cut(one)?.is_none());
     Ok(())
 }
 

@@ -25,7 +25,7 @@ fn opened(rt: &impl Abort, alloc: Global, n: usize) -> World
     ensures standing { IsStanding result }
     ensures kept { StandsOrStopped result }
     ensures going { result.failed ≡ None }
-    ensures n { result.n ≡ n }
+    ensures n { result.node_count ≡ n }
 {
     world_of(rt, alloc, family_of(rt, "000"), n, 1, 1)
 }
@@ -41,7 +41,7 @@ fn world_of(
     ensures standing { IsStanding result }
     ensures kept { StandsOrStopped result }
     ensures going { result.failed ≡ None }
-    ensures n { result.n ≡ n }
+    ensures n { result.node_count ≡ n }
 {
     let Ok(world) = World::open(alloc, family, n, batch, capacity) else {
         panic!(rt; "no world");
@@ -55,7 +55,7 @@ fn make(rt: &impl Abort, world: &mut World, event: Event) -> bool
     ensures standing { IsStanding world.new }
     ensures kept { StandsOrStopped world.new }
     ensures going { world.new.failed ≡ None }
-    ensures n { world.new.n ≡ world.old.n }
+    ensures n { world.new.node_count ≡ world.old.node_count }
 {
     assert!(rt; world.steps() < 1 << 40);
     match world.step(event) {
@@ -70,7 +70,7 @@ fn does(rt: &impl Abort, world: &mut World, event: Event)
     requires { StandsOrStopped world.old }
     ensures standing { IsStanding world.new }
     ensures kept { StandsOrStopped world.new }
-    ensures n { world.new.n ≡ world.old.n }
+    ensures n { world.new.node_count ≡ world.old.node_count }
 {
     assert!(rt; make(rt, world, event), "{event:?}");
 }
@@ -80,7 +80,7 @@ fn skips(rt: &impl Abort, world: &mut World, event: Event)
     requires { StandsOrStopped world.old }
     ensures standing { IsStanding world.new }
     ensures kept { StandsOrStopped world.new }
-    ensures n { world.new.n ≡ world.old.n }
+    ensures n { world.new.node_count ≡ world.old.node_count }
 {
     assert!(rt; !make(rt, world, event), "{event:?}");
 }
@@ -89,10 +89,10 @@ fn skips(rt: &impl Abort, world: &mut World, event: Event)
 fn finish(rt: &impl Abort, world: &mut World, n: usize)
     requires standing { IsStanding world.old }
     requires going { world.old.failed ≡ None }
-    requires n { world.old.n ≡ n }
+    requires n { world.old.node_count ≡ n }
     ensures standing { IsStanding world.new }
     ensures going { world.new.failed ≡ None }
-    ensures n { world.new.n ≡ n }
+    ensures n { world.new.node_count ≡ n }
 {
     let steps = world.steps();
     let nodes = n as u64;
@@ -156,7 +156,7 @@ fn plies_of(value: Value) -> u16 {
 // No distance in the history of a node is above that one.
 fn settles_within(rt: &impl Abort, world: &World, node: usize, most: u16)
     requires standing { IsStanding world.now }
-    requires node { node < world.now.n }
+    requires node { node < world.now.node_count }
 {
     let history = world.history(node);
     for number in 0..history.count() {

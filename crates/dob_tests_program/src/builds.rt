@@ -65,7 +65,7 @@ impl Shelf for FullShelf {
     }
 }
 
-// A build with so much room for its file tells that it failed.
+// A build with so much room for its file reports that it failed.
 fn tells_failure(
     rt: &(impl Abort + Threads + Wait + Sync + Console),
     alloc: Global,

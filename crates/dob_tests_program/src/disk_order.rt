@@ -1,8 +1,9 @@
 // The calls by which a file comes onto a disk, and their order: what a power cut may leave depends on it, and no clause speaks of it. The
 // files are the system's, with a list of the calls that are made on them, of which one fails where that is asked for.
-use crate::dbfile::files::file;
+use crate::lions::file;
 use crate::program::run_on;
 use crate::shelves::{has, put, removes};
+use crate::typed::Typed;
 use dob_cli::DiskShelf;
 use std::alloc::{Allocator, Global};
 use std::cell::RefCell;
@@ -21,8 +22,8 @@ const TARGET: &str = "linked_by_a_test.db";
 
 const ASKED: &str = "asked_by_a_test.db";
 
-// What a file that is whole is kept by: the bytes are on the disk before the name is theirs, and the name before the shelf answers.
-const KEPT: &str = "look at name
+// How a file is made: its bytes are on the disk before the name is theirs.
+const MADE: &str = "look at name
 remove part
 open part
 write part
@@ -30,51 +31,18 @@ flush part
 sync part
 ask part
 look at part
-rename part
+";
+
+// The name becomes theirs, and is on the disk before the shelf answers.
+const NAMED: &str = "rename part
 open folder
 sync folder
 ";
 
-// Bytes that can't be put on the disk never get the name, nor do those whose name can't be changed: their part is taken away.
-const UNSYNCED: &str = "look at name
-remove part
-open part
-write part
-flush part
-sync part
-ask part
+// What becomes of a part that the shelf gives up.
+const GIVEN_UP: &str = "ask part
 look at part
 remove part
-";
-
-const UNNAMED: &str = "look at name
-remove part
-open part
-write part
-flush part
-sync part
-ask part
-look at part
-rename part
-ask part
-look at part
-remove part
-";
-
-// A folder that can't be put on the disk: the file has its name, and the shelf says that it failed.
-const UNLISTED: &str = "look at name
-remove part
-open part
-write part
-flush part
-sync part
-ask part
-look at part
-rename part
-open folder
-sync folder
-ask part
-look at part
 ";
 
 // A link stays: the file that it leads to is written where it is, and put on the disk there.
@@ -118,11 +86,18 @@ impl Log {
     }
 
     // Whether these are the calls that were made, in their order.
-    fn says(&self, calls: &str) -> bool {
-        match self.calls.try_borrow() {
-            Ok(made) => made.as_str() == calls,
-            Err(_) => false,
+    fn says(&self, calls: &[&str]) -> bool {
+        let Ok(made) = self.calls.try_borrow() else {
+            return false;
+        };
+        let mut left = made.as_bytes();
+        for part in calls {
+            let Some(rest) = left.strip_prefix(part.as_bytes()) else {
+                return false;
+            };
+            left = rest;
         }
+        left.is_empty()
     }
 }
 
@@ -261,51 +236,40 @@ fn puts<R: Abort + Files + AllocGlobal>(
     name: &str,
     bytes: &[u8],
     failing: &'static str,
-    calls: &str,
+    calls: &[&str],
 ) -> bool {
     let log = Log::new(rt.alloc(), failing);
     let files = Listed { rt, log: &log };
-    let mut shelf = DiskShelf::new(&files, rt.alloc(), NOTHING);
+    let mut shelf = DiskShelf::new(&files, rt.alloc(), Typed::whole(b""));
     let kept = put(&mut shelf, name, bytes);
     assert!(rt; log.says(calls));
     kept
 }
 
-/// A standard input of those bytes.
-#[derive(Drop)]
-struct Typed {
-    left: &'static [u8],
-}
-
-impl Read for Typed {
-    fn read(&mut self, room: &mut [u8]) -> io::Result<usize> {
-        let count = room.len().min(self.left.len());
-        room[..count].copy_from_slice(&self.left[..count]);
-        self.left = &self.left[count..];
-        Ok(count)
-    }
-}
-
-// Nothing is typed.
-const NOTHING: Typed = Typed { left: b"" };
-
 // Whether the file of that name has just these bytes, by the system's own files.
 fn stands<R: Files + AllocGlobal>(rt: &R, name: &str, bytes: &[u8]) -> bool {
-    has(&mut DiskShelf::new(rt, rt.alloc(), NOTHING), name, bytes)
+    has(
+        &mut DiskShelf::new(rt, rt.alloc(), Typed::whole(b"")),
+        name,
+        bytes,
+    )
 }
 
-// A build that is told as failed leaves the file that was there, and no part.
-fn leaves<R: Abort + Files + AllocGlobal>(rt: &R, failing: &'static str, calls: &str) {
+// A build that reports a failure leaves the file that was there, and no part.
+fn leaves<R: Abort + Files + AllocGlobal>(rt: &R, failing: &'static str, calls: &[&str]) {
     assert!(rt; !puts(rt, NAME, b"new", failing, calls));
     assert!(rt; stands(rt, NAME, b"kept") && fs::symlink_metadata(rt, PART).is_err());
 }
 
 #[test]
 fn bytes_before_the_name(rt: HostRuntime) {
-    assert!(rt; puts(&rt, NAME, b"kept", "", KEPT));
-    leaves(&rt, "sync part\n", UNSYNCED);
-    leaves(&rt, "rename part\n", UNNAMED);
-    assert!(rt; !puts(&rt, NAME, b"whole", "sync folder\n", UNLISTED));
+    assert!(rt; puts(&rt, NAME, b"kept", "", &[MADE, NAMED]));
+    // bytes that can't be put on the disk never get the name, nor do those whose name can't be changed
+    leaves(&rt, "sync part\n", &[MADE, "remove part\n"]);
+    leaves(&rt, "rename part\n", &[MADE, "rename part\n", GIVEN_UP]);
+    // a folder that can't be put on the disk: the file has its name, and the shelf says that it failed
+    let calls = [MADE, NAMED, "ask part\nlook at part\n"];
+    assert!(rt; !puts(&rt, NAME, b"whole", "sync folder\n", &calls));
     assert!(rt; stands(&rt, NAME, b"whole"));
     removes(&rt, NAME);
 }
@@ -314,7 +278,7 @@ fn bytes_before_the_name(rt: HostRuntime) {
 fn a_link_stays(rt: HostRuntime) {
     let _ = fs::remove_file(&rt, LINK);
     assert!(rt; std::os::unix::fs::symlink(&rt, TARGET, LINK).is_ok());
-    assert!(rt; puts(&rt, LINK, b"linked", "", LINKED));
+    assert!(rt; puts(&rt, LINK, b"linked", "", &[LINKED]));
     let found = fs::symlink_metadata(&rt, LINK).expect(&rt, "a link");
     assert!(rt; found.is_symlink() && stands(&rt, TARGET, b"linked"));
     removes(&rt, LINK);
@@ -323,16 +287,14 @@ fn a_link_stays(rt: HostRuntime) {
 
 #[test]
 fn one_reading_for_each_line(rt: HostRuntime) {
-    let mut shelf = DiskShelf::new(&rt, rt.alloc(), NOTHING);
+    let mut shelf = DiskShelf::new(&rt, rt.alloc(), Typed::whole(b""));
     assert!(rt; put(&mut shelf, ASKED, file(&rt).as_slice()));
     let log = Log::new(rt.alloc(), "");
     let files = Listed { rt: &rt, log: &log };
-    let typed = Typed {
-        left: b"..l/.../L../... - -\n.../.../..l/L.. - -\n",
-    };
+    let typed = Typed::whole(b"..l/.../L../... - -\n.../.../..l/L.. - -\n");
     let mut shelf = DiskShelf::new(&files, rt.alloc(), typed);
     let words = ["probe", "--db", ASKED, "--each"];
     let told = run_on(&rt, rt.alloc(), &mut shelf, &words);
-    assert!(rt; told.is(0, b"win 3\nloss 2\n", b"") && log.says("open asked\n"));
+    assert!(rt; told.is(0, b"win 3\nloss 2\n", b"") && log.says(&["open asked\n"]));
     removes(&rt, ASKED);
 }

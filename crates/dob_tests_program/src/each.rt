@@ -1,8 +1,8 @@
 // What `probe --each` and `look --each` answer to the lines of standard input, by the file of lions alone, whose values were found apart from this program.
-use crate::dbfile::files::first_file;
-use crate::dbfile::std_devices::Shaky;
+use crate::lions::first_file;
 use crate::program::{Told, run_on};
 use crate::shelves::{put, removes};
+use crate::typed::Typed;
 use dob_cli::{Console, DiskShelf, MemShelf, Shelf};
 use std::alloc::Global;
 use std::io::ErrorKind;
@@ -76,23 +76,27 @@ fn told_of(
     run_on(rt, alloc, shelf, words)
 }
 
-#[test]
-fn answers_to_lines(rt: HostRuntime) {
-    let mut shelf = shelf(&rt);
+// The words are answered by the rows.
+fn answers_rows<R: Abort + AllocGlobal + Threads + Wait + Sync + Console>(
+    rt: &R,
+    words: &[&str; 4],
+) {
+    let mut shelf = shelf(rt);
     for (input, status, out) in ROWS {
-        let told = told_of(&rt, rt.alloc(), &mut shelf, &WORDS, input.as_bytes());
+        let told = told_of(rt, rt.alloc(), &mut shelf, words, input.as_bytes());
         assert!(rt; told.is(*status, out.as_bytes(), b""), "{input:?}");
     }
+}
+
+#[test]
+fn answers_to_lines(rt: HostRuntime) {
+    answers_rows(&rt, &WORDS);
 }
 
 // The same by each position's own record.
 #[test]
 fn answers_by_records(rt: HostRuntime) {
-    let mut shelf = shelf(&rt);
-    for (input, status, out) in ROWS {
-        let told = told_of(&rt, rt.alloc(), &mut shelf, &LOOK, input.as_bytes());
-        assert!(rt; told.is(*status, out.as_bytes(), b""), "{input:?}");
-    }
+    answers_rows(&rt, &LOOK);
 }
 
 #[test]
@@ -112,26 +116,15 @@ fn input_that_was_read(rt: HostRuntime) {
     assert!(rt; run_on(&rt, rt.alloc(), &mut shelf, &WORDS).is(0, b"", b""));
 }
 
-// A file that is none is told before any line.
+// A file that is none is refused before any line.
 #[test]
 fn lines_without_a_file(rt: HostRuntime) {
+    let input = b"..l/.../L../... - -\n";
     let mut shelf = MemShelf::new(rt.alloc());
-    let told = told_of(
-        &rt,
-        rt.alloc(),
-        &mut shelf,
-        &WORDS,
-        b"..l/.../L../... - -\n",
-    );
+    let told = told_of(&rt, rt.alloc(), &mut shelf, &WORDS, input);
     assert!(rt; told.is(3, b"", b"dobutsu: E24 Io\n"));
     assert!(rt; put(&mut shelf, FILE, b"DOBUTSU"));
-    let told = told_of(
-        &rt,
-        rt.alloc(),
-        &mut shelf,
-        &WORDS,
-        b"..l/.../L../... - -\n",
-    );
+    let told = told_of(&rt, rt.alloc(), &mut shelf, &WORDS, input);
     assert!(rt; told.is(1, b"", b"dobutsu: E15 Truncated\n"));
 }
 
@@ -152,17 +145,19 @@ For more information, try '--help'.
     assert!(rt; run_on(&rt, rt.alloc(), &mut shelf, &both).is(2, b"", said));
 }
 
-// What the program answers by the file on a disk to an input that comes in pieces of seven bytes, and stops after so many.
+// What the program answers by the file on a disk to an input in pieces of seven bytes, which the error stops.
 fn told_of_pieces<R: Abort + AllocGlobal + Files + Threads + Wait + Sync + Console>(
     rt: &R,
-    input: &[u8],
-    count: usize,
+    left: &'static [u8],
     error: Option<ErrorKind>,
 ) -> Told {
-    let mut bytes = Vec::new(rt.alloc());
-    assert!(rt; bytes.extend_from_slice(input).is_ok());
-    let reader = Shaky::new(bytes, 7, count, error);
-    let mut shelf = DiskShelf::new(rt, rt.alloc(), reader);
+    let longest = 7;
+    let typed = Typed {
+        left,
+        longest,
+        error,
+    };
+    let mut shelf = DiskShelf::new(rt, rt.alloc(), typed);
     assert!(rt; put(&mut shelf, FILE, &first_file(rt)));
     let told = run_on(rt, rt.alloc(), &mut shelf, &WORDS);
     removes(rt, FILE);
@@ -171,11 +166,12 @@ fn told_of_pieces<R: Abort + AllocGlobal + Files + Threads + Wait + Sync + Conso
 
 #[test]
 fn input_in_pieces(rt: HostRuntime) {
-    let input = b"..l/.../L../... - -\n.../.../..l/L.. - -\n";
-    let told = told_of_pieces(&rt, input, 100, None);
+    let both = b"..l/.../L../... - -\n.../.../..l/L.. - -\n";
+    let told = told_of_pieces(&rt, both, None);
     assert!(rt; told.is(0, b"win 3\nloss 2\n", b""));
-    let told = told_of_pieces(&rt, input, 20, None);
+    let first = b"..l/.../L../... - -\n";
+    let told = told_of_pieces(&rt, first, None);
     assert!(rt; told.is(0, b"win 3\n", b""));
-    let told = told_of_pieces(&rt, input, 20, Some(ErrorKind::Other));
+    let told = told_of_pieces(&rt, first, Some(ErrorKind::Other));
     assert!(rt; told.is(3, b"", b"dobutsu: E24 Io\n"));
 }

@@ -1,18 +1,14 @@
-// Tests of files, and of what is looked up, checked and printed: bytes from outside, devices that fail, and the program's answers.
+// Tests of the program: what it prints, the devices that fail below it, and the order of its calls.
 #![tactic(auto)]
 
 #[cfg(test)]
 mod builds;
 #[cfg(test)]
-mod check;
-#[cfg(test)]
-mod dbfile;
-#[cfg(test)]
 mod disk_order;
 #[cfg(test)]
 mod each;
 #[cfg(test)]
-mod probe;
+mod lions;
 #[cfg(test)]
 mod program;
 #[cfg(test)]
@@ -22,6 +18,6 @@ mod rows;
 #[cfg(test)]
 mod rules;
 #[cfg(test)]
-mod sets;
-#[cfg(test)]
 mod shelves;
+#[cfg(test)]
+mod typed;

@@ -1,6 +1,6 @@
 // What the program does over streams that fail, without arguments, and by files with a wrong value. `rows.rt` has what it prints, a
 // line for each list of words, and `./test` asks the built program for the same and more.
-use crate::dbfile::files::forged;
+use crate::lions::forged;
 use crate::shelves::put;
 use dob_cli::{Console, MemShelf, Shelf, run_given, run_over, run_words};
 use dob_dbfile::MemSink;
@@ -101,7 +101,7 @@ fn run_into(
     run_words(rt, alloc, words, &mut shelf, out, err)
 }
 
-// Over such a standard output the program ends as one that failed, which has written that there and tells the failure.
+// Over such a standard output the program ends as one that failed, which has written that there and reports the failure.
 fn fails_to_tell(
     rt: &(impl Abort + Threads + Wait + Sync + Console),
     alloc: Global,

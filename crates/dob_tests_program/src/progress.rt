@@ -1,6 +1,6 @@
 // The lines that say how far some work is, by a clock that stands until it is set, and from the words on by one that moves at each look. The
 // numbers were worked out by hand.
-use crate::dbfile::files::file;
+use crate::lions::file;
 use crate::program::{FILE, run_on};
 use crate::shelves::put;
 use dob_check::Watch;
@@ -123,7 +123,7 @@ fn unwatched_work_is_silent(rt: HostRuntime) {
     assert!(rt; paper.says(""));
 }
 
-/// A console whose clock is a second later at each look, so that the smallest work has a line to tell whenever it is told of, by whichever
+/// A console whose clock is a second later at each look, so that the smallest work has a line to print whenever it is reported, by whichever
 /// thread.
 #[derive(Drop)]
 struct Moving<'a, R> {
@@ -175,7 +175,7 @@ impl<R: Wait> Console for Moving<'_, R> {
     }
 }
 
-// What the words have written on the console, where a file of lions alone is there; they are done, and tell nothing else on standard error.
+// What the words have written on the console, where a file of lions alone is there; they are done, and print nothing else on standard error.
 fn written<R: Abort + Threads + Wait + Sync + AllocGlobal>(rt: &R, words: &[&str]) -> String {
     let moving = Moving::new(rt);
     let mut shelf = MemShelf::new(rt.alloc());

@@ -1,5 +1,5 @@
 // What the program prints for its words over files in memory: the rows that users rely on, a line each.
-use crate::dbfile::files::{file, first_file};
+use crate::lions::{cut_to, file, first_file, spoilt};
 use crate::program::Narrow;
 use crate::shelves::{has, put};
 use dob_cli::{Console, MemShelf, Shelf, run_words};
@@ -8,8 +8,11 @@ use std::process::Abort;
 use std::sync::Wait;
 use std::thread::Threads;
 
-/// Words, with the exit status, the standard output and the standard error that are their answer.
-pub(crate) type Row = (&'static [&'static str], u8, &'static str, &'static str);
+/// Words, with what the program answers on standard output.
+pub(crate) type Answered = (&'static [&'static str], &'static str);
+
+/// Words that are refused, with the exit status and the fault.
+pub(crate) type Refused = (&'static [&'static str], u8, &'static str);
 
 const WIN_3: &str = "..l/.../L../... - -";
 
@@ -24,6 +27,13 @@ const CATCH: &str = ".../.l./.L./... - -";
 const TRIED: &str = ".../L../.../..l - -";
 
 const CHICK: &str = "..l/.../.../L.. C -";
+
+const FAR_LION: &str = "L../.../.../..l - -";
+
+// Lines by the values of lions alone, with and without their numbers.
+const LINE_OF_LONG: &str = "Lb1-b2 lb4-c4 Lb2-a3 lc4-b4 La3xb4\n";
+
+const NUMBERED: &str = "1. La2-a3\n2. lc4-b4\n3. La3xb4\n";
 
 // By the values of lions alone that were found apart from this program.
 const MOVES_OF_WIN_3: &str =
@@ -83,60 +93,118 @@ const STATS_OF_000: &str =
     "classes 54\nwin 38\nloss 12\ndraw 4\nloss 0 7\nwin 1 29\nloss 2 2\nwin 3 3\nloss 4 1\nwin 5 3\nloss 6 2\nwin 7 3
 longest win 7 l../.../.../L.. - -\nlongest loss 6 .../l../.../L.. - -\n";
 
-const LINES_OF_000: &str = "classes 54\nwin 38\nloss 12\ndraw 4\n";
+/// What a build of them tells.
+pub(crate) const LINES_OF_000: &str = "classes 54\nwin 38\nloss 12\ndraw 4\n";
 
-// Over the same files: moves with their values, positions drawn, and a few more. One table of all rows takes the prover too long.
-const FURTHER_ROWS: &[Row] = &[
-    (
-        &["check", "--db", "set.db"],
-        1,
-        "",
-        "dobutsu: E17 SetByte\n",
-    ),
-    (
-        &["check", "--db", "count.db"],
-        1,
-        "",
-        "dobutsu: E18 ClassCount\n",
-    ),
+const VALUES_OF_000: &str =
+    "value,classes\ndraw,4\nloss 0,7\nwin 1,29\nloss 2,2\nwin 3,3\nloss 4,1\nwin 5,3\nloss 6,2\nwin 7,3\n";
+
+const PUZZLES: &str = ".../..l/L../... - -  La2-a3\n..l/.../L../... - -  La2-a3\n";
+
+// Positions and their values.
+const VALUES: &[(&str, &str)] = &[
+    (WIN_3, "win 3\n"),
+    (LONG, "win 5\n"),
+    (CATCH, "win 1\n"),
+    ("..l/L../.../... - -", "win 1\n"),
+    (TRIED, "loss 0\n"),
+    (LOSS_2, "loss 2\n"),
+    (".../.l./.../.L. - -", "loss 4\n"),
+    (DRAW, "draw\n"),
+    (".l./.C./.../L.. - -", "win 1\n"),
+];
+
+// Texts that are no position, and their faults.
+const FAULTS: &[(&str, &str)] = &[
+    ("", "E1 Shape"),
+    ("..l/.../.../L.x - -", "E2 Letter"),
+    ("..l/.../.../L.. GC -", "E3 Hand"),
+    (".../.../.../L.. - -", "E4 Lions"),
+    ("..l/.../.../L.. CCC -", "E5 Count"),
+    (FAR_LION, "E6 FarLion"),
+];
+
+// What is asked of a file of the shelf: the command, the file and the position, with the answer.
+const ASKED: &[(&str, &str, &str, &str)] = &[
+    ("probe", "lions.db", WIN_3, "win 3\n"),
+    ("probe", "lions.db", LOSS_2, "loss 2\n"),
+    ("probe", "lions.db", DRAW, "draw\n"),
+    ("line", "lions.db", WIN_3, "La2-a3 lc4-b4 La3xb4\n"),
+    ("line", "lions.db", LONG, LINE_OF_LONG),
+    ("line", "lions.db", LOSS_2, "La1-b1 lc2xb1\n"),
+    ("line", "lions.db", TRIED, "end\n"),
+    ("line", "lions.db", DRAW, "draw\n"),
+    ("line", "lions.db", CATCH, "Lb2xb3\n"),
+    // one record of a file, of which neither the others nor the digest are read
+    ("look", "lions.db", WIN_3, "win 3\n"),
+    ("look", "lions.db", LOSS_2, "loss 2\n"),
+    ("look", "lions.db", DRAW, "draw\n"),
+    ("look", "lions.db", LONG, "win 5\n"),
+    ("look", "cut.db", WIN_3, "win 3\n"),
+    ("look", "longer.db", LOSS_2, "loss 2\n"),
+    ("look", "digest.db", WIN_3, "win 3\n"),
+    ("look", "short.db", LOSS_2, "loss 2\n"),
+];
+
+// The same where the answer is a fault: the exit status, and the fault.
+const UNASKED: &[(&str, &str, &str, u8, &str)] = &[
+    ("probe", "lions.db", CHICK, 1, "E7 OtherSet"),
+    ("line", "lions.db", CHICK, 1, "E7 OtherSet"),
+    ("look", "lions.db", CHICK, 1, "E7 OtherSet"),
+    ("look", "empty.db", WIN_3, 1, "E15 Truncated"),
+    ("look", "short.db", WIN_3, 1, "E15 Truncated"),
+    ("look", "magic.db", WIN_3, 1, "E16 Magic"),
+    ("look", "set.db", WIN_3, 1, "E17 SetByte"),
+    ("look", "count.db", WIN_3, 1, "E18 ClassCount"),
+    ("look", "none.db", WIN_3, 3, "E24 Io"),
+    // a position is read before its file, which here is none
+    ("look", "none.db", "", 1, "E1 Shape"),
+    ("probe", "none.db", "", 1, "E1 Shape"),
+    ("line", "digest.db", FAR_LION, 1, "E6 FarLion"),
+    ("probe", "none.db", WIN_3, 3, "E24 Io"),
+    ("line", "none.db", WIN_3, 3, "E24 Io"),
+];
+
+// Files that aren't passed by `check`, with the exit status and the fault.
+const UNCHECKED: &[(&str, u8, &str)] = &[
+    ("empty.db", 1, "E15 Truncated"),
+    ("cut.db", 1, "E15 Truncated"),
+    ("magic.db", 1, "E16 Magic"),
+    ("longer.db", 1, "E19 Trailing"),
+    ("digest.db", 1, "E20 Digest"),
+    ("set.db", 1, "E17 SetByte"),
+    ("count.db", 1, "E18 ClassCount"),
+    ("none.db", 3, "E24 Io"),
+];
+
+// Sets, numbers of nodes and files of builds that are told, ..
+const BUILDS: &[(&str, &str, &str)] = &[("000", "1", "built.db"), ("000", "3", "cut.db")];
+
+// .. and of builds that are refused, which make no file.
+const UNBUILT: &[(&str, &str, &str)] = &[
+    ("000", "0", "E9 Nodes"),
+    ("000", "17", "E9 Nodes"),
+    ("3", "0", "E25 SetText"),
+];
+
+// Of files that were built.
+const BUILT: &[Answered] = &[
+    (&["probe", "--db", "built.db", WIN_3], "win 3\n"),
+    (&["check", "--db", "cut.db"], "consistent\n"),
+];
+
+// Moves with their values, positions drawn, and a few more.
+const FURTHER: &[Answered] = &[
     (
         &["line", "--db", "lions.db", "..l/L../.../... - -"],
-        0,
         "La3-a4\n",
-        "",
     ),
-    (&["moves", "--db", "lions.db", WIN_3], 0, MOVES_OF_WIN_3, ""),
-    (
-        &["moves", "--db", "lions.db", CATCH],
-        0,
-        "Lb2xb3 win 1\n",
-        "",
-    ),
-    (&["moves", "--db", "lions.db", TRIED], 0, "end\n", ""),
-    (
-        &["moves", "--db", "lions.db", CHICK],
-        1,
-        "",
-        "dobutsu: E7 OtherSet\n",
-    ),
-    (
-        &["line", "--db", "lions.db", "--numbered", WIN_3],
-        0,
-        "1. La2-a3\n2. lc4-b4\n3. La3xb4\n",
-        "",
-    ),
-    (
-        &["line", "--numbered", "--db", "lions.db", DRAW],
-        0,
-        "draw\n",
-        "",
-    ),
-    (
-        &["check", "--db", "lions.db", "--progress"],
-        0,
-        "consistent\n",
-        "",
-    ),
+    (&["moves", "--db", "lions.db", WIN_3], MOVES_OF_WIN_3),
+    (&["moves", "--db", "lions.db", CATCH], "Lb2xb3 win 1\n"),
+    (&["moves", "--db", "lions.db", TRIED], "end\n"),
+    (&["line", "--db", "lions.db", "--numbered", WIN_3], NUMBERED),
+    (&["line", "--numbered", "--db", "lions.db", DRAW], "draw\n"),
+    (&["check", "--db", "lions.db", "--progress"], "consistent\n"),
     (
         &[
             "build",
@@ -148,374 +216,230 @@ const FURTHER_ROWS: &[Row] = &[
             "--out",
             "watched.db",
         ],
-        0,
-        "classes 54\nwin 38\nloss 12\ndraw 4\n",
-        "",
+        LINES_OF_000,
     ),
-    (&["stats", "--db", "lions.db"], 0, STATS_OF_000, ""),
-    (
-        &["stats", "--csv", "--db", "lions.db"],
-        0,
-        "value,classes\ndraw,4\nloss 0,7\nwin 1,29\nloss 2,2\nwin 3,3\nloss 4,1\nwin 5,3\nloss 6,2\nwin 7,3\n",
-        "",
-    ),
-    (
-        &["best", "--db", "lions.db", WIN_3],
-        0,
-        "La2-a3 win 3\n",
-        "",
-    ),
-    (
-        &["stats", "--db", "count.db"],
-        1,
-        "",
-        "dobutsu: E18 ClassCount\n",
-    ),
-    (
-        &[
-            "puzzles", "--db", "lions.db", "--plies", "3", "--count", "2",
-        ],
-        0,
-        ".../..l/L../... - -  La2-a3\n..l/.../L../... - -  La2-a3\n",
-        "",
-    ),
-    (
-        &[
-            "puzzles", "--db", "lions.db", "--plies", "9", "--count", "2",
-        ],
-        0,
-        "none\n",
-        "",
-    ),
-    (
-        &["puzzles", "--db", "none.db", "--plies", "4", "--count", "2"],
-        2,
-        "",
-        "dobutsu: --plies is an odd number of at least 3\n",
-    ),
-    (
-        &["puzzles", "--db", "none.db", "--plies", "3", "--count", "2"],
-        3,
-        "",
-        "dobutsu: E24 Io\n",
-    ),
-    (&["show", SHOWN], 0, DRAWN, ""),
-    (&["show", CATCH, "--db", "lions.db"], 0, PLAYED, ""),
-    (
-        &["show", "--db", "lions.db", CHICK],
-        1,
-        "",
-        "dobutsu: E7 OtherSet\n",
-    ),
-    (
-        &["show", "L../.../.../..l - -"],
-        1,
-        "",
-        "dobutsu: E6 FarLion\n",
-    ),
+    (&["stats", "--db", "lions.db"], STATS_OF_000),
+    (&["stats", "--csv", "--db", "lions.db"], VALUES_OF_000),
+    (&["best", "--db", "lions.db", WIN_3], "La2-a3 win 3\n"),
+    (&["show", SHOWN], DRAWN),
+    (&["show", CATCH, "--db", "lions.db"], PLAYED),
 ];
 
-// In turn over one shelf, which has `lions.db`, the file of lions alone, and spoilt ones: `short.db` ends inside the record of
-// `WIN_3`.
-const ROWS: &[Row] = &[
-    // values
-    (&["value", WIN_3], 0, "win 3\n", ""),
-    (&["value", LONG], 0, "win 5\n", ""),
-    (&["value", CATCH], 0, "win 1\n", ""),
-    (&["value", "..l/L../.../... - -"], 0, "win 1\n", ""),
-    (&["value", TRIED], 0, "loss 0\n", ""),
-    (&["value", LOSS_2], 0, "loss 2\n", ""),
-    (&["value", ".../.l./.../.L. - -"], 0, "loss 4\n", ""),
-    (&["value", DRAW], 0, "draw\n", ""),
-    (&["value", ".l./.C./.../L.. - -"], 0, "win 1\n", ""),
-    (
-        &["count", "--set", "000"],
-        0,
-        "positions 99\nclasses 54\n",
-        "",
-    ),
-    // faults
-    (&["value", ""], 1, "", "dobutsu: E1 Shape\n"),
-    (
-        &["value", "..l/.../.../L.x - -"],
-        1,
-        "",
-        "dobutsu: E2 Letter\n",
-    ),
-    (
-        &["value", "..l/.../.../L.. GC -"],
-        1,
-        "",
-        "dobutsu: E3 Hand\n",
-    ),
-    (
-        &["value", ".../.../.../L.. - -"],
-        1,
-        "",
-        "dobutsu: E4 Lions\n",
-    ),
-    (
-        &["value", "..l/.../.../L.. CCC -"],
-        1,
-        "",
-        "dobutsu: E5 Count\n",
-    ),
-    (
-        &["value", "L../.../.../..l - -"],
-        1,
-        "",
-        "dobutsu: E6 FarLion\n",
-    ),
-    (&["count", "--set", "300"], 1, "", "dobutsu: E25 SetText\n"),
-    // files
-    (&["check", "--db", "lions.db"], 0, "consistent\n", ""),
-    (&["probe", "--db", "lions.db", WIN_3], 0, "win 3\n", ""),
-    (&["probe", "--db", "lions.db", LOSS_2], 0, "loss 2\n", ""),
-    (&["probe", "--db", "lions.db", DRAW], 0, "draw\n", ""),
-    (
-        &["probe", "--db", "lions.db", CHICK],
-        1,
-        "",
-        "dobutsu: E7 OtherSet\n",
-    ),
-    (
-        &["check", "--db", "empty.db"],
-        1,
-        "",
-        "dobutsu: E15 Truncated\n",
-    ),
-    (
-        &["check", "--db", "cut.db"],
-        1,
-        "",
-        "dobutsu: E15 Truncated\n",
-    ),
-    (
-        &["check", "--db", "magic.db"],
-        1,
-        "",
-        "dobutsu: E16 Magic\n",
-    ),
-    (
-        &["check", "--db", "longer.db"],
-        1,
-        "",
-        "dobutsu: E19 Trailing\n",
-    ),
-    (
-        &["check", "--db", "digest.db"],
-        1,
-        "",
-        "dobutsu: E20 Digest\n",
-    ),
-    // lines
-    (
-        &["line", "--db", "lions.db", WIN_3],
-        0,
-        "La2-a3 lc4-b4 La3xb4\n",
-        "",
-    ),
-    (
-        &["line", "--db", "lions.db", LONG],
-        0,
-        "Lb1-b2 lb4-c4 Lb2-a3 lc4-b4 La3xb4\n",
-        "",
-    ),
-    (
-        &["line", "--db", "lions.db", LOSS_2],
-        0,
-        "La1-b1 lc2xb1\n",
-        "",
-    ),
-    (&["line", "--db", "lions.db", TRIED], 0, "end\n", ""),
-    (&["line", "--db", "lions.db", DRAW], 0, "draw\n", ""),
-    (&["line", "--db", "lions.db", CATCH], 0, "Lb2xb3\n", ""),
-    (
-        &["line", "--db", "lions.db", CHICK],
-        1,
-        "",
-        "dobutsu: E7 OtherSet\n",
-    ),
-    // one record of a file, of which neither the others nor the digest are read
-    (&["look", "--db", "lions.db", WIN_3], 0, "win 3\n", ""),
-    (&["look", "--db", "lions.db", LOSS_2], 0, "loss 2\n", ""),
-    (&["look", "--db", "lions.db", DRAW], 0, "draw\n", ""),
-    (&["look", "--db", "lions.db", LONG], 0, "win 5\n", ""),
-    (&["look", "--db", "cut.db", WIN_3], 0, "win 3\n", ""),
-    (&["look", "--db", "longer.db", LOSS_2], 0, "loss 2\n", ""),
-    (&["look", "--db", "digest.db", WIN_3], 0, "win 3\n", ""),
-    (
-        &["look", "--db", "lions.db", CHICK],
-        1,
-        "",
-        "dobutsu: E7 OtherSet\n",
-    ),
-    (
-        &["look", "--db", "empty.db", WIN_3],
-        1,
-        "",
-        "dobutsu: E15 Truncated\n",
-    ),
-    (
-        &["look", "--db", "short.db", WIN_3],
-        1,
-        "",
-        "dobutsu: E15 Truncated\n",
-    ),
-    (&["look", "--db", "short.db", LOSS_2], 0, "loss 2\n", ""),
-    (
-        &["look", "--db", "magic.db", WIN_3],
-        1,
-        "",
-        "dobutsu: E16 Magic\n",
-    ),
-    (
-        &["look", "--db", "set.db", WIN_3],
-        1,
-        "",
-        "dobutsu: E17 SetByte\n",
-    ),
-    (
-        &["look", "--db", "count.db", WIN_3],
-        1,
-        "",
-        "dobutsu: E18 ClassCount\n",
-    ),
-    (
-        &["look", "--db", "none.db", WIN_3],
-        3,
-        "",
-        "dobutsu: E24 Io\n",
-    ),
-    // a position is read before its file, which here is none
-    (
-        &["look", "--db", "none.db", ""],
-        1,
-        "",
-        "dobutsu: E1 Shape\n",
-    ),
-    (
-        &["probe", "--db", "none.db", ""],
-        1,
-        "",
-        "dobutsu: E1 Shape\n",
-    ),
-    (
-        &["line", "--db", "digest.db", "L../.../.../..l - -"],
-        1,
-        "",
-        "dobutsu: E6 FarLion\n",
-    ),
-    (
-        &["probe", "--db", "none.db", WIN_3],
-        3,
-        "",
-        "dobutsu: E24 Io\n",
-    ),
-    (
-        &["line", "--db", "none.db", WIN_3],
-        3,
-        "",
-        "dobutsu: E24 Io\n",
-    ),
-    (&["check", "--db", "none.db"], 3, "", "dobutsu: E24 Io\n"),
-    // builds, and what is asked of their files
-    (
-        &["build", "--set", "000", "--nodes", "0", "--out", "none.db"],
-        1,
-        "",
-        "dobutsu: E9 Nodes\n",
-    ),
-    (
-        &["build", "--set", "000", "--nodes", "17", "--out", "none.db"],
-        1,
-        "",
-        "dobutsu: E9 Nodes\n",
-    ),
-    (
-        &["build", "--set", "3", "--nodes", "0", "--out", "none.db"],
-        1,
-        "",
-        "dobutsu: E25 SetText\n",
-    ),
-    (&["check", "--db", "none.db"], 3, "", "dobutsu: E24 Io\n"),
-    (
-        &["build", "--set", "000", "--nodes", "1", "--out", "built.db"],
-        0,
-        LINES_OF_000,
-        "",
-    ),
-    (
-        &["build", "--set", "000", "--nodes", "3", "--out", "cut.db"],
-        0,
-        LINES_OF_000,
-        "",
-    ),
-    (&["probe", "--db", "built.db", WIN_3], 0, "win 3\n", ""),
-    (&["check", "--db", "cut.db"], 0, "consistent\n", ""),
+const FURTHER_REFUSED: &[Refused] = &[
+    (&["moves", "--db", "lions.db", CHICK], 1, "E7 OtherSet"),
+    (&["stats", "--db", "count.db"], 1, "E18 ClassCount"),
+    (&["show", "--db", "lions.db", CHICK], 1, "E7 OtherSet"),
+    (&["show", FAR_LION], 1, "E6 FarLion"),
 ];
 
-// A shelf with the file of lions alone in the first format, whole and spoilt.
+// A shelf with the file of lions alone in the first format, whole and spoilt: `short.db` ends inside the record of `WIN_3`.
 fn shelf(rt: &(impl Abort + AllocGlobal)) -> MemShelf {
     let mut shelf = MemShelf::new(rt.alloc());
-    assert!(rt; put(&mut shelf, "lions.db", &first_file(rt)));
+    let whole = first_file(rt);
+    assert!(rt; put(&mut shelf, "lions.db", &whole));
     assert!(rt; put(&mut shelf, "empty.db", &[]));
-    let mut cut = first_file(rt);
-    assert!(rt; cut.pop().is_some());
-    assert!(rt; put(&mut shelf, "cut.db", &cut));
-    let mut short = first_file(rt);
-    short.truncate(77);
-    assert!(rt; put(&mut shelf, "short.db", &short));
-    spoils(rt, &mut shelf, "magic.db", 0);
-    spoils(rt, &mut shelf, "set.db", 11);
-    spoils(rt, &mut shelf, "count.db", 12);
-    spoils(rt, &mut shelf, "digest.db", 20);
-    let mut longer = first_file(rt);
+    assert!(rt; put(&mut shelf, "cut.db", &cut_to(rt, 159)));
+    assert!(rt; put(&mut shelf, "short.db", &cut_to(rt, 77)));
+    for (name, place) in [
+        ("magic.db", 0),
+        ("set.db", 11),
+        ("count.db", 12),
+        ("digest.db", 20),
+    ] {
+        assert!(rt; put(&mut shelf, name, &spoilt(rt, place)));
+    }
+    let mut longer = whole;
     assert!(rt; longer.push(0).is_ok());
     assert!(rt; put(&mut shelf, "longer.db", &longer));
     shelf
 }
 
-// Puts the file with another byte at that place under the name.
-fn spoils(rt: &(impl Abort + AllocGlobal), shelf: &mut MemShelf, name: &str, place: usize) {
-    let mut bytes = first_file(rt);
-    if let Some(byte) = bytes.get_mut(place) {
-        *byte = !*byte;
-    }
-    assert!(rt; put(shelf, name, &bytes));
-}
-
-/// The program answers the row so.
-pub(crate) fn answers<S: Shelf>(
+// The program ends with that status, and writes that.
+fn ends<S: Shelf>(
     rt: &(impl Abort + Threads + Wait + Sync + Console),
     alloc: Global,
     shelf: &mut S,
-    row: &Row,
+    words: &[&str],
+    status: u8,
+    told: &str,
+    said: &str,
 ) {
-    let (words, status, told, said) = row;
     let mut out = Vec::new(alloc);
     let mut err = Vec::new(alloc);
     let ended = run_words(rt, alloc, words, shelf, &mut out, &mut err);
     assert!(rt;
-        ended == *status && out.as_slice() == told.as_bytes() && err.as_slice() == said.as_bytes(),
+        ended == status && out.as_slice() == told.as_bytes() && err.as_slice() == said.as_bytes(),
         "{words:?}"
     );
+}
+
+/// The program answers the words so.
+pub(crate) fn answers<S: Shelf>(
+    rt: &(impl Abort + Threads + Wait + Sync + Console),
+    alloc: Global,
+    shelf: &mut S,
+    words: &[&str],
+    told: &str,
+) {
+    ends(rt, alloc, shelf, words, 0, told, "");
+}
+
+/// The program refuses the words so.
+pub(crate) fn refuses<S: Shelf>(
+    rt: &(impl Abort + Threads + Wait + Sync + Console),
+    alloc: Global,
+    shelf: &mut S,
+    words: &[&str],
+    status: u8,
+    fault: &str,
+) {
+    let said = format!(in alloc; "dobutsu: {fault}\n").expect(rt, "memory");
+    ends(rt, alloc, shelf, words, status, "", said.as_str());
+}
+
+/// The program answers all of those rows.
+pub(crate) fn answers_all<S: Shelf>(
+    rt: &(impl Abort + Threads + Wait + Sync + Console),
+    alloc: Global,
+    shelf: &mut S,
+    rows: &[Answered],
+) {
+    for (words, told) in rows {
+        answers(rt, alloc, shelf, *words, *told);
+    }
+}
+
+/// The program refuses all of those rows.
+pub(crate) fn refuses_all<S: Shelf>(
+    rt: &(impl Abort + Threads + Wait + Sync + Console),
+    alloc: Global,
+    shelf: &mut S,
+    rows: &[Refused],
+) {
+    for (words, status, fault) in rows {
+        refuses(rt, alloc, shelf, *words, *status, *fault);
+    }
+}
+
+// What needs no file.
+fn tells_values(
+    rt: &(impl Abort + Threads + Wait + Sync + Console),
+    alloc: Global,
+    shelf: &mut MemShelf,
+) {
+    for (text, told) in VALUES {
+        answers(rt, alloc, shelf, &["value", *text], *told);
+    }
+    answers(
+        rt,
+        alloc,
+        shelf,
+        &["count", "--set", "000"],
+        "positions 99\nclasses 54\n",
+    );
+    for (text, fault) in FAULTS {
+        refuses(rt, alloc, shelf, &["value", *text], 1, *fault);
+    }
+    refuses(
+        rt,
+        alloc,
+        shelf,
+        &["count", "--set", "300"],
+        1,
+        "E25 SetText",
+    );
+}
+
+// What the files of the shelf say.
+fn tells_files(
+    rt: &(impl Abort + Threads + Wait + Sync + Console),
+    alloc: Global,
+    shelf: &mut MemShelf,
+) {
+    answers(
+        rt,
+        alloc,
+        shelf,
+        &["check", "--db", "lions.db"],
+        "consistent\n",
+    );
+    for (file, status, fault) in UNCHECKED {
+        refuses(rt, alloc, shelf, &["check", "--db", *file], *status, *fault);
+    }
+    for (command, file, text, told) in ASKED {
+        answers(rt, alloc, shelf, &[*command, "--db", *file, *text], *told);
+    }
+    for (command, file, text, status, fault) in UNASKED {
+        refuses(
+            rt,
+            alloc,
+            shelf,
+            &[*command, "--db", *file, *text],
+            *status,
+            *fault,
+        );
+    }
+}
+
+// What builds tell, and what is asked of their files.
+fn tells_builds(
+    rt: &(impl Abort + Threads + Wait + Sync + Console),
+    alloc: Global,
+    shelf: &mut MemShelf,
+) {
+    for (set, nodes, fault) in UNBUILT {
+        let words = [
+            "build", "--set", *set, "--nodes", *nodes, "--out", "none.db",
+        ];
+        refuses(rt, alloc, shelf, &words, 1, *fault);
+    }
+    refuses(rt, alloc, shelf, &["check", "--db", "none.db"], 3, "E24 Io");
+    for (set, nodes, file) in BUILDS {
+        let words = ["build", "--set", *set, "--nodes", *nodes, "--out", *file];
+        answers(rt, alloc, shelf, &words, LINES_OF_000);
+    }
+    let usual = ["build", "--set", "000", "--out", "usual.db"];
+    answers(rt, alloc, shelf, &usual, LINES_OF_000);
+    answers_all(rt, alloc, shelf, BUILT);
 }
 
 #[test]
 fn rows_of_the_program(rt: HostRuntime) {
     let mut shelf = shelf(&rt);
-    for row in ROWS {
-        answers(&rt, rt.alloc(), &mut shelf, row);
+    tells_values(&rt, rt.alloc(), &mut shelf);
+    tells_files(&rt, rt.alloc(), &mut shelf);
+    tells_builds(&rt, rt.alloc(), &mut shelf);
+}
+
+// Words for two puzzles of so many plies.
+fn tells_puzzles(
+    rt: &(impl Abort + Threads + Wait + Sync + Console),
+    alloc: Global,
+    shelf: &mut MemShelf,
+) {
+    for (plies, told) in [("3", PUZZLES), ("9", "none\n")] {
+        let words = [
+            "puzzles", "--db", "lions.db", "--plies", plies, "--count", "2",
+        ];
+        answers(rt, alloc, shelf, &words, told);
+    }
+    for (plies, status, fault) in [
+        ("4", 2, "--plies is an odd number of at least 3"),
+        ("3", 3, "E24 Io"),
+    ] {
+        let words = [
+            "puzzles", "--db", "none.db", "--plies", plies, "--count", "2",
+        ];
+        refuses(rt, alloc, shelf, &words, status, fault);
     }
 }
 
 #[test]
 fn further_rows_of_the_program(rt: HostRuntime) {
     let mut shelf = shelf(&rt);
-    for row in FURTHER_ROWS {
-        answers(&rt, rt.alloc(), &mut shelf, row);
-    }
+    answers_all(&rt, rt.alloc(), &mut shelf, FURTHER);
+    refuses_all(&rt, rt.alloc(), &mut shelf, FURTHER_REFUSED);
+    tells_puzzles(&rt, rt.alloc(), &mut shelf);
 }
 
 // Where standard output fails the build has failed, and its file is whole.

@@ -1,5 +1,5 @@
-// Tests of pieces, moves, texts, ranks, values and predecessors, a module each: what no clause says, against values from outside and
-// values worked out by hand. Tests stand in crates of their own, by layer, since a crate is proved once more with its tests.
+// Tests of pieces, moves and texts, a module each: what no clause says, against values that were worked out by hand. Tests stand in crates of
+// their own, by layer, since a crate is proved once more with its tests.
 #![tactic(auto)]
 
 #[cfg(test)]
@@ -9,12 +9,4 @@ mod pieces;
 #[cfg(test)]
 mod positions;
 #[cfg(test)]
-mod rank;
-#[cfg(test)]
-mod sets;
-#[cfg(test)]
 mod text;
-#[cfg(test)]
-mod unmove;
-#[cfg(test)]
-mod value;

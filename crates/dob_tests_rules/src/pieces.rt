@@ -3,6 +3,7 @@ use dob_pieces::{
     Hand, HandKind, Hands, Kind, Piece, PieceSet, Position, PositionFault, SetText, Setup, Side,
     Square,
 };
+use std::process::Abort;
 
 const EMPTY_HAND: Hand = Hand {
     chicks: 0,
@@ -13,6 +14,17 @@ const EMPTY_HAND: Hand = Hand {
 const EMPTY_HANDS: Hands = Hands {
     mover: EMPTY_HAND,
     enemy: EMPTY_HAND,
+};
+
+const ONE_CHICK: Hand = Hand {
+    chicks: 1,
+    ..EMPTY_HAND
+};
+
+const FULL_HAND: Hand = Hand {
+    chicks: 255,
+    elephants: 255,
+    giraffes: 255,
 };
 
 fn own(kind: Kind) -> Option<Piece> {
@@ -29,8 +41,8 @@ fn foe(kind: Kind) -> Option<Piece> {
     })
 }
 
-// The starting position, gle/.c./.C./ELG from row 4 down to row 1.
-fn start() -> Setup {
+/// The starting position, gle/.c./.C./ELG from row 4 down to row 1.
+pub(crate) fn start() -> Setup {
     let board = [
         own(Kind::Elephant),
         own(Kind::Lion),
@@ -85,22 +97,26 @@ fn start_is_mirrored(rt: HostRuntime) {
 
 #[test]
 fn hands_are_turned(rt: HostRuntime) {
-    let one_chick = Hand {
-        chicks: 1,
-        elephants: 0,
-        giraffes: 0,
+    let hands = Hands {
+        mover: ONE_CHICK,
+        ..EMPTY_HANDS
     };
-    let setup = Setup {
-        board: lions(),
-        hands: Hands {
-            mover: one_chick,
-            enemy: EMPTY_HAND,
-        },
-    };
-    assert!(rt; setup.turned().hands.enemy == one_chick);
+    let board = lions();
+    let setup = Setup { board, hands };
+    assert!(rt; setup.turned().hands.enemy == ONE_CHICK);
     assert!(rt; setup.turned().hands.mover == EMPTY_HAND);
     assert!(rt; setup.mirrored().hands == setup.hands);
-    assert!(rt; one_chick.count(HandKind::Chick) == 1 && one_chick.count(HandKind::Giraffe) == 0);
+    assert!(rt; ONE_CHICK.count(HandKind::Chick) == 1 && ONE_CHICK.count(HandKind::Giraffe) == 0);
+}
+
+// The board with those hands is refused so.
+fn is_refused(
+    rt: &impl Abort,
+    board: [Option<Piece>; Square::COUNT],
+    hands: Hands,
+    fault: PositionFault,
+) {
+    assert!(rt; Position::of(board, hands) == Err(fault));
 }
 
 #[test]
@@ -108,43 +124,33 @@ fn faults_are_refused(rt: HostRuntime) {
     let mut board = lions();
     assert!(rt; Position::of(board, EMPTY_HANDS).is_ok());
     board[10] = None;
-    assert!(rt; Position::of(board, EMPTY_HANDS) == Err(PositionFault::Lions));
+    is_refused(&rt, board, EMPTY_HANDS, PositionFault::Lions);
     let mut board = lions();
     board[3] = own(Kind::Chick);
     board[4] = foe(Kind::Hen);
     assert!(rt; Position::of(board, EMPTY_HANDS).is_ok());
-    let full = Hand {
-        chicks: 255,
-        elephants: 255,
-        giraffes: 255,
+    let both_full = Hands {
+        mover: FULL_HAND,
+        enemy: FULL_HAND,
     };
-    let hands = Hands {
-        mover: full,
-        enemy: full,
+    is_refused(&rt, board, both_full, PositionFault::Count);
+    let one_chick = Hands {
+        enemy: ONE_CHICK,
+        ..EMPTY_HANDS
     };
-    assert!(rt; Position::of(board, hands) == Err(PositionFault::Count));
-    let one_chick = Hand {
-        chicks: 1,
-        elephants: 0,
-        giraffes: 0,
-    };
-    let hands = Hands {
-        mover: EMPTY_HAND,
-        enemy: one_chick,
-    };
-    assert!(rt; Position::of(board, hands) == Err(PositionFault::Count));
+    is_refused(&rt, board, one_chick, PositionFault::Count);
     let mut board = lions();
     board[1] = None;
     board[11] = own(Kind::Lion);
-    assert!(rt; Position::of(board, EMPTY_HANDS) == Err(PositionFault::FarLion));
-    assert!(rt; Position::of(board, hands) == Err(PositionFault::FarLion));
-    let hands = Hands {
-        mover: full,
-        enemy: EMPTY_HAND,
+    is_refused(&rt, board, EMPTY_HANDS, PositionFault::FarLion);
+    is_refused(&rt, board, one_chick, PositionFault::FarLion);
+    let full = Hands {
+        mover: FULL_HAND,
+        ..EMPTY_HANDS
     };
-    assert!(rt; Position::of(board, hands) == Err(PositionFault::Count));
+    is_refused(&rt, board, full, PositionFault::Count);
     board[10] = None;
-    assert!(rt; Position::of(board, hands) == Err(PositionFault::Lions));
+    is_refused(&rt, board, full, PositionFault::Lions);
 }
 
 #[test]

@@ -3,8 +3,9 @@ ghost use Rattle.std.specs.Prelude.{◌<◌};
 
 mod drawings;
 
+use crate::pieces::start;
 use dob_moves::Move;
-use dob_pieces::{Hand, HandKind, Kind, Memory, Piece, Profile, Side, Square};
+use dob_pieces::{Hand, HandKind, Kind, Memory, Profile, Square};
 use dob_text::{TextFault, read_position, write_move, write_position};
 use std::alloc::Global;
 use std::process::Abort;
@@ -177,7 +178,7 @@ const FAR_CHICK: [&str; 6] = [
     "l../.../..L/..c - -",
 ];
 
-// A chick on its far row, and another fault that is told before it.
+// A chick on its far row, and another fault that comes before it.
 const BEFORE_FAR_CHICK: [(&str, TextFault); 4] = [
     ("C.l/.../.../L.. CC -", TextFault::Count),
     ("..l/.../.../L.c C c", TextFault::Count),
@@ -251,40 +252,48 @@ pub(crate) fn writes(rt: &impl Abort, alloc: Global, the_move: Move, second: boo
     assert!(rt; written.as_str() == text, "{text}");
 }
 
-/// The step is written so.
-fn writes_step(
-    rt: &impl Abort,
-    alloc: Global,
-    kind: Kind,
-    squares: (usize, usize),
-    signs: (bool, bool),
-    second: bool,
-    text: &str,
-) {
-    let (from, to) = (Square::new(squares.0 % 12), Square::new(squares.1 % 12));
-    let (catch, grows) = signs;
-    let the_move = Move::Step {
-        kind,
-        from,
-        to,
-        catch,
-        grows,
-    };
-    writes(rt, alloc, the_move, second, text);
+/// A step: the piece, its squares, whether it catches and whether it grows, and the text.
+type Step = (Kind, (usize, usize), (bool, bool), &'static str);
+
+const FIRST_STEPS: &[Step] = &[
+    (Kind::Chick, (4, 7), (true, false), "Cb2xb3"),
+    (Kind::Lion, (1, 3), (false, false), "Lb1-a2"),
+    (Kind::Chick, (6, 9), (false, true), "Ca3-a4+"),
+    (Kind::Chick, (7, 10), (true, true), "Cb3xb4+"),
+    (Kind::Hen, (11, 10), (false, false), "Hc4-b4"),
+];
+
+const SECOND_STEPS: &[Step] = &[
+    (Kind::Chick, (4, 7), (true, false), "cb3xb2"),
+    (Kind::Lion, (1, 3), (false, false), "lb4-c3"),
+    (Kind::Chick, (6, 9), (false, true), "cc2-c1+"),
+    (Kind::Hen, (11, 10), (false, false), "ha1-b1"),
+    (Kind::Giraffe, (2, 5), (false, false), "ga4-a3"),
+    (Kind::Elephant, (0, 4), (true, false), "ec4xb3"),
+];
+
+/// The steps of the first or the second player are written so.
+fn writes_steps(rt: &impl Abort, alloc: Global, second: bool, steps: &[Step]) {
+    for (kind, (from, to), (catch, grows), text) in steps {
+        let the_move = Move::Step {
+            kind: *kind,
+            from: Square::new(*from % 12),
+            to: Square::new(*to % 12),
+            catch: *catch,
+            grows: *grows,
+        };
+        writes(rt, alloc, the_move, second, *text);
+    }
 }
 
-/// The drop is written so.
-fn writes_drop(
-    rt: &impl Abort,
-    alloc: Global,
-    kind: HandKind,
-    to: usize,
-    second: bool,
-    text: &str,
-) {
-    let to = Square::new(to % 12);
-    writes(rt, alloc, Move::Put { kind, to }, second, text);
-}
+/// Drops of the first or the second player: the piece, its square, and the text.
+const DROPS: &[(HandKind, usize, bool, &str)] = &[
+    (HandKind::Chick, 4, false, "C*b2"),
+    (HandKind::Chick, 4, true, "c*b3"),
+    (HandKind::Elephant, 9, false, "E*a4"),
+    (HandKind::Elephant, 9, true, "e*c1"),
+    (HandKind::Giraffe, 8, true, "g*a2"),
+];
 
 #[test]
 fn reads_and_writes_back(rt: HostRuntime) {
@@ -298,29 +307,7 @@ fn reads_the_start(rt: HostRuntime) {
     let setup = read_position(Profile::A, START)
         .expect(&rt, "the start")
         .setup;
-    let mover = |kind| Some(Piece {
-        side: Side::Mover,
-        kind,
-    });
-    let enemy = |kind| Some(Piece {
-        side: Side::Enemy,
-        kind,
-    });
-    let board = [
-        mover(Kind::Elephant),
-        mover(Kind::Lion),
-        mover(Kind::Giraffe),
-        None,
-        mover(Kind::Chick),
-        None,
-        None,
-        enemy(Kind::Chick),
-        None,
-        enemy(Kind::Giraffe),
-        enemy(Kind::Lion),
-        enemy(Kind::Elephant),
-    ];
-    assert!(rt; setup.board == board);
+    assert!(rt; setup.board == start().board);
 }
 
 #[test]
@@ -404,119 +391,24 @@ fn refuses_long_hands(rt: HostRuntime) {
 
 #[test]
 fn writes_steps_of_the_first_player(rt: HostRuntime) {
-    let alloc = rt.alloc();
-    writes_step(
-        &rt,
-        alloc,
-        Kind::Chick,
-        (4, 7),
-        (true, false),
-        false,
-        "Cb2xb3",
-    );
-    writes_step(
-        &rt,
-        alloc,
-        Kind::Lion,
-        (1, 3),
-        (false, false),
-        false,
-        "Lb1-a2",
-    );
-    writes_step(
-        &rt,
-        alloc,
-        Kind::Chick,
-        (6, 9),
-        (false, true),
-        false,
-        "Ca3-a4+",
-    );
-    writes_step(
-        &rt,
-        alloc,
-        Kind::Chick,
-        (7, 10),
-        (true, true),
-        false,
-        "Cb3xb4+",
-    );
-    writes_step(
-        &rt,
-        alloc,
-        Kind::Hen,
-        (11, 10),
-        (false, false),
-        false,
-        "Hc4-b4",
-    );
+    writes_steps(&rt, rt.alloc(), false, FIRST_STEPS);
 }
 
 #[test]
 fn writes_steps_of_the_second_player(rt: HostRuntime) {
-    let alloc = rt.alloc();
-    writes_step(
-        &rt,
-        alloc,
-        Kind::Chick,
-        (4, 7),
-        (true, false),
-        true,
-        "cb3xb2",
-    );
-    writes_step(
-        &rt,
-        alloc,
-        Kind::Lion,
-        (1, 3),
-        (false, false),
-        true,
-        "lb4-c3",
-    );
-    writes_step(
-        &rt,
-        alloc,
-        Kind::Chick,
-        (6, 9),
-        (false, true),
-        true,
-        "cc2-c1+",
-    );
-    writes_step(
-        &rt,
-        alloc,
-        Kind::Hen,
-        (11, 10),
-        (false, false),
-        true,
-        "ha1-b1",
-    );
-    writes_step(
-        &rt,
-        alloc,
-        Kind::Giraffe,
-        (2, 5),
-        (false, false),
-        true,
-        "ga4-a3",
-    );
-    writes_step(
-        &rt,
-        alloc,
-        Kind::Elephant,
-        (0, 4),
-        (true, false),
-        true,
-        "ec4xb3",
-    );
+    writes_steps(&rt, rt.alloc(), true, SECOND_STEPS);
 }
 
 #[test]
 fn writes_drops(rt: HostRuntime) {
-    let alloc = rt.alloc();
-    writes_drop(&rt, alloc, HandKind::Chick, 4, false, "C*b2");
-    writes_drop(&rt, alloc, HandKind::Chick, 4, true, "c*b3");
-    writes_drop(&rt, alloc, HandKind::Elephant, 9, false, "E*a4");
-    writes_drop(&rt, alloc, HandKind::Elephant, 9, true, "e*c1");
-    writes_drop(&rt, alloc, HandKind::Giraffe, 8, true, "g*a2");
+    for (kind, to, second, text) in DROPS {
+        let to = Square::new(*to % 12);
+        writes(
+            &rt,
+            rt.alloc(),
+            Move::Put { kind: *kind, to },
+            *second,
+            *text,
+        );
+    }
 }

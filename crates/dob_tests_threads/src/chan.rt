@@ -10,7 +10,7 @@ use dob_chan::{SendEnd, TakeEnd, pair, rejoin};
 use dob_pieces::Memory;
 use dob_share::Settlement;
 use dob_unmove::back;
-use dob_update::{Batch, Outbox, push_items};
+use dob_update::{Batch, BatchSize, Capacity, Outbox, push_items};
 use dob_value::Value;
 use std::alloc::Global;
 use std::process::Abort;
@@ -24,7 +24,11 @@ const CLASS: u64 = 16;
 // The next batch.
 fn cut(rt: &impl Abort, outbox: &mut Outbox) -> Result<Batch, Memory> {
     assert!(rt; outbox.cut_count() < 1 << 40);
-    Ok(outbox.cut(5)?.expect(rt, "a batch"))
+    Ok(
+        outbox
+            .cut(BatchSize::new(5).expect(rt, "a size"))?
+            .expect(rt, "a batch"),
+    )
 }
 
 // So many batches of an owner, the last one first.
@@ -152,7 +156,8 @@ fn waits_for_room<R: Wait + Abort>(rt: &R, send: &mut SendEnd, take: &mut TakeEn
 #[test]
 fn one_batch_fits_into_an_inbox_for_one(rt: HostRuntime) -> Result<(), Fail> {
     let mut batches = batches(&rt, rt.alloc(), 0, 3)?;
-    let (mut send, mut take) = pair(rt.alloc(), 1)?;
+    let one = Capacity::new(1).expect(&rt, "a capacity");
+    let (mut send, mut take) = pair(rt.alloc(), one)?;
     assert!(rt; take.next(&rt).is_none());
     assert!(rt; offer_next(&rt, &mut send, &mut batches));
     let second = batches.pop().expect(&rt, "a batch");
@@ -190,7 +195,8 @@ fn numbers_of(alloc: Global, batches: &[Batch]) -> Result<Vec<u64>, Memory> {
 #[test]
 fn what_waits_comes_back_in_order(rt: HostRuntime) -> Result<(), Fail> {
     let mut batches = batches(&rt, rt.alloc(), 0, 4)?;
-    let (mut send, mut take) = pair(rt.alloc(), 3)?;
+    let three = Capacity::new(3).expect(&rt, "a capacity");
+    let (mut send, mut take) = pair(rt.alloc(), three)?;
     leaves_three(&rt, &mut send, &mut take, &mut batches);
     let joined = rejoin(&rt, rt.alloc(), send, take);
     let joined = joined.ok().expect(&rt, "the inbox's end");
@@ -204,7 +210,8 @@ fn what_waits_comes_back_in_order(rt: HostRuntime) -> Result<(), Fail> {
 fn many_batches_between_two_threads(rt: HostRuntime) -> Result<(), Fail> {
     for capacity in &[1, 64] {
         let batches = batches(&rt, rt.alloc(), 0, 10_000)?;
-        let (send, take) = pair(rt.alloc(), *capacity)?;
+        let room = Capacity::new(*capacity).expect(&rt, "a capacity");
+        let (send, take) = pair(rt.alloc(), room)?;
         let (send, (take, in_order)) = thread::join(
             &rt,
             || -> SendEnd

@@ -1,4 +1,4 @@
--- Ascending lists of numbers: they are told apart by how often each number stands in them.
+-- Ascending lists of numbers: they are distinguished by how often each number stands in them.
 use Rattle.std.proofs.Common.{◌≡◌, ℕ, zero, suc, ◌+◌, ◌*◌, ◌<◌, ◌≤◌, ◌==◌, Bool, cond, List, [], ◌∷◌, refl, sym, ap, ◌∙◌, subst, inl, inr, arith, All, AllPairs}
 use Rattle.std.specs.Prelude.{replicate}
 use Rattle.std.specs.List.{count_by}

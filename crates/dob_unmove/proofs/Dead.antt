@@ -25,7 +25,7 @@ use Rattle.dob_unmove.specs.Undoes.{arrives_at, earlier, CanUndo, CanUnstep}
 use Rattle.dob_unmove.specs.Threats.{elsewhere, stood_before}
 use Rattle.dob_unmove.specs.Walks.{stands, uncatch, unsteps_between, unsteps_from, unsteps, undoes_at}
 use Rattle.dob_unmove.specs.Ends.{CanWalk}
-use Rattle.dob_unmove.specs.Ways.{is_home, may_end, comes_home, may_come}
+use Rattle.dob_unmove.specs.Ways.{is_home, may_have_ended, comes_home, may_come}
 use Rattle.dob_unmove.proofs.Kept.{legal_turned}
 use Rattle.dob_unmove.proofs.Homes.{representative_home}
 use Rattle.dob_unmove.proofs.Listed.{at_sound, from_sound, stands-true, free_step}
@@ -120,14 +120,14 @@ module _ (walk : Walk) (w : CanWalk walk) where
   last_fails true true c d e f off = cc
   last_fails false b c d e f off = cc
 
-  pub ends_dead : AreDead (RepresentsClass family) after (may_end after threat w.ways_are.stays) (undoes_at after)
+  pub ends_dead : AreDead (RepresentsClass family) after (may_have_ended after threat w.ways_are.stays) (undoes_at after)
   ends_dead k lt off u inside =
       let can = at_sound after k u inside in
       let on : ends_on u ≡ k = undoes_end after k u inside in
       elim (cases_Bool (elsewhere threat.attackers (ends_on u))) [
         | inl stood ↦ dead_stood u can (stood_elsewhere u stood)
         | inr calm ↦
-            (let off_there : may_end after threat w.ways_are.stays (ends_on u) ≡ false = ap (may_end after threat w.ways_are.stays) on ∙ off in
+            (let off_there : may_have_ended after threat w.ways_are.stays (ends_on u) ≡ false = ap (may_have_ended after threat w.ways_are.stays) on ∙ off in
             let no = last_fails _ _ w.ways_are.stays (is_piece Mover Lion (at after (ends_on u))) (own_there u can) calm off_there in
             dead_away u lion_now can (stays_there u lion_now can lion_is_now no.1) (w.ways_are.home_is lion_now lion_is_now ∙ no.0))
       ]
@@ -174,7 +174,7 @@ module _ (walk : Walk) (w : CanWalk walk) where
 
 -- ---- what the tests say where they hold
 
-pub calm_end : (after : Setup) (threat : Threat) (stays : Bool) (square : ℕ) → may_end after threat stays square ≡ true
+pub calm_end : (after : Setup) (threat : Threat) (stays : Bool) (square : ℕ) → may_have_ended after threat stays square ≡ true
     → elsewhere threat.attackers square ≡ false
 calm_end after threat stays square on =
     let first = and_parts (is_own (at after square) && not (elsewhere threat.attackers square)) _ on in

@@ -12,7 +12,7 @@ pub mod Kept  -- taking a move back keeps the lions and the other pieces
 pub mod Counting  -- what all ways add counts the moves
 pub mod Gathering  -- and so do the functions that gather classes
 pub mod Classes  -- classes have one number each
-pub mod Ascending  -- ascending lists are told apart by their counts
+pub mod Ascending  -- ascending lists are distinguished by their counts
 pub mod Edges  -- the predecessors are that one list
 -- Ways that are skipped.
 pub mod Threats  -- who could catch the enemy lion before the move

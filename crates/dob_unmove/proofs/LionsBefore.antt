@@ -18,7 +18,7 @@ use Rattle.dob_unmove.specs.declared.undo.Undo.TheVariants.{Unstep, Unput}
 use Rattle.dob_unmove.specs.Classes.{IsSeenTurned}
 use Rattle.dob_unmove.specs.Threats.{IsThreat}
 use Rattle.dob_unmove.specs.Undoes.{enemy_cell, earlier, CanUndo, CanUnstep}
-use Rattle.dob_unmove.specs.Ways.{is_home, comes_home, may_end, may_come, TellsHome, HasLionHome}
+use Rattle.dob_unmove.specs.Ways.{is_home, comes_home, may_have_ended, may_come, TellsHome, HasLionHome}
 use Rattle.dob_unmove.proofs.Homes.{either_true}
 use Rattle.dob_unmove.proofs.Threats.{at_from, at_to, at_others, at_drop}
 
@@ -41,7 +41,7 @@ is_own_lion (Some piece) e = let parts = lion_parts piece.side piece.kind e in �
 
 -- where a move may have ended
 pub end_home : (after : Setup) (threat : Threat) (stays : Bool) (to : ℕ) → HasLions after → TellsHome after threat.lion stays
-    → may_end after threat stays to ≡ true → HasLionHome after threat.lion to
+    → may_have_ended after threat stays to ≡ true → HasLionHome after threat.lion to
 end_home after threat stays to lions tells on square there =
     let last = and_parts _ (stays || is_piece Mover Lion (at after to)) on in
     elim (either_true stays (is_piece Mover Lion (at after to)) last.1) [

@@ -19,7 +19,7 @@ use Rattle.dob_unmove.specs.declared.attackers.Attackers.TheVariants.{One}
 use Rattle.dob_unmove.specs.declared.attackers.Threat.{Threat}
 use Rattle.dob_unmove.specs.declared.ways.TheConstants.{ALL, HOMES_ON_A, HOMES_ON_A_AND_B}
 use Rattle.dob_unmove.specs.Threats.{elsewhere}
-use Rattle.dob_unmove.specs.Ways.{is_home, TellsHome, may_end, comes_home}
+use Rattle.dob_unmove.specs.Ways.{is_home, TellsHome, may_have_ended, comes_home}
 
 -- ---- masks of constants
 
@@ -103,11 +103,11 @@ module _ (after : Setup) (threat : Threat) (lions : HasLions after) (lion homes 
           | inr not_there ↦ ap (λ b. b && is_home threat.lion k) not_there
         ])
 
-  pub calm_ends : IsMask (may_end after threat true) (bit_and own calm)
-  calm_ends = IsMask-same (λ s. is_own (at after s) && not (elsewhere threat.attackers s)) (may_end after threat true) (bit_and own calm)
+  pub calm_ends : IsMask (may_have_ended after threat true) (bit_and own calm)
+  calm_ends = IsMask-same (λ s. is_own (at after s) && not (elsewhere threat.attackers s)) (may_have_ended after threat true) (bit_and own calm)
       (λ s lt. sym (and_true (is_own (at after s) && not (elsewhere threat.attackers s)))) (IsMask-and _ _ own calm own_are calm_are)
 
-  pub lion_ends : IsMask (may_end after threat false) (bit_and (bit_and own calm) lion)
+  pub lion_ends : IsMask (may_have_ended after threat false) (bit_and (bit_and own calm) lion)
   lion_ends = IsMask-and _ _ (bit_and own calm) lion (IsMask-and _ _ own calm own_are calm_are) lion_is
 
 pub is_two : (lion c : ℕ) → c ≡ column lion → c ≡ 2 → (column lion == 2) ≡ true

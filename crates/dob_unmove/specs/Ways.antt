@@ -28,8 +28,8 @@ HasLionHome after lion to = (square : ℕ) → at after square ≡ Some (piece_o
 
 -- The last move may have ended there: a piece of the mover stands there, no other one attacks the enemy lion, and the mover's
 -- lion stood on such a square before.
-abbrev pub may_end : Setup → Threat → Bool → ℕ → Bool
-may_end after threat stays square =
+abbrev pub may_have_ended : Setup → Threat → Bool → ℕ → Bool
+may_have_ended after threat stays square =
     (is_own (at after square) && not (elsewhere threat.attackers square)) && (stays || is_piece Mover Lion (at after square))
 
 -- a piece of the kind comes from such a square if it is the lion
@@ -51,7 +51,7 @@ pub record AreWays (after : Setup) (ways : Ways) : Type 0 where
   pub homes_are : IsMask (is_home ways.threat.lion) ways.homes
   pub stays : Bool
   pub home_is : TellsHome after ways.threat.lion stays
-  pub ends_are : IsMask (may_end after ways.threat stays) ways.ends
+  pub ends_are : IsMask (may_have_ended after ways.threat stays) ways.ends
 
 -- the mover's piece that stands there is of that kind, or none of the mover's does
 abbrev pub IsOwnKind : Cell → Option Kind → Type 0

@@ -1,5 +1,5 @@
 // The mover's pieces that attack the enemy lion. Where one did before a move, the position was no open one: the lion could
-// have been caught. So most ways to take a move back are told from the attackers that stand there now, without the setup
+// have been caught. So most ways to take a move back are known from the attackers that stand there now, without the setup
 // that was before.
 ghost use Rattle.std.specs.Prelude.{◌≡◌, ◌<◌, ℕ};
 ghost use Rattle.dob_pieces.specs.declared.setup.Setup.{Setup};

@@ -1,12 +1,11 @@
 // What stood before a move as sets of squares: no board is made. The square where the move ended is cleared, a piece that was
 // caught there comes back, and the piece that stepped stands where it came from.
-ghost use Rattle.std.specs.Prelude.{◌≡◌, ◌<◌, length, None, Some};
-ghost use Rattle.dob_pieces.specs.declared.kind.Side.TheVariants.{Mover, Enemy};
+ghost use Rattle.std.specs.Prelude.{◌≡◌, ◌<◌, length, None};
 ghost use Rattle.dob_pieces.specs.declared.setup.Setup.{Setup};
-ghost use Rattle.dob_pieces.specs.Setups.{at, held, piece_of, HasFewPieces};
+ghost use Rattle.dob_pieces.specs.Setups.{at, held, HasFewPieces};
 ghost use Rattle.dob_classes.specs.Bitboards.{AreBitboards};
 ghost use Rattle.dob_unmove.specs.declared.undo.Undo.{Undo};
-ghost use Rattle.dob_classes.specs.Changes.{IsWith};
+ghost use Rattle.dob_classes.specs.Changes.{IsWith, with_own, with_enemy};
 ghost use Rattle.dob_unmove.specs.Undoes.{CanUndo, earlier, enemy_cell};
 
 use crate::earlier::without_caught;
@@ -49,7 +48,7 @@ fn bits_before_step(
     let given_back = with_caught(without(bits, to), to, caught);
     Bitboards {
         hands,
-        ..with_own(given_back, from, kind)
+        ..with_own(given_back, 1 << from.index(), kind)
     }
 }
 
@@ -92,16 +91,14 @@ fn with_caught(bits: Bitboards, square: Square, caught: Option<Kind>) -> Bitboar
 {
     match caught {
         None => bits,
-        Some(kind) => with_enemy(bits, square, kind),
+        Some(kind) => with_enemy(bits, 1 << square.index(), kind),
     }
 }
 
-// The sets with the mover's piece of that kind on an empty square.
-fn with_own(bits: Bitboards, square: Square, kind: Kind) -> Bitboards
-    ensures { (before after : Setup) → at before square ≡ None → IsWith before after square (Some (piece_of Mover kind)) → AreBitboards before bits
-        → AreBitboards after result }
+// The sets with the mover's piece of that kind on an empty square, by the square's bit.
+fn with_own(bits: Bitboards, bit: u16, kind: Kind) -> Bitboards
+    ensures { result ≡ with_own kind bit bits }
 {
-    let bit = 1 << square.index();
     match kind {
         Kind::Lion => Bitboards {
             own_lion: bits.own_lion | bit,
@@ -127,38 +124,18 @@ fn with_own(bits: Bitboards, square: Square, kind: Kind) -> Bitboards
     }
 }
 
-// The sets with an enemy piece of that kind on an empty square.
-fn with_enemy(bits: Bitboards, square: Square, kind: Kind) -> Bitboards
-    ensures { (before after : Setup) → at before square ≡ None → IsWith before after square (Some (piece_of Enemy kind)) → AreBitboards before bits
-        → AreBitboards after result }
+// And with the enemy's piece: but for the lion it is in the set of all enemies too.
+fn with_enemy(bits: Bitboards, bit: u16, kind: Kind) -> Bitboards
+    ensures { result ≡ with_enemy kind bit bits }
 {
-    let bit = 1 << square.index();
-    let enemies = bits.enemies | bit;
     match kind {
         Kind::Lion => Bitboards {
             enemy_lion: bits.enemy_lion | bit,
             ..bits
         },
-        Kind::Giraffe => Bitboards {
-            giraffes: bits.giraffes | bit,
-            enemies,
-            ..bits
-        },
-        Kind::Elephant => Bitboards {
-            elephants: bits.elephants | bit,
-            enemies,
-            ..bits
-        },
-        Kind::Chick => Bitboards {
-            chicks: bits.chicks | bit,
-            enemies,
-            ..bits
-        },
-        Kind::Hen => Bitboards {
-            chicks: bits.chicks | bit,
-            hens: bits.hens | bit,
-            enemies,
-            ..bits
+        Kind::Giraffe | Kind::Elephant | Kind::Chick | Kind::Hen => Bitboards {
+            enemies: bits.enemies | bit,
+            ..with_own(bits, bit, kind)
         },
     }
 }

@@ -32,7 +32,7 @@ use std::alloc::Global;
 use std::snapshot::Snapshot;
 
 /// A walk over the ways to take the move back that left a setup, in which the side that made it is the mover. The sets of
-/// squares tell all that a walk asks of the setup, which is known of and not made.
+/// squares show all that a walk asks of the setup, which is known of and not made.
 #[derive(Drop)]
 struct Walk<'a> {
     classes: &'a Classes,

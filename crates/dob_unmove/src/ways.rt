@@ -1,4 +1,4 @@
-// What masks tell of the ways to take a move back: where it may have ended, and from where a piece may have come, so that what
+// What masks show of the ways to take a move back: where it may have ended, and from where a piece may have come, so that what
 // stood before was open and the earlier one of its class. All other ways are skipped.
 ghost use Rattle.std.specs.Prelude.{◌≡◌, ℕ, Bool, not, IsTrue};
 ghost use Rattle.dob_pieces.specs.Masks.{IsMask};
@@ -27,7 +27,7 @@ const HOMES_ON_A_AND_B: u16 = 0b000_011_011_011;
 /// The squares of columns a and c.
 const BESIDE_B: u16 = 0b101_101_101_101;
 
-/// What the masks of a setup after a move tell, in which the side that made it is the mover.
+/// What the masks of a setup after a move show, in which the side that made it is the mover.
 #[derive(Clone, Copy)]
 pub(crate) struct Ways {
     pub(crate) bits: Bitboards,
@@ -69,7 +69,7 @@ fn has(mask: u16, square: Square) -> bool
 }
 
 impl Ways {
-    /// What tells of the ways that lead to the setup, by its sets of squares.
+    /// What is known of the ways that lead to the setup, by its sets of squares.
     pub(crate) fn by(after: &Setup, bits: Bitboards) -> Ways
         requires legal { IsSeenTurned IsLegal after.now }
         requires bits { AreBitboards after.now bits }

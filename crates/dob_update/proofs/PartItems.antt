@@ -14,14 +14,14 @@ use Rattle.dob_pieces.specs.declared.profile.Family.{Family}
 use Rattle.dob_share.specs.Owners.{owner_of}
 use Rattle.dob_unmove.specs.Edges.{predecessors}
 use Rattle.dob_update.specs.Items.{item_for, items_of}
-use Rattle.dob_update.specs.Parts.{total, front, behind, skip_behind, items_of_parts, target_of, settlement_of, settlements_of}
+use Rattle.dob_update.specs.Parts.{items_in_all, front, behind, skip_behind, items_of_parts, target_of, settlement_of, settlements_of}
 use Rattle.dob_update.specs.Batches.{OutboxView, added}
 use Rattle.dob_update.specs.Runs.{IsRest, AreListed}
 use Rattle.dob_update.proofs.PartLists.{front-zero, front-cons, behind-within, behind-past}
 use Rattle.dob_update.proofs.Runs.{total-front, rest_many, rest_added, rest_cut}
 
 -- there are as many as the parts say
-pub items_of_parts-length : (parts : List Part) (classes : List ℕ) → total parts ≤ length classes → length (items_of_parts parts classes) ≡ total parts
+pub items_of_parts-length : (parts : List Part) (classes : List ℕ) → items_in_all parts ≤ length classes → length (items_of_parts parts classes) ≡ items_in_all parts
 items_of_parts-length [] classes within = refl
 items_of_parts-length (part ∷ parts) classes within =
     let own = map (item_for part.settlement) (take part.items classes) in
@@ -33,7 +33,7 @@ items_of_parts-length (part ∷ parts) classes within =
     omega (arith, taken, later, both)
 
 -- one part more, with its classes
-pub items_of_parts-push : (parts : List Part) (part : Part) (classes more : List ℕ) → total parts ≡ length classes → part.items ≡ length more
+pub items_of_parts-push : (parts : List Part) (part : Part) (classes more : List ℕ) → items_in_all parts ≡ length classes → part.items ≡ length more
     → items_of_parts (parts ++ part ∷ []) (classes ++ more) ≡ items_of_parts parts classes ++ map (item_for part.settlement) more
 items_of_parts-push [] part [] more all m =
     append-nil (map (item_for part.settlement) (take part.items more)) ∙ ap (λ (xs : List ℕ). map (item_for part.settlement) xs) (take_all part.items more (omega (arith, m)))
@@ -113,17 +113,17 @@ items_of_parts-split k (part ∷ parts) classes = elim (cases_lt k part.items) [
       ∙ ap (λ (xs : List Item). own ++ xs) (items_of_parts-split (k - part.items) parts (drop part.items classes))
 ]
 
-long : (k : ℕ) (parts : List Part) (classes : List ℕ) → total parts ≤ length classes → k ≤ total parts → length (items_of_parts (front k parts) classes) ≡ k
+long : (k : ℕ) (parts : List Part) (classes : List ℕ) → items_in_all parts ≤ length classes → k ≤ items_in_all parts → length (items_of_parts (front k parts) classes) ≡ k
 long k parts classes enough within =
     let many = total-front parts k within in
     items_of_parts-length (front k parts) classes (omega (arith, many, enough, within)) ∙ many
 
-pub items_of_parts-front : (k : ℕ) (parts : List Part) (classes : List ℕ) → total parts ≤ length classes → k ≤ total parts → items_of_parts (front k parts) classes ≡ take k (items_of_parts parts classes)
+pub items_of_parts-front : (k : ℕ) (parts : List Part) (classes : List ℕ) → items_in_all parts ≤ length classes → k ≤ items_in_all parts → items_of_parts (front k parts) classes ≡ take k (items_of_parts parts classes)
 items_of_parts-front k parts classes enough within =
     sym (take_at (items_of_parts (front k parts) classes) (items_of_parts (behind k parts) (drop k classes)) k (long k parts classes enough within))
     ∙ ap (λ (xs : List Item). take k xs) (items_of_parts-split k parts classes)
 
-pub items_of_parts-behind : (k : ℕ) (parts : List Part) (classes : List ℕ) → total parts ≤ length classes → k ≤ total parts
+pub items_of_parts-behind : (k : ℕ) (parts : List Part) (classes : List ℕ) → items_in_all parts ≤ length classes → k ≤ items_in_all parts
     → items_of_parts (behind k parts) (drop k classes) ≡ drop k (items_of_parts parts classes)
 items_of_parts-behind k parts classes enough within =
     sym (drop_at (items_of_parts (front k parts) classes) (items_of_parts (behind k parts) (drop k classes)) k (long k parts classes enough within))
@@ -156,9 +156,9 @@ items_more s before items classes start index class within read so_far =
 -- the items of the parts so far, and what is left to make
 pub record IsMaking (parts : List Part) (classes : List ℕ) (index next : ℕ) (list : List Item) : Type 0 where
   pub so_far : list ++ items_of_parts (drop index parts) (drop next classes) ≡ items_of_parts parts classes
-  pub within : next + total (drop index parts) ≤ length classes
+  pub within : next + items_in_all (drop index parts) ≤ length classes
 
-pub making_none : (parts : List Part) (classes : List ℕ) (list : List Item) → total parts ≤ length classes → list ≡ [] → IsMaking parts classes 0 0 list
+pub making_none : (parts : List Part) (classes : List ℕ) (list : List Item) → items_in_all parts ≤ length classes → list ≡ [] → IsMaking parts classes 0 0 list
 making_none parts classes list within none = record { so_far = ap (λ (xs : List Item). xs ++ items_of_parts parts classes) none; within = omega (arith, within) }
 
 next_part : (parts : List Part) (index : ℕ) (part : Part) → index < length parts → part ≡ get_or parts index part → drop index parts ≡ part ∷ drop (index + 1) parts
@@ -172,7 +172,7 @@ no_part = record { settlement = record { number = 0; class = 0; was = Win 0; now
 pub making_within : (parts : List Part) (classes : List ℕ) (index next : ℕ) (list : List Item) (part : Part) → index < length parts → part ≡ get_or parts index part
     → IsMaking parts classes index next list → next + part.items ≤ length classes
 making_within parts classes index next list part there read l =
-    let many : total (drop index parts) ≡ part.items + total (drop (index + 1) parts) = ap total (next_part parts index part there read) in
+    let many : items_in_all (drop index parts) ≡ part.items + items_in_all (drop (index + 1) parts) = ap items_in_all (next_part parts index part there read) in
     let within = l.within in
     omega (arith, many, within)
 
@@ -188,7 +188,7 @@ making_more parts classes index next list more part there read l is = record {
       ∙ append_assoc list own left
       ∙ ap (λ (ps : List Part). list ++ items_of_parts ps (drop next classes)) (sym (next_part parts index part there read)) ∙ l.so_far;
   within =
-      let many : total (drop index parts) ≡ part.items + total (drop (index + 1) parts) = ap total (next_part parts index part there read) in
+      let many : items_in_all (drop index parts) ≡ part.items + items_in_all (drop (index + 1) parts) = ap items_in_all (next_part parts index part there read) in
       let within = l.within in
       omega (arith, many, within);
 }
@@ -199,7 +199,7 @@ making_done parts classes index next list past l =
     sym (append-nil list) ∙ ap (λ (xs : List Item). list ++ xs) (sym (ap (λ (ps : List Part). items_of_parts ps (drop next classes)) (drop_all index parts past))) ∙ l.so_far
 
 -- there is no item just where there is no class
-pub no_items_of_parts : (parts : List Part) (classes : List ℕ) → total parts ≡ length classes → (items_of_parts parts classes ≡ [] → length classes ≡ 0) × (length classes ≡ 0 → items_of_parts parts classes ≡ [])
+pub no_items_of_parts : (parts : List Part) (classes : List ℕ) → items_in_all parts ≡ length classes → (items_of_parts parts classes ≡ [] → length classes ≡ 0) × (length classes ≡ 0 → items_of_parts parts classes ≡ [])
 no_items_of_parts parts classes all =
     let many = items_of_parts-length parts classes (omega (arith, all)) in (
       (λ none. let empty : length (items_of_parts parts classes) ≡ 0 = ap length none in omega (arith, empty, many, all)),
@@ -208,12 +208,12 @@ no_items_of_parts parts classes all =
 
 -- ---- what an outbox lists
 
-pub total-push : (parts : List Part) (part : Part) → total (parts ++ part ∷ []) ≡ total parts + part.items
+pub total-push : (parts : List Part) (part : Part) → items_in_all (parts ++ part ∷ []) ≡ items_in_all parts + part.items
 total-push [] part = omega arith
 total-push (first ∷ parts) part = let later = total-push parts part in omega (arith, later)
 
 -- one settlement more adds its items after the others
-pub items_added : (family : Family) (n to : ℕ) (parts : List Part) (classes : List ℕ) (s : Settlement) (more : List Item) → total parts ≡ length classes
+pub items_added : (family : Family) (n to : ℕ) (parts : List Part) (classes : List ℕ) (s : Settlement) (more : List Item) → items_in_all parts ≡ length classes
     → more ≡ items_of (predecessors family) n to s
     → items_of_parts (parts ++ (record { settlement = s; items = length more }) ∷ []) (classes ++ map target_of more) ≡ items_of_parts parts classes ++ more
 items_added family n to parts classes s more all is =

@@ -5,7 +5,7 @@ use Rattle.std.proofs.lemmas.Bool.{lt-ltb, le-ltb, ne_eqb}
 use Rattle.std.proofs.lemmas.List.{append_assoc, append-nil, drop_more, drop_all, take_more_set, drop-set-lt}
 use Rattle.dob_share.specs.declared.news.Settlement.{Settlement}
 use Rattle.dob_update.specs.declared.part.Part.{Part}
-use Rattle.dob_update.specs.Parts.{with_number, total, front, behind, skip_behind, AreWhole}
+use Rattle.dob_update.specs.Parts.{with_number, items_in_all, front, behind, skip_behind, AreWhole}
 
 -- ---- what stands in front
 
@@ -99,7 +99,7 @@ skip-past skip k part parts le = ap (λ (b : Bool). cond b (skip + k) (skip_behi
 pub record IsDropping (k skip rest before : ℕ) (old parts : List Part) : Type 0 where
   pub count : Settlement → ℕ
   pub whole : AreWhole count before parts
-  pub within : rest ≤ total parts
+  pub within : rest ≤ items_in_all parts
   pub behind_is : behind rest parts ≡ behind k old
   pub skip_is : skip_behind before rest parts ≡ skip_behind skip k old
 
@@ -109,14 +109,14 @@ pub record IsFirstPart (rest before : ℕ) (parts : List Part) (part : Part) : T
   pub fits : before + part.items < 2 ^ 64
   pub is : parts ≡ part ∷ drop 1 parts
 
-pub parts_left : (count : Settlement → ℕ) (before rest : ℕ) (parts : List Part) → AreWhole count before parts → 0 < rest → rest ≤ total parts → 0 < length parts
+pub parts_left : (count : Settlement → ℕ) (before rest : ℕ) (parts : List Part) → AreWhole count before parts → 0 < rest → rest ≤ items_in_all parts → 0 < length parts
 parts_left count before rest [] w some within = absurd (omega (arith, some, within))
 parts_left count before rest (part ∷ parts) w some within = omega arith
 
 pub first_part : (k skip rest before : ℕ) (old parts : List Part) (part : Part) → 0 < rest → part ≡ get_or parts 0 part → IsDropping k skip rest before old parts
     → IsFirstPart rest before parts part
 first_part k skip rest before old parts part some read d = at parts d.whole d.within read where
-  at : (parts : List Part) → AreWhole d.count before parts → rest ≤ total parts → part ≡ get_or parts 0 part → IsFirstPart rest before parts part
+  at : (parts : List Part) → AreWhole d.count before parts → rest ≤ items_in_all parts → part ≡ get_or parts 0 part → IsFirstPart rest before parts part
   at [] w within read = absurd (omega (arith, some, within))
   at (p ∷ ps) w within read =
       let e : p ≡ part = sym read in
@@ -129,7 +129,7 @@ first_part k skip rest before old parts part some read d = at parts d.whole d.wi
 pub dropped_part : (k skip rest before : ℕ) (old parts : List Part) (part : Part) → part ≡ get_or parts 0 part → 0 < rest → part.items ≤ rest → IsDropping k skip rest before old parts
     → IsDropping k skip (rest - part.items) 0 old (drop 1 parts)
 dropped_part k skip rest before old parts part read some le d = at parts d.whole d.within d.behind_is d.skip_is read where
-  at : (parts : List Part) → AreWhole d.count before parts → rest ≤ total parts → behind rest parts ≡ behind k old → skip_behind before rest parts ≡ skip_behind skip k old
+  at : (parts : List Part) → AreWhole d.count before parts → rest ≤ items_in_all parts → behind rest parts ≡ behind k old → skip_behind before rest parts ≡ skip_behind skip k old
       → part ≡ get_or parts 0 part → IsDropping k skip (rest - part.items) 0 old (drop 1 parts)
   at [] w within left skipped read = absurd (omega (arith, some, within))
   at (p ∷ ps) w within left skipped read =
@@ -146,7 +146,7 @@ dropped_part k skip rest before old parts part read some le d = at parts d.whole
 pub dropped_within : (k skip rest before : ℕ) (old parts : List Part) (part : Part) → part ≡ get_or parts 0 part → 0 < rest → rest < part.items → IsDropping k skip rest before old parts
     → (set parts 0 (with_number part (part.items - rest)) ≡ behind k old) × (before + rest ≡ skip_behind skip k old)
 dropped_within k skip rest before old parts part read some lt d = at parts d.whole d.within d.behind_is d.skip_is read where
-  at : (parts : List Part) → AreWhole d.count before parts → rest ≤ total parts → behind rest parts ≡ behind k old → skip_behind before rest parts ≡ skip_behind skip k old
+  at : (parts : List Part) → AreWhole d.count before parts → rest ≤ items_in_all parts → behind rest parts ≡ behind k old → skip_behind before rest parts ≡ skip_behind skip k old
       → part ≡ get_or parts 0 part → (set parts 0 (with_number part (part.items - rest)) ≡ behind k old) × (before + rest ≡ skip_behind skip k old)
   at [] w within left skipped read = absurd (omega (arith, some, within))
   at (p ∷ ps) w within left skipped read =

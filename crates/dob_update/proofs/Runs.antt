@@ -10,7 +10,7 @@ use Rattle.dob_share.specs.declared.news.Item.{Item}
 use Rattle.dob_unmove.specs.Edges.{predecessors}
 use Rattle.dob_update.specs.declared.part.Part.{Part}
 use Rattle.dob_update.specs.Items.{items_of}
-use Rattle.dob_update.specs.Parts.{settlement_of, settlements_of, with_number, total, front, behind, skip_behind, AreParts, AreWhole}
+use Rattle.dob_update.specs.Parts.{settlement_of, settlements_of, with_number, items_in_all, front, behind, skip_behind, AreParts, AreWhole}
 use Rattle.dob_update.specs.Batches.{BatchView, OutboxView, HasItemIn, items_for, IsBatch, IsOutbox, IsFront, IsCut}
 use Rattle.dob_update.specs.Runs.{count_for, IsItemRun, IsRest}
 use Rattle.dob_update.proofs.PartLists.{behind-within, behind-past, skip-within, skip-past}
@@ -27,11 +27,11 @@ some_in_front k (part ∷ parts) some = (
   omega arith,
 )
 
-pub total-front : (parts : List Part) (k : ℕ) → k ≤ total parts → total (front k parts) ≡ k
+pub total-front : (parts : List Part) (k : ℕ) → k ≤ items_in_all parts → items_in_all (front k parts) ≡ k
 total-front [] k within = omega (arith, within)
 total-front (part ∷ parts) k within = at (k == 0) refl (total-front parts (k - part.items) (omega (arith, within))) where
-  at : (none : Bool) → (k == 0) ≡ none → total (front (k - part.items) parts) ≡ k - part.items
-      → total (cond none [] (with_number part (min k part.items) ∷ front (k - part.items) parts)) ≡ k
+  at : (none : Bool) → (k == 0) ≡ none → items_in_all (front (k - part.items) parts) ≡ k - part.items
+      → items_in_all (cond none [] (with_number part (min k part.items) ∷ front (k - part.items) parts)) ≡ k
   at true e later = let none : k ≡ 0 = eqb-true k 0 e in omega (arith, none)
   at false e later = omega (arith, later)
 
@@ -73,7 +73,7 @@ module _ (count : Settlement → ℕ) where
   AreWhole-push [] skip part w some all low = (some, omega (arith, w, all), omega (arith, all, low), refl)
   AreWhole-push (first ∷ parts) skip part w some all low = (w.0, w.1, w.2, AreWhole-push parts 0 part w.3 some all low)
 
-some_parts : (parts : List Part) → 0 < total parts → 0 < length parts
+some_parts : (parts : List Part) → 0 < items_in_all parts → 0 < length parts
 some_parts [] some = absurd (omega (arith, some))
 some_parts (part ∷ parts) some = omega arith
 
@@ -98,7 +98,7 @@ module _ (family : Family) (n to : ℕ) where
 
   -- each part's settlement has an item in the run
   each_needed : (parts : List Part) (skip : ℕ) → AreParts count skip parts → (before : List Settlement) (s : Settlement) (behind : List Settlement)
-      → settlements_of parts ≡ before ++ s ∷ behind → HasItemIn family n to before s skip (total parts)
+      → settlements_of parts ≡ before ++ s ∷ behind → HasItemIn family n to before s skip (items_in_all parts)
   each_needed [] skip h [] s behind e = cc
   each_needed [] skip h (b ∷ bs) s behind e = cc
   each_needed (part ∷ parts) skip h [] s behind e =
@@ -129,7 +129,7 @@ module _ (family : Family) (n to : ℕ) where
       }
 
   -- there are so many items
-  parts_fit : (parts : List Part) (skip : ℕ) → AreParts count skip parts → 0 < length parts → skip + total parts ≤ length (items (settlements_of parts))
+  parts_fit : (parts : List Part) (skip : ℕ) → AreParts count skip parts → 0 < length parts → skip + items_in_all parts ≤ length (items (settlements_of parts))
   parts_fit [] skip h some = absurd (omega (arith, some))
   parts_fit (part ∷ []) skip h some =
       let own = length-items part.settlement [] in
@@ -141,7 +141,7 @@ module _ (family : Family) (n to : ℕ) where
       let later = parts_fit (next ∷ parts) 0 h.3 (omega arith) in
       omega (arith, own, exact, later)
 
-  pub whole_is : (parts : List Part) (skip : ℕ) → AreWhole count skip parts → skip + total parts ≡ length (items (settlements_of parts))
+  pub whole_is : (parts : List Part) (skip : ℕ) → AreWhole count skip parts → skip + items_in_all parts ≡ length (items (settlements_of parts))
   whole_is [] skip w = omega (arith, w)
   whole_is (part ∷ parts) skip w =
       let own = length-items part.settlement (settlements_of parts) in
@@ -151,7 +151,7 @@ module _ (family : Family) (n to : ℕ) where
 
   -- ---- runs
 
-  pub IsRun-front : (parts : List Part) (skip k : ℕ) (all : List Item) → AreParts count skip parts → 0 < k → k ≤ total parts → k ≤ length all
+  pub IsRun-front : (parts : List Part) (skip k : ℕ) (all : List Item) → AreParts count skip parts → 0 < k → k ≤ items_in_all parts → k ≤ length all
       → take k all ≡ take k (drop skip (items (settlements_of parts))) → IsItemRun family n to (front k parts) skip (take k all)
   IsRun-front parts skip k all h some within enough same =
       let long : length (take k all) ≡ k = length-take-le k all enough in
@@ -177,7 +177,7 @@ module _ (family : Family) (n to : ℕ) where
       IsRun-front parts skip k all r.parts_fit some (let counted = r.counted in omega (arith, counted, within)) within
       (ap (take k) r.run ∙ take-take k (length all) (drop skip (items (settlements_of parts))) within)
 
-  pub rest_many : (parts : List Part) (skip : ℕ) (all : List Item) → IsRest family n to parts skip all → total parts ≡ length all
+  pub rest_many : (parts : List Part) (skip : ℕ) (all : List Item) → IsRest family n to parts skip all → items_in_all parts ≡ length all
   rest_many parts skip all r =
       let whole = whole_is parts skip r.parts_fit in
       let long = ap length r.rest in
@@ -189,7 +189,7 @@ module _ (family : Family) (n to : ℕ) where
       IsRun-front parts skip k all (parts_from_whole count parts skip r.parts_fit) some
       (let many = rest_many parts skip all r in omega (arith, many, within)) within (ap (take k) r.rest)
 
-  pub cut_within : (parts : List Part) (skip k : ℕ) (all : List Item) → IsRest family n to parts skip all → k ≤ length all → k ≤ total parts
+  pub cut_within : (parts : List Part) (skip k : ℕ) (all : List Item) → IsRest family n to parts skip all → k ≤ length all → k ≤ items_in_all parts
   cut_within parts skip k all r within = let many = rest_many parts skip all r in omega (arith, many, within)
 
   -- what is gone from the parts, and what is left of them
@@ -199,7 +199,7 @@ module _ (family : Family) (n to : ℕ) where
     pub many : length (items gone) + skip_behind skip k parts ≡ skip + k
     pub whole : AreWhole count (skip_behind skip k parts) (behind k parts)
 
-  pub gone_behind : (parts : List Part) (skip k : ℕ) → AreWhole count skip parts → k ≤ total parts → IsGone parts skip k
+  pub gone_behind : (parts : List Part) (skip k : ℕ) → AreWhole count skip parts → k ≤ items_in_all parts → IsGone parts skip k
   gone_behind [] skip k w within = record { gone = []; apart = refl; many = omega (arith, within); whole = w }
   gone_behind (part ∷ parts) skip k w within = elim (cases_lt k part.items) [
     | inl lt ↦

@@ -8,7 +8,7 @@ use Rattle.dob_share.specs.declared.news.Settlement.{Settlement}
 use Rattle.dob_share.specs.declared.news.Item.{Item}
 use Rattle.dob_update.specs.declared.part.Part.{Part}
 use Rattle.dob_update.specs.Items.{item_for}
-use Rattle.dob_update.specs.Parts.{settlement_of, settlements_of, total, items_of_parts, AreWhole}
+use Rattle.dob_update.specs.Parts.{settlement_of, settlements_of, items_in_all, items_of_parts, AreWhole}
 use Rattle.dob_update.specs.Batches.{OutboxView, items_for, with_items, added, HasOneMore}
 use Rattle.dob_update.specs.Runs.{count_for, AreListed}
 use Rattle.dob_update.proofs.Runs.{items-append, whole_is}
@@ -22,7 +22,7 @@ module _ (count : Settlement → ℕ) where
   last_whole (first ∷ left) part w = last_whole left part w.3
 
   -- the last part has all items of its settlement, where the parts have as many
-  last_is_whole : (left : List Part) (skip : ℕ) (part : Part) → AreWhole count skip (left ++ part ∷ []) → count part.settlement ≤ total left + part.items
+  last_is_whole : (left : List Part) (skip : ℕ) (part : Part) → AreWhole count skip (left ++ part ∷ []) → count part.settlement ≤ items_in_all left + part.items
       → part.items ≡ count part.settlement
   last_is_whole [] skip part w enough = let whole = w.1 in omega (arith, whole, enough)
   last_is_whole (first ∷ left) skip part w enough = last_whole left part w.3
@@ -63,7 +63,7 @@ module _ (old before : OutboxView) (left : List Part) (part : Part) (classes : L
       ∙ ap (λ (o : OutboxView). count_for o.family o.n o.to more.settlement) more.outbox_is
       ∙ sym (ap length more.items_are) ∙ more.many
 
-  sum_is : total left + part.items ≡ length before.items + count
+  sum_is : items_in_all left + part.items ≡ length before.items + count
   sum_is =
       let parts = left ++ part ∷ [] in
       let counted = listed.counted in
@@ -76,7 +76,7 @@ module _ (old before : OutboxView) (left : List Part) (part : Part) (classes : L
   part_is : part.items ≡ count_for old.family old.n old.to part.settlement
   part_is = last_is_whole (count_for old.family old.n old.to) left old.skip part listed.rest.parts_fit (omega (arith, count_is, sum_is))
 
-  left_is : total left ≡ length classes - count
+  left_is : items_in_all left ≡ length classes - count
   left_is = let counted = listed.counted in let sum = total-push left part in omega (arith, counted, sum, part_is, count_is)
 
   within : length classes - count ≤ length classes

@@ -29,9 +29,17 @@ most_items = 4096
 abbrev pub most_batches : ℕ
 most_batches = 1024
 
--- nodes may cut batches of at most so many items, of which at most so many wait on their way
+-- nodes may cut batches of at most so many items
+abbrev pub IsBatchSize : ℕ → Type 0
+IsBatchSize items = (0 < items) × (items ≤ most_items)
+
+-- at most so many batches may wait on their way
+abbrev pub IsCapacity : ℕ → Type 0
+IsCapacity batches = (0 < batches) × (batches ≤ most_batches)
+
+-- both may be so
 abbrev pub AreSizes : ℕ → ℕ → Type 0
-AreSizes batch capacity = (0 < batch) × (batch ≤ most_items) × (0 < capacity) × (capacity ≤ most_batches)
+AreSizes batch_size capacity = IsBatchSize batch_size × IsCapacity capacity
 
 -- what a node has still to send to another, and the number of the next batch
 pub record OutboxView : Type 0 where

@@ -16,9 +16,9 @@ abbrev pub with_number : Part → ℕ → Part
 with_number part items = record part { items = items }
 
 -- how many items there are in all
-abbrev pub total : List Part → ℕ
-total [] = 0
-total (part ∷ parts) = part.items + total parts
+abbrev pub items_in_all : List Part → ℕ
+items_in_all [] = 0
+items_in_all (part ∷ parts) = part.items + items_in_all parts
 
 -- the class that an item is for
 abbrev pub target_of : Item → ℕ

@@ -6,7 +6,7 @@ use Rattle.dob_share.specs.declared.news.Settlement.{Settlement}
 use Rattle.dob_share.specs.declared.news.Item.{Item}
 use Rattle.dob_update.specs.declared.part.Part.{Part}
 use Rattle.dob_update.specs.Items.{items_of}
-use Rattle.dob_update.specs.Parts.{AreParts, AreWhole, settlements_of, total, items_of_parts}
+use Rattle.dob_update.specs.Parts.{AreParts, AreWhole, settlements_of, items_in_all, items_of_parts}
 use Rattle.dob_update.specs.Batches.{items_for}
 
 -- how many items a settlement has for the node `to`
@@ -17,7 +17,7 @@ count_for family n to s = length (items_of (predecessors family) n to s)
 pub record IsItemRun (family : Family) (n to : ℕ) (parts : List Part) (skip : ℕ) (items : List Item) : Type 0 where
   pub some : 0 < length items
   pub parts_fit : AreParts (count_for family n to) skip parts
-  pub counted : total parts ≡ length items
+  pub counted : items_in_all parts ≡ length items
   pub run : items ≡ take (length items) (drop skip (items_for family n to (settlements_of parts)))
 
 -- the items are all those that the parts' settlements have after some
@@ -27,5 +27,5 @@ pub record IsRest (family : Family) (n to : ℕ) (parts : List Part) (skip : ℕ
 
 -- as many classes are listed as the parts have items, and these are all those that the parts' settlements have after some
 pub record AreListed (family : Family) (n to : ℕ) (parts : List Part) (skip : ℕ) (classes : List ℕ) : Type 0 where
-  pub counted : total parts ≡ length classes
+  pub counted : items_in_all parts ≡ length classes
   pub rest : IsRest family n to parts skip (items_of_parts parts classes)

@@ -1,6 +1,6 @@
 // Batches: runs of items from one owner to another.
 ghost use Rattle.std.specs.Prelude.{◌≡◌, ◌<◌, ◌≤◌, ◌+◌, ◌*◌, ◌-◌, length, vec_len};
-ghost use Rattle.dob_update.specs.Parts.{front, settlements_of, total};
+ghost use Rattle.dob_update.specs.Parts.{front, settlements_of, items_in_all};
 ghost use Rattle.dob_update.specs.Batches.{IsBatch, IsFront};
 ghost use Rattle.dob_update.specs.Runs.{IsItemRun};
 
@@ -102,7 +102,7 @@ impl Batch {
     /// The settlements, each with the number of its items here.
     pub fn parts(&self) -> &[Part]
         ensures settlements { settlements_of result.now ≡ self.now.settlements }
-        ensures total { total result.now ≡ length self.now.items }
+        ensures total { items_in_all result.now ≡ length self.now.items }
     {
         &self.parts
     }

@@ -14,4 +14,4 @@ pub use fault::Sizes;
 pub use items::{count_items, item_for, push_items};
 pub use outbox::Outbox;
 pub use part::Part;
-pub use sizes::are_sizes;
+pub use sizes::{BatchSize, Capacity};

@@ -7,12 +7,13 @@ ghost use Rattle.dob_unmove.specs.Edges.{predecessors};
 ghost use Rattle.dob_share.specs.declared.news.Settlement.{Settlement as Settled};
 ghost use Rattle.dob_share.specs.Owners.{owner_of};
 ghost use Rattle.dob_update.specs.Items.{item_for, items_of};
-ghost use Rattle.dob_update.specs.Parts.{front, behind, skip_behind, total, items_of_parts, target_of, AreWhole};
-ghost use Rattle.dob_update.specs.Batches.{OutboxView, most_items, IsOutbox, HasOneMore, IsCut, empty_outbox, added};
+ghost use Rattle.dob_update.specs.Parts.{front, behind, skip_behind, items_in_all, items_of_parts, target_of, AreWhole};
+ghost use Rattle.dob_update.specs.Batches.{OutboxView, IsOutbox, HasOneMore, IsCut, empty_outbox, added};
 
 use crate::batch::Batch;
 use crate::items::item_for;
 use crate::part::Part;
+use crate::sizes::BatchSize;
 use dob_pieces::{Family, Memory};
 use dob_share::{Item, Settlement, owner};
 use std::alloc::Global;
@@ -146,18 +147,16 @@ impl Outbox {
         self.classes.truncate(left);
     }
 
-    /// Cuts a batch of the first `size` items, from 1 to 4096, or of all where fewer are left, and `None` where none
-    /// is, which takes no memory. After `Memory` the outbox is unchanged. The outbox has cut fewer than 2^64 - 1 batches before.
-    pub fn cut(&mut self, size: usize) -> Result<Option<Batch>, Memory>
-        requires some { 0 < size }
-        requires at_most { size ≤ most_items }
-        requires counted { self.old.next + 1 < 2 ^ 64 }
+    /// Cuts a batch of the first items, so many as the size says, or of all where fewer are left, and `None` where none is, which
+    /// takes no memory. After `Memory` the outbox is unchanged. The outbox has cut fewer than 2^64 - 1 batches before.
+    pub fn cut(&mut self, size: BatchSize) -> Result<Option<Batch>, Memory>
+        requires { self.old.next + 1 < 2 ^ 64 }
         ensures none { IfOk result (λ batch. IsNone batch ↔ (self.old.items ≡ [])) }
         ensures nothing { IfOk result (λ batch. IsNone batch → self.new ≡ self.old) }
         ensures batch { IfOk result (λ batch. IfSome batch (λ b. IsCut self.old size b self.new)) }
         ensures err { OnErr result ((self.new ≡ self.old) × (self.old.items ≢ [])) }
     {
-        let taken = size.min(self.classes.len());
+        let taken = size.get().min(self.classes.len());
         if taken == 0 {
             return Ok(None);
         }
@@ -228,7 +227,7 @@ fn front_items(
     classes: &VecDeque<u64>,
     k: usize,
 ) -> Result<Vec<Item>, Memory>
-    requires { total parts.now ≤ length classes.now.items }
+    requires { items_in_all parts.now ≤ length classes.now.items }
     ensures { IfOk result (λ list. list.items ≡ items_of_parts parts.now classes.now.items) }
 {
     let mut list = Vec::with_capacity(alloc, k)?;
@@ -264,7 +263,7 @@ fn push_part_items(
 // before.
 fn drop_parts(parts: &mut VecDeque<Part>, skip: usize, k: usize) -> usize
     requires whole { (count : Settled → ℕ) × AreWhole count skip parts.old.items }
-    requires within { k ≤ total parts.old.items }
+    requires within { k ≤ items_in_all parts.old.items }
     ensures parts { parts.new.items ≡ behind k parts.old.items }
     ensures skip { result ≡ skip_behind skip k parts.old.items }
 {

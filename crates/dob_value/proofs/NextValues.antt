@@ -40,7 +40,7 @@ first_lost profile n p not_before lost =
 pub not_lost_yet : (profile : Profile) (n : ℕ) (p : Setup) → ¬ Lost profile n p → ¬ HasLost profile p
 not_lost_yet profile n p not_lost over = not_lost (lost_stays profile 0 n p (omega arith) over)
 
--- the entries of the numbers tell of the positions up to depth n
+-- the entries of the numbers speak of the positions up to depth n
 module _ (profile : Profile) (n : ℕ) (entries : List Value) (p : Setup) (status : Status) (numbers : List ℕ)
     (known : IsNode profile (TellsAt profile n entries) p status numbers) where
   pub some_lost : HasStatus profile p Open →

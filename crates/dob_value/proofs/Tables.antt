@@ -23,7 +23,7 @@ use Rattle.dob_value.specs.Graphs.{IsNode, IsGraph, ClassStandsFor, AreCutOff, A
 use Rattle.dob_value.specs.ClassRows.{class_setup}
 use Rattle.dob_value.proofs.Depths.{won_stays, lost_stays, lost_not_caught, lost_not_open, won_not_lost}
 
--- an entry that is cut off at a depth tells of each depth up to it
+-- an entry that is cut off at a depth speaks of each depth up to it
 pub tells : (profile : Profile) (n m : ℕ) (p : Setup) (entry : Value) → n ≤ m → IsCutOff profile m p entry → Tells profile n p entry
 tells profile n m p (Win d) upto cut = record {
   win = λ yes. won_stays profile d n p (leb-true d n yes) cut.1.0;
@@ -44,7 +44,7 @@ tells profile n m p Draw upto cut = record {
   lost = λ lost. absurd (cut.1 (lost_stays profile n m p upto lost));
 }
 
--- positions with the same outlook: an entry tells the same of both, and they have the same values
+-- positions with the same outlook: an entry says the same of both, and they have the same values
 pub tells_same : (profile : Profile) (n : ℕ) (p q : Setup) (entry : Value) → SameOutlook profile q p → Tells profile n p entry → Tells profile n q entry
 tells_same profile n p q entry same told = record {
   win = λ yes. (same.won n).1 (told.win yes);
@@ -80,7 +80,7 @@ node_standing profile StandsFor Other p status numbers stands known = record {
   };
 }
 
--- the entries during a sweep tell, at each node, of what its successors are
+-- the entries during a sweep say, at each node, of what its successors are
 pub successors_told : (n upto : ℕ) (family : Family) (entries : List Value) (p : Setup) (status : Status) (numbers : List ℕ) →
     AreSwept n upto family entries → IsNode family.profile (ClassStandsFor family) p status numbers → IsNode family.profile (TellsAt family.profile n entries) p status numbers
 successors_told n upto family entries p status numbers swept known =

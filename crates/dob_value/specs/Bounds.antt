@@ -1,4 +1,4 @@
--- How many plies values tell, and that in a value table these are no more than the classes.
+-- How many plies values have, and that in a value table these are no more than the classes.
 use Rattle.std.specs.Prelude.{◌≡◌, ℕ, ◌<◌, ◌≤◌, List, length, All}
 use Rattle.dob_pieces.specs.declared.profile.Family.{Family}
 use Rattle.dob_pieces.specs.declared.profile.Profile.{Profile}

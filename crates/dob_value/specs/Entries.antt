@@ -27,14 +27,14 @@ IsCutOff profile n p (Win plies) = (plies ≤ n) × HasValue profile p (Win plie
 IsCutOff profile n p (Loss plies) = (plies ≤ n) × HasValue profile p (Loss plies)
 IsCutOff profile n p Draw = (¬ Won profile n p) × (¬ Lost profile n p)
 
--- the entry tells whether the position is won and whether it is lost within n plies
+-- the entry says whether the position is won and whether it is lost within n plies
 pub record Tells (profile : Profile) (n : ℕ) (p : Setup) (entry : Value) : Type 0 where
   pub win : is_win_within n entry ≡ true → Won profile n p
   pub won : Won profile n p → is_win_within n entry ≡ true
   pub loss : is_loss_within n entry ≡ true → Lost profile n p
   pub lost : Lost profile n p → is_loss_within n entry ≡ true
 
--- there is an entry with that number, which tells the same of the position
+-- there is an entry with that number, which says the same of the position
 abbrev pub TellsAt : Profile → ℕ → List Value → ℕ → Setup → Type 0
 TellsAt profile n entries number p = (number < length entries) × Tells profile n p (slice_index_or entries number Draw)
 

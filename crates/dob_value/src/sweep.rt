@@ -51,7 +51,7 @@ fn are_won(successors: &[usize], depth: u16, values: &[Value]) -> bool
         .all(|number| entry_at(values, *number).is_win_within(depth))
 }
 
-// The value of a class at one depth more, from entries that tell of all depths up to this one, where the class is
+// The value of a class at one depth more, from entries that hold all depths up to this one, where the class is
 // neither won nor lost within this depth.
 fn next_value(graph: &Graph, number: usize, depth: u16, values: &[Value]) -> Value
     requires below { depth ≤ MAX_DISTANCE }

@@ -1,5 +1,5 @@
 -- How `clap` reads all the words of the program.
-use Rattle.std.proofs.Common.{rules, ◌==◌, ◌⊎◌, ◌++◌, inl, inr, ◌≡◌, ◌∙◌, Bool, refl, sym, ap, subst, cond, codes, true, false, [], ◌∷◌, List, Option, Some, None}
+use Rattle.std.proofs.Common.{rules, ◌==◌, ◌++◌, inl, inr, ◌≡◌, ◌∙◌, Bool, refl, sym, ap, subst, cond, codes, true, false, [], ◌∷◌, List, Option, Some, None}
 use Rattle.std.proofs.Common.{true≢false}
 use Rattle.std.specs.Prelude.{find, fold, is_some, map, option_map}
 use Rattle.std.specs.Option.{option_map_or}
@@ -17,7 +17,7 @@ use Rattle.std.proofs.Math.Bool.{or-false}
 use Rattle.dob_words.specs.Forms.{Form, Text, forms}
 use Rattle.dob_words.specs.Words.{Meaning, asks, help, is_dashes, is_help_flag, is_text, meaning_of_command, meaning_of_form, meaning_of_other, usage}
 use Rattle.dob_words.specs.Words.{is_topic, version}
-use Rattle.dob_words.specs.Shapes.{AreProfiles, Finds, ProfileNames, dobutsu_app}
+use Rattle.dob_words.specs.Shapes.{AreProfiles, Finds, IsMet, ProfileNames, dobutsu_app}
 use Rattle.dob_words.proofs.Lexing.{flip_bytes}
 use Rattle.dob_words.proofs.Turns.{KnowsHelp, help_flag, is_usage, none, or_else_usage}
 use Rattle.dob_words.proofs.Steps.{help_turn, open_at, other_turn, text_turn}
@@ -25,11 +25,6 @@ use Rattle.dob_words.proofs.FormWords.{Comes, IsTaken, form_comes, shape_of}
 use Rattle.dob_words.proofs.Texts.{Each}
 use Rattle.dob_words.proofs.Lines.{IsSpelled, all_spelled, form_line, line_fits}
 use Rattle.dob_words.proofs.Taken.{all_taken}
-
--- the subcommand that was met is one of these, and has this name and these texts
-abbrev pub IsMet : List Form → Text → List (Option Text) → Option (Text × List Row) → Type 0
-IsMet [] name texts met = ⊥
-IsMet (f ∷ fs) name texts met = ((f.name ≡ name) × Finds f texts met) ⊎ IsMet fs name texts met
 
 -- what the words ask for goes with the kinds of error, and with the subcommand that was met
 abbrev pub Fits : Meaning → Kinds → Option (Text × List Row) → Type 0

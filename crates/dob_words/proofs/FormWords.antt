@@ -20,7 +20,7 @@ use Rattle.std.proofs.Math.Bool.{or-false}
 use Rattle.dob_words.specs.Forms.{Form, is_among, labels}
 use Rattle.dob_words.specs.Words.{Given, Meaning, Stand, Text, after_dashes, after_part, after_word, asked, asks, at_end, behind, between, call, dashes, ended}
 use Rattle.dob_words.specs.Words.{fits, help, is_dashes, is_help_flag, is_text, flag, kept, label_of, meaning_of_form, name_in, named_part, once, option, placed, text}
-use Rattle.dob_words.specs.Words.{text_of, texts_of, unknown, usage, valued, version, wanted, wants}
+use Rattle.dob_words.specs.Words.{text_behind, texts_of, unknown, usage, valued, version, wanted, wants}
 use Rattle.dob_words.specs.Shapes.{AreProfiles, ProfileNames, bare_app, form_app}
 use Rattle.dob_words.proofs.Lexing.{View, empty as no_byte, letter as a_letter, hyphen as one_hyphen, dashes as two_hyphens, long as a_long, short as a_short}
 use Rattle.dob_words.proofs.Lexing.{flip_bytes, long_name, long_short, no_first, flag_letter, view}
@@ -194,7 +194,7 @@ module _ (profiles : ProfileNames) (are : AreProfiles profiles) (f : Form) (is :
   good_rows given = record { settles = refl; rows_are = refl }
 
   module _ (long : Option Text) (index : Option ℕ) (label : Text) (known : arg_by_id rules label ≡ Some (text_arg profiles f long index label)) where
-    good_pending : (given : Given) (t : Text) → text_of label given ≡ None → fits f label t ≡ true
+    good_pending : (given : Given) (t : Text) → text_behind label given ≡ None → fits f label t ≡ true
         → Good (rows_of given) (Some (label, t ∷ [])) (given ++ (label, t) ∷ [])
     good_pending given t fresh fit = record {
       settles = rw known (use_passes profiles are f long index label t given fresh fit);
@@ -202,22 +202,22 @@ module _ (profiles : ProfileNames) (are : AreProfiles profiles) (f : Form) (is :
     }
 
     -- the text is kept
-    good_kept : (given : Given) (t : Text) → (is_some (text_of label given) || not (fits f label t)) ≡ false
+    good_kept : (given : Given) (t : Text) → (is_some (text_behind label given) || not (fits f label t)) ≡ false
         → Good (rows_of given) (Some (label, t ∷ [])) (given ++ (label, t) ∷ [])
-    good_kept given t e = let both = kept_both (text_of label given) (fits f label t) e in good_pending given t both.0 both.1
+    good_kept given t e = let both = kept_both (text_behind label given) (fits f label t) e in good_pending given t both.0 both.1
 
     -- a text that isn't what it has to be
-    misfit_fails : (given : Given) (t : Text) → text_of label given ≡ None → fits f label t ≡ false
+    misfit_fails : (given : Given) (t : Text) → text_behind label given ≡ None → fits f label t ≡ false
         → is_usage (settle_fault rules false (held (rows_of given) (Some (label, t ∷ [])))) ≡ true
     misfit_fails given t fresh misfit =
         rw (known, use_misfit profiles are f long index label t given fresh misfit) (misfit_usage (is_among f.numbers label))
 
     -- that, or a second text of one label
-    unfit_fails : (given : Given) (t : Text) → (is_some (text_of label given) || not (fits f label t)) ≡ true
+    unfit_fails : (given : Given) (t : Text) → (is_some (text_behind label given) || not (fits f label t)) ≡ true
         → is_usage (settle_fault rules false (held (rows_of given) (Some (label, t ∷ [])))) ≡ true
-    unfit_fails given t e = go (text_of label given) (fits f label t) refl refl e
+    unfit_fails given t e = go (text_behind label given) (fits f label t) refl refl e
       where
-        go : (o : Option Text) (b : Bool) → text_of label given ≡ o → fits f label t ≡ b → (is_some o || not b) ≡ true
+        go : (o : Option Text) (b : Bool) → text_behind label given ≡ o → fits f label t ≡ b → (is_some o || not b) ≡ true
             → is_usage (settle_fault rules false (held (rows_of given) (Some (label, t ∷ [])))) ≡ true
         go (Some u) b there fit e = rw (known, use_twice profiles are f long index label t u given there) refl
         go None false fresh fit e = misfit_fails given t fresh fit
@@ -400,7 +400,7 @@ module _ (profiles : ProfileNames) (are : AreProfiles profiles) (f : Form) (is :
         → Rel (between given left) (open_at rows pending p)
     rel_wants : (long : Option Text) (index : Option ℕ) (label : Text) (p : ℕ) (given : Given) (left : List Text)
         → arg_by_id rules label ≡ Some (text_arg profiles f long index label)
-        → text_of label given ≡ None → ArePlaced profiles f rules p left
+        → text_behind label given ≡ None → ArePlaced profiles f rules p left
         → Rel (wants label given left) (waiting_at (waits_for label) (rows_of given) (Some (label, [])) p)
     rel_behind : (rows : List Row) (pending : Option (Text × List Text)) (p : ℕ) (given : Given) (left : List Text) → Good rows pending given
         → ArePlaced profiles f rules p left
@@ -418,7 +418,7 @@ module _ (profiles : ProfileNames) (are : AreProfiles profiles) (f : Form) (is :
     -- a text that an option wants
     wanted_step : (name : Option Text) (index : Option ℕ) (label : Text) (p : ℕ) (given : Given) (left : List Text)
         → arg_by_id rules label ≡ Some (text_arg profiles f name index label)
-        → text_of label given ≡ None → ArePlaced profiles f rules p left
+        → text_behind label given ≡ None → ArePlaced profiles f rules p left
         → Stepped (next_stand (wants label given left) word) (waiting_at (waits_for label) (rows_of given) (Some (label, [])) p)
     wanted_step name index label p given left known fresh at = go (is_text word) refl
       where
@@ -467,7 +467,7 @@ module _ (profiles : ProfileNames) (are : AreProfiles profiles) (f : Form) (is :
     place_step stand at_walk related failing_on rows pending p given [] good at turn walks =
         ends_so usage (at_walk rows pending p) (word ∷ rest) rest (misused (at_walk rows pending p) word rest (rw (turn, at) refl))
     place_step stand at_walk related failing_on rows pending p given (label ∷ left) good at turn walks =
-        go (is_some (text_of label given) || not (fits f label word)) refl
+        go (is_some (text_behind label given) || not (fits f label word)) refl
       where
         next : ℕ
         next = next_position (text_arg profiles f None (Some p) label) p
@@ -478,7 +478,7 @@ module _ (profiles : ProfileNames) (are : AreProfiles profiles) (f : Form) (is :
         there : walked rules [] (at_walk rows pending p) word ≡ at_walk (rows_of given) (Some (label, word ∷ [])) next
         there = walks label at.0 ∙ ap (λ r. at_walk r (Some (label, word ∷ [])) next) good.rows_are
 
-        go : (b : Bool) → (is_some (text_of label given) || not (fits f label word)) ≡ b
+        go : (b : Bool) → (is_some (text_behind label given) || not (fits f label word)) ≡ b
             → Reached (at_end f (fold next_stand (cond b (ended usage) (stand (given ++ (label, word) ∷ []) left)) rest)) (at_walk rows pending p)
             (word ∷ rest)
         go false e = passes _ (at_walk rows pending p) (at_walk (rows_of given) (Some (label, word ∷ [])) next) word rest passing_on there
@@ -529,7 +529,7 @@ module _ (profiles : ProfileNames) (are : AreProfiles profiles) (f : Form) (is :
   -- what follows a second option of one label
   again_fails : (name : Option Text) (index : Option ℕ) (label : Text) → arg_by_id rules label ≡ Some (text_arg profiles f name index label)
       → (given : Given) (u : Text)
-      → text_of label given ≡ Some u
+      → text_behind label given ≡ Some u
       → (p : ℕ) (left : List Text) → ArePlaced profiles f rules p left → (words : List Text)
       → is_usage (kinds_at (waiting_at (waits_for label) (rows_of given) (Some (label, [])) p) words) ≡ true
   again_fails name index label known given u there p left at [] =
@@ -585,9 +585,9 @@ module _ (profiles : ProfileNames) (are : AreProfiles profiles) (f : Form) (is :
       option_goes e = rw (e, named, good.rows_are) refl
 
       option_step : has_equals ≡ false → Led (once o.1 given (wants o.1 given left))
-      option_step e = go (text_of o.1 given) refl
+      option_step e = go (text_behind o.1 given) refl
         where
-          go : (m : Option Text) → text_of o.1 given ≡ m → Led (cond (is_some m) (ended usage) (wants o.1 given left))
+          go : (m : Option Text) → text_behind o.1 given ≡ m → Led (cond (is_some m) (ended usage) (wants o.1 given left))
           go None fresh = passes _ from (waiting_at (waits_for o.1) (rows_of given) (Some (o.1, [])) p) word rest (option_fits e) (option_goes e)
               (goes _ _ (rel_wants (Some o.0) None o.1 p given left labelled fresh at))
           go (Some u) there = ends_so usage from (word ∷ rest) rest
@@ -596,9 +596,9 @@ module _ (profiles : ProfileNames) (are : AreProfiles profiles) (f : Form) (is :
 
       valued_step : has_equals ≡ true → Led (kept f o.1 after_equals given (between (given ++ (o.1, after_equals) ∷ []) left))
       unfolding walked
-      valued_step e = go (text_of o.1 given) (fits f o.1 after_equals) refl refl
+      valued_step e = go (text_behind o.1 given) (fits f o.1 after_equals) refl refl
         where
-          go : (m : Option Text) (b : Bool) → text_of o.1 given ≡ m → fits f o.1 after_equals ≡ b
+          go : (m : Option Text) (b : Bool) → text_behind o.1 given ≡ m → fits f o.1 after_equals ≡ b
               → Led (cond (is_some m || not b) (ended usage) (between (given ++ (o.1, after_equals) ∷ []) left))
           go None true fresh fit = passes _ from (open_at (rows_of (given ++ (o.1, after_equals) ∷ [])) None p) word rest
               (rw (e, named, good.settles, good.rows_are, use_passes profiles are f (Some o.0) None o.1 after_equals given fresh fit) refl)
@@ -628,9 +628,9 @@ module _ (profiles : ProfileNames) (are : AreProfiles profiles) (f : Form) (is :
 
       flag_step : has_equals ≡ false → Led (kept f own_name [] given (between (given ++ (own_name, []) ∷ []) left))
       unfolding walked
-      flag_step e = rw (each_flag (λ n. fits f n [] ≡ true) f.flags own_name is.flags own) (go (text_of own_name given) refl)
+      flag_step e = rw (each_flag (λ n. fits f n [] ≡ true) f.flags own_name is.flags own) (go (text_behind own_name given) refl)
         where
-          go : (m : Option Text) → text_of own_name given ≡ m → Led (cond (is_some m || false) (ended usage) (between (given ++ (own_name, []) ∷ []) left))
+          go : (m : Option Text) → text_behind own_name given ≡ m → Led (cond (is_some m || false) (ended usage) (between (given ++ (own_name, []) ∷ []) left))
           go None fresh = passes _ from (open_at (rows_of (given ++ (own_name, []) ∷ [])) None p) word rest
               (rw (e, flag_named, good.settles, good.rows_are, flag_passes own_name given fresh) refl)
               (rw (e, flag_named, good.rows_are, flagged_fresh own_name given fresh) refl)

@@ -13,7 +13,7 @@ use Rattle.dob_words.specs.Forms.{Form, Text, forms, labels, no_form}
 use Rattle.dob_words.specs.Words.{Given, Meaning, Part, Stand, after_dashes, after_part, after_word, asked, asks, at_end, behind, between, call, dashes}
 use Rattle.dob_words.specs.Words.{ended, fits, flag, has_topic, help, kept, meaning_of_topic, named_part}
 use Rattle.dob_words.specs.Words.{is_dashes, is_help_flag, is_text, label_of, meaning_of, meaning_of_form, meaning_of_other, name_in, option}
-use Rattle.dob_words.specs.Words.{is_clear, meaning_of_command, part_of, placed, settled, takes_lines, text, text_of, texts_of, unknown, usage, valued, version, wanted, wants}
+use Rattle.dob_words.specs.Words.{is_clear, meaning_of_command, part_named, placed, settled, takes_lines, text, text_behind, texts_of, unknown, usage, valued, version, wanted, wants}
 use Rattle.dob_words.specs.Lines.{AreNew, Behind, Gives, IsAmong, IsCommandLine, by_dashes, by_flag, by_option, by_place, by_value, next, none, nothing}
 use Rattle.dob_words.specs.Shapes.{AreFit, IsFit}
 use Rattle.dob_words.specs.Readings.{ComesFromLine, IsReadingOf, SomeLine}
@@ -107,7 +107,7 @@ module _ (f : Form) (name : Text) (texts : List (Option Text)) where
   unfolding is_asked
   not_help e = absurd (true≢false (sym (ap is_asked e)))
 
-  came_more : (label t : Text) (before more : Given) → text_of label before ≡ None → fits f label t ≡ true
+  came_more : (label t : Text) (before more : Given) → text_behind label before ≡ None → fits f label t ≡ true
       → Came (before ++ (label, t) ∷ []) more → Came before ((label, t) ∷ more)
   came_more label t before more fresh fit came = ((fresh, fit, came.0), ap (asked f) (sym (append_assoc before ((label, t) ∷ []) more)) ∙ came.1)
 
@@ -118,27 +118,27 @@ module _ (f : Form) (name : Text) (texts : List (Option Text)) where
 
     placed_told : (before : Given) (left : List Text) → is_text word ≡ true → Led (placed f between before left word) → Told (between before left) (word ∷ rest)
     placed_told before [] t e = not_usage (ended_told usage rest e)
-    placed_told before (label ∷ left) t e = go (is_some (text_of label before) || not (fits f label word)) refl e
+    placed_told before (label ∷ left) t e = go (is_some (text_behind label before) || not (fits f label word)) refl e
       where
-        go : (b : Bool) → (is_some (text_of label before) || not (fits f label word)) ≡ b
+        go : (b : Bool) → (is_some (text_behind label before) || not (fits f label word)) ≡ b
             → Led (cond b (ended usage) (between (before ++ (label, word) ∷ []) left))
             → Told (between before (label ∷ left)) (word ∷ rest)
         go true h e = not_usage (ended_told usage rest e)
         go false h e =
-            let both = kept_both (text_of label before) (fits f label word) h in
+            let both = kept_both (text_behind label before) (fits f label word) h in
             let r : Told (between (before ++ (label, word) ∷ []) left) rest = rec (between (before ++ (label, word) ∷ []) left) e in
             ((label, word) ∷ r.0, by_place label word left rest r.0 t r.1, came_more label word before r.0 both.0 both.1 r.2)
 
     behind_told : (before : Given) (left : List Text) → Led (placed f behind before left word) → Told (behind before left) (word ∷ rest)
     behind_told before [] e = not_usage (ended_told usage rest e)
-    behind_told before (label ∷ left) e = go (is_some (text_of label before) || not (fits f label word)) refl e
+    behind_told before (label ∷ left) e = go (is_some (text_behind label before) || not (fits f label word)) refl e
       where
-        go : (b : Bool) → (is_some (text_of label before) || not (fits f label word)) ≡ b
+        go : (b : Bool) → (is_some (text_behind label before) || not (fits f label word)) ≡ b
             → Led (cond b (ended usage) (behind (before ++ (label, word) ∷ []) left))
             → Told (behind before (label ∷ left)) (word ∷ rest)
         go true h e = not_usage (ended_told usage rest e)
         go false h e =
-            let both = kept_both (text_of label before) (fits f label word) h in
+            let both = kept_both (text_behind label before) (fits f label word) h in
             let r : Told (behind (before ++ (label, word) ∷ []) left) rest = rec (behind (before ++ (label, word) ∷ []) left) e in
             ((label, word) ∷ r.0, next label word left rest r.0 r.1, came_more label word before r.0 both.0 both.1 r.2)
 
@@ -165,7 +165,7 @@ module _ (f : Form) (name : Text) (texts : List (Option Text)) where
         behind_equals : Text
         behind_equals = after_first (λ x. x == 61) r
 
-        with_option : (label : Text) → label_of f.options r ≡ Some label → (o : Option Text) → text_of label before ≡ o
+        with_option : (label : Text) → label_of f.options r ≡ Some label → (o : Option Text) → text_behind label before ≡ o
             → Led (cond (is_some o) (ended usage) (wants label before left))
             → Told (between before left) (word ∷ rest)
         with_option label known (Some u) fresh e = not_usage (ended_told usage rest e)
@@ -178,11 +178,11 @@ module _ (f : Form) (name : Text) (texts : List (Option Text)) where
             )
 
         with_value : (label : Text) → label_of f.options (name_in r) ≡ Some label → name_in r ++ 61 ∷ behind_equals ≡ r → (b : Bool)
-            → (is_some (text_of label before) || not (fits f label behind_equals)) ≡ b
+            → (is_some (text_behind label before) || not (fits f label behind_equals)) ≡ b
             → Led (cond b (ended usage) (between (before ++ (label, behind_equals) ∷ []) left)) → Told (between before left) (word ∷ rest)
         with_value label known split true h e = not_usage (ended_told usage rest e)
         with_value label known split false h e =
-            let both = kept_both (text_of label before) (fits f label behind_equals) h in
+            let both = kept_both (text_behind label before) (fits f label behind_equals) h in
             let q : Told (between (before ++ (label, behind_equals) ∷ []) left) rest = rec (between (before ++ (label, behind_equals) ∷ []) left) e in (
               (label, behind_equals) ∷ q.0,
               subst (λ w. Gives f left (w ∷ rest) ((label, behind_equals) ∷ q.0)) (ap (λ x. codes "--" ++ x) split ∙ is)
@@ -190,11 +190,11 @@ module _ (f : Form) (name : Text) (texts : List (Option Text)) where
               came_more label behind_equals before q.0 both.0 both.1 q.2,
             )
 
-        with_flag : is_among f.flags r ≡ true → (b : Bool) → (is_some (text_of r before) || not (fits f r [])) ≡ b
+        with_flag : is_among f.flags r ≡ true → (b : Bool) → (is_some (text_behind r before) || not (fits f r [])) ≡ b
             → Led (cond b (ended usage) (between (before ++ (r, []) ∷ []) left)) → Told (between before left) (word ∷ rest)
         with_flag own true h e = not_usage (ended_told usage rest e)
         with_flag own false h e =
-            let both = kept_both (text_of r before) (fits f r []) h in
+            let both = kept_both (text_behind r before) (fits f r []) h in
             let q : Told (between (before ++ (r, []) ∷ []) left) rest = rec (between (before ++ (r, []) ∷ []) left) e in (
               (r, []) ∷ q.0,
               subst (λ w. Gives f left (w ∷ rest) ((r, []) ∷ q.0)) is (by_flag r left rest q.0 own q.1),
@@ -213,11 +213,11 @@ module _ (f : Form) (name : Text) (texts : List (Option Text)) where
         go None b false known h own e = not_usage (ended_told usage rest e)
         go None true true known h own e = not_usage (ended_told usage rest e)
         go None false true known h own e =
-            with_flag (ap (is_among f.flags) (sym (all_name h)) ∙ own) (is_some (text_of r before) || not (fits f r [])) refl
+            with_flag (ap (is_among f.flags) (sym (all_name h)) ∙ own) (is_some (text_behind r before) || not (fits f r [])) refl
             (subst (λ n. Led (kept f n [] before (between (before ++ (n, []) ∷ []) left))) (all_name h) e)
         go (Some label) false b known h own e =
-            with_option label (ap (label_of f.options) (sym (all_name h)) ∙ known) (text_of label before) refl e
-        go (Some label) true b known h own e = with_value label known (equals_split r h) (is_some (text_of label before) || not
+            with_option label (ap (label_of f.options) (sym (all_name h)) ∙ known) (text_behind label before) refl e
+        go (Some label) true b known h own e = with_value label known (equals_split r h) (is_some (text_behind label before) || not
             (fits f label behind_equals)) refl e
 
     hyphen_told : (before : Given) (left : List Text) (o : Option Text) → after_dashes word ≡ o
@@ -255,16 +255,16 @@ module _ (f : Form) (name : Text) (texts : List (Option Text)) where
 
 -- the words of options and flags are read as such
 pub record IsSpelled (f : Form) : Type 0 where
-  pub by_name : Each (λ o. part_of f (codes "--" ++ o.0) ≡ option o.1) f.options
-  pub by_value : Each (λ o. (t : Text) → part_of f (codes "--" ++ o.0 ++ 61 ∷ t) ≡ valued o.1 t) f.options
-  pub by_flag : Each (λ n. part_of f (codes "--" ++ n) ≡ flag n) f.flags
+  pub by_name : Each (λ o. part_named f (codes "--" ++ o.0) ≡ option o.1) f.options
+  pub by_value : Each (λ o. (t : Text) → part_named f (codes "--" ++ o.0 ++ 61 ∷ t) ≡ valued o.1 t) f.options
+  pub by_flag : Each (λ n. part_named f (codes "--" ++ n) ≡ flag n) f.flags
 
 -- a word with two hyphens
 pub long_part : (f : Form) (c : ℕ) (cs : Text) → bytes_eq (codes "help") (c ∷ cs) ≡ false
-    → part_of f (45 ∷ 45 ∷ c ∷ cs) ≡ named_part f (c ∷ cs)
+    → part_named f (45 ∷ 45 ∷ c ∷ cs) ≡ named_part f (c ∷ cs)
 long_part f c cs differs = rw (hyphen_first (c ∷ cs), differs) refl
 
-dashes_part : (f : Form) → part_of f (codes "--") ≡ dashes
+dashes_part : (f : Form) → part_named f (codes "--") ≡ dashes
 dashes_part f = rw (hyphen_first []) refl
 
 module _ (f : Form) (is : IsSpelled f) where
@@ -273,20 +273,20 @@ module _ (f : Form) (is : IsSpelled f) where
 
   -- an option is one of the form's
   known_option : (name label : Text) → label_of f.options name ≡ Some label
-      → (part_of f (codes "--" ++ name) ≡ option label) × ((t : Text) → part_of f (codes "--" ++ name ++ 61 ∷ t) ≡ valued label t)
+      → (part_named f (codes "--" ++ name) ≡ option label) × ((t : Text) → part_named f (codes "--" ++ name ++ 61 ∷ t) ≡ valued label t)
   known_option name label e = go (find (λ o. bytes_eq o.0 name) f.options) refl e
     where
       go : (m : Option (Text × Text)) → find (λ o. bytes_eq o.0 name) f.options ≡ m → option_map (λ o. o.1) m ≡ Some label
-          → (part_of f (codes "--" ++ name) ≡ option label) × ((t : Text) → part_of f (codes "--" ++ name ++ 61 ∷ t) ≡ valued label t)
+          → (part_named f (codes "--" ++ name) ≡ option label) × ((t : Text) → part_named f (codes "--" ++ name ++ 61 ∷ t) ≡ valued label t)
       go None found e = absurd (true≢false (sym (ap is_some e)))
       go (Some o) found e =
           let name_is : o.0 ≡ name = (bytes_eq-Decides o.0 name).0 (found_passes (λ x. bytes_eq x.0 name) f.options o found) in
           let label_is : o.1 ≡ label = ap (λ (m : Option Text). unwrap_or m []) e in (
-            subst (λ n. part_of f (codes "--" ++ n) ≡ option label) name_is
-                (each_found (λ x. part_of f (codes "--" ++ x.0) ≡ option x.1) (λ x. bytes_eq x.0 name) f.options o is.by_name found
+            subst (λ n. part_named f (codes "--" ++ n) ≡ option label) name_is
+                (each_found (λ x. part_named f (codes "--" ++ x.0) ≡ option x.1) (λ x. bytes_eq x.0 name) f.options o is.by_name found
                 ∙ ap option label_is),
-            λ t. subst (λ n. part_of f (codes "--" ++ n ++ 61 ∷ t) ≡ valued label t) name_is
-                (each_found (λ x. (u : Text) → part_of f (codes "--" ++ x.0 ++ 61 ∷ u) ≡ valued x.1 u)
+            λ t. subst (λ n. part_named f (codes "--" ++ n ++ 61 ∷ t) ≡ valued label t) name_is
+                (each_found (λ x. (u : Text) → part_named f (codes "--" ++ x.0 ++ 61 ∷ u) ≡ valued x.1 u)
                 (λ x. bytes_eq x.0 name) f.options o is.by_value found t ∙ ap (λ l. valued l t) label_is),
           )
 
@@ -309,7 +309,7 @@ module _ (f : Form) (is : IsSpelled f) where
       rw ((known_option name label known).1 t, new.0, new.1)
       (given_asked left words given (before ++ (label, t) ∷ []) more new.2 ∙ ap (asked f) (append_assoc before ((label, t) ∷ []) given))
   given_asked _ _ _ before (by_flag name left words given own more) new =
-      rw (each_flag (λ n. part_of f (codes "--" ++ n) ≡ flag n) f.flags name is.by_flag own, new.0, new.1)
+      rw (each_flag (λ n. part_named f (codes "--" ++ n) ≡ flag n) f.flags name is.by_flag own, new.0, new.1)
       (given_asked left words given (before ++ (name, []) ∷ []) more new.2 ∙ ap (asked f) (append_assoc before ((name, []) ∷ []) given))
   given_asked _ _ _ before (by_dashes left words given more) new = rw (dashes_part f) (behind_asked left words given before more new)
 
@@ -323,19 +323,19 @@ module _ (f : Form) (is : IsSpelled f) where
   -- ---- the texts of a line
 
   -- a text that was given is what it has to be
-  given_fits : (given before : Given) → AreNew f before given → (label t : Text) → text_of label given ≡ Some t → fits f label t ≡ true
+  given_fits : (given before : Given) → AreNew f before given → (label t : Text) → text_behind label given ≡ Some t → fits f label t ≡ true
   given_fits [] before new label t e = absurd (true≢false (sym (ap is_some e)))
   given_fits (g ∷ given) before new label t e = go (bytes_eq g.0 label) refl e (given_fits given (before ++ g ∷ []) new.2 label t)
     where
       go : (b : Bool) → bytes_eq g.0 label ≡ b → option_map (λ (x : Text × Text). x.1) (cond b (Some g) (find (λ x. bytes_eq x.0 label) given)) ≡ Some t
-          → (text_of label given ≡ Some t → fits f label t ≡ true) → fits f label t ≡ true
+          → (text_behind label given ≡ Some t → fits f label t ≡ true) → fits f label t ≡ true
       go true same e rec =
           let is_t : g.1 ≡ t = ap (λ (m : Option Text). unwrap_or m []) e in
           subst (λ l. fits f l t ≡ true) ((bytes_eq-Decides g.0 label).0 same) (subst (λ u. fits f g.0 u ≡ true) is_t new.1)
       go false same e rec = rec e
 
   -- what was given for a label is fit, and so is nothing where the label may be left out
-  text_fits : (given : Given) → AreNew f [] given → (l : Text) (o : Option Text) → text_of l given ≡ o → (is_needed f l && not (is_some o)) ≡ false
+  text_fits : (given : Given) → AreNew f [] given → (l : Text) (o : Option Text) → text_behind l given ≡ o → (is_needed f l && not (is_some o)) ≡ false
       → IsFit f l o
   text_fits given new l None is free = and_true (is_needed f l) free
     where
@@ -347,16 +347,16 @@ module _ (f : Form) (is : IsSpelled f) where
   texts_fit : (given : Given) → AreNew f [] given → (ls : List Text) (texts : List (Option Text)) → texts_of f ls given ≡ Some texts → AreFit f ls texts
   texts_fit given new [] texts e = tt
   texts_fit given new (l ∷ ls) texts e =
-      go (is_needed f l && not (is_some (text_of l given))) (texts_of f ls given) refl refl e (texts_fit given new ls)
+      go (is_needed f l && not (is_some (text_behind l given))) (texts_of f ls given) refl refl e (texts_fit given new ls)
     where
-      go : (b : Bool) (more : Option (List (Option Text))) → (is_needed f l && not (is_some (text_of l given))) ≡ b → texts_of f ls given ≡ more
-          → cond b None (option_map (λ ts. text_of l given ∷ ts) more) ≡ Some texts
+      go : (b : Bool) (more : Option (List (Option Text))) → (is_needed f l && not (is_some (text_behind l given))) ≡ b → texts_of f ls given ≡ more
+          → cond b None (option_map (λ ts. text_behind l given ∷ ts) more) ≡ Some texts
           → ((ts : List (Option Text)) → texts_of f ls given ≡ Some ts → AreFit f ls ts) → AreFit f (l ∷ ls) texts
       go true more is are e rec = absurd (true≢false (sym (ap is_some e)))
       go false None is are e rec = absurd (true≢false (sym (ap is_some e)))
       go false (Some ts) is are e rec =
           subst (AreFit f (l ∷ ls)) (ap (λ (m : Option (List (Option Text))). unwrap_or m []) e)
-          (text_fits given new l (text_of l given) refl is, rec ts are)
+          (text_fits given new l (text_behind l given) refl is, rec ts are)
 
 -- each text of a line is what it has to be
 pub line_fits : (f : Form) (words : List Text) (texts : List (Option Text)) → IsSpelled f → IsCommandLine f words texts → AreFit f (labels f) texts
@@ -387,13 +387,13 @@ each_both so (x ∷ xs) each other = (so x each.0 other.0, each_both so xs each.
 
 -- behind two hyphens
 named : (f : Form) (name : Text) (p : Part) → is_empty name ≡ false → (bytes_eq (codes "help") name ≡ false) × (named_part f name ≡ p)
-    → part_of f (codes "--" ++ name) ≡ p
+    → part_named f (codes "--" ++ name) ≡ p
 named f [] p some is = absurd (true≢false some)
 named f (c ∷ cs) p some is = long_part f c cs is.0 ∙ is.1
 
 valued_so : (f : Form) (o : Text × Text) → is_empty o.0 ≡ false
     → ((t : Text) → (bytes_eq (codes "help") (o.0 ++ 61 ∷ t) ≡ false) × (named_part f (o.0 ++ 61 ∷ t) ≡ valued o.1 t))
-    → (t : Text) → part_of f (codes "--" ++ o.0 ++ 61 ∷ t) ≡ valued o.1 t
+    → (t : Text) → part_named f (codes "--" ++ o.0 ++ 61 ∷ t) ≡ valued o.1 t
 valued_so f ([], label) some is t = absurd (true≢false some)
 valued_so f (c ∷ cs, label) some is t = long_part f c (cs ++ 61 ∷ t) (is t).0 ∙ (is t).1
 

@@ -1,104 +1,39 @@
 -- The texts of a subcommand, from its own matches, and which form's matches they are.
-use Rattle.std.proofs.Common.{◌≡◌, ◌∙◌, ◌++◌, ℕ, Bool, true, false, cond, inl, inr, ap, ap₂, sym, subst, refl}
+use Rattle.std.proofs.Common.{◌≡◌, ◌∙◌, ℕ, true, false, inl, inr, ap, ap₂, sym, subst, refl, rules}
 use Rattle.std.proofs.Common.{true≢false, map, List, [], ◌∷◌, Option, Some, None, is_some}
-use Rattle.std.specs.Prelude.{IfSome, IsSomeAnd, Result, option_map, unwrap_or}
-use Rattle.std.specs.Result.{result_ok}
-use Rattle.std.specs.List.{filter}
-use Rattle.std.specs.Str.{bytes_eq}
+use Rattle.std.specs.Prelude.{Err, IfSome, is_err, Result, option_map, unwrap_or}
 use Rattle.std.specs.Str.Parse.{ParsesUnsigned}
 use Rattle.std.proofs.lemmas.Result.{Ok-from_Ok_iff}
-use Rattle.std.proofs.lemmas.Slice.Eq.{bytes_eq-Decides}
-use Rattle.std.specs.Borrow.{Bor}
 use Rattle.clap.specs.Words.{Row, first_of, first_value, found_of, rows_of, subcommand_name_of, subcommand_rows_of}
 use Rattle.clap.specs.declared.parser.ArgMatches.{ArgMatches}
 use Rattle.clap.specs.declared.builder.value_parser.ValueParser.TheVariants.{Unsigned}
 use Rattle.clap.proofs.ValueTestLemmas.{accepts-Accepts}
-use Rattle.dob_words.specs.Forms.{Form, Text, forms, is_among, is_needed, labels}
+use Rattle.clap.proofs.WalkLemmas.{first_value-rows}
+use Rattle.dob_words.specs.Forms.{Form, Text, form_named, forms, is_among, is_needed, labels}
 use Rattle.dob_words.specs.Lines.{IsAmong}
-use Rattle.dob_words.specs.Words.{Meaning, asks, is_number, number_of, settled}
-use Rattle.dob_words.specs.Shapes.{AreFit, Finds, IsFit}
-use Rattle.dob_words.specs.Readings.{IsOrder, IsReadFor, IsReadingOf, text_given}
+use Rattle.dob_words.specs.Words.{asks, is_number, number_in, settled}
+use Rattle.dob_words.specs.Shapes.{AreFit, Finds, HasFit, IsFit, IsMet, IsMetBySome, IsNamed, texts_in}
+use Rattle.dob_words.specs.Readings.{IsReadFor}
 use Rattle.dob_words.specs.declared.command.Order.{Order}
-use Rattle.dob_words.specs.declared.command.Reading.TheVariants as reading
-use Rattle.dob_words.proofs.Texts.{taken_number}
-use Rattle.dob_words.proofs.Outcomes.{text_in_matches}
+use Rattle.dob_words.proofs.Texts.{Each, taken_number}
 
--- this is what the matches have for a label
-abbrev pub IsGot : ArgMatches → Text → Option (Bor Text) → Type 0
-IsGot inner label o = text_given o ≡ first_value (found_of inner) label
+-- ---- texts that fit
 
--- and for each of these
-abbrev pub AreGot : ArgMatches → List Text → List (Option (Bor Text)) → Type 0
-AreGot inner [] [] = Unit {0}
-AreGot inner (label ∷ labels) (o ∷ os) = IsGot inner label o × AreGot inner labels os
-AreGot inner _ _ = ⊥
+-- what is needed is there
+pub there : (f : Form) (label : Text) (o : Option Text) → is_needed f label ≡ true → IsFit f label o → is_some o ≡ true
+there f label None needed fit = absurd (true≢false (sym needed ∙ fit))
+there f label (Some t) needed fit = refl
 
--- where it is there
-pub got_some : (inner : ArgMatches) (label : Text) (o was : Option (Bor Text)) → IsGot inner label o → o ≡ was → IsGot inner label was
-got_some inner label o was got is = subst (IsGot inner label) is got
-
--- a flag's text is there where it was got
-pub flag_there : (o : Option (Bor Text)) → is_some o ≡ is_some (text_given o)
-flag_there None = refl
-flag_there (Some t) = refl
-
-module _ (f : Form) (texts : List (Option Text)) (met : Option (Text × List Row)) (found : Finds f texts met) (inner : ArgMatches)
-    (kept : Some (rows_of (found_of inner)) ≡ option_map (λ p. p.1) met) where
-  -- they are what was found in the matches of the subcommand
-  pub found_inside : Finds f texts (Some (f.name, rows_of (found_of inner)))
-  found_inside =
-      let same : rows_of (found_of inner) ≡ found.0 = ap (λ (x : Option (List Row)). unwrap_or x []) (kept ∙ ap (option_map (λ p. p.1)) found.1) in
-      subst (Finds f texts) (found.1 ∙ ap (λ (rows : List Row). Some (f.name, rows)) (sym same)) found
-
-  -- so it is what was found for the label
-  in_rows : (label : Text) (o : Option (Bor Text)) → IsGot inner label o → first_of label found.0 ≡ text_given o
-  in_rows label o got = text_in_matches label f texts met found inner o kept got
-
-  all_in_rows : (ls : List Text) (os : List (Option (Bor Text))) → AreGot inner ls os → map (λ l. first_of l found.0) ls ≡ map text_given os
-  all_in_rows [] [] got = refl
-  all_in_rows [] (o ∷ os) got = absurd got
-  all_in_rows (l ∷ ls) [] got = absurd got
-  all_in_rows (l ∷ ls) (o ∷ os) got = ap₂ (λ x xs. x ∷ xs) (in_rows l o got.0) (all_in_rows ls os got.1)
-
-  -- the texts are what was got for the labels
-  pub texts_got : (ls : List Text) (os : List (Option (Bor Text))) → labels f ≡ ls → AreGot inner ls os → map text_given os ≡ texts
-  texts_got ls os are got = sym (all_in_rows ls os got) ∙ (ap (map (λ l. first_of l found.0)) (sym are) ∙ found.2)
-
-  -- what was got for a label is fit
-  pub got_fit : (before after : List Text) (label : Text) → labels f ≡ before ++ label ∷ after → (o : Option (Bor Text)) → IsGot inner label o
-      → IsFit f label (text_given o)
-  got_fit before after label are o got =
-      subst (IsFit f label) (in_rows label o got)
-      (go before (subst (λ ls. AreFit f ls (map (λ l. first_of l found.0) ls)) are (subst (AreFit f (labels f)) (sym found.2) found.3)))
-    where
-      go : (ls : List Text) → AreFit f (ls ++ label ∷ after) (map (λ l. first_of l found.0) (ls ++ label ∷ after)) → IsFit f label (first_of label found.0)
-      go [] fit = fit.0
-      go (l ∷ ls) fit = go ls fit.1
-
-  -- so it is there, where it is needed
-  pub not_missing : (before after : List Text) (label : Text) → labels f ≡ before ++ label ∷ after → is_needed f label ≡ true
-      → (o : Option (Bor Text)) → IsGot inner label o → o ≡ None → ⊥
-  not_missing before after label are needed o got is =
-      true≢false (sym needed ∙ got_fit before after label are None (got_some inner label o None got is))
+-- what is a number by its form tells one, where it is given
+pub given_number : (f : Form) (label : Text) (o : Option Text) → is_among f.numbers label ≡ true → IsFit f label o → IfSome o (λ t. is_number t ≡ true)
+given_number f label None among fit = tt
+given_number f label (Some t) among fit = rw among at fit
 
 -- a number is read from its text
-pub number_read : {E : Type 0} (t : Text) (r : Result ℕ E) (o : Option ℕ) → is_number t ≡ true → ParsesUnsigned 64 10 t r → o ≡ result_ok r
-    → o ≡ Some (number_of t)
-number_read t r o is parses reads =
+pub never_refused : {E : Type 0} (t : Text) (r : Result ℕ E) (e : E) → is_number t ≡ true → ParsesUnsigned 64 10 t r → r ≡ Err e → ⊥
+never_refused t r e is parses refused =
     let passes = accepts-Accepts false (Unsigned 0 18446744073709551615) t (taken_number t ∙ is) in
-    reads ∙ ap result_ok (Ok-from_Ok_iff r _ (number_of t) parses (passes.0, passes.1))
-
-pub none_read : {X : Type 0} (x : X) (o : Option X) → o ≡ Some x → o ≡ None → ⊥
-none_read x o some none = true≢false (sym (ap is_some some) ∙ ap is_some none)
-
-pub some_read : {X : Type 0} (x y : X) (o : Option X) → o ≡ Some x → o ≡ Some y → y ≡ x
-some_read {X} x y o some is = ap (λ (p : Option X). unwrap_or p x) (sym is ∙ some)
-
--- what is given where a number may be left out is one
-pub number_fits : (f : Form) (label : Text) (o : Option (Bor Text)) → is_among f.numbers label ≡ true → IsFit f label (text_given o)
-    → IfSome (text_given o) (λ t. is_number t ≡ true)
-number_fits f label None among fit = tt
-number_fits f label (Some t) among fit = rw among at fit
+    true≢false (sym (ap is_err refused) ∙ ap is_err (Ok-from_Ok_iff r _ (number_in t) parses (passes.0, passes.1)))
 
 -- ---- the subcommand that was met
 
@@ -108,45 +43,68 @@ name_met : {A : Type 0} (name : A → Text) (rows : A → List Row) (o : Option 
 name_met name rows None n rs e = ap (option_map (λ (p : Text × List Row). p.0)) e
 name_met name rows (Some a) n rs e = ap (option_map (λ (p : Text × List Row). p.0)) e
 
--- a form of this name is among those of the name
-among_named : (n : Text) (form : Form) (fs : List Form) → IsAmong form fs → form.name ≡ n → IsAmong form (filter (λ f. bytes_eq f.name n) fs)
-among_named n form [] among named = among
-among_named n form (f ∷ fs) (inl is) named = rw ((bytes_eq-Decides f.name n).1 (ap (λ (g : Form). g.name) (sym is) ∙ named)) (inl is)
-among_named n form (f ∷ fs) (inr more) named = kept (bytes_eq f.name n) _ (among_named n form fs more named)
+-- each form is the one of its name
+itself : Each (λ f. form_named f.name ≡ f) forms
+itself = search rules
+
+named_itself : (form : Form) → IsAmong form forms → form_named form.name ≡ form
+named_itself form among = go forms itself among
   where
-    kept : (b : Bool) (gs : List Form) → IsAmong form gs → IsAmong form (cond b (f ∷ gs) gs)
-    kept true gs h = inr h
-    kept false gs h = h
+    go : (fs : List Form) → Each (λ f. form_named f.name ≡ f) fs → IsAmong form fs → form_named form.name ≡ form
+    go [] each among = absurd among
+    go (f ∷ fs) each (inl is) = subst (λ (g : Form). form_named g.name ≡ g) (sym is) each.0
+    go (f ∷ fs) each (inr more) = go fs each.1 more
 
--- where just one form has the name, what is read of its matches is read for each form that was met
-pub matches_read : (this : Form) → filter (λ f. bytes_eq f.name this.name) forms ≡ this ∷ [] → (m inner : ArgMatches) (name : Text) → name ≡ this.name
-    → Some name ≡ subcommand_name_of m → Some (rows_of (found_of inner)) ≡ option_map (λ p. p.1) (subcommand_rows_of m) → (o : Option Order)
-    → ((texts : List (Option Text)) → Finds this texts (Some (this.name, rows_of (found_of inner))) → IsReadFor (settled (asks this.name texts)) o)
-    → (form : Form) (texts : List (Option Text)) → IsAmong form forms → Finds form texts (subcommand_rows_of m)
-    → IsReadFor (settled (asks form.name texts)) o
-matches_read this alone m inner name is named kept o reads form texts among found =
-    let same : form.name ≡ this.name = ap (λ (x : Option Text). unwrap_or x []) (sym (name_met _ _ _ form.name found.0 found.1) ∙ sym named) ∙ is in
-    let only : form ≡ this = sole (subst (IsAmong form) alone (among_named this.name form forms among same)) in
-    let found_this : Finds this texts (subcommand_rows_of m) = subst (λ (f : Form). Finds f texts (subcommand_rows_of m)) only found in
-    subst (λ (f : Form). IsReadFor (settled (asks f.name texts)) o) (sym only)
-    (reads texts (found_inside this texts (subcommand_rows_of m) found_this inner kept))
+-- the form that was met is one of them
+pub record IsFoundBySome (met : Option (Text × List Row)) : Type 0 where
+  pub form : Form
+  pub texts : List (Option Text)
+  pub among : IsAmong form forms
+  pub found : Finds form texts met
+
+pub found_by_some : (met : Option (Text × List Row)) → IsMetBySome met → IsFoundBySome met
+found_by_some met some = go forms (λ form is. is) some.2
   where
-    sole : IsAmong form (this ∷ []) → form ≡ this
-    sole (inl e) = e
-    sole (inr none) = absurd none
+    go : (fs : List Form) → ((form : Form) → IsAmong form fs → IsAmong form forms) → IsMet fs some.0 some.1 met → IsFoundBySome met
+    go [] among is = absurd is
+    go (f ∷ fs) among (inl is) = record { form = f; texts = some.1; among = among f (inl refl); found = is.1 }
+    go (f ∷ fs) among (inr more) = go fs (λ form is. among form (inr is)) more
 
--- an order that is there is what is asked for, where that is clear
-order_reads : (name : Text) (texts : List (Option Text)) (o : Option Order) → settled (asks name texts) ≡ asks name texts
-    → IsSomeAnd o (IsOrder name texts) → IsReadFor (settled (asks name texts)) o
-order_reads name texts None clear is = absurd is
-order_reads name texts (Some o) clear is = subst (λ (m : Meaning). IsReadingOf m (reading.Order o)) (sym clear) is
+-- its name and its matches are these
+module _ (m inner : ArgMatches) (name : Text) (named : Some name ≡ subcommand_name_of m)
+    (kept : Some (rows_of (found_of inner)) ≡ option_map (λ p. p.1) (subcommand_rows_of m))
+    (form : Form) (texts : List (Option Text)) (among : IsAmong form forms) (found : Finds form texts (subcommand_rows_of m)) where
+  name_is : form.name ≡ name
+  name_is = ap (λ (x : Option Text). unwrap_or x []) (sym (name_met _ _ _ form.name found.0 found.1) ∙ sym named)
 
--- the same of a form whose texts are clear
-pub order_found : (this : Form) → filter (λ f. bytes_eq f.name this.name) forms ≡ this ∷ []
-    → ((texts : List (Option Text)) → settled (asks this.name texts) ≡ asks this.name texts) → (m inner : ArgMatches) (name : Text) → name ≡ this.name
-    → Some name ≡ subcommand_name_of m → Some (rows_of (found_of inner)) ≡ option_map (λ p. p.1) (subcommand_rows_of m) → (o : Option Order)
-    → ((texts : List (Option Text)) → Finds this texts (Some (this.name, rows_of (found_of inner))) → IsSomeAnd o (IsOrder this.name texts))
-    → (form : Form) (texts : List (Option Text)) → IsAmong form forms → Finds form texts (subcommand_rows_of m)
-    → IsReadFor (settled (asks form.name texts)) o
-order_found this alone clear m inner name is named kept o reads =
-    matches_read this alone m inner name is named kept o (λ texts found. order_reads this.name texts o (clear texts) (reads texts found))
+  form_is : form_named name ≡ form
+  form_is = ap form_named (sym name_is) ∙ named_itself form among
+
+  rows_are : rows_of (found_of inner) ≡ found.0
+  rows_are = ap (λ (x : Option (List Row)). unwrap_or x []) (kept ∙ ap (option_map (λ p. p.1)) found.1)
+
+  -- so are the texts that were found
+  texts_are : texts_in form inner ≡ texts
+  texts_are = go (labels form) ∙ found.2
+    where
+      go : (ls : List Text) → map (first_value (found_of inner)) ls ≡ map (λ label. first_of label found.0) ls
+      go [] = refl
+      go (l ∷ ls) = ap₂ (λ (x : Option Text) (xs : List (Option Text)). x ∷ xs) (first_value-rows (found_of inner) l ∙ ap (first_of l) rows_are) (go ls)
+
+  pub is_named : IsNamed name forms
+  is_named = subst (λ (n : Text). IsNamed n forms) name_is (go forms among)
+    where
+      go : (fs : List Form) → IsAmong form fs → IsNamed form.name fs
+      go [] none = absurd none
+      go (f ∷ fs) (inl is) = inl (ap (λ (g : Form). g.name) (sym is))
+      go (f ∷ fs) (inr more) = inr (go fs more)
+
+  pub has_fit : HasFit (form_named name) inner
+  has_fit =
+      subst (λ (f : Form). HasFit f inner) (sym form_is) (subst (AreFit form (labels form)) (sym texts_are) found.3)
+
+  -- what is read for them is what is asked for
+  pub reads : (o : Option Order) → IsReadFor (settled (asks name (texts_in (form_named name) inner))) o → IsReadFor (settled (asks form.name texts)) o
+  reads o is =
+      subst (λ (n : Text). IsReadFor (settled (asks n texts)) o) (sym name_is)
+      (subst (λ (ts : List (Option Text)). IsReadFor (settled (asks name ts)) o) (ap (λ (f : Form). texts_in f inner) form_is ∙ texts_are) is)

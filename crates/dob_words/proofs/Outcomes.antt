@@ -1,36 +1,25 @@
 -- What the matches and the errors of the program's command come to.
-use Rattle.std.proofs.Common.{◌≡◌, ◌∙◌, ◌⊎◌, Bool, not, inl, inr, subst, true, false, sym, ap, refl, List, Option, Some, [], ◌∷◌}
+use Rattle.std.proofs.Common.{◌≡◌, ◌∙◌, ◌⊎◌, Bool, not, inl, inr, subst, true, false, sym, ap, refl, List, Option, [], ◌∷◌}
 use Rattle.std.proofs.Common.{true≢false}
 use Rattle.std.proofs.lemmas.Bool.{not-true}
-use Rattle.std.specs.Prelude.{option_map, unwrap_or}
-use Rattle.std.specs.Borrow.{Bor}
-use Rattle.clap.specs.Words.{App, HasKind, IsAmong, Kinds, Row, fault_of, first_of}
-use Rattle.clap.specs.Words.{first_value, found_of, is_simple, is_simple_and_free}
-use Rattle.clap.specs.Words.{kind_of, rows_of, subcommand_of, subcommand_rows_of}
+use Rattle.clap.specs.Words.{App, HasKind, IsAmong, Kinds, Row, fault_of}
+use Rattle.clap.specs.Words.{is_simple, is_simple_and_free}
+use Rattle.clap.specs.Words.{kind_of, subcommand_of, subcommand_rows_of}
 use Rattle.clap.specs.declared.Error.{Error}
 use Rattle.clap.specs.declared.error.ErrorKind.{ErrorKind}
 use Rattle.clap.specs.declared.error.ErrorKind.TheVariants as kind
 use Rattle.clap.specs.declared.parser.ArgMatches.{ArgMatches}
-use Rattle.clap.proofs.WalkLemmas.{both, first_value-rows}
+use Rattle.clap.proofs.WalkLemmas.{both}
 use Rattle.dob_words.specs.Forms.{Form, Text, forms}
 use Rattle.dob_words.specs.Lines.{IsAmong as IsAmongForms}
 use Rattle.dob_words.specs.Words.{Meaning, asks, help, is_version, is_topic, meaning_of, meaning_of_command, meaning_of_topic, settled, usage, version}
-use Rattle.dob_words.specs.Shapes.{AreProfiles, Finds, ProfileNames, dobutsu_app}
+use Rattle.dob_words.specs.Shapes.{AreProfiles, Finds, IsMet, IsMetBySome, ProfileNames, dobutsu_app}
 use Rattle.dob_words.specs.Readings.{IsOrder, IsReadFor, IsReadingOf, IsReadingOfKind}
 use Rattle.dob_words.specs.declared.command.Order.{Order}
 use Rattle.dob_words.specs.declared.command.Reading.{Reading}
 use Rattle.dob_words.specs.declared.command.Reading.TheVariants as reading
 use Rattle.dob_words.proofs.Turns.{is_help_kind, is_usage, no_help_kind}
-use Rattle.dob_words.proofs.AllWords.{Fits, IsMet, topic_kinds, words_fit}
-
--- the text that the subcommand's own matches have for a label is the one that was found
-pub text_in_matches : (label : Text) (f : Form) (texts : List (Option Text)) (met : Option (Text × List Row)) (found : Finds f texts met) (inner : ArgMatches)
-    (o : Option (Bor Text))
-    → Some (rows_of (found_of inner)) ≡ option_map (λ p. p.1) met → option_map (λ s. s.now) o ≡ first_value (found_of inner) label
-    → first_of label found.0 ≡ option_map (λ s. s.now) o
-text_in_matches label f texts met found inner o kept got =
-    let same : rows_of (found_of inner) ≡ found.0 = ap (λ (x : Option (List Row)). unwrap_or x []) (kept ∙ ap (option_map (λ p. p.1)) found.1) in
-    sym (got ∙ (first_value-rows (found_of inner) label ∙ ap (first_of label) same))
+use Rattle.dob_words.proofs.AllWords.{Fits, topic_kinds, words_fit}
 
 -- what is asked for, and found in the matches
 pub record IsAsked (words : List Text) (met : Option (Text × List Row)) : Type 0 where
@@ -59,6 +48,10 @@ asked_by_matches profiles are app words m no_topic is kinds matches =
     let fits : Fits (meaning_of_command words) [] (subcommand_of (dobutsu_app profiles) words) =
     subst (λ k. Fits (meaning_of_command words) k (subcommand_of (dobutsu_app profiles) words)) clean (words_fit profiles are words no_topic) in
     asked_for words (meaning_of_command words) (subcommand_rows_of m) refl (subst (Fits (meaning_of_command words) []) (sym rows) fits)
+
+-- so a subcommand was met
+pub met_by_some : (words : List Text) (met : Option (Text × List Row)) → IsAsked words met → IsMetBySome met
+met_by_some words met is = (is.name, is.texts, is.found)
 
 -- what is read of the matches of the form that was met is what the words ask for
 pub order_is_meant : (words : List Text) (met : Option (Text × List Row)) (o : Option Order) → IsAsked words met

@@ -24,7 +24,7 @@ use Rattle.clap.specs.declared.error.kind.ErrorKind.TheVariants as kind
 use Rattle.clap.specs.declared.builder.value_parser.ValueParser.{ValueParser}
 use Rattle.std.specs.Borrow.{Bor}
 use Rattle.clap.specs.declared.parser.matches.ValueSource.TheVariants.{CommandLine}
-use Rattle.dob_words.specs.Words.{Given, Text, fits, is_number, is_profile, number_of, text_of, texts_of}
+use Rattle.dob_words.specs.Words.{Given, Text, fits, is_number, is_profile, number_in, text_behind, texts_of}
 use Rattle.dob_words.specs.Forms.{Form, is_among, is_needed, no_form}
 use Rattle.dob_words.specs.Shapes.{AreProfiles, ProfileNames, flag_rule, no_names, text_rule}
 use Rattle.dob_words.proofs.Turns.{is_usage}
@@ -62,14 +62,14 @@ row_found label (g ∷ given) = go (bytes_eq g.0 label) (row_found label given)
     go true rec = refl
     go false rec = rec
 
-first_found : (label : Text) (given : Given) → first_of label (rows_of given) ≡ text_of label given
+first_found : (label : Text) (given : Given) → first_of label (rows_of given) ≡ text_behind label given
 first_found label given = ap (option_and_then (λ (r : Row). slice_get r.values 0)) (row_found label given) ∙ go (find (λ g. bytes_eq g.0 label) given)
   where
     go : (o : Option (Text × Text)) → option_and_then (λ (r : Row). slice_get r.values 0) (option_map row_of o) ≡ option_map (λ g. g.1) o
     go None = refl
     go (Some g) = refl
 
-given_found : (label : Text) (given : Given) → is_given label (rows_of given) ≡ is_some (text_of label given)
+given_found : (label : Text) (given : Given) → is_given label (rows_of given) ≡ is_some (text_behind label given)
 given_found label given =
     ap (λ (o : Option Row). option_map_or (λ r. explicit_source r.source) o false) (row_found label given) ∙ go (find (λ g. bytes_eq g.0 label) given)
   where
@@ -77,11 +77,11 @@ given_found label given =
     go None = refl
     go (Some g) = refl
 
-pub has_found : (label : Text) (given : Given) → has_row label (rows_of given) ≡ is_some (text_of label given)
+pub has_found : (label : Text) (given : Given) → has_row label (rows_of given) ≡ is_some (text_behind label given)
 has_found label [] = refl
 has_found label (g ∷ given) = go (bytes_eq g.0 label) (has_found label given)
   where
-    go : (b : Bool) → has_row label (rows_of given) ≡ is_some (text_of label given)
+    go : (b : Bool) → has_row label (rows_of given) ≡ is_some (text_behind label given)
         → (b || has_row label (rows_of given)) ≡ is_some (option_map (λ (x : Text × Text). x.1) (cond b (Some g) (find (λ x. bytes_eq x.0 label) given)))
     go true rec = refl
     go false rec = rec
@@ -98,9 +98,9 @@ Looked f labels given None = some_missing f (rows_of given) labels ≡ true
 
 pub looked : (f : Form) (labels : List Text) (given : Given) → Looked f labels given (texts_of f labels given)
 looked f [] given = (refl, refl)
-looked f (l ∷ ls) given = go (is_needed f l) (text_of l given) (texts_of f ls given) refl refl (looked f ls given)
+looked f (l ∷ ls) given = go (is_needed f l) (text_behind l given) (texts_of f ls given) refl refl (looked f ls given)
   where
-    go : (b : Bool) (o : Option Text) (more : Option (List (Option Text))) → is_needed f l ≡ b → text_of l given ≡ o → Looked f ls given more
+    go : (b : Bool) (o : Option Text) (more : Option (List (Option Text))) → is_needed f l ≡ b → text_behind l given ≡ o → Looked f ls given more
         → Looked f (l ∷ ls) given (cond (b && not (is_some o)) None (option_map (λ ts. o ∷ ts) more))
     go true None more n e rest = rw (n, given_found l given, e) refl
     go true (Some t) None n e rest = rw (n, given_found l given, e) rest
@@ -130,7 +130,7 @@ as_written profiles true is_name = refl
 as_written profiles false true = refl
 as_written profiles false false = refl
 
-pub used_fresh : (profiles : ProfileNames) (f : Form) (long : Option Text) (index : Option ℕ) (label t : Text) (given : Given) → text_of label given ≡ None
+pub used_fresh : (profiles : ProfileNames) (f : Form) (long : Option Text) (index : Option ℕ) (label t : Text) (given : Given) → text_behind label given ≡ None
     → used (text_arg profiles f long index label) (t ∷ []) (rows_of given) ≡ rows_of (given ++ (label, t) ∷ [])
 used_fresh profiles f long index label t given fresh =
     let none : has_row label (rows_of given) ≡ false = has_found label given ∙ ap is_some fresh in
@@ -141,18 +141,18 @@ used_fresh profiles f long index label t given fresh =
 
 -- `clap` takes just such numbers
 pub taken_number : (t : Text) → accepts false (Unsigned 0 18446744073709551615) t ≡ is_number t
-taken_number t = go (nat_lt 0 (length digits) && list_all (λ d. nat_lt (digit_value d) 10) digits) (nat_lt (number_of t) (2 ^ 64)) refl
+taken_number t = go (nat_lt 0 (length digits) && list_all (λ d. nat_lt (digit_value d) 10) digits) (nat_lt (number_in t) (2 ^ 64)) refl
   where
     digits : Text
     digits = without_leading_plus t
 
-    go : (a b : Bool) → nat_lt (number_of t) (2 ^ 64) ≡ b
-        → (a && (b && (nat_le 0 (number_of t) && nat_le (number_of t) 18446744073709551615))) ≡ (a && b)
+    go : (a b : Bool) → nat_lt (number_in t) (2 ^ 64) ≡ b
+        → (a && (b && (nat_le 0 (number_in t) && nat_le (number_in t) 18446744073709551615))) ≡ (a && b)
     go false b e = refl
     go true false e = refl
     go true true e =
-        let below = ltb-true (number_of t) (2 ^ 64) e in
-        rw (le-leb 0 (number_of t) (omega arith), le-leb (number_of t) 18446744073709551615 (omega (arith, below))) refl
+        let below = ltb-true (number_in t) (2 ^ 64) e in
+        rw (le-leb 0 (number_in t) (omega arith), le-leb (number_in t) 18446744073709551615 (omega (arith, below))) refl
 
 -- and just the names of profiles
 any_name : (names : List (Bor Text)) (t : Text) → list_any (λ name. bytes_eq name.now t) names ≡ is_among (map (λ name. name.now) names) t
@@ -194,19 +194,19 @@ kept_both None false e = absurd (true≢false e)
 kept_both (Some t) fit e = absurd (true≢false e)
 
 module _ (profiles : ProfileNames) (are : AreProfiles profiles) (f : Form) (long : Option Text) (index : Option ℕ) (label : Text) where
-  pub use_passes : (t : Text) (given : Given) → text_of label given ≡ None → fits f label t ≡ true
+  pub use_passes : (t : Text) (given : Given) → text_behind label given ≡ None → fits f label t ≡ true
       → use_fault false (text_arg profiles f long index label) (t ∷ []) (rows_of given) ≡ []
   use_passes t given fresh fit =
       rw (has_found label given, fresh, fit_kinds profiles are (is_among f.numbers label) (is_among f.profiles label) t fit) refl
 
   -- a text that isn't what it has to be is refused
-  pub use_misfit : (t : Text) (given : Given) → text_of label given ≡ None → fits f label t ≡ false
+  pub use_misfit : (t : Text) (given : Given) → text_behind label given ≡ None → fits f label t ≡ false
       → use_fault false (text_arg profiles f long index label) (t ∷ []) (rows_of given) ≡ misfit_kind (is_among f.numbers label) ∷ []
   use_misfit t given fresh misfit =
       rw (has_found label given, fresh, misfit_kinds profiles are (is_among f.numbers label) (is_among f.profiles label) t misfit) refl
 
   -- a second text of one label is refused
-  pub use_twice : (t u : Text) (given : Given) → text_of label given ≡ Some u
+  pub use_twice : (t u : Text) (given : Given) → text_behind label given ≡ Some u
       → use_fault false (text_arg profiles f long index label) (t ∷ []) (rows_of given) ≡ kind.ArgumentConflict ∷ []
   use_twice t u given there = rw (has_found label given, there) refl
 
@@ -217,14 +217,14 @@ module _ (profiles : ProfileNames) (are : AreProfiles profiles) (f : Form) (long
 -- ---- one more flag
 
 -- a flag's row is that of the empty text
-pub flagged_fresh : (name : Text) (given : Given) → text_of name given ≡ None → used (flag_arg name) [] (rows_of given) ≡ rows_of (given ++ (name, []) ∷ [])
+pub flagged_fresh : (name : Text) (given : Given) → text_behind name given ≡ None → used (flag_arg name) [] (rows_of given) ≡ rows_of (given ++ (name, []) ∷ [])
 flagged_fresh name given fresh = used_fresh no_names no_form None None name [] given fresh
 
-pub flag_passes : (name : Text) (given : Given) → text_of name given ≡ None → use_fault false (flag_arg name) [] (rows_of given) ≡ []
+pub flag_passes : (name : Text) (given : Given) → text_behind name given ≡ None → use_fault false (flag_arg name) [] (rows_of given) ≡ []
 flag_passes name given fresh = rw (has_found name given, fresh) refl
 
 -- a second use of one flag is refused
-pub flag_twice : (name u : Text) (given : Given) → text_of name given ≡ Some u
+pub flag_twice : (name u : Text) (given : Given) → text_behind name given ≡ Some u
     → use_fault false (flag_arg name) [] (rows_of given) ≡ kind.ArgumentConflict ∷ []
 flag_twice name u given there = rw (has_found name given, there) refl
 

@@ -1,11 +1,11 @@
 -- How what was read of the words goes with what they ask for.
-use Rattle.std.specs.Prelude.{◌≡◌, true, List, [], ◌∷◌, None, Option, Some, codes, is_some, option_map}
+use Rattle.std.specs.Prelude.{◌≡◌, IfSome, true, List, [], ◌∷◌, None, Option, Some, codes, is_some, option_map}
 use Rattle.std.specs.Borrow.{Bor}
 use Rattle.clap.specs.declared.error.kind.ErrorKind.{ErrorKind}
 use Rattle.clap.specs.declared.error.kind.ErrorKind.TheVariants as kind
 use Rattle.dob_words.specs.Forms.{Form, Text, forms}
 use Rattle.dob_words.specs.Lines.{IsAmong, IsCommandLine}
-use Rattle.dob_words.specs.Words.{Meaning, asks, help, is_number, number_of, profile_named, usage, version}
+use Rattle.dob_words.specs.Words.{Meaning, asks, help, is_number, number_in, profile_named, usage, version}
 use Rattle.dob_words.specs.declared.command.Order.{Order}
 use Rattle.dob_words.specs.declared.command.Order.TheVariants as order
 use Rattle.dob_words.specs.declared.command.Reading.{Reading}
@@ -40,8 +40,8 @@ HasTexts texts (order.Value profile position) =
 HasTexts texts (order.Count profile set) =
     (rules : Option Text) × (Some set.now ∷ rules ∷ [] ≡ texts) × (profile ≡ profile_named rules)
 HasTexts texts (order.Build profile set nodes file is_watched) =
-    (t : Text) × (rules flag : Option Text) × (Some set.now ∷ Some t ∷ Some file.now ∷ rules ∷ flag ∷ [] ≡ texts) × (is_number t ≡ true)
-    × (nodes ≡ number_of t) × (profile ≡ profile_named rules) × (is_watched ≡ is_some flag)
+    (n rules flag : Option Text) × (Some set.now ∷ n ∷ Some file.now ∷ rules ∷ flag ∷ [] ≡ texts) × IfSome n (λ t. is_number t ≡ true)
+    × (nodes ≡ option_map number_in n) × (profile ≡ profile_named rules) × (is_watched ≡ is_some flag)
 HasTexts texts (order.Probe file position) = Some file.now ∷ None ∷ Some position.now ∷ [] ≡ texts
 HasTexts texts (order.Each file) = (flag : Text) × (Some file.now ∷ Some flag ∷ None ∷ [] ≡ texts)
 HasTexts texts (order.Line file is_numbered position) =
@@ -55,7 +55,7 @@ HasTexts texts (order.Best file position) = Some file.now ∷ Some position.now 
 HasTexts texts (order.Stats file is_csv) = (flag : Option Text) × (Some file.now ∷ flag ∷ [] ≡ texts) × (is_csv ≡ is_some flag)
 HasTexts texts (order.Puzzles file plies count from seed is_numbered) =
     (d n : Text) × (f s flag : Option Text) × (Some file.now ∷ Some d ∷ Some n ∷ f ∷ s ∷ flag ∷ [] ≡ texts) × (is_number d ≡ true)
-    × (plies ≡ number_of d) × (is_number n ≡ true) × (count ≡ number_of n) × (from ≡ option_map number_of f) × (seed ≡ option_map number_of s)
+    × (plies ≡ number_in d) × (is_number n ≡ true) × (count ≡ number_in n) × (from ≡ option_map number_in f) × (seed ≡ option_map number_in s)
     × (is_numbered ≡ is_some flag)
 HasTexts texts (order.Migrate file out) = Some file.now ∷ Some out.now ∷ [] ≡ texts
 
@@ -75,6 +75,12 @@ IsReadingOf _ _ = ⊥
 abbrev pub IsReadFor : Meaning → Option Order → Type 0
 IsReadFor meant (Some o) = IsReadingOf meant (reading.Order o)
 IsReadFor meant None = meant ≡ usage
+
+-- what is asked for by the texts of `--each` and of POSITION: the lines of standard input, or that position; nothing where both are given, or none
+abbrev pub IsOneOf : Option Text → Option Text → Option (Option (Bor Text)) → Type 0
+IsOneOf each position (Some None) = (flag : Text) × (each ≡ Some flag) × (position ≡ None)
+IsOneOf each position (Some (Some text)) = (each ≡ None) × (position ≡ Some text.now)
+IsOneOf each position None = is_some each ≡ is_some position
 
 -- the words are a line for the subcommand of this name and these texts
 abbrev pub SomeLine : List Text → Text → List (Option Text) → Type 0

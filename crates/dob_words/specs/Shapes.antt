@@ -1,10 +1,11 @@
 -- What `clap` reads of the program's commands.
 use Rattle.std.specs.Borrow.{Bor}
-use Rattle.std.specs.Prelude.{◌≡◌, ◌++◌, List, [], ◌∷◌, Option, None, Some, codes, false, fold, if◌then◌else◌, map, not, true}
+use Rattle.std.specs.Prelude.{◌≡◌, ◌⊎◌, ◌++◌, List, [], ◌∷◌, Option, None, Some, codes, false, fold, if◌then◌else◌, map, not, true}
 use Rattle.clap.specs.declared.builder.Arg.{Arg}
 use Rattle.clap.specs.declared.builder.Command.{Command}
 use Rattle.clap.specs.declared.builder.Command.TheViews.{out-Command}
-use Rattle.clap.specs.Words.{App, Row as FoundRow, Rule, app_of, first_of, new_app, new_rule, rule_of, with_subcommand}
+use Rattle.clap.specs.declared.parser.ArgMatches.{ArgMatches}
+use Rattle.clap.specs.Words.{App, Row as FoundRow, Rule, app_of, first_of, first_value, found_of, new_app, new_rule, rule_of, with_subcommand}
 use Rattle.clap.specs.declared.builder.action.ArgAction.TheVariants.{Set}
 use Rattle.clap.specs.declared.builder.value_parser.ValueParser.{ValueParser}
 use Rattle.clap.specs.declared.builder.value_parser.ValueParser.TheVariants.{Names, Unsigned}
@@ -134,3 +135,27 @@ abbrev pub Finds : Form → List (Option Text) → Option (Text × List FoundRow
 Finds form texts met =
     (rows : List FoundRow) × (met ≡ Some (form.name, rows)) × (map (λ label. first_of label rows) (labels form) ≡ texts)
     × AreFit form (labels form) texts
+
+-- that of one of these forms was met, by this name and with these texts
+abbrev pub IsMet : List Form → Text → List (Option Text) → Option (Text × List FoundRow) → Type 0
+IsMet [] name texts met = ⊥
+IsMet (form ∷ more) name texts met = ((form.name ≡ name) × Finds form texts met) ⊎ IsMet more name texts met
+
+-- a subcommand of the program was met
+abbrev pub IsMetBySome : Option (Text × List FoundRow) → Type 0
+IsMetBySome met = (name : Text) × (texts : List (Option Text)) × IsMet forms name texts met
+
+-- ---- a subcommand's own matches
+
+-- one of the forms has this name
+abbrev pub IsNamed : Text → List Form → Type 0
+IsNamed name [] = ⊥
+IsNamed name (form ∷ more) = (form.name ≡ name) ⊎ IsNamed name more
+
+-- the texts that they have for the labels of the form
+abbrev pub texts_in : Form → ArgMatches → List (Option Text)
+texts_in form matches = map (first_value (found_of matches)) (labels form)
+
+-- each of them fits
+abbrev pub HasFit : Form → ArgMatches → Type 0
+HasFit form matches = AreFit form (labels form) (texts_in form matches)

@@ -42,13 +42,13 @@ text_in rest =
     if list_any (λ c. c == equals_sign) rest then Some (after_first (λ c. c == equals_sign) rest) else None
 
 -- the number that a text's digits tell; a plus may stand before them
-abbrev pub number_of : Text → ℕ
-number_of t = digits_value 10 (without_leading_plus t)
+abbrev pub number_in : Text → ℕ
+number_in t = digits_value 10 (without_leading_plus t)
 
 -- the text is a number below 2^64
 abbrev pub is_number : Text → Bool
 is_number t =
-    nat_lt 0 (length (without_leading_plus t)) && list_all (λ d. nat_lt (digit_value d) 10) (without_leading_plus t) && nat_lt (number_of t) (2 ^ 64)
+    nat_lt 0 (length (without_leading_plus t)) && list_all (λ d. nat_lt (digit_value d) 10) (without_leading_plus t) && nat_lt (number_in t) (2 ^ 64)
 
 -- the text names a profile of the rules
 abbrev pub is_profile : Text → Bool
@@ -102,8 +102,8 @@ after_dashes [] = None
 after_dashes (a ∷ []) = None
 after_dashes (a ∷ b ∷ rest) = if a == hyphen && b == hyphen then Some rest else None
 
-abbrev pub part_of : Form → Text → Part
-part_of form word =
+abbrev pub part_named : Form → Text → Part
+part_named form word =
     if is_text word then text
     else if is_dashes word then dashes
     else if is_help_flag word then call
@@ -126,15 +126,15 @@ pub data Meaning : Type 0 where
 abbrev pub Given : Type 0
 Given = List (Text × Text)
 
-abbrev pub text_of : Text → Given → Option Text
-text_of label given = option_map (λ g. g.1) (find (λ g. bytes_eq g.0 label) given)
+abbrev pub text_behind : Text → Given → Option Text
+text_behind label given = option_map (λ g. g.1) (find (λ g. bytes_eq g.0 label) given)
 
 -- what is given for these labels, where each that is needed is
 abbrev pub texts_of : Form → List Text → Given → Option (List (Option Text))
 texts_of form [] given = Some []
 texts_of form (label ∷ more) given =
-    if is_needed form label && not (is_some (text_of label given)) then None
-    else option_map (λ texts. text_of label given ∷ texts) (texts_of form more given)
+    if is_needed form label && not (is_some (text_behind label given)) then None
+    else option_map (λ texts. text_behind label given ∷ texts) (texts_of form more given)
 
 -- where the words of a subcommand stand after some of them: what is given, and the labels of the places that are left
 pub data Stand : Type 0 where
@@ -149,11 +149,11 @@ pub data Stand : Type 0 where
 
 -- no text is given twice
 abbrev pub once : Text → Given → Stand → Stand
-once label given stand = if is_some (text_of label given) then ended usage else stand
+once label given stand = if is_some (text_behind label given) then ended usage else stand
 
 -- nor one that isn't what it has to be
 abbrev pub kept : Form → Text → Text → Given → Stand → Stand
-kept form label t given stand = if is_some (text_of label given) || not (fits form label t) then ended usage else stand
+kept form label t given stand = if is_some (text_behind label given) || not (fits form label t) then ended usage else stand
 
 -- the word is the text of the next place
 abbrev pub placed : Form → (Given → List Text → Stand) → Given → List Text → Text → Stand
@@ -175,7 +175,7 @@ wanted form label given left word = if fits form label word then between (given 
 
 -- after one more word
 abbrev pub after_word : Form → Stand → Text → Stand
-after_word form (between given left) word = after_part form given left word (part_of form word)
+after_word form (between given left) word = after_part form given left word (part_named form word)
 after_word form (wants label given left) word = if is_text word then wanted form label given left word else ended usage
 after_word form (behind given left) word = placed form behind given left word
 after_word form (ended meaning) word = ended meaning
@@ -252,75 +252,17 @@ meaning_of words =
     else if is_topic words then meaning_of_topic words
     else settled (meaning_of_command words)
 
--- ---- what is asked for, by name
-
--- the texts of a subcommand of which none may be left out
-abbrev pub asks_all : Text → List Text → Meaning
-asks_all name texts = asks name (map (λ t. Some t) texts)
-
--- what a flag's text is, where it is given and where it isn't
-abbrev pub flag_text : Bool → Option Text
-flag_text is_given = if is_given then Some [] else None
+-- ---- what is asked for, by name, where a law speaks of it
 
 -- the value of the position that the text names, by the rules that are named
 abbrev pub value : Option Text → Text → Meaning
 value rules position = asks (codes "value") (rules ∷ Some position ∷ [])
 
--- the numbers of positions and classes of the piece set that the text names, by the rules that are named
-abbrev pub count : Option Text → Text → Meaning
-count rules set = asks (codes "count") (Some set ∷ rules ∷ [])
-
--- a file of the table of the piece set that the text names, by the rules that are named, built by so many nodes; and what is given for
--- the flag `--progress`
-abbrev pub build : Option Text → Text → Text → Text → Option Text → Meaning
-build rules set nodes file progress = asks (codes "build") (Some set ∷ Some nodes ∷ Some file ∷ rules ∷ progress ∷ [])
+-- a file of the table of the piece set that the text names, by the rules that are named, built by so many nodes where a number is given; and
+-- what is given for the flag `--progress`
+abbrev pub build : Option Text → Text → Option Text → Text → Option Text → Meaning
+build rules set nodes file progress = asks (codes "build") (Some set ∷ nodes ∷ Some file ∷ rules ∷ progress ∷ [])
 
 -- the value of the position by the table of the file
 abbrev pub probe : Text → Text → Meaning
-probe file position = asks (codes "probe") (Some file ∷ flag_text false ∷ Some position ∷ [])
-
--- the same for the position of each line of standard input
-abbrev pub each : Text → Meaning
-each file = asks (codes "probe") (Some file ∷ flag_text true ∷ None ∷ [])
-
--- the line of the position by the table of the file, each move on a line with its number where that is asked for
-abbrev pub line : Text → Bool → Text → Meaning
-line file is_numbered position = asks (codes "line") (Some file ∷ flag_text is_numbered ∷ Some position ∷ [])
-
--- whether the table of the file is consistent; and what is given for the flag `--progress`
-abbrev pub check : Text → Option Text → Meaning
-check file progress = asks (codes "check") (Some file ∷ progress ∷ [])
-
--- the value that the file's record of the position's class says
-abbrev pub look : Text → Text → Meaning
-look file position = asks (codes "look") (Some file ∷ flag_text false ∷ Some position ∷ [])
-
--- the same for the position of each line of standard input
-abbrev pub look_each : Text → Meaning
-look_each file = asks (codes "look") (Some file ∷ flag_text true ∷ None ∷ [])
-
--- the position that the text names, drawn; by a file its value and its line too, and as a picture in another
-abbrev pub show : Option Text → Option Text → Text → Meaning
-show file picture position = asks (codes "show") (file ∷ picture ∷ Some position ∷ [])
-
--- the moves of the position with their values by the table of the file
-abbrev pub moves : Text → Text → Meaning
-moves file position = asks_all (codes "moves") (file ∷ position ∷ [])
-
--- the first move of the position's line with its value by the table of the file
-abbrev pub best : Text → Text → Meaning
-best file position = asks_all (codes "best") (file ∷ position ∷ [])
-
--- how many classes of the file's table have which value, for scripts where that is asked for
-abbrev pub stats : Text → Bool → Meaning
-stats file is_csv = asks (codes "stats") (Some file ∷ flag_text is_csv ∷ [])
-
--- the first positions, so many, that the file's table says are won in so many plies by one move alone: behind a class, in the order that a seed
--- makes, and with the numbers of their classes, where these are asked for
-abbrev pub puzzles : Text → Text → Text → Option Text → Option Text → Bool → Meaning
-puzzles file plies count from seed is_numbered =
-    asks (codes "puzzles") (Some file ∷ Some plies ∷ Some count ∷ from ∷ seed ∷ flag_text is_numbered ∷ [])
-
--- the table of the file in another one, in the format that is written
-abbrev pub migrate : Text → Text → Meaning
-migrate file out = asks_all (codes "migrate") (file ∷ out ∷ [])
+probe file position = asks (codes "probe") (Some file ∷ None ∷ Some position ∷ [])

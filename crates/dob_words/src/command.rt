@@ -1,14 +1,11 @@
 // What the words of the program `dobutsu` ask for, read by `clap`.
 //
-// A further subcommand, as `probe --db FILE POSITION`, has
-// - a row in table.rt, from which come `clap`'s command, the help of its arguments and what its words mean, and a text in helps.rt;
-// - a variant of `Order` here, with its case in both functions of specs/Readings.antt, and the name of what it asks for at the end of
-//   specs/Words.antt;
-// - a function in command/orders.rt that reads its matches, of a flag whether it has a text, an arm in `order_of`, and the answers of
-//   both, as those of `count`;
-// - in dob_cli what it owes by a definition like `AnswersCount`, a case in each definition of specs/Orders.antt and a field of `Ran` in
-//   specs/Runs.antt; in program.rt an arm of `answer`, and its cases in proofs/Orders.antt and proofs/Runs.antt;
-// - where some of its texts exclude each other, as POSITION and `--each` of `probe` and `look`, that in `settled` of specs/Words.antt, and no order for them.
+// A further subcommand, as `best --db FILE POSITION`, has
+// - here a row in table.rt and a text in helps.rt; a variant of `Order`; its name and its texts in specs/Readings.antt; and an arm of
+//   `order_named` in command/orders.rt that reads it (where texts exclude each other, as POSITION and `--each`, see `settled` of
+//   specs/Words.antt);
+// - in dob_query what it owes, and in dob_cli a case in the definitions of specs/Orders.antt and an arm of `answer` in program.rt with its
+//   answer; where a value table's file makes its answer right, that in `AnswersRight` and `rightly` of proofs/Orders.antt.
 ghost use Rattle.std.specs.Prelude.{◌≡◌, [], IfOk, List, Option, codes, false, map, true};
 ghost use Rattle.std.specs.List.{list_any};
 ghost use Rattle.std.specs.Str.{bytes_eq};
@@ -16,7 +13,7 @@ ghost use Rattle.clap.specs.Words.{App, kind_of, new_app, subcommand_rows_of};
 ghost use Rattle.dob_words.specs.Forms.{Form, Text, forms, rows};
 ghost use Rattle.dob_words.specs.Lines.{IsAmong, IsCommandLine};
 ghost use Rattle.dob_words.specs.Words.{Meaning, asks, has_topic, is_topic, is_version, meaning_of, meaning_of_topic, names_subcommand, settled};
-ghost use Rattle.dob_words.specs.Shapes.{AreProfiles, Finds, HasCommandShape, IsProgram, IsRead, bare_app, choice_rule, choice_said, flag_rule, flag_said, place_rule, place_said, row_app, row_said, with_rows, with_rules};
+ghost use Rattle.dob_words.specs.Shapes.{AreProfiles, Finds, HasCommandShape, IsMetBySome, IsProgram, IsRead, bare_app, choice_rule, choice_said, flag_rule, flag_said, place_rule, place_said, row_app, row_said, with_rows, with_rules};
 ghost use Rattle.dob_words.specs.Readings.{ComesFromLine, IsReadFor, IsReadingOf, IsReadingOfKind};
 
 mod orders;
@@ -41,12 +38,12 @@ pub enum Order<'a> {
         profile: Profile,
         set: &'a str,
     },
-    /// To build the table of the piece set that the text names, by the rules of the profile and by so many nodes, and to keep
-    /// it under the name; and how far that is where it is watched.
+    /// To build the table of the piece set that the text names, by the rules of the profile and by so many nodes, or by as many as
+    /// there are processors, and to keep it under the name; and how far that is where it is watched.
     Build {
         profile: Profile,
         set: &'a str,
-        nodes: u64,
+        nodes: Option<u64>,
         file: &'a str,
         is_watched: bool,
     },
@@ -388,26 +385,12 @@ fn place_argument<'a>(alloc: Global, profiles: Profiles<'a>, place: Place) -> Ar
 
 // What the matches of the program's command ask for, where it is clear.
 fn order_of<'a>(matches: &ArgMatches<'a>) -> Option<Order<'a>>
+    requires { IsMetBySome (subcommand_rows_of matches.now) }
     ensures { (form : Form) (texts : List (Option Text)) → IsAmong form forms → Finds form texts (subcommand_rows_of matches.now)
         → IsReadFor (settled (asks form.name texts)) result }
 {
     let (name, inner) = matches.subcommand()?;
-    match name {
-        "value" => orders::value_order(inner),
-        "count" => orders::count_order(inner),
-        "build" => orders::build_order(inner),
-        "probe" => orders::probe_order(inner),
-        "line" => orders::line_order(inner),
-        "check" => orders::check_order(inner),
-        "look" => orders::look_order(inner),
-        "show" => orders::show_order(inner),
-        "moves" => orders::moves_order(inner),
-        "best" => orders::best_order(inner),
-        "stats" => orders::stats_order(inner),
-        "puzzles" => orders::puzzles_order(inner),
-        "migrate" => orders::migrate_order(inner),
-        _ => None,
-    }
+    orders::order_named(name, inner)
 }
 
 // What the words come to where their matches were read so, and what is said of them where they aren't clear.

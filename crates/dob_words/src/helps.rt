@@ -69,7 +69,7 @@ Example: dobutsu count --set 100 prints `positions 4158` and `classes 2124`, and
 pub(crate) const BUILD: &str =
     "A piece set: three digits CEG, as `dobutsu count --help` says. Nodes: 1 to 16. Each works in a thread of
 its own and owns a part of the positions; with more nodes than processors it works too, only slower.
-The file is the same whatever their number.
+Without `--nodes` there are as many as processors, 16 at most. The file is the same whatever their number.
 
 The file has 2 bytes a class and 53 more, and its build takes some 9 bytes of memory a class.
 `dobutsu count --set 111` gives the classes of a set: 765360 of three pieces, which take a second or two.
@@ -88,7 +88,7 @@ speed so far. On a terminal the lines take each other's place.
 
 Answers: `classes N`, `win N`, `loss N` and `draw N`, where a class is a position with its mirror image.
 
-Example: dobutsu build --set 000 --nodes 2 --out 000.db prints `classes 54`, `win 38`, `loss 12` and
+Example: dobutsu build --set 000 --out 000.db prints `classes 54`, `win 38`, `loss 12` and
 `draw 4`. `dobutsu check --db 000.db` then tells that the file is right.";
 
 pub(crate) const PROBE: &str =

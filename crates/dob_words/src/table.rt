@@ -100,7 +100,7 @@ pub const ROWS: &[Row] = &[
     ),
     (
         "build",
-        "Builds the database file of a piece set, as `build --set 100 --nodes 2 --out 100.db`",
+        "Builds the database file of a piece set, as `build --set 100 --out 100.db`",
         &[
             SET,
             (
@@ -108,8 +108,8 @@ pub const ROWS: &[Row] = &[
                 (
                     "N",
                     Kind::Number,
-                    Need::Must,
-                    "The number of nodes, 1 to 16",
+                    Need::May,
+                    "The number of nodes, 1 to 16; as many as there are processors, 16 at most, where it is left out",
                 ),
             ),
             (

@@ -8,7 +8,7 @@ use Rattle.dob_update.specs.Batches.{items_of_batches}
 use Rattle.dob_node.proofs.Rises.{falls_stay, not_too_deep}
 use Rattle.dob_world.specs.declared.event.Event.{Event}
 use Rattle.dob_world.specs.declared.event.Event.TheVariants.{Expand, Own, Post, Take, Pass, Announce}
-use Rattle.dob_world.specs.declared.fault.Fault.{Fault}
+use Rattle.dob_stops.specs.declared.fault.Fault.{Fault}
 use Rattle.dob_world.specs.Worlds.{Setting, Nodes, WorldView, State, value_in, items_in, AreLawful, HaveFallsIn, IsLinked}
 use Rattle.dob_world.specs.Events.{NodesStay, Applies, AppliesAll, AppliesOwn, TakesBatch, CanHappen, Happens}
 use Rattle.dob_world.specs.Stops.{GoesTooDeep, OwnGoesTooDeep, TakenGoesTooDeep, IsStopBy, IsForMemory}

@@ -11,10 +11,17 @@ use Rattle.std.proofs.lemmas.Nat.{mul-add-lt, same_from_place}
 use Rattle.dob_safra.specs.declared.token.Token.{Token}
 use Rattle.dob_safra.specs.Tokens.{passed_on}
 use Rattle.dob_safra.specs.Rings.{Ring, sum_below, counter, Raises, CountsStay, Posts, Takes, Passes, IsLawfulRing}
+use Rattle.dob_world.specs.declared.detector.Detector.{Detector}
+use Rattle.dob_world.specs.Shown.{ring_of}
+use Rattle.dob_world.specs.Standing.{IsCounted}
 use Rattle.dob_safra.proofs.Sums.{sum_same, sum_zeros}
 use Rattle.dob_safra.proofs.Counts.{flipped, row_stays, flipped_stay, row_raised, other_row, flipped_raises, posted_bound, taken_bound}
 
 -- ---- counters
+
+-- a counter that was read is the ring's
+pub counter_read : (d : Detector) (i : ℕ) (z : ℤ) → IsCounted d → i < d.n → z ≡ get_or d.counters.items i z → z ≡ counter d.n (ring_of d) i
+counter_read d i z counted low is = is ∙ get_or_default d.counters.items i z (pos 0) (omega (arith, low, counted.counters)) ∙ counted.counted i low
 
 pub zero_counter : (n : ℕ) (ring : Ring) (i : ℕ) → ((j : ℕ) → j < n → ring.posted i j ≡ 0) → ((j : ℕ) → j < n → ring.taken j i ≡ 0) →
     counter n ring i ≡ pos 0

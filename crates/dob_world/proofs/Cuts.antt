@@ -15,15 +15,15 @@ use Rattle.dob_world.proofs.Slots.{here, was, elsewhere, stays}
 
 -- ---- outboxes that stay
 
-pub outbox_same : (node after : Node) → after.family ≡ node.family → after.id ≡ node.id → after.n ≡ node.n → after.outboxes.items ≡ node.outboxes.items →
+pub outbox_same : (node after : Node) → after.family ≡ node.family → after.id ≡ node.id → after.n ≡ node.n → after.outboxes ≡ node.outboxes →
     (j : ℕ) → outbox_to after j ≡ outbox_to node j
 outbox_same node after family_is id_is n_is boxes j =
-    ap (λ (s : Family). outbox_in s after.n after.id after.outboxes.items j) family_is
-    ∙ ap (λ (m : ℕ). outbox_in node.family m after.id after.outboxes.items j) n_is
-    ∙ ap (λ (m : ℕ). outbox_in node.family node.n m after.outboxes.items j) id_is
+    ap (λ (s : Family). outbox_in s after.n after.id after.outboxes j) family_is
+    ∙ ap (λ (m : ℕ). outbox_in node.family m after.id after.outboxes j) n_is
+    ∙ ap (λ (m : ℕ). outbox_in node.family node.n m after.outboxes j) id_is
     ∙ ap (λ (xs : List OutboxView). outbox_in node.family node.n node.id xs j) boxes
 
-pub next_same : (node after : Node) → after.family ≡ node.family → after.id ≡ node.id → after.n ≡ node.n → after.outboxes.items ≡ node.outboxes.items →
+pub next_same : (node after : Node) → after.family ≡ node.family → after.id ≡ node.id → after.n ≡ node.n → after.outboxes ≡ node.outboxes →
     (j : ℕ) → (outbox_to after j).next ≡ (outbox_to node j).next
 next_same node after family_is id_is n_is boxes j = ap (λ (o : OutboxView). o.next) (outbox_same node after family_is id_is n_is boxes j)
 

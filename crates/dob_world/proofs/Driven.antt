@@ -15,7 +15,7 @@ use Rattle.dob_world.specs.Shown.{setting_of, state_of, ring_of}
 use Rattle.dob_world.specs.Standing.{IsStanding}
 use Rattle.dob_world.specs.Effects.{IsStopped}
 use Rattle.dob_world.specs.Results.{HasMadeRound, HasDriven, StopsInRounds, SomeCan, IsBusyRound}
-use Rattle.dob_world.specs.declared.fault.Fault.{Fault}
+use Rattle.dob_stops.specs.declared.fault.Fault.{Fault}
 use Rattle.dob_world.specs.Stops.{IsStopBy, IsLeftBy, IsStopInRounds}
 use Rattle.dob_world.proofs.Still.{still_ended}
 use Rattle.dob_world.proofs.Ran.{Stepped, is_after, after_both_steps, after_more}
@@ -23,14 +23,14 @@ use Rattle.dob_world.proofs.Ran.{Stepped, is_after, after_both_steps, after_more
 -- The first so many events of a round are made.
 pub record Partway (old new : World) (upto : ℕ) : Type 0 where
   pub setting : setting_of new ≡ setting_of old
-  pub after : IsAfterSteps (setting_of old) (state_of old) (round_front old.n upto) (new.steps - old.steps) (state_of new)
+  pub after : IsAfterSteps (setting_of old) (state_of old) (round_front old.node_count upto) (new.steps - old.steps) (state_of new)
   pub standing : IsStanding new
   pub going : new.failed ≡ None
   pub least : old.steps ≤ new.steps
   pub most : new.steps ≤ old.steps + upto
   pub done : old.steps < new.steps → SomeCan (setting_of old) (state_of old) upto
   pub quiet : new.steps ≡ old.steps → (state_of new ≡ state_of old)
-      × ((place : ℕ) → place < upto → CanHappen (setting_of old) (state_of old) (round_event old.n place) → ⊥)
+      × ((place : ℕ) → place < upto → CanHappen (setting_of old) (state_of old) (round_event old.node_count place) → ⊥)
 
 pub none_made : (world : World) → IsStanding world → world.failed ≡ None → Partway world world 0
 none_made world standing going = record {
@@ -48,17 +48,17 @@ none_made world standing going = record {
 steps_between : (a b c : ℕ) → a ≤ b → b ≤ c → (b - a) + (c - b) ≡ c - a
 steps_between a b c low high = omega arith
 
-pub one_more : (old mid new : World) (place : ℕ) → Partway old mid place → Stepped (round_event old.n place) mid new → IsStanding new → new.failed ≡ None →
+pub one_more : (old mid new : World) (place : ℕ) → Partway old mid place → Stepped (round_event old.node_count place) mid new → IsStanding new → new.failed ≡ None →
     Partway old new (place + 1)
 one_more old mid new place before step standing going = record {
   setting = step.setting ∙ before.setting;
   after = subst (λ events. IsAfterSteps (setting_of old) (state_of old) events (new.steps - old.steps) (state_of new))
-      (sym (map-range_with_len_more (round_event old.n) 0 place place (let same : 0 + place ≡ place = omega arith in same)))
-      (subst (λ (m : ℕ). IsAfterSteps (setting_of old) (state_of old) (round_front old.n place ++ round_event old.n place ∷ []) m (state_of new))
+      (sym (map-range_with_len_more (round_event old.node_count) 0 place place (let same : 0 + place ≡ place = omega arith in same)))
+      (subst (λ (m : ℕ). IsAfterSteps (setting_of old) (state_of old) (round_front old.node_count place ++ round_event old.node_count place ∷ []) m (state_of new))
       (steps_between old.steps mid.steps new.steps before.least step.least)
-      (after_more (setting_of old) (state_of old) (state_of mid) (state_of new) (round_front old.n place) (round_event old.n place)
+      (after_more (setting_of old) (state_of old) (state_of mid) (state_of new) (round_front old.node_count place) (round_event old.node_count place)
       (mid.steps - old.steps) (new.steps - mid.steps) before.after
-      (subst (λ (s : Setting). IsStepOf s (state_of mid) (round_event old.n place) (new.steps - mid.steps) (state_of new)) before.setting step.step)));
+      (subst (λ (s : Setting). IsStepOf s (state_of mid) (round_event old.node_count place) (new.steps - mid.steps) (state_of new)) before.setting step.step)));
   standing = standing;
   going = going;
   least = omega (arith, step.least, before.least);
@@ -68,8 +68,8 @@ one_more old mid new place before step standing going = record {
       place,
       omega arith,
       state_of mid,
-      is_after (setting_of old) (state_of old) (state_of mid) (round_front old.n place) (mid.steps - old.steps) before.after,
-      subst (λ (s : Setting). CanHappen s (state_of mid) (round_event old.n place)) before.setting both.0,
+      is_after (setting_of old) (state_of old) (state_of mid) (round_front old.node_count place) (mid.steps - old.steps) before.after,
+      subst (λ (s : Setting). CanHappen s (state_of mid) (round_event old.node_count place)) before.setting both.0,
     )
     | inr none ↦
         let e : new.steps ≡ mid.steps = step.idle none.0 in
@@ -82,9 +82,9 @@ one_more old mid new place before step standing going = record {
       let none = step.skipped (same ∙ sym still) in (
         none.1 ∙ were.0,
         λ p low. elim (cases_order p place) [
-          | inl here ↦ subst (λ (m : ℕ). CanHappen (setting_of old) (state_of old) (round_event old.n m) → ⊥) (sym here)
-              (subst (λ (w : State). CanHappen (setting_of old) w (round_event old.n place) → ⊥) were.0
-              (subst (λ (s : Setting). CanHappen s (state_of mid) (round_event old.n place) → ⊥) before.setting none.0))
+          | inl here ↦ subst (λ (m : ℕ). CanHappen (setting_of old) (state_of old) (round_event old.node_count m) → ⊥) (sym here)
+              (subst (λ (w : State). CanHappen (setting_of old) w (round_event old.node_count place) → ⊥) were.0
+              (subst (λ (s : Setting). CanHappen s (state_of mid) (round_event old.node_count place) → ⊥) before.setting none.0))
           | inr order ↦ elim order [
             | inl less ↦ were.1 p less
             | inr more ↦ absurd (omega arith)
@@ -93,12 +93,12 @@ one_more old mid new place before step standing going = record {
       );
 }
 
-pub round_made : (old new : World) (upto : ℕ) (still : Bool) → Partway old new upto → upto ≡ round_length old.n → (still ≡ true → new.steps ≡ old.steps) →
+pub round_made : (old new : World) (upto : ℕ) (still : Bool) → Partway old new upto → upto ≡ round_length old.node_count → (still ≡ true → new.steps ≡ old.steps) →
     (still ≡ false → old.steps < new.steps) → HasMadeRound old still new
 round_made old new upto still way whole quiet busy = record {
   setting = way.setting;
   least = way.least;
-  after = subst (λ (m : ℕ). IsAfterSteps (setting_of old) (state_of old) (round_front old.n m) (new.steps - old.steps) (state_of new)) whole way.after;
+  after = subst (λ (m : ℕ). IsAfterSteps (setting_of old) (state_of old) (round_front old.node_count m) (new.steps - old.steps) (state_of new)) whole way.after;
   standing = way.standing;
   going = way.going;
   steps = subst (λ (m : ℕ). new.steps ≤ old.steps + m) whole way.most;
@@ -118,7 +118,7 @@ round_made old new upto still way whole quiet busy = record {
 more_count : (a b : ℕ) → b ≤ a → nat_eq a b ≡ false → b < a
 more_count a b least is = grind (arith, nat_tests)
 
-pub round_done : (old new : World) (upto : ℕ) → Partway old new upto → upto ≡ round_length old.n → HasMadeRound old (nat_eq new.steps old.steps) new
+pub round_done : (old new : World) (upto : ℕ) → Partway old new upto → upto ≡ round_length old.node_count → HasMadeRound old (nat_eq new.steps old.steps) new
 round_done old new upto way whole = round_made old new upto (nat_eq new.steps old.steps) way whole (eqb-true new.steps old.steps)
     (more_count new.steps old.steps way.least)
 
@@ -144,43 +144,43 @@ pub round_more : (old mid new : World) (rounds : ℕ) (still : Bool) → HasDriv
     HasDriven old (rounds + 1) still new
 round_more old mid new rounds still before round =
     let all = before.busy refl in
-    let same_n : mid.n ≡ old.n = ap (λ (k : Setting). k.n) before.setting in
-    let first : IsAfterSteps (setting_of old) (state_of old) (rounds_of old.n rounds) (mid.steps - old.steps) (state_of mid) =
-    subst (λ (m : ℕ). IsAfterSteps (setting_of old) (state_of old) (rounds_of old.n m) (mid.steps - old.steps) (state_of mid)) all.0 before.after in
-    let front : IsAfter (setting_of old) (state_of old) (rounds_of old.n rounds) (state_of mid) =
-    is_after (setting_of old) (state_of old) (state_of mid) (rounds_of old.n rounds) (mid.steps - old.steps) first in
+    let same_n : mid.node_count ≡ old.node_count = ap (λ (k : Setting). k.n) before.setting in
+    let first : IsAfterSteps (setting_of old) (state_of old) (rounds_of old.node_count rounds) (mid.steps - old.steps) (state_of mid) =
+    subst (λ (m : ℕ). IsAfterSteps (setting_of old) (state_of old) (rounds_of old.node_count m) (mid.steps - old.steps) (state_of mid)) all.0 before.after in
+    let front : IsAfter (setting_of old) (state_of old) (rounds_of old.node_count rounds) (state_of mid) =
+    is_after (setting_of old) (state_of old) (state_of mid) (rounds_of old.node_count rounds) (mid.steps - old.steps) first in
     record {
       made = rounds + 1;
       few = omega arith;
       setting = round.setting ∙ before.setting;
       least = omega (arith, before.least, round.least);
       after = subst (λ events. IsAfterSteps (setting_of old) (state_of old) events (new.steps - old.steps) (state_of new)) (sym (rw add-one refl))
-          (subst (λ (m : ℕ). IsAfterSteps (setting_of old) (state_of old) (rounds_of old.n rounds ++ round_of old.n) m (state_of new))
+          (subst (λ (m : ℕ). IsAfterSteps (setting_of old) (state_of old) (rounds_of old.node_count rounds ++ round_of old.node_count) m (state_of new))
           (steps_between old.steps mid.steps new.steps before.least round.least)
-          (after_both_steps (setting_of old) (state_of old) (state_of mid) (state_of new) (rounds_of old.n rounds) (round_of old.n)
+          (after_both_steps (setting_of old) (state_of old) (state_of mid) (state_of new) (rounds_of old.node_count rounds) (round_of old.node_count)
           (mid.steps - old.steps) (new.steps - mid.steps) first
           (subst (λ (m : ℕ). IsAfterSteps (setting_of old) (state_of mid) (round_of m) (new.steps - mid.steps) (state_of new)) same_n
-          (subst (λ (s : Setting). IsAfterSteps s (state_of mid) (round_of mid.n) (new.steps - mid.steps) (state_of new)) before.setting round.after))));
+          (subst (λ (s : Setting). IsAfterSteps s (state_of mid) (round_of mid.node_count) (new.steps - mid.steps) (state_of new)) before.setting round.after))));
       standing = round.standing;
       going = round.going;
-      steps = steps_more old.steps mid.steps new.steps rounds (round_length old.n)
-          (subst (λ (m : ℕ). mid.steps ≤ old.steps + m * round_length old.n) all.0 before.steps)
+      steps = steps_more old.steps mid.steps new.steps rounds (round_length old.node_count)
+          (subst (λ (m : ℕ). mid.steps ≤ old.steps + m * round_length old.node_count) all.0 before.steps)
           (subst (λ (m : ℕ). new.steps ≤ mid.steps + round_length m) same_n round.steps);
       before = λ r low. each_before old mid rounds before all.0 r (omega (arith, low));
       busy = λ no. (
         refl,
         λ r is. (
           state_of mid,
-          subst (λ (m : ℕ). IsAfter (setting_of old) (state_of old) (rounds_of old.n m) (state_of mid)) (let e : rounds ≡ r = omega (arith, is) in e) front,
+          subst (λ (m : ℕ). IsAfter (setting_of old) (state_of old) (rounds_of old.node_count m) (state_of mid)) (let e : rounds ≡ r = omega (arith, is) in e) front,
           subst (λ (m : ℕ). SomeCan (setting_of old) (state_of mid) (round_length m)) same_n
-              (subst (λ (s : Setting). SomeCan s (state_of mid) (round_length mid.n)) before.setting (round.done no)),
+              (subst (λ (s : Setting). SomeCan s (state_of mid) (round_length mid.node_count)) before.setting (round.done no)),
         ),
       );
       still = λ yes. (
         rounds,
         refl,
         (
-          subst (λ (w : State). IsAfter (setting_of old) (state_of old) (rounds_of old.n rounds) w) (sym (round.same yes).0) front,
+          subst (λ (w : State). IsAfter (setting_of old) (state_of old) (rounds_of old.node_count rounds) w) (sym (round.same yes).0) front,
           subst (λ (s : Setting). IsStill s (state_of new)) before.setting (round.still yes),
         ),
       );
@@ -217,12 +217,12 @@ still_longer old new few rounds driven less = record {
 
 -- a further round has room
 pub room_left : (old mid : World) (round rounds limit : ℕ) → HasDriven old round false mid → round < rounds →
-    old.steps + rounds * round_length old.n ≤ limit → mid.steps + round_length mid.n ≤ limit
+    old.steps + rounds * round_length old.node_count ≤ limit → mid.steps + round_length mid.node_count ≤ limit
 room_left old mid round rounds limit driven less room =
-    let same : mid.n ≡ old.n = ap (λ (k : Setting). k.n) driven.setting in
+    let same : mid.node_count ≡ old.node_count = ap (λ (k : Setting). k.n) driven.setting in
     subst (λ (m : ℕ). mid.steps + round_length m ≤ limit) (sym same)
-    (enough old.steps mid.steps (round_length old.n) limit
-    (subst (λ (m : ℕ). mid.steps ≤ old.steps + m * round_length old.n) (driven.busy refl).0 driven.steps) room)
+    (enough old.steps mid.steps (round_length old.node_count) limit
+    (subst (λ (m : ℕ). mid.steps ≤ old.steps + m * round_length old.node_count) (driven.busy refl).0 driven.steps) room)
   where
     enough : (a b l limit : ℕ) → b ≤ a + round * l → a + rounds * l ≤ limit → b + l ≤ limit
     enough a b l limit one all =
@@ -230,8 +230,8 @@ room_left old mid round rounds limit driven less room =
         let is : (round + 1) * l ≡ round * l + l = rw add-one (omega arith) in omega (arith, one, all, more, is)
 
 -- An event of the round stops a node.
-pub round_stops : (old mid new : World) (place : ℕ) (fault : Fault) → Partway old mid place → place < round_length old.n →
-    IsStopped (round_event old.n place) fault mid new → new.failed ≡ Some fault → StopsInRounds old 1 fault new
+pub round_stops : (old mid new : World) (place : ℕ) (fault : Fault) → Partway old mid place → place < round_length old.node_count →
+    IsStopped (round_event old.node_count place) fault mid new → new.failed ≡ Some fault → StopsInRounds old 1 fault new
 round_stops old mid new place fault way low stopped failed = record {
   setting = stopped.setting ∙ way.setting;
   least = omega (arith, way.least, stopped.same.1);
@@ -241,10 +241,10 @@ round_stops old mid new place fault way low stopped failed = record {
     place = place;
     low = low;
     state = state_of mid;
-    after = subst (λ (m : ℕ). IsAfterSteps (setting_of old) (state_of old) (round_front old.n place) m (state_of mid))
+    after = subst (λ (m : ℕ). IsAfterSteps (setting_of old) (state_of old) (round_front old.node_count place) m (state_of mid))
         (ap (λ (m : ℕ). m - old.steps) (sym stopped.same.1)) way.after;
-    stop = subst (λ (k : Setting). IsStopBy k (state_of mid) (round_event old.n place) fault) way.setting stopped.stop;
-    left = subst (λ (k : Setting). IsLeftBy k (state_of mid).world (round_event old.n place) fault (state_of new).world) way.setting stopped.left;
+    stop = subst (λ (k : Setting). IsStopBy k (state_of mid) (round_event old.node_count place) fault) way.setting stopped.stop;
+    left = subst (λ (k : Setting). IsLeftBy k (state_of mid).world (round_event old.node_count place) fault (state_of new).world) way.setting stopped.left;
     ring = ap (λ (d : Detector). ring_of d) stopped.same.0;
   };
   failed = failed;
@@ -268,12 +268,12 @@ drive_stops old mid new made rounds fault driven few stopped =
         place = here.place;
         low = here.low;
         state = here.state;
-        after = subst (λ (m : ℕ). IsAfterSteps k (state_of old) (rounds_of old.n made ++ round_front old.n here.place) m here.state)
+        after = subst (λ (m : ℕ). IsAfterSteps k (state_of old) (rounds_of old.node_count made ++ round_front old.node_count here.place) m here.state)
             (steps_between old.steps mid.steps new.steps driven.least stopped.least)
-            (after_both_steps k (state_of old) (state_of mid) here.state (rounds_of old.n made) (round_front old.n here.place)
+            (after_both_steps k (state_of old) (state_of mid) here.state (rounds_of old.node_count made) (round_front old.node_count here.place)
             (mid.steps - old.steps) (new.steps - mid.steps)
-            (subst (λ (m : ℕ). IsAfterSteps k (state_of old) (rounds_of old.n m) (mid.steps - old.steps) (state_of mid)) before driven.after)
-            (subst (λ (m : ℕ). IsAfterSteps k (state_of mid) (rounds_of old.n m ++ round_front old.n here.place) (new.steps - mid.steps) here.state)
+            (subst (λ (m : ℕ). IsAfterSteps k (state_of old) (rounds_of old.node_count m) (mid.steps - old.steps) (state_of mid)) before driven.after)
+            (subst (λ (m : ℕ). IsAfterSteps k (state_of mid) (rounds_of old.node_count m ++ round_front old.node_count here.place) (new.steps - mid.steps) here.state)
             first here.after));
         stop = here.stop;
         left = here.left;

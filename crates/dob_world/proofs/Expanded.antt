@@ -57,17 +57,17 @@ module _ (k : Setting) (nodes : List Node) (lanes : List Lane) (i : ℕ) (node a
     is_next = ap (λ o. slice_get (part [] (λ (x : Node). x.history.settlements) o) (part 0 (λ (x : Node). x.expanded) o)) there ∙ step.first;
     expanded = here nodes i node after there 0 (λ (x : Node). x.expanded) ∙ step.expanded
         ∙ ap (λ (e : ℕ). e + 1) (sym (was nodes i node after there 0 (λ (x : Node). x.expanded)));
-    own = here nodes i node after there [] (λ (x : Node). x.own.items) ∙ step.own
-        ∙ ap (λ m. node.own.items ++ items_of (predecessors node.family) node.n m step.settlement) is.of.1
-        ∙ ap (λ xs. node.own.items ++ xs) (items_same i)
-        ∙ ap (λ xs. xs ++ items_of (predecessors k.family) k.n i step.settlement) (sym (was nodes i node after there [] (λ (x : Node). x.own.items)));
+    own = here nodes i node after there [] (λ (x : Node). x.own) ∙ step.own
+        ∙ ap (λ m. node.own ++ items_of (predecessors node.family) node.n m step.settlement) is.of.1
+        ∙ ap (λ xs. node.own ++ xs) (items_same i)
+        ∙ ap (λ xs. xs ++ items_of (predecessors k.family) k.n i step.settlement) (sym (was nodes i node after there [] (λ (x : Node). x.own)));
     outboxes = λ j low differs. here nodes i node after there [] (λ (x : Node). (outbox_to x j).items)
         ∙ ap (λ (o : OutboxView). o.items) (step.sent j (subst (λ (m : ℕ). j < m) (sym is.of.2) low) (λ same. differs (same ∙ is.of.1)))
         ∙ ap (λ xs. (outbox_to node j).items ++ xs) (items_same j)
         ∙ ap (λ xs. xs ++ items_of (predecessors k.family) k.n j step.settlement) (sym (was nodes i node after there [] (λ (x : Node). (outbox_to x j).items)));
     others = (
       elsewhere nodes i node after there 0 (λ (x : Node). x.expanded),
-      elsewhere nodes i node after there [] (λ (x : Node). x.own.items),
+      elsewhere nodes i node after there [] (λ (x : Node). x.own),
       λ m other. λ d. λ j. elsewhere nodes i node after there [] (λ (x : Node). (outbox_to x j).items) m other d,
     );
     nodes = record {

@@ -1,9 +1,10 @@
 -- Nodes and lanes where they stand.
-use Rattle.std.proofs.Common.{◌≡◌, ℕ, ◌+◌, ◌*◌, ◌<◌, sym, ◌∙◌, subst, List, length, Some, slice_get, get_or}
+use Rattle.std.proofs.Common.{◌≡◌, ℕ, ◌+◌, ◌*◌, ◌<◌, arith, sym, ◌∙◌, subst, List, length, Some, slice_get, get_or}
 use Rattle.std.proofs.lemmas.Nat.{mul-add-lt}
 use Rattle.dob_pieces.proofs.Elements.{read_there}
 use Rattle.dob_node.specs.declared.node.Node.{Node}
 use Rattle.dob_world.specs.declared.lane.Lane.{Lane}
+use Rattle.dob_world.specs.declared.world.World.{World}
 use Rattle.dob_world.specs.Worlds.{Setting}
 use Rattle.dob_world.specs.Shown.{lane_at}
 use Rattle.dob_world.specs.Standing.{AreInPlace}
@@ -22,6 +23,13 @@ slot_found lanes n i j lane whole low_i low_j is = read_there lanes (i * n + j) 
 pub lane_found : (lanes : List Lane) (n i j : ℕ) (lane : Lane) → length lanes ≡ n * n → i < n → j < n → lane ≡ get_or lanes (i * n + j) lane →
     lane_at n lanes i j ≡ Some lane
 lane_found lanes n i j lane whole low_i low_j is = lane_is n lanes i j low_j ∙ slot_found lanes n i j lane whole low_i low_j is
+
+-- the lane of a world at the place of its nodes, also where the world has stopped
+pub lane_lent : (world : World) (i j place : ℕ) (lane : Lane) → i < world.node_count → j < world.node_count → place ≡ i * world.node_count + j →
+    lane ≡ get_or world.lanes.items place lane → lane_at world.node_count world.lanes.items i j ≡ Some lane
+lane_lent world i j place lane low_i low_j at is =
+    let whole : length world.lanes.items ≡ world.node_count * world.node_count = omega (arith, world.lanes_whole) in
+    lane_found world.lanes.items world.node_count i j lane whole low_i low_j (subst (λ (p : ℕ). lane ≡ get_or world.lanes.items p lane) at is)
 
 -- ---- where nodes and lanes stand in their places
 

@@ -12,8 +12,8 @@ use Rattle.dob_safra.specs.Rings.{Ring}
 use Rattle.dob_world.specs.declared.detector.Detector.{Detector}
 use Rattle.dob_world.specs.declared.event.Event.{Event}
 use Rattle.dob_world.specs.declared.event.Event.TheVariants.{Expand, Own, Post, Take, Pass, Announce}
-use Rattle.dob_world.specs.declared.fault.Fault.{Fault}
-use Rattle.dob_world.specs.declared.fault.Fault.TheVariants.{Stopped}
+use Rattle.dob_stops.specs.declared.fault.Fault.{Fault}
+use Rattle.dob_stops.specs.declared.fault.Fault.TheVariants.{Stopped}
 use Rattle.dob_world.specs.declared.world.World.{World}
 use Rattle.dob_world.specs.Worlds.{Setting, Nodes, WorldView, State, items_in, AreLawful, IsLinked}
 use Rattle.dob_world.specs.Events.{CanHappen}

@@ -24,6 +24,8 @@ pub mod Outcomes  -- the event was possible, it happened, and the world stands
 pub mod Unchanged  -- what a node and a lane show that are as they were
 pub mod Stood  -- what standing gives of the ring and of idle nodes
 pub mod Stopped  -- a node never stops because an item contradicts its cell, and what its stop leaves
+pub mod Done  -- an event that is done
+pub mod AtLane  -- the node that makes a step and the lane that it takes or fills, and what comes of it there
 -- Runs from the start to the end.
 pub mod Starts  -- a world of opened nodes with empty lanes is lawful and linked
 pub mod Promise  -- the promise of the whole, after any events

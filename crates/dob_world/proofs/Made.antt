@@ -85,22 +85,22 @@ module _ (k : Setting) (nodes : List Node) (lanes : List Lane) (i : ℕ) (low : 
     batches = subst (λ (l : LinkView). All (IsBatchFor k.family k.n i) l.waiting) (sym step.same.0) of.batches;
   }
 
-  own_first : (world_shown k.family k.n nodes lanes).own i ≡ step.applied.item ∷ after.own.items
+  own_first : (world_shown k.family k.n nodes lanes).own i ≡ step.applied.item ∷ after.own
   unfolding world_shown
-  own_first = was nodes i node after there_n [] (λ (x : Node). x.own.items) ∙ step.applied.first
+  own_first = was nodes i node after there_n [] (λ (x : Node). x.own) ∙ step.applied.first
 
   pub owns : 0 < k.n → AreLawful k (world_shown k.family k.n nodes lanes).nodes → IsLinked k (world_shown k.family k.n nodes lanes) →
       AppliesOwn k i (world_shown k.family k.n nodes lanes) (world_shown k.family k.n (set nodes i after) (set lanes (i * k.n + i) next))
   unfolding world_shown
   owns some lawful linked = record {
     item = step.applied.item;
-    first = own_first ∙ ap (λ xs. step.applied.item ∷ xs) (sym (here nodes i node after there_n [] (λ (x : Node). x.own.items)));
+    first = own_first ∙ ap (λ xs. step.applied.item ∷ xs) (sym (here nodes i node after there_n [] (λ (x : Node). x.own)));
     applied = applies_one k nodes lanes i i low low node after lane next there_n there_l whole some step.applied.item
-        (after.own.items ++ items_from (predecessors k.family) k.n i (drop ((world_shown k.family k.n nodes lanes).expanded i)
+        (after.own ++ items_from (predecessors k.family) k.n i (drop ((world_shown k.family k.n nodes lanes).expanded i)
         ((world_shown k.family k.n nodes lanes).nodes.history i)))
         (kept_of k i node is) step.applied.taken lawful
-        (next_own k (world_shown k.family k.n nodes lanes) i (step.applied.item ∷ after.own.items) linked low own_first) step.listed;
-    others = elsewhere nodes i node after there_n [] (λ (x : Node). x.own.items);
+        (next_own k (world_shown k.family k.n nodes lanes) i (step.applied.item ∷ after.own) linked low own_first) step.listed;
+    others = elsewhere nodes i node after there_n [] (λ (x : Node). x.own);
     same = (
       stays nodes i node after there_n 0 (λ (x : Node). x.expanded) step.applied.same.3,
       λ m l. stays nodes i node after there_n [] (λ (x : Node). (outbox_to x l).items) (ap (λ (o : OutboxView). o.items)
@@ -192,7 +192,7 @@ module _ (k : Setting) (nodes : List Node) (lanes : List Lane) (i j : ℕ) (low_
   unfolding world_shown
   all_stay = (
     stays nodes j node after there_n 0 (λ (x : Node). x.expanded) step.taken.same.3,
-    stays nodes j node after there_n [] (λ (x : Node). x.own.items) step.taken.own,
+    stays nodes j node after there_n [] (λ (x : Node). x.own) step.taken.own,
     λ m l. stays nodes j node after there_n [] (λ (x : Node). (outbox_to x l).items) (ap (λ (o : OutboxView). o.items)
         (outbox_same node after l step.taken.same.0 step.taken.same.1 step.taken.same.2 step.taken.outboxes)) m,
     lane_stays k.n lanes i j lane next low_i low_j whole there_l [] (λ (x : Lane). x.sent.items) step.same,
@@ -287,7 +287,7 @@ module _ (k : Setting) (nodes : List Node) (lanes : List Lane) (i j : ℕ) (low_
     );
     same = (
       stays nodes i node after there_n 0 (λ (x : Node). x.expanded) step.cut.same.3,
-      stays nodes i node after there_n [] (λ (x : Node). x.own.items) step.cut.kept.2,
+      stays nodes i node after there_n [] (λ (x : Node). x.own) step.cut.kept.2,
     );
     nodes = record {
       history = stays nodes i node after there_n [] (λ (x : Node). x.history.settlements) (ap (λ (h : HistoryView). h.settlements) step.cut.kept.1);

@@ -113,10 +113,10 @@ module _ (k : Setting) (nodes : List Node) (lanes : List Lane) (some : 0 < k.n) 
 -- ---- what can't happen
 
 module _ (k : Setting) (nodes : List Node) (lanes : List Lane) (node : Node) (lane : Lane) (whole : length lanes ≡ k.n * k.n) where
-  pub cant_own : (i : ℕ) → slice_get nodes i ≡ Some node → node.own.items ≡ [] → 0 < length ((world_shown k.family k.n nodes lanes).own i) → ⊥
+  pub cant_own : (i : ℕ) → slice_get nodes i ≡ Some node → node.own ≡ [] → 0 < length ((world_shown k.family k.n nodes lanes).own i) → ⊥
   unfolding world_shown
-  cant_own i there none some = none_of (part [] (λ (x : Node). x.own.items) (slice_get nodes i))
-      (was nodes i node node there [] (λ (x : Node). x.own.items) ∙ none) some
+  cant_own i there none some = none_of (part [] (λ (x : Node). x.own) (slice_get nodes i))
+      (was nodes i node node there [] (λ (x : Node). x.own) ∙ none) some
 
   pub cant_take : (i j : ℕ) → i < k.n → j < k.n → lane_at k.n lanes i j ≡ Some lane → lane.link.waiting ≡ [] →
       0 < length ((world_shown k.family k.n nodes lanes).waiting i j) → ⊥
@@ -138,10 +138,10 @@ module _ (k : Setting) (nodes : List Node) (lanes : List Lane) (node : Node) (la
 -- ---- what can happen where a node has something to do
 
 module _ (k : Setting) (nodes : List Node) (lanes : List Lane) (node : Node) (lane : Lane) (whole : length lanes ≡ k.n * k.n) where
-  pub some_own : (i : ℕ) → slice_get nodes i ≡ Some node → (node.own.items ≡ [] → ⊥) → 0 < length ((world_shown k.family k.n nodes lanes).own i)
+  pub some_own : (i : ℕ) → slice_get nodes i ≡ Some node → (node.own ≡ [] → ⊥) → 0 < length ((world_shown k.family k.n nodes lanes).own i)
   unfolding world_shown
-  some_own i there some = subst (λ (xs : List Item). 0 < length xs) (sym (was nodes i node node there [] (λ (x : Node). x.own.items)))
-      (not_none node.own.items some)
+  some_own i there some = subst (λ (xs : List Item). 0 < length xs) (sym (was nodes i node node there [] (λ (x : Node). x.own)))
+      (not_none node.own some)
 
   pub some_waits : (i j : ℕ) → i < k.n → j < k.n → lane_at k.n lanes i j ≡ Some lane → (lane.link.waiting ≡ [] → ⊥) →
       0 < length ((world_shown k.family k.n nodes lanes).waiting i j)

@@ -1,5 +1,5 @@
 -- Where nothing is left to do, and what the promise of the whole says of every world.
-use Rattle.std.proofs.Common.{◌≡◌, ◌+◌, ◌-◌, ◌<◌, true, refl, sym, ap, ◌∙◌, arith, List, [], ◌∷◌, length}
+use Rattle.std.proofs.Common.{◌≡◌, ◌+◌, ◌-◌, true, refl, sym, ◌∙◌, arith, List, [], ◌∷◌, length}
 use Rattle.std.proofs.lemmas.Bool.{true≢false}
 use Rattle.dob_safra.specs.Rings.{sum_below, in_flight, AllWhite, AllTaken}
 use Rattle.dob_safra.specs.Laws.{IsRingQuiet}

@@ -14,7 +14,7 @@ use Rattle.dob_world.specs.Standing.{IsSetting, IsStanding}
 use Rattle.dob_world.specs.Effects.{IsWorldUnchanged, IsMade, IsSkipped}
 use Rattle.dob_world.specs.Start.{IsWorldStart}
 use Rattle.dob_world.specs.Results.{HasRunEvents, HasStoppedAt}
-use Rattle.dob_world.specs.declared.fault.Fault.{Fault}
+use Rattle.dob_stops.specs.declared.fault.Fault.{Fault}
 use Rattle.dob_world.specs.Stops.{IsStopBy}
 use Rattle.dob_world.specs.declared.detector.Detector.{Detector}
 use Rattle.dob_world.specs.Headline.{Headline}
@@ -53,12 +53,12 @@ after_more k old between new events event one other after step =
 
 state_same : (old new : World) → IsWorldUnchanged old new → state_of new ≡ state_of old
 state_same old new same =
-    ap (λ (d : Detector). with_ring (world_shown new.classes.family new.n new.nodes.items new.lanes.items) (ring_of d)) same.detector
+    ap (λ (d : Detector). with_ring (world_shown new.classes.family new.node_count new.nodes.items new.lanes.items) (ring_of d)) same.detector
     ∙ ap (λ (w : Shown). with_ring w (ring_of old.detector)) (
-    ap (λ family. world_shown family new.n new.nodes.items new.lanes.items) (ap (λ (k : Setting). k.family) same.setting)
+    ap (λ family. world_shown family new.node_count new.nodes.items new.lanes.items) (ap (λ (k : Setting). k.family) same.setting)
     ∙ ap (λ n. world_shown old.classes.family n new.nodes.items new.lanes.items) (ap (λ (k : Setting). k.n) same.setting)
-    ∙ ap (λ nodes. world_shown old.classes.family old.n nodes new.lanes.items) same.nodes
-    ∙ ap (λ lanes. world_shown old.classes.family old.n old.nodes.items lanes) same.lanes)
+    ∙ ap (λ nodes. world_shown old.classes.family old.node_count nodes new.lanes.items) same.nodes
+    ∙ ap (λ lanes. world_shown old.classes.family old.node_count old.nodes.items lanes) same.lanes)
 
 -- What a step makes of a world.
 pub record Stepped (event : Event) (old new : World) : Type 0 where

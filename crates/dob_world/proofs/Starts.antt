@@ -26,7 +26,7 @@ use Rattle.dob_update.specs.Batches.{OutboxView, items_of_batches}
 use Rattle.dob_node.specs.Histories.{value_of, IsChained}
 use Rattle.dob_node.specs.Quiet.{FollowsAtStatus}
 use Rattle.dob_node.specs.Openings.{AreOpenings}
-use Rattle.dob_node.specs.OpeningLists.{opening_value, opening_settlements, status_in}
+use Rattle.dob_node.specs.OpeningLists.{opening_value, opening_settlements, opening_status}
 use Rattle.dob_node.specs.Lawful.{known_of}
 use Rattle.dob_node.specs.Falls.{IsFirst}
 use Rattle.dob_node.specs.declared.node.Node.{Node}
@@ -55,7 +55,7 @@ part_nil f (Some x) none = none x refl
 module _ (k : Setting) (openings : List Opening) (nodes : List Node) (lanes : List Lane) (some : 0 < k.n) (are : AreOpenings k.family openings)
     (opened : AreOpenedNodes openings k.family k.n k.n nodes) (empty : AreEmptyLanes k.capacity (k.n * k.n) lanes) where
   abbrev status : ℕ → Status
-  status = status_in openings
+  status = opening_status openings
 
   abbrev shown : Nodes
   shown = nodes_shown k.family k.n nodes lanes
@@ -176,7 +176,7 @@ module _ (k : Setting) (openings : List Opening) (nodes : List Node) (lanes : Li
   unfolding world_shown
   linked_start = record {
     expanded = λ i low. let e = none_expanded i low in omega arith;
-    own = λ i low. emitted_none i i low ∙ sym (ap (λ xs. xs ++ part [] (λ (x : Node). x.own.items) (slice_get nodes i)) (none_applied i i) ∙ none_own i);
+    own = λ i low. emitted_none i i low ∙ sym (ap (λ xs. xs ++ part [] (λ (x : Node). x.own) (slice_get nodes i)) (none_applied i i) ∙ none_own i);
     posted = λ i j low_i low_j differs. emitted_none i j low_i ∙ sym (ap (λ xs. xs ++ part [] (λ (x : Node). (outbox_to x j).items) (slice_get nodes i))
         (none_sent i j) ∙ none_out i j);
     taken = λ i j low_i low_j differs. none_sent i j
@@ -187,8 +187,8 @@ module _ (k : Setting) (openings : List Opening) (nodes : List Node) (lanes : Li
       none_expanded : (i : ℕ) → i < k.n → part 0 (λ (x : Node). x.expanded) (slice_get nodes i) ≡ 0
       none_expanded i low = let at = of_n i low in ap (part 0 (λ (x : Node). x.expanded)) at.1 ∙ (opened.each i at.0 at.1).0.nothing.0
 
-      none_own : (i : ℕ) → part [] (λ (x : Node). x.own.items) (slice_get nodes i) ≡ []
-      none_own i = part_nil (λ (x : Node). x.own.items) (slice_get nodes i) (λ node there. (opened.each i node there).0.nothing.1)
+      none_own : (i : ℕ) → part [] (λ (x : Node). x.own) (slice_get nodes i) ≡ []
+      none_own i = part_nil (λ (x : Node). x.own) (slice_get nodes i) (λ node there. (opened.each i node there).0.nothing.1)
 
       none_out : (i j : ℕ) → part [] (λ (x : Node). (outbox_to x j).items) (slice_get nodes i) ≡ []
       none_out i j = part_nil (λ (x : Node). (outbox_to x j).items) (slice_get nodes i)

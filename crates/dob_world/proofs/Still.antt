@@ -152,7 +152,7 @@ module _ (k : Setting) (state : State) (setting : IsSetting k) (linked : IsLinke
       differs,
       some,
       let none : length (state.world.waiting i j) ≡ 0 = ap length (no_waiting i j low_i low_j differs) in
-          let room : 0 < k.capacity = setting.sizes.2 in
+          let room : 0 < k.capacity = setting.sizes.1.0 in
           omega (arith, none, room),
     ));
     links = no_waiting;

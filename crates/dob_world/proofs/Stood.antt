@@ -14,7 +14,7 @@ use Rattle.dob_world.specs.declared.lane.Lane.{Lane}
 use Rattle.dob_world.specs.Worlds.{Setting, State, IsNodeIdle}
 use Rattle.dob_world.specs.Events.{CanHappen, Happens}
 use Rattle.dob_world.specs.Shown.{nodes_shown, world_shown, ring_of}
-use Rattle.dob_world.specs.Standing.{AreInPlace, IsCounted, Stand, HasAtMost, AreCutsPosted}
+use Rattle.dob_world.specs.Standing.{AreInPlace, IsCounted, CanCount, Stand, HasAtMost, AreCutsPosted}
 use Rattle.dob_world.proofs.Firsts.{none_some}
 use Rattle.dob_world.proofs.Slots.{was}
 use Rattle.dob_world.proofs.Kept.{happening_keeps_all}
@@ -57,6 +57,9 @@ module _ (k : Setting) (nodes : List Node) (lanes : List Lane) (detector : Detec
   pub low_ring : (i : ℕ) → i < k.n → i < detector.n
   low_ring i low = omega (arith, low, stand.same_n)
 
+  pub can_count : (i j : ℕ) → i < k.n → j < k.n → CanCount detector i j
+  can_count i j low_i low_j = record { counted = stand.counted; lawful = ring_lawful; from = low_ring i low_i; to = low_ring j low_j }
+
   pub moved_here : (event : RingEvent) (new : Ring) → Moved detector.n (ring_of detector) event new → Moved k.n (ring_of detector) event new
   moved_here event new moved = subst (λ (m : ℕ). Moved m (ring_of detector) event new) stand.same_n moved
 
@@ -94,7 +97,7 @@ module _ (k : Setting) (nodes : List Node) (lanes : List Lane) (places : AreInPl
   idle_shown idle = record {
     expanded = was nodes i node node there 0 (λ (x : Node). x.expanded) ∙ idle.expanded
         ∙ ap length (sym (was nodes i node node there [] (λ (x : Node). x.history.settlements)));
-    own = was nodes i node node there [] (λ (x : Node). x.own.items) ∙ idle.applied;
+    own = was nodes i node node there [] (λ (x : Node). x.own) ∙ idle.applied;
     outboxes = λ j low_j differs. was nodes i node node there [] (λ (x : Node). (outbox_to x j).items) ∙ idle.sent j;
   }
 
@@ -103,15 +106,15 @@ module _ (k : Setting) (nodes : List Node) (lanes : List Lane) (places : AreInPl
   shown_idle idle = record {
     expanded = sym (was nodes i node node there 0 (λ (x : Node). x.expanded)) ∙ idle.expanded
         ∙ ap length (was nodes i node node there [] (λ (x : Node). x.history.settlements));
-    applied = sym (was nodes i node node there [] (λ (x : Node). x.own.items)) ∙ idle.own;
+    applied = sym (was nodes i node node there [] (λ (x : Node). x.own)) ∙ idle.own;
     sent = λ to. elim (cases_lt to k.n) [
       | inl within ↦ elim (cases_eq to i) [
         | inl itself ↦ ap (λ (m : ℕ). (outbox_to node m).items) (itself ∙ sym (places.node i node there).of.1) ∙
             (places.node i node there).sound.nothing_to_self
         | inr other ↦ sym (was nodes i node node there [] (λ (x : Node). (outbox_to x to).items)) ∙ idle.outboxes to within other
       ]
-      | inr past ↦ ap (λ (o : OutboxView). o.items) (beyond node.outboxes.items to (empty_outbox node.family node.n node.id to)
-          (let count : length node.outboxes.items ≡ node.n = (places.node i node there).sound.receivers in
+      | inr past ↦ ap (λ (o : OutboxView). o.items) (beyond node.outboxes to (empty_outbox node.family node.n node.id to)
+          (let count : length node.outboxes ≡ node.n = (places.node i node there).sound.receivers in
           let of : node.n ≡ k.n = (places.node i node there).of.2 in
           omega (arith, count, of, past)))
     ];

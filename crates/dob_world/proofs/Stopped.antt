@@ -18,7 +18,7 @@ use Rattle.dob_node.specs.Nodes.{IsSound, IsUnchanged, HasItemFault}
 use Rattle.dob_node.proofs.Nodes.{kept_sound}
 use Rattle.dob_world.specs.declared.lane.Lane.{Lane}
 use Rattle.dob_world.specs.declared.event.Event.TheVariants.{Own, Take}
-use Rattle.dob_world.specs.declared.fault.Fault.TheVariants.{Stopped}
+use Rattle.dob_stops.specs.declared.fault.Fault.TheVariants.{Stopped}
 use Rattle.dob_world.specs.Worlds.{Setting, AreLawful, IsLinked}
 use Rattle.dob_world.specs.Lanes.{LaneStays, HasReceivedFront}
 use Rattle.dob_world.specs.Stops.{IsCauseOf, IsLeftBy, TakesFront}
@@ -68,12 +68,12 @@ deep_there share cell item same deep = subst (λ (c : Cell). IsTooDeep (changed 
 module _ (k : Setting) (nodes : List Node) (lanes : List Lane) (some : 0 < k.n) (places : AreInPlace k nodes lanes)
     (lawful : AreLawful k (world_shown k.family k.n nodes lanes).nodes) (linked : IsLinked k (world_shown k.family k.n nodes lanes)) where
   own_cell : (i : ℕ) (node : Node) (lane : Lane) (item : Item) (behind : List Item) → i < k.n → slice_get nodes i ≡ Some node →
-      lane_at k.n lanes i i ≡ Some lane → node.own.items ≡ item ∷ behind →
+      lane_at k.n lanes i i ≡ Some lane → node.own ≡ item ∷ behind →
       CanApply k.family k.n i (nodes_shown k.family k.n nodes lanes).cell item × ((nodes_shown k.family k.n nodes lanes).cell item.to ≡ cell_at node.share item.to)
   unfolding world_shown
   own_cell i node lane item behind low there_n there_l first =
       let can = own_item_fits k (world_shown k.family k.n nodes lanes) i item behind some lawful linked low
-      (was nodes i node node there_n [] (λ (x : Node). x.own.items) ∙ first) in (
+      (was nodes i node node there_n [] (λ (x : Node). x.own) ∙ first) in (
         can,
         sym (cell_there k nodes lanes i i low low node node lane lane there_n there_l places.lanes_whole item.to
             (own_is k i i (nodes_shown k.family k.n nodes lanes) node.share [] [] item.to can.below can.own)),
@@ -96,7 +96,7 @@ module _ (k : Setting) (nodes : List Node) (lanes : List Lane) (some : 0 < k.n) 
           record {
             item = item;
             behind = fault.behind;
-            first = was nodes i node node there_n [] (λ (x : Node). x.own.items) ∙ fault.first;
+            first = was nodes i node node there_n [] (λ (x : Node). x.own) ∙ fault.first;
             deep = deep_there node.share (nodes_shown k.family k.n nodes lanes).cell item own.1 deep.1;
           },
         )

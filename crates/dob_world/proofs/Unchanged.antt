@@ -29,7 +29,7 @@ node_unseen k nodes lanes i node after there same = λ d. record {
         (ap (λ (s : Share). cell_at s class) same.kept.0) (owner_of k.n class) d) (fresh 0);
   };
   expanded = λ m. stays nodes i node after there 0 (λ (x : Node). x.expanded) same.same.3 m d;
-  own = λ m. stays nodes i node after there [] (λ (x : Node). x.own.items) same.kept.2 m d;
+  own = λ m. stays nodes i node after there [] (λ (x : Node). x.own) same.kept.2 m d;
   outbox = λ m l. stays nodes i node after there [] (λ (x : Node). (outbox_to x l).items) (ap (λ (o : OutboxView). o.items)
       (outbox_same node after l same.same.0 same.same.1 same.same.2 same.outboxes)) m d;
   waiting = λ m l. part [] (λ (x : Lane). x.link.waiting) (lane_at k.n lanes m l);
@@ -48,7 +48,7 @@ lane_unseen k nodes lanes i j lane next low_i low_j whole there same = λ d. rec
         (fresh 0);
   };
   expanded = λ m. part 0 (λ (x : Node). x.expanded) (slice_get nodes m);
-  own = λ m. part [] (λ (x : Node). x.own.items) (slice_get nodes m);
+  own = λ m. part [] (λ (x : Node). x.own) (slice_get nodes m);
   outbox = λ m l. part [] (λ (x : Node). (outbox_to x l).items) (slice_get nodes m);
   waiting = λ m l. lane_stays k.n lanes i j lane next low_i low_j whole there [] (λ (x : Lane). x.link.waiting)
       (ap (λ (v : LinkView). v.waiting) same.link) m l d;

@@ -1,7 +1,7 @@
 -- What an event makes of a world that the program keeps: it is done, skipped, or stops its node.
 use Rattle.std.specs.Prelude.{◌≡◌}
 use Rattle.dob_world.specs.declared.event.Event.{Event}
-use Rattle.dob_world.specs.declared.fault.Fault.{Fault}
+use Rattle.dob_stops.specs.declared.fault.Fault.{Fault}
 use Rattle.dob_world.specs.declared.world.World.{World}
 use Rattle.dob_world.specs.Events.{CanHappen, Happens}
 use Rattle.dob_world.specs.Stops.{IsStopBy, IsLeftBy}

@@ -1,6 +1,6 @@
 -- What an event makes of a node that it names, and of the lane from one node to another. For the parts of a step and for proofs:
 -- no public call promises it.
-use Rattle.std.specs.Prelude.{◌≡◌, ℕ, [], ◌∷◌, ◌++◌}
+use Rattle.std.specs.Prelude.{◌≡◌, ◌≢◌, ◌<◌, ℕ, [], ◌∷◌, ◌++◌}
 use Rattle.std.specs.List.{All}
 use Rattle.dob_pieces.specs.declared.profile.Family.{Family}
 use Rattle.dob_update.specs.Batches.{BatchView}
@@ -10,6 +10,10 @@ use Rattle.dob_node.specs.declared.node.Node.{Node}
 use Rattle.dob_node.specs.TakenItems.{HasItemEntries}
 use Rattle.dob_node.specs.Nodes.{HasApplied, HasTaken, HasTakenBefore, HasCut}
 use Rattle.dob_world.specs.declared.lane.Lane.{Lane}
+
+-- two of n nodes
+abbrev pub AreTwo : ℕ → ℕ → ℕ → Type 0
+AreTwo n i j = (i < n) × (j < n) × (i ≢ j)
 
 -- a batch for one of n nodes, with items that have such values as a table can have
 pub record IsBatchFor (family : Family) (n to : ℕ) (batch : BatchView) : Type 0 where

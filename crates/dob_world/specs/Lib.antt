@@ -2,7 +2,6 @@ pub mod Worlds
 pub mod Events
 pub mod Runs
 pub mod Laws
-pub mod FaultTexts
 pub mod Lanes
 pub mod Stops
 pub mod Shown

@@ -3,8 +3,8 @@ use Rattle.std.specs.Prelude.{◌≡◌, ℕ, ◌+◌, ◌-◌, ◌*◌, ◌<◌
 use Rattle.dob_update.specs.Batches.{AreSizes}
 use Rattle.dob_safra.specs.Laws.{IsSize}
 use Rattle.dob_world.specs.declared.event.Event.{Event}
-use Rattle.dob_world.specs.declared.fault.Fault.{Fault}
-use Rattle.dob_world.specs.declared.fault.Fault.TheVariants.{Nodes, Sizes, Stopped, Memory}
+use Rattle.dob_stops.specs.declared.fault.Fault.{Fault}
+use Rattle.dob_stops.specs.declared.fault.Fault.TheVariants.{Nodes, Sizes, Stopped, Memory}
 use Rattle.dob_world.specs.declared.world.World.{World}
 use Rattle.dob_world.specs.Worlds.{Setting, State, HaveFallsIn}
 use Rattle.dob_world.specs.Runs.{IsAfter, IsAfterSteps}
@@ -52,15 +52,15 @@ SomeCan k state upto = (place : ℕ) × (place < upto) × (between : State) × I
 pub record HasMadeRound (old : World) (given : Bool) (new : World) : Type 0 where
   pub setting : setting_of new ≡ setting_of old
   pub least : old.steps ≤ new.steps
-  pub after : IsAfterSteps (setting_of old) (state_of old) (round_of old.n) (new.steps - old.steps) (state_of new)
+  pub after : IsAfterSteps (setting_of old) (state_of old) (round_of old.node_count) (new.steps - old.steps) (state_of new)
   pub standing : IsStanding new
   pub going : new.failed ≡ None
-  pub steps : new.steps ≤ old.steps + round_length old.n
+  pub steps : new.steps ≤ old.steps + round_length old.node_count
   pub same : given ≡ true → (state_of new ≡ state_of old) × (new.steps ≡ old.steps)
   pub still : given ≡ true → IsStill (setting_of old) (state_of new)
   pub ended : given ≡ true → new.detector.announced ≡ true
   pub busy : given ≡ false → old.steps < new.steps
-  pub done : given ≡ false → SomeCan (setting_of old) (state_of old) (round_length old.n)
+  pub done : given ≡ false → SomeCan (setting_of old) (state_of old) (round_length old.node_count)
 
 -- Some event of the round after so many rounds is done.
 abbrev pub IsBusyRound : Setting → State → ℕ → Type 0
@@ -77,10 +77,10 @@ pub record HasDriven (old : World) (rounds : ℕ) (given : Bool) (new : World) :
   pub few : made ≤ rounds
   pub setting : setting_of new ≡ setting_of old
   pub least : old.steps ≤ new.steps
-  pub after : IsAfterSteps (setting_of old) (state_of old) (rounds_of old.n made) (new.steps - old.steps) (state_of new)
+  pub after : IsAfterSteps (setting_of old) (state_of old) (rounds_of old.node_count made) (new.steps - old.steps) (state_of new)
   pub standing : IsStanding new
   pub going : new.failed ≡ None
-  pub steps : new.steps ≤ old.steps + made * round_length old.n
+  pub steps : new.steps ≤ old.steps + made * round_length old.node_count
   pub before : (round : ℕ) → round + 1 < made → IsBusyRound (setting_of old) (state_of old) round
   pub busy : given ≡ false → (made ≡ rounds) × ((round : ℕ) → round + 1 ≡ made → IsBusyRound (setting_of old) (state_of old) round)
   pub still : given ≡ true → (round : ℕ) × (round + 1 ≡ made) × IsStillRound (setting_of old) (state_of old) round (state_of new)

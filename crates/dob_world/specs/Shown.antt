@@ -14,7 +14,7 @@ use Rattle.dob_world.specs.declared.world.World.{World}
 use Rattle.dob_world.specs.Worlds.{Setting, Nodes, WorldView, State}
 
 abbrev pub setting_of : World → Setting
-setting_of world = record { family = world.classes.family; n = world.n; batch = world.batch; capacity = world.capacity }
+setting_of world = record { family = world.classes.family; n = world.node_count; batch = world.batch_size; capacity = world.capacity }
 
 -- something of what is in a place, where something is
 abbrev pub part : {X Y : Type 0} → Y → (X → Y) → Option X → Y
@@ -38,7 +38,7 @@ unfoldable pub world_shown : Family → ℕ → List Node → List Lane → Worl
 world_shown family n nodes lanes = record {
   nodes = nodes_shown family n nodes lanes;
   expanded = λ i. part 0 (λ (node : Node). node.expanded) (slice_get nodes i);
-  own = λ i. part [] (λ (node : Node). node.own.items) (slice_get nodes i);
+  own = λ i. part [] (λ (node : Node). node.own) (slice_get nodes i);
   outbox = λ i j. part [] (λ (node : Node). (outbox_to node j).items) (slice_get nodes i);
   waiting = λ i j. part [] (λ (lane : Lane). lane.link.waiting) (lane_at n lanes i j);
   sent = λ i j. part [] (λ (lane : Lane). lane.sent.items) (lane_at n lanes i j);
@@ -55,7 +55,7 @@ ring_of detector = record {
 }
 
 abbrev pub state_of : World → State
-state_of world = record { world = world_shown world.classes.family world.n world.nodes.items world.lanes.items; ring = ring_of world.detector }
+state_of world = record { world = world_shown world.classes.family world.node_count world.nodes.items world.lanes.items; ring = ring_of world.detector }
 
 -- how many batches node i has cut for node j
 abbrev pub cut_by : List Node → ℕ → ℕ → ℕ

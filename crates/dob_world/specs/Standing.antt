@@ -12,9 +12,9 @@ use Rattle.dob_node.specs.declared.node.Node.{Node}
 use Rattle.dob_node.specs.Nodes.{IsSound}
 use Rattle.dob_node.specs.Openings.{AreOpenings}
 use Rattle.dob_safra.specs.Laws.{IsSize}
-use Rattle.dob_safra.specs.Rings.{Ring, counter}
+use Rattle.dob_safra.specs.Rings.{Ring, IsLawfulRing, counter}
 use Rattle.dob_world.specs.declared.detector.Detector.{Detector}
-use Rattle.dob_world.specs.declared.fault.Fault.{Fault}
+use Rattle.dob_stops.specs.declared.fault.Fault.{Fault}
 use Rattle.dob_world.specs.declared.lane.Lane.{Lane}
 use Rattle.dob_world.specs.declared.world.World.{World}
 use Rattle.dob_world.specs.Lanes.{IsBatchFor}
@@ -59,6 +59,13 @@ pub record IsCounted (detector : Detector) : Type 0 where
   pub black : length detector.black.items ≡ detector.n
   pub counters : length detector.counters.items ≡ detector.n
   pub counted : (i : ℕ) → i < detector.n → slice_index_or detector.counters.items i (pos 0) ≡ counter detector.n (ring_of detector) i
+
+-- The detector is kept and lawful, and has both nodes.
+pub record CanCount (detector : Detector) (i j : ℕ) : Type 0 where
+  pub counted : IsCounted detector
+  pub lawful : IsLawfulRing detector.n (ring_of detector)
+  pub from : i < detector.n
+  pub to : j < detector.n
 
 -- no link has more posted batches than so many
 abbrev pub HasAtMost : ℕ → ℕ → Ring → Type 0

@@ -7,8 +7,8 @@ use Rattle.dob_update.specs.Batches.{BatchView}
 use Rattle.dob_stops.specs.declared.cause.Cause.TheVariants as cause
 use Rattle.dob_world.specs.declared.event.Event.{Event}
 use Rattle.dob_world.specs.declared.event.Event.TheVariants.{Expand, Own, Post, Take, Pass, Announce}
-use Rattle.dob_world.specs.declared.fault.Fault.{Fault}
-use Rattle.dob_world.specs.declared.fault.Fault.TheVariants.{Stopped}
+use Rattle.dob_stops.specs.declared.fault.Fault.{Fault}
+use Rattle.dob_stops.specs.declared.fault.Fault.TheVariants.{Stopped}
 use Rattle.dob_world.specs.Worlds.{Setting, Nodes, WorldView, State}
 use Rattle.dob_world.specs.Events.{CanHappen, AppliesAll, Stays, LinksStay, OtherLinksStay}
 use Rattle.dob_world.specs.Runs.{IsAfter, IsAfterSteps}

@@ -1,13 +1,12 @@
 // What finds out that nothing is left to do: Safra's ring beside the nodes, with the batches that they posted and took.
 ghost use Rattle.std.specs.Prelude.{◌≡◌, ◌<◌, ◌^◌, ◌↔◌, true, IfOk, IsTrue};
 ghost use Rattle.dob_safra.specs.declared.event.RingEvent.TheVariants.{Post, Take, Pass, Announce};
-ghost use Rattle.dob_safra.specs.Laws.{IsSize};
 ghost use Rattle.dob_safra.specs.Rings.{IsLawfulRing, IsStart, IsAnnounceable, Moved};
 ghost use Rattle.dob_world.specs.Shown.{ring_of};
-ghost use Rattle.dob_world.specs.Standing.{IsCounted};
+ghost use Rattle.dob_world.specs.Standing.{IsCounted, CanCount};
 
 use dob_pieces::Memory;
-use dob_safra::{Token, may_announce, passed};
+use dob_safra::{NodeCount, Token, may_announce, passed};
 use std::alloc::Global;
 
 /// How many batches were posted and how many of them taken, by sender and then by receiver; each node's counter and
@@ -24,12 +23,12 @@ pub(crate) struct Detector {
 }
 
 impl Detector {
-    /// The ring of `n` nodes at its start.
-    pub(crate) fn open(alloc: Global, n: usize) -> Result<Detector, Memory>
-        requires { IsSize n }
-        ensures start { IfOk result (λ detector. IsStart n (ring_of detector)) }
-        ensures counted { IfOk result (λ detector. IsCounted detector × (detector.n ≡ n)) }
+    /// The ring of so many nodes at its start.
+    pub(crate) fn open(alloc: Global, node_count: NodeCount) -> Result<Detector, Memory>
+        ensures start { IfOk result (λ detector. IsStart node_count (ring_of detector)) }
+        ensures counted { IfOk result (λ detector. IsCounted detector × (detector.n ≡ node_count)) }
     {
+        let n = node_count.get();
         let posted = vec![in alloc; 0; n * n]?;
         let taken = vec![in alloc; 0; n * n]?;
         let counters = vec![in alloc; 0; n]?;
@@ -47,10 +46,7 @@ impl Detector {
 
     /// The black node `from` has posted a batch to the node `to`.
     pub(crate) fn count_post(&mut self, from: usize, to: usize)
-        requires counted { IsCounted self.old }
-        requires lawful { IsLawfulRing self.old.n (ring_of self.old) }
-        requires from { from < self.old.n }
-        requires to { to < self.old.n }
+        requires ready { CanCount self.old from to }
         requires black { (ring_of self.old).black from ≡ true }
         requires few { (ring_of self.old).posted from to < 2 ^ 40 }
         ensures moved { Moved self.old.n (ring_of self.old) (Post from to) (ring_of self.new) }
@@ -63,10 +59,7 @@ impl Detector {
 
     /// The node `to` has taken a batch of the node `from`, and is black now.
     pub(crate) fn count_take(&mut self, from: usize, to: usize)
-        requires counted { IsCounted self.old }
-        requires lawful { IsLawfulRing self.old.n (ring_of self.old) }
-        requires from { from < self.old.n }
-        requires to { to < self.old.n }
+        requires ready { CanCount self.old from to }
         requires waiting { (ring_of self.old).taken from to < (ring_of self.old).posted from to }
         ensures moved { Moved self.old.n (ring_of self.old) (Take from to) (ring_of self.new) }
         ensures counted { IsCounted self.new × (self.new.n ≡ self.old.n) }

@@ -10,8 +10,8 @@ ghost use Rattle.dob_world.specs.Results.{HasMadeRound, HasDriven, StopsInRounds
 ghost use Rattle.dob_safra.specs.Tokens.{most_nodes};
 
 use crate::event::Event;
-use crate::fault::Fault;
 use crate::world::World;
+use dob_stops::Fault;
 
 impl World {
     /// Makes rounds of events, at most so many, up to the first in which no event was done. A round is each node's `Expand`
@@ -24,7 +24,7 @@ impl World {
     /// `Stopped`, as at a step, and the world is left as that step leaves it; in a set of fewer than 65,535 classes for lack
     /// of memory alone.
     pub fn drive(&mut self, rounds: u64) -> Result<bool, Fault>
-        requires few { self.old.steps + rounds * round_length self.old.n ≤ 2 ^ 40 }
+        requires few { self.old.steps + rounds * round_length self.old.node_count ≤ 2 ^ 40 }
         requires standing { IsStanding self.old }
         requires going { self.old.failed ≡ None }
         ensures driven { IfOk result (λ still. HasDriven self.old rounds still self.new) }
@@ -46,7 +46,7 @@ impl World {
 
     // Makes the events of a round. True where none was done.
     fn round(&mut self) -> Result<bool, Fault>
-        requires few { self.old.steps + round_length self.old.n ≤ 2 ^ 40 }
+        requires few { self.old.steps + round_length self.old.node_count ≤ 2 ^ 40 }
         requires standing { IsStanding self.old }
         requires going { self.old.failed ≡ None }
         ensures made { IfOk result (λ still. HasMadeRound self.old still self.new) }
@@ -55,7 +55,7 @@ impl World {
         ensures kept { StandsOrStopped self.new }
     {
         let before = self.steps;
-        let n = self.n;
+        let n = self.node_count.get();
         for place in 0..3 * n + 2 * (n * n) + 1 {
             match self.step(event_at(n, place)) {
                 Ok(_) => {}

@@ -1,9 +1,10 @@
 // The way from one node to another: a link, and the lists of what went over it.
-ghost use Rattle.std.specs.Prelude.{◌≡◌, ◌≤◌, [], IfOk};
+ghost use Rattle.std.specs.Prelude.{◌≡◌, [], IfOk};
 
 use dob_link::ListLink;
 use dob_pieces::Memory;
 use dob_share::Item;
+use dob_update::Capacity;
 use std::alloc::Global;
 
 /// A link with the items that were sent over it, and those that the receiver has applied. A node's own items go over no
@@ -19,9 +20,7 @@ impl Lane {
     ghost use Rattle.dob_link.specs.Links.{link_of};
 
     /// A lane over which nothing has gone, with room for so many batches.
-    pub(crate) fn open(alloc: Global, capacity: usize) -> Result<Lane, Memory>
-        requires some { 1 ≤ capacity }
-        requires at_most { capacity ≤ 1024 }
+    pub(crate) fn open(alloc: Global, capacity: Capacity) -> Result<Lane, Memory>
         ensures link { IfOk result (λ lane. lane.link ≡ link_of [] capacity) }
         ensures sent { IfOk result (λ lane. lane.sent.items ≡ []) }
         ensures applied { IfOk result (λ lane. lane.applied.items ≡ []) }

@@ -4,7 +4,6 @@
 mod detector;
 mod drives;
 mod event;
-mod fault;
 mod lane;
 pub mod laws;
 mod lists;
@@ -15,8 +14,8 @@ mod steps;
 mod tables;
 mod world;
 
+pub use dob_stops::Fault;
 pub use event::Event;
-pub use fault::Fault;
 pub use lists::History;
 pub use runs::run;
 pub use step::Step;

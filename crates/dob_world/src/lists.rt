@@ -39,25 +39,25 @@ impl World {
 
     /// The items that the node `from` has sent to the node `to`, in order.
     pub fn sent(&self, from: usize, to: usize) -> &[Item]
-        requires from { from < self.now.n }
-        requires to { to < self.now.n }
+        requires from { from < self.now.node_count }
+        requires to { to < self.now.node_count }
         ensures { result.now ≡ (state_of self.now).world.sent from to }
     {
-        &self.lanes[from * self.n + to].sent
+        &self.lanes[self.lane_place(from, to)].sent
     }
 
     /// The items of the node `from` that the node `to` has applied, in order.
     pub fn applied(&self, from: usize, to: usize) -> &[Item]
-        requires from { from < self.now.n }
-        requires to { to < self.now.n }
+        requires from { from < self.now.node_count }
+        requires to { to < self.now.node_count }
         ensures { result.now ≡ (state_of self.now).world.nodes.applied from to }
     {
-        &self.lanes[from * self.n + to].applied
+        &self.lanes[self.lane_place(from, to)].applied
     }
 
     /// The settlements of the node, in order.
     pub fn history(&self, node: usize) -> History<'_>
-        requires node { node < self.now.n }
+        requires node { node < self.now.node_count }
         ensures { result ≡ (state_of self.now).world.nodes.history node }
     {
         History {

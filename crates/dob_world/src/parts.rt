@@ -1,13 +1,14 @@
 // The parts of a world as it is opened: its nodes and its lanes.
-ghost use Rattle.std.specs.Prelude.{◌≤◌, IfOk};
+ghost use Rattle.std.specs.Prelude.{IfOk};
 ghost use Rattle.dob_node.specs.Openings.{AreOpenings};
 ghost use Rattle.dob_world.specs.Start.{AreOpenedNodes, AreEmptyLanes};
-ghost use Rattle.dob_safra.specs.Tokens.{most_nodes};
 
 use crate::lane::Lane;
 use dob_lists::Segments;
 use dob_node::{Node, Opening};
 use dob_pieces::{Family, Memory};
+use dob_safra::NodeCount;
+use dob_update::Capacity;
 use std::alloc::Global;
 
 /// The nodes of all owners, as they are opened.
@@ -15,12 +16,12 @@ pub(crate) fn open_nodes(
     alloc: Global,
     openings: &Segments<Opening>,
     family: Family,
-    n: usize,
+    node_count: NodeCount,
 ) -> Result<Vec<Node>, Memory>
-    requires openings { AreOpenings family openings.now }
-    requires owners { n ≤ most_nodes }
-    ensures { IfOk result (λ nodes. AreOpenedNodes openings.now family n n nodes.items) }
+    requires { AreOpenings family openings.now }
+    ensures { IfOk result (λ nodes. AreOpenedNodes openings.now family node_count node_count nodes.items) }
 {
+    let n = node_count.get();
     let mut nodes = Vec::new(alloc);
     for id in 0..n {
         nodes.push(Node::open(alloc, openings, family, id, n)?)?;
@@ -29,9 +30,11 @@ pub(crate) fn open_nodes(
 }
 
 /// So many lanes over which nothing has gone.
-pub(crate) fn open_lanes(alloc: Global, count: usize, capacity: usize) -> Result<Vec<Lane>, Memory>
-    requires some { 1 ≤ capacity }
-    requires at_most { capacity ≤ 1024 }
+pub(crate) fn open_lanes(
+    alloc: Global,
+    count: usize,
+    capacity: Capacity,
+) -> Result<Vec<Lane>, Memory>
     ensures { IfOk result (λ lanes. AreEmptyLanes capacity count lanes.items) }
 {
     let mut lanes = Vec::new(alloc);

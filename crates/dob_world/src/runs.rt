@@ -6,9 +6,9 @@ ghost use Rattle.dob_world.specs.Results.{HasSettingFault, HasRunEvents, HasStop
 ghost use Rattle.dob_world.specs.Stops.{IsForMemory};
 
 use crate::event::Event;
-use crate::fault::Fault;
 use crate::world::World;
 use dob_pieces::Family;
+use dob_stops::Fault;
 use std::alloc::Global;
 
 /// The world of `n` nodes, with batches of at most `batch` items and links with room for `capacity` batches, after the

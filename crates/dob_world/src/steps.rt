@@ -5,12 +5,12 @@ ghost use Rattle.std.specs.List.{All};
 ghost use Rattle.dob_stops.specs.declared.cause.Cause.TheVariants as cause;
 ghost use Rattle.dob_node.specs.Nodes.{outbox_to, IsSound, IsUnchanged, HasItemFault};
 ghost use Rattle.dob_world.specs.Lanes.{LaneStays, IsBatchFor, HasListed, HasSentBatch, HasTakenBatch, HasReceivedFront};
-ghost use Rattle.dob_update.specs.Batches.{most_items};
 
 use crate::lane::Lane;
 use dob_link::Link;
 use dob_node::{Cause, Node};
 use dob_share::Item;
+use dob_update::BatchSize;
 
 /// Applies the first own item of a node, and lists it as applied. False where there is none.
 ///
@@ -20,7 +20,7 @@ use dob_share::Item;
 pub(crate) fn apply_own(node: &mut Node, lane: &mut Lane) -> Result<bool, Cause>
     requires sound { IsSound node.old }
     requires going { node.old.failed ≡ None }
-    ensures none { (result ≡ Ok false) ↔ (node.old.own.items ≡ []) }
+    ensures none { (result ≡ Ok false) ↔ (node.old.own ≡ []) }
     ensures nothing { result ≡ Ok false → (node.new ≡ node.old) × (lane.new ≡ lane.old) }
     ensures applied { result ≡ Ok true → HasListed node.old lane.old node.new lane.new }
     ensures stopped { IfErr result (λ why. (why ≡ cause.Memory) ⊎ HasItemFault node.old why) }
@@ -40,22 +40,25 @@ pub(crate) fn apply_own(node: &mut Node, lane: &mut Lane) -> Result<bool, Cause>
     Ok(true)
 }
 
-/// Cuts a batch of at most `size` items that the node has to send to the node `to`, which goes over the lane. False where
+/// Cuts a batch of at most so many items as `batch_size` says that the node has to send to the node `to`, which goes over the lane. False where
 /// there is nothing to send, or the lane's link has no room.
 ///
 /// # Errors
 ///
 /// Which leave node and lane as they were: those of the node; `Memory`.
-pub(crate) fn post(node: &mut Node, lane: &mut Lane, to: usize, size: usize) -> Result<bool, Cause>
+pub(crate) fn post(
+    node: &mut Node,
+    lane: &mut Lane,
+    to: usize,
+    batch_size: BatchSize,
+) -> Result<bool, Cause>
     requires sound { IsSound node.old }
     requires going { node.old.failed ≡ None }
     requires to { to < node.old.n }
-    requires some { 0 < size }
-    requires at_most { size ≤ most_items }
     ensures none { (result ≡ Ok false) → ((outbox_to node.old to).items ≡ []) ⊎ (lane.old.link.capacity ≤ length lane.old.link.waiting) }
     ensures nothing { result ≡ Ok false → (node.new ≡ node.old) × (lane.new ≡ lane.old) }
     ensures some { result ≡ Ok true → ((outbox_to node.old to).items ≡ [] → ⊥) × (length lane.old.link.waiting < lane.old.link.capacity) }
-    ensures posted { result ≡ Ok true → HasSentBatch to size node.old lane.old node.new lane.new }
+    ensures posted { result ≡ Ok true → HasSentBatch to batch_size node.old lane.old node.new lane.new }
     ensures stopped { IfErr result (λ why. ((why ≡ cause.Counts) × (2 ^ 40 ≤ (outbox_to node.old to).next)) ⊎ (why ≡ cause.Memory)) }
     ensures moment { OnErr result (((outbox_to node.old to).items ≡ [] → ⊥) × (length lane.old.link.waiting < lane.old.link.capacity)) }
     ensures unchanged { OnErr result (IsUnchanged node.old node.new × LaneStays lane.old lane.new) }
@@ -65,12 +68,12 @@ pub(crate) fn post(node: &mut Node, lane: &mut Lane, to: usize, size: usize) -> 
     if lane.link.is_full() {
         return Ok(false);
     }
-    let count = node.left_for(to).min(size);
+    let count = node.left_for(to).min(batch_size.get());
     if count == 0 {
         return Ok(false);
     }
     lane.sent.reserve(count)?;
-    let Some(batch) = node.cut_for(to, size)? else {
+    let Some(batch) = node.cut_for(to, batch_size)? else {
         unreachable!();
     };
     list_items(&mut lane.sent, batch.items());

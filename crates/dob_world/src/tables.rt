@@ -23,7 +23,7 @@ impl World {
     pub fn gather(&self) -> Result<Table, Memory>
         requires standing { IsStanding self.now }
         ensures family { IfOk result (λ table. table.family ≡ self.now.classes.family) }
-        ensures values { IfOk result (λ table. AreValuesBelow (value_in self.now.n (state_of self.now).world.nodes) (classes_of self.now.classes.family)
+        ensures values { IfOk result (λ table. AreValuesBelow (value_in self.now.node_count (state_of self.now).world.nodes) (classes_of self.now.classes.family)
             table.values) }
         ensures right { IsAtRest (setting_of self.now) (state_of self.now).world → IfOk result (λ table. IsValueTable self.now.classes.family table.values) }
         ensures announced { (state_of self.now).ring.announced ≡ true → IfOk result (λ table. IsValueTable self.now.classes.family table.values) }
@@ -32,7 +32,7 @@ impl World {
         let value_at = |class: u64| -> Value
             requires standing { IsStanding self.now }
             requires low { class < classes_of self.now.classes.family }
-            ensures value { result ≡ value_in self.entry.now.n (state_of self.entry.now).world.nodes class }
+            ensures value { result ≡ value_in self.entry.now.node_count (state_of self.entry.now).world.nodes class }
             ensures entry { IsEntry result }
         { self.value_of(class) };
         Table::from_fn(self.alloc, classes, value_at)
@@ -42,10 +42,10 @@ impl World {
     fn value_of(&self, class: u64) -> Value
         requires standing { IsStanding self.now }
         requires low { class < classes_of self.now.classes.family }
-        ensures value { result ≡ value_in self.now.n (state_of self.now).world.nodes class }
+        ensures value { result ≡ value_in self.now.node_count (state_of self.now).world.nodes class }
         ensures entry { IsEntry result }
     {
-        let node = owner(class, self.n);
+        let node = owner(class, self.node_count.get());
         self.nodes[node].value(class)
     }
 }

@@ -1,10 +1,9 @@
 // The world: nodes that own the classes of a family, a lane from each to each, and what detects the end.
-ghost use Rattle.std.specs.Prelude.{◌≡◌, ◌+◌, ◌*◌, ◌^◌, ◌<◌, ◌≤◌, true, false, IfOk, IfErr, IfSome, OnOk, OnErr, Err, vec_len};
+ghost use Rattle.std.specs.Prelude.{◌≡◌, ◌↔◌, ◌+◌, ◌*◌, ◌^◌, ◌<◌, ◌≤◌, true, false, IsTrue, IsNone, IfOk, IfErr, IfSome, OnOk, OnErr, Err, vec_len};
 ghost use Rattle.dob_rank.specs.Families.{classes_of};
 
 use crate::detector::Detector;
 use crate::event::Event;
-use crate::fault::Fault;
 use crate::lane::Lane;
 use crate::parts::{open_lanes, open_nodes};
 use crate::step::Step;
@@ -13,8 +12,9 @@ use dob_classes::Classes;
 use dob_lists::SegmentLength;
 use dob_node::{Node, opening};
 use dob_pieces::Family;
-use dob_safra::is_size;
-use dob_update::are_sizes;
+use dob_safra::NodeCount;
+use dob_stops::Fault;
+use dob_update::{BatchSize, Capacity};
 use std::alloc::Global;
 
 /// Nodes of which each owns a share of a family's classes, the links between them, the lists of all items that were
@@ -24,26 +24,27 @@ use std::alloc::Global;
 pub struct World {
     pub(crate) alloc: Global,
     pub(crate) classes: Classes,
-    pub(crate) n: usize,
-    pub(crate) batch: usize,
-    pub(crate) capacity: usize,
+    pub(crate) node_count: NodeCount,
+    pub(crate) batch_size: BatchSize,
+    pub(crate) capacity: Capacity,
     pub(crate) nodes: Vec<Node>,
     pub(crate) lanes: Vec<Lane>,
     pub(crate) detector: Detector,
     pub(crate) steps: u64,
     pub(crate) failed: Option<Fault>,
-    ghost nodes_whole: { vec_len nodes ≡ n },
-    ghost lanes_whole: { vec_len lanes ≡ n * n },
+    ghost nodes_whole: { vec_len nodes ≡ node_count },
+    ghost lanes_whole: { vec_len lanes ≡ node_count * node_count },
 }
 
 impl World {
     ghost use Rattle.dob_world.specs.declared.event.Event.TheVariants.{Expand, Own, Post, Take, Pass, Announce};
     ghost use Rattle.dob_world.specs.Worlds.{setting_by, HaveFallsIn};
-    ghost use Rattle.dob_world.specs.declared.fault.Fault.TheVariants as fault;
+    ghost use Rattle.dob_stops.specs.declared.fault.Fault.TheVariants as fault;
     ghost use Rattle.dob_world.specs.Stops.{IsStop, IsForMemory};
     ghost use Rattle.dob_world.specs.Shown.{setting_of, state_of};
     ghost use Rattle.dob_world.specs.Standing.{IsStanding, StandsOrStopped};
     ghost use Rattle.dob_world.specs.Effects.{IsMade, IsEventDone, IsSkipped, IsStopped};
+    ghost use Rattle.dob_world.specs.Lanes.{AreTwo};
     ghost use Rattle.dob_world.specs.Start.{IsWorldStart};
     ghost use Rattle.dob_world.specs.Results.{HasSettingFault};
     ghost use Rattle.dob_world.specs.Headline.{AreBeginnings, Headline};
@@ -67,22 +68,25 @@ impl World {
         ensures opened { IfOk result (λ world. IsWorldStart (setting_of world) (state_of world)) }
         ensures fault { IfErr result (λ fault. HasSettingFault (setting_by family n batch capacity) fault) }
     {
-        if !is_size(n) {
+        let Some(node_count) = NodeCount::new(n) else {
             return Err(Fault::Nodes);
-        }
-        if !are_sizes(batch, capacity) {
+        };
+        let Some(batch_size) = BatchSize::new(batch) else {
             return Err(Fault::Sizes);
-        }
+        };
+        let Some(capacity) = Capacity::new(capacity) else {
+            return Err(Fault::Sizes);
+        };
         let classes = Classes::open(alloc, family)?;
         let openings = opening(alloc, &classes, SegmentLength::longest())?;
-        let nodes = open_nodes(alloc, &openings, family, n)?;
+        let nodes = open_nodes(alloc, &openings, family, node_count)?;
         let lanes = open_lanes(alloc, n * n, capacity)?;
-        let detector = Detector::open(alloc, n)?;
+        let detector = Detector::open(alloc, node_count)?;
         Ok(World {
             alloc,
             classes,
-            n,
-            batch,
+            node_count,
+            batch_size,
             capacity,
             nodes,
             lanes,
@@ -155,6 +159,34 @@ impl World {
         }
     }
 
+    // Whether the world has a node of that number.
+    fn has(&self, node: usize) -> bool
+        ensures { IsTrue result ↔ (node < self.now.node_count) }
+    {
+        node < self.node_count.get()
+    }
+
+    /// The place of the lane from a node to a node.
+    pub(crate) fn lane_place(&self, from: usize, to: usize) -> usize
+        requires from { from < self.now.node_count }
+        requires to { to < self.now.node_count }
+        ensures { result ≡ from * self.now.node_count + to }
+    {
+        from * self.node_count.get() + to
+    }
+
+    // The place of the lane from a node to another one. None where these aren't two nodes of the world.
+    fn lane_between(&self, from: usize, to: usize) -> Option<usize>
+        ensures none { IsNone result → ¬ AreTwo self.now.node_count from to }
+        ensures two { IfSome result (λ _. AreTwo self.now.node_count from to) }
+        ensures place { IfSome result (λ place. place ≡ from * self.now.node_count + to) }
+    {
+        if !self.has(from) || !self.has(to) || from == to {
+            return None;
+        }
+        Some(self.lane_place(from, to))
+    }
+
     // The next settlement of a node becomes items. False where there is none.
     fn expand(&mut self, node: usize) -> Result<bool, Fault>
         requires standing { IsStanding self.old }
@@ -163,7 +195,7 @@ impl World {
         ensures skipped { result ≡ Ok false → IsSkipped (Expand node) self.old self.new }
         ensures stopped { IfErr result (λ fault. IsStopped (Expand node) fault self.old self.new) }
     {
-        if node >= self.n {
+        if !self.has(node) {
             return Ok(false);
         }
         match self.nodes[node].expand(&self.classes) {
@@ -180,10 +212,10 @@ impl World {
         ensures skipped { result ≡ Ok false → IsSkipped (Own node) self.old self.new }
         ensures stopped { IfErr result (λ fault. IsStopped (Own node) fault self.old self.new) }
     {
-        if node >= self.n {
+        if !self.has(node) {
             return Ok(false);
         }
-        let place = node * self.n + node;
+        let place = self.lane_place(node, node);
         match apply_own(&mut self.nodes[node], &mut self.lanes[place]) {
             Ok(happened) => Ok(happened),
             Err(cause) => Err(Fault::Stopped { node, cause }),
@@ -198,15 +230,14 @@ impl World {
         ensures skipped { result ≡ Ok false → IsSkipped (Post from to) self.old self.new }
         ensures stopped { IfErr result (λ fault. IsStopped (Post from to) fault self.old self.new) }
     {
-        if from >= self.n || to >= self.n || from == to {
+        let Some(place) = self.lane_between(from, to) else {
             return Ok(false);
-        }
-        let place = from * self.n + to;
+        };
         match post(
             &mut self.nodes[from],
             &mut self.lanes[place],
             to,
-            self.batch,
+            self.batch_size,
         ) {
             Ok(true) => {
                 self.detector.count_post(from, to);
@@ -225,10 +256,9 @@ impl World {
         ensures skipped { result ≡ Ok false → IsSkipped (Take from to) self.old self.new }
         ensures stopped { IfErr result (λ fault. IsStopped (Take from to) fault self.old self.new) }
     {
-        if from >= self.n || to >= self.n || from == to {
+        let Some(place) = self.lane_between(from, to) else {
             return Ok(false);
-        }
-        let place = from * self.n + to;
+        };
         match receive(&mut self.nodes[to], &mut self.lanes[place]) {
             Ok(true) => {
                 self.detector.count_take(from, to);
@@ -246,7 +276,7 @@ impl World {
         ensures done { result ≡ true → IsEventDone (Pass node) self.old self.new }
         ensures skipped { result ≡ false → IsSkipped (Pass node) self.old self.new }
     {
-        if node >= self.n || node != self.detector.token.at || self.detector.announced {
+        if !self.has(node) || node != self.detector.token.at || self.detector.announced {
             return false;
         }
         if !self.nodes[node].is_idle() {

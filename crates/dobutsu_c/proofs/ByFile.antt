@@ -1,4 +1,4 @@
--- By the file of a value table the moves that are told have the values that they have by definition.
+-- By the file of a value table the moves that are answered have the values that they have by definition.
 use Rattle.std.proofs.Common.{◌≡◌, ◌∙◌, ◌<◌, ℕ, List, inl, inr, sym, subst}
 use Rattle.dob_pieces.specs.declared.profile.Family.{Family}
 use Rattle.dob_pieces.specs.declared.setup.Setup.{Setup}

@@ -17,9 +17,10 @@ use Rattle.dob_dbfile.proofs.Places.{same_head}
 use Rattle.dobutsu_c.specs.declared.fault.Fault.TheVariants.{Text, File, FarChick, OtherSet}
 use Rattle.dobutsu_c.specs.declared.by_index.ByFault.{ByFault}
 use Rattle.dobutsu_c.specs.declared.by_index.ByFault.TheVariants.{Asked, Index}
-use Rattle.dobutsu_c.specs.Counts.{IsFamily, profile_number}
+use Rattle.dob_numbers.specs.Profiles.{profile_number}
+use Rattle.dobutsu_c.specs.Counts.{IsFamily}
 use Rattle.dobutsu_c.specs.declared.fault.Fault.{Fault}
-use Rattle.dobutsu_c.specs.Faults.{number_of}
+use Rattle.dobutsu_c.specs.Faults.{fault_number}
 use Rattle.dobutsu_c.specs.Probes.{IsTextOf, AreRead, IsAsked, HasProbeFault}
 use Rattle.dobutsu_c.specs.ByIndex.{IsIndexFor, IsHeldBy, IsAskedBy, HasByFault, IsFileFault, number_by}
 use Rattle.dobutsu_c.proofs.Exact.{no_fault, one_fault}
@@ -90,11 +91,11 @@ no_fault_by file text format family setup (Asked fault) asked wrong = no_fault f
 no_fault_by file text format family setup Index asked wrong = absurd wrong
 
 pub some_fault_by : (file text : List ℕ) (given : ByFault) → HasByFault file text given
-    → (fault : Fault) × HasProbeFault file text fault × (number_by given ≡ number_of fault)
+    → (fault : Fault) × HasProbeFault file text fault × (number_by given ≡ fault_number fault)
 some_fault_by file text (Asked fault) holds = (fault, holds, refl)
 some_fault_by file text Index holds = absurd holds
 
 pub one_fault_by : (file text : List ℕ) (given : ByFault) (fault : Fault) → HasByFault file text given → HasProbeFault file text fault
-    → number_by given ≡ number_of fault
-one_fault_by file text (Asked found) fault is holds = ap number_of (one_fault file text found fault is holds)
+    → number_by given ≡ fault_number fault
+one_fault_by file text (Asked found) fault is holds = ap fault_number (one_fault file text found fault is holds)
 one_fault_by file text Index fault is holds = absurd is

@@ -17,7 +17,8 @@ use Rattle.dobutsu_c.specs.declared.fault.Fault.TheVariants.{File}
 use Rattle.dobutsu_c.specs.declared.by_index.ByFault.{ByFault}
 use Rattle.dobutsu_c.specs.declared.by_index.ByFault.TheVariants.{Asked, Index}
 use Rattle.dobutsu_c.specs.Counts.{IsFamily, count_fault}
-use Rattle.dobutsu_c.specs.Faults.{number_of, text_number}
+use Rattle.dob_numbers.specs.Faults.{text_number}
+use Rattle.dobutsu_c.specs.Faults.{fault_number}
 use Rattle.dobutsu_c.specs.Probes.{IsTextOf, HasProbeFault}
 
 -- the numbers are the index of the family that the file names
@@ -43,7 +44,7 @@ HasByFault file text (Asked fault) = HasProbeFault file text fault
 HasByFault file text Index = ⊥
 
 abbrev pub number_by : ByFault → ℕ
-number_by (Asked fault) = number_of fault
+number_by (Asked fault) = fault_number fault
 number_by Index = 29
 
 -- a fault of the file
@@ -51,7 +52,7 @@ abbrev pub IsFileFault : List ℕ → ByFault → Type 0
 IsFileFault file (Asked (File fault)) = HasReadFault (whole file) fault × (fault ≢ file_fault.Digest)
 IsFileFault file _ = ⊥
 
--- Why the number of a position's class isn't told by an index, as a fault's number: the numbers aren't marked as an index of the family; or they are, and its
+-- Why the number of a position's class isn't answered by an index, as a fault's number: the numbers aren't marked as an index of the family; or they are, and its
 -- profile doesn't allow the position; or it does, and the pieces aren't those of its set.
 abbrev pub IsUnfit : Family → List ℕ → Setup → ℕ → Type 0
 IsUnfit family index setup number = ((¬ IsMarked family index) × (number ≡ 29)) ⊎ (IsMarked family index

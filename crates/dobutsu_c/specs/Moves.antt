@@ -1,44 +1,25 @@
 -- The moves of a position with their values, as other languages see them.
-use Rattle.std.specs.Prelude.{◌≡◌, ℕ, ◌<◌, ◌≤◌, List, Bool, true, false, length, get_or}
-use Rattle.dob_pieces.specs.declared.kind.Kind.{Kind}
-use Rattle.dob_pieces.specs.declared.kind.Kind.TheVariants.{Lion, Giraffe, Elephant, Chick, Hen}
-use Rattle.dob_pieces.specs.declared.kind.HandKind.{HandKind}
-use Rattle.dob_pieces.specs.declared.kind.HandKind.TheVariants as hand
+use Rattle.std.specs.Prelude.{◌≡◌, ℕ, ◌<◌, ◌≤◌, List, length, get_or}
 use Rattle.dob_pieces.specs.declared.profile.Family.{Family}
 use Rattle.dob_pieces.specs.declared.setup.Setup.{Setup}
 use Rattle.dob_moves.specs.declared.game_move.Move.{Move}
-use Rattle.dob_moves.specs.declared.game_move.Move.TheVariants.{Step, Put}
 use Rattle.dob_value.specs.declared.value.Value.{Value}
 use Rattle.dob_dbfile.specs.declared.header.Format.{Format}
+use Rattle.dob_numbers.specs.declared.moves.MoveNumbers.{MoveNumbers}
+use Rattle.dob_numbers.specs.Moves.{move_numbers}
 use Rattle.dob_probe.specs.declared.by_value.ValuedMove.{ValuedMove}
 use Rattle.dob_probe.specs.ValuedMoves.{AreValuedMoves}
 use Rattle.dobutsu_c.specs.declared.moves.DobutsuMove.{DobutsuMove}
 use Rattle.dobutsu_c.specs.declared.value.DobutsuValue.{DobutsuValue}
 use Rattle.dobutsu_c.specs.Probes.{IsAsked, IsGiven, shown}
 
--- the number of a kind
-abbrev pub kind_number : Kind → ℕ
-kind_number Chick = 0
-kind_number Elephant = 1
-kind_number Giraffe = 2
-kind_number Hen = 3
-kind_number Lion = 4
+-- the numbers of a move and a value as one
+abbrev pub with_value : MoveNumbers → DobutsuValue → DobutsuMove
+with_value numbers value =
+    record { kind = numbers.kind; from = numbers.from; to = numbers.to; catches = numbers.catches; grows = numbers.grows; value = value }
 
--- and of one in hand
-abbrev pub hand_number : HandKind → ℕ
-hand_number hand.Chick = 0
-hand_number hand.Elephant = 1
-hand_number hand.Giraffe = 2
-
-abbrev pub flag : Bool → ℕ
-flag true = 1
-flag false = 0
-
--- a move and a value as one; a piece that is dropped comes from 12
 abbrev pub shown_move : Move → DobutsuValue → DobutsuMove
-shown_move (Step kind from to catch grows) value =
-    record { kind = kind_number kind; from = from; to = to; catches = flag catch; grows = flag grows; value = value }
-shown_move (Put kind to) value = record { kind = hand_number kind; from = 12; to = to; catches = 0; grows = 0; value = value }
+shown_move move value = with_value (move_numbers move) value
 
 abbrev pub shown_valued : ValuedMove → DobutsuMove
 shown_valued valued = shown_move valued.the_move (shown valued.value)

@@ -1,4 +1,4 @@
--- What is told of a position by the bytes of a database's file, and the first fault of both.
+-- What is answered of a position by the bytes of a database's file, and the first fault of both.
 use Rattle.std.specs.Prelude.{◌≡◌, ◌≢◌, ℕ, List}
 use Rattle.dob_pieces.specs.declared.profile.Family.{Family}
 use Rattle.dob_pieces.specs.declared.profile.Profile.TheVariants.{A}
@@ -10,21 +10,20 @@ use Rattle.dob_text.specs.PositionText.{Spells}
 use Rattle.dob_rank.specs.Order.{IsPositionOfSet}
 use Rattle.dob_rank.specs.Families.{IsPositionOf, IsInClass}
 use Rattle.dob_value.specs.declared.value.Value.{Value}
-use Rattle.dob_value.specs.declared.value.Value.TheVariants.{Win, Loss, Draw}
+use Rattle.dob_value.specs.Bounds.{plies_of}
 use Rattle.dob_dbfile.specs.declared.fault.Fault.TheVariants as file_fault
 use Rattle.dob_dbfile.specs.declared.header.Format.{Format}
 use Rattle.dob_dbfile.specs.Devices.{whole}
 use Rattle.dob_dbfile.specs.Faults.{HasReadFault, IsNoLonger}
 use Rattle.dob_dbfile.specs.Looking.{HasRecord}
+use Rattle.dob_numbers.specs.Values.{outcome_number}
 use Rattle.dobutsu_c.specs.declared.fault.Fault.{Fault}
 use Rattle.dobutsu_c.specs.declared.fault.Fault.TheVariants.{Text, File, FarChick, OtherSet}
 use Rattle.dobutsu_c.specs.declared.value.DobutsuValue.{DobutsuValue}
 
 -- a value as other languages see it: 0 for a draw, 1 for a win, 2 for a loss, and the distance in plies, which is 0 for a draw
 abbrev pub shown : Value → DobutsuValue
-shown Draw = record { kind = 0; plies = 0 }
-shown (Win plies) = record { kind = 1; plies = plies }
-shown (Loss plies) = record { kind = 2; plies = plies }
+shown value = record { kind = outcome_number value; plies = plies_of value }
 
 -- the text is that of a position
 abbrev pub IsTextOf : List ℕ → Setup → Type 0

@@ -1,5 +1,5 @@
-// What is asked of a file whose bytes are held, by the numbers of an index: a position of its family. Where they are the index of that family, what is told is
-// what is told without one. By any other numbers it is some value, or the fault that they are no index.
+// What is asked of a file whose bytes are held, by the numbers of an index: a position of its family. Where they are the index of that family, the answer is
+// that without one. By any other numbers it is some value, or the fault that they are no index.
 ghost use Rattle.std.specs.Prelude.{◌≡◌, ◌≢◌, None, IfSome, MatchOption, MatchResult};
 ghost use Rattle.dob_pieces.specs.declared.profile.Family.{Family as AnyFamily};
 ghost use Rattle.dob_dbfile.specs.declared.header.Format.{Format as AnyFormat};

@@ -2,11 +2,12 @@
 ghost use Rattle.std.specs.Prelude.{◌≡◌, ◌≢◌, ◌≤◌, ℕ, IfSome, MatchOption, MatchResult};
 ghost use Rattle.dob_pieces.specs.declared.profile.Family.{Family as AnyFamily};
 ghost use Rattle.dob_rank.specs.Families.{HasSize, HasClasses};
-ghost use Rattle.dobutsu_c.specs.Counts.{IsFamily, count_fault, profile_number};
+ghost use Rattle.dobutsu_c.specs.Counts.{IsFamily, count_fault};
 
 use crate::numbers::{PROFILE_BYTE, SET_TEXT};
 use dob_classes::count_classes;
-use dob_pieces::{Family, PieceSet, Profile};
+use dob_numbers::profile_of;
+use dob_pieces::{Family, PieceSet};
 use dob_rank::size;
 
 /// How many positions a family has, and how many classes: that of so many chicks, elephants and giraffes, 0 to 2 of each, by
@@ -67,17 +68,6 @@ fn set_of(chicks: u32, elephants: u32, giraffes: u32) -> Option<PieceSet>
             elephants: elephants as u8,
             giraffes: giraffes as u8,
         }),
-        _ => None,
-    }
-}
-
-// The profile of that number.
-fn profile_of(number: u32) -> Option<Profile>
-    ensures { MatchOption result (2 ≤ number) (λ profile. profile_number profile ≡ number) }
-{
-    match number {
-        0 => Some(Profile::A),
-        1 => Some(Profile::B),
         _ => None,
     }
 }

@@ -13,15 +13,16 @@ ghost use Rattle.dob_dbfile.specs.Format.{IsFile};
 ghost use Rattle.dob_probe.specs.declared.by_value.ValuedMove.{ValuedMove as Valued};
 ghost use Rattle.dob_probe.specs.ValuedMoves.{AreValuedMoves};
 ghost use Rattle.dobutsu_c.specs.declared.fault.Fault.{Fault as AnyFault};
-ghost use Rattle.dobutsu_c.specs.Faults.{number_of};
-ghost use Rattle.dobutsu_c.specs.Moves.{AreToldMoves, AreWritten, shown_move, kind_number, hand_number, flag};
+ghost use Rattle.dobutsu_c.specs.Faults.{fault_number};
+ghost use Rattle.dobutsu_c.specs.Moves.{AreToldMoves, AreWritten, shown_move};
 ghost use Rattle.dobutsu_c.specs.Probes.{HasProbeFault, IsGiven, IsTextOf};
 
 use crate::asked::{Asked, ask, value_of};
 use crate::numbers::MEMORY;
 use crate::value::{DobutsuValue, shown};
 use dob_moves::{Move, apply, first_catch, moves};
-use dob_pieces::{HandKind, Kind, Memory, Square};
+use dob_numbers::{MoveNumbers, move_numbers};
+use dob_pieces::Memory;
 use dob_probe::{ValuedMove, insert_by_value, value_seen};
 use dob_value::Value;
 use std::alloc::Global;
@@ -60,8 +61,8 @@ pub extern "C" fn dobutsu_moves(
     ensures right { (table : ClassTable) (setup : Setup) → IsFile file.now table → IsValueTable table.family table.values → IsTextOf text.now setup
         → result ≡ 0 → (list : List Valued) × AreValuedMoves table.family.profile (HasValue table.family.profile) setup list
         × AreWritten list moves.old moves.new × (count.new ≡ length list) }
-    ensures refused { result ≢ 0 → (result ≡ 23) ⊎ ((fault : AnyFault) × HasProbeFault file.now text.now fault × (result ≡ number_of fault)) }
-    ensures fault { (fault : AnyFault) → HasProbeFault file.now text.now fault → result ≡ number_of fault }
+    ensures refused { result ≢ 0 → (result ≡ 23) ⊎ ((fault : AnyFault) × HasProbeFault file.now text.now fault × (result ≡ fault_number fault)) }
+    ensures fault { (fault : AnyFault) → HasProbeFault file.now text.now fault → result ≡ fault_number fault }
     ensures unchanged { result ≢ 0 → (moves.new ≡ moves.old) × (count.new ≡ count.old) }
 {
     let asked = match ask(file, text) {
@@ -156,62 +157,19 @@ pub(crate) fn write_moves(places: &mut [DobutsuMove], list: &[ValuedMove])
 fn shown_move(the_move: Move, value: DobutsuValue) -> DobutsuMove
     ensures { result ≡ shown_move the_move value }
 {
-    match the_move {
-        Move::Step {
-            kind,
-            from,
-            to,
-            catch,
-            grows,
-        } => DobutsuMove {
-            kind: kind_number(kind),
-            from: square_number(from),
-            to: square_number(to),
-            catches: u32::from(catch),
-            grows: u32::from(grows),
-            value,
-        },
-        Move::Put { kind, to } => DobutsuMove {
-            kind: hand_number(kind),
-            from: HAND,
-            to: square_number(to),
-            catches: 0,
-            grows: 0,
-            value,
-        },
-    }
-}
-
-// The number of a square.
-fn square_number(square: Square) -> u32
-    ensures { result ≡ square }
-{
-    square.index() as u32
-}
-
-// Where a piece that is dropped comes from.
-const HAND: u32 = 12;
-
-// The number of a kind.
-fn kind_number(kind: Kind) -> u32
-    ensures { result ≡ kind_number kind }
-{
-    match kind {
-        Kind::Chick => 0,
-        Kind::Elephant => 1,
-        Kind::Giraffe => 2,
-        Kind::Hen => 3,
-        Kind::Lion => 4,
-    }
-}
-
-// The number of a kind in hand.
-fn hand_number(kind: HandKind) -> u32
-    ensures { result ≡ hand_number kind }
-{
-    match kind {
-        HandKind::Chick => 0,
-        HandKind::Elephant => 1,
-        HandKind::Giraffe => 2,
+    let MoveNumbers {
+        kind,
+        from,
+        to,
+        catches,
+        grows,
+    } = move_numbers(the_move);
+    DobutsuMove {
+        kind,
+        from,
+        to,
+        catches,
+        grows,
+        value,
     }
 }

@@ -16,7 +16,7 @@ ghost use Rattle.dob_probe.specs.declared.by_value.ValuedMove.{ValuedMove as Val
 ghost use Rattle.dob_probe.specs.ValuedMoves.{AreValuedMoves};
 ghost use Rattle.dobutsu_c.specs.declared.fault.Fault.{Fault as AnyFault};
 ghost use Rattle.dobutsu_c.specs.ByIndex.{IsIndexFor, IsHeldBy};
-ghost use Rattle.dobutsu_c.specs.Faults.{number_of};
+ghost use Rattle.dobutsu_c.specs.Faults.{fault_number};
 ghost use Rattle.dobutsu_c.specs.Moves.{AreToldMoves, AreWritten};
 ghost use Rattle.dobutsu_c.specs.Probes.{HasProbeFault, IsGiven, IsTextOf};
 
@@ -29,7 +29,7 @@ use dob_probe::{ValuedMove, insert_by_value, value_seen};
 use dob_value::Value;
 use std::alloc::Global;
 
-/// What `dobutsu_moves` tells of the position, by the index of the file's family as `dobutsu_index` wrote it: the same moves with the same values, by a file of
+/// What `dobutsu_moves` gives of the position, by the index of the file's family as `dobutsu_index` wrote it: the same moves with the same values, by a file of
 /// the value table their own, or the same fault. By any other numbers it answers 0 and writes the moves in the order of some values, or a fault and writes nothing: 29 as `dobutsu_probe_by` does, or
 /// 23 where memory runs out, of which it takes some thousand bytes and gives all back. Nothing is read outside of the numbers.
 #[unsafe(no_mangle)]
@@ -47,8 +47,8 @@ pub extern "C" fn dobutsu_moves_by(
         → IsTextOf text.now setup → result ≡ 0 → (list : List Valued) × AreValuedMoves table.family.profile (HasValue table.family.profile) setup list
         × AreWritten list moves.old moves.new × (count.new ≡ length list) }
     ensures refused { IsIndexFor file.now index.now → result ≢ 0
-        → (result ≡ 23) ⊎ ((fault : AnyFault) × HasProbeFault file.now text.now fault × (result ≡ number_of fault)) }
-    ensures fault { IsIndexFor file.now index.now → (fault : AnyFault) → HasProbeFault file.now text.now fault → result ≡ number_of fault }
+        → (result ≡ 23) ⊎ ((fault : AnyFault) × HasProbeFault file.now text.now fault × (result ≡ fault_number fault)) }
+    ensures fault { IsIndexFor file.now index.now → (fault : AnyFault) → HasProbeFault file.now text.now fault → result ≡ fault_number fault }
     ensures other { (format : AnyFormat) (family : AnyFamily) → NamesFamily format family file.now → ¬ IsMarked family index.now → result ≢ 0 }
     ensures unchanged { result ≢ 0 → (moves.new ≡ moves.old) × (count.new ≡ count.old) }
 {

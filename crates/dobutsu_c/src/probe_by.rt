@@ -10,7 +10,7 @@ ghost use Rattle.dob_dbfile.specs.declared.header.Format.{Format as AnyFormat};
 ghost use Rattle.dob_dbfile.specs.Faults.{NamesFamily};
 ghost use Rattle.dob_dbfile.specs.Format.{IsFile};
 ghost use Rattle.dobutsu_c.specs.declared.fault.Fault.{Fault as AnyFault};
-ghost use Rattle.dobutsu_c.specs.Faults.{number_of};
+ghost use Rattle.dobutsu_c.specs.Faults.{fault_number};
 ghost use Rattle.dobutsu_c.specs.Probes.{IsTextOf, IsTold, HasProbeFault, shown};
 ghost use Rattle.dobutsu_c.specs.ByIndex.{IsIndexFor};
 
@@ -18,7 +18,7 @@ use crate::by_index::{ask_by, value_by};
 use crate::numbers::INDEX;
 use crate::value::{DobutsuValue, shown};
 
-/// What `dobutsu_probe` tells of the position, by the index of the file's family as `dobutsu_index` wrote it: the same value, or the same fault. By any other
+/// What `dobutsu_probe` answers of the position, by the index of the file's family as `dobutsu_index` wrote it: the same value, or the same fault. By any other
 /// numbers it answers 0 and writes some value, or a fault and writes nothing: 29 where they aren't marked as an index of the file's family, are too few, or lead
 /// outside of the file. Nothing is read outside of them. It takes no memory.
 #[unsafe(no_mangle)]
@@ -32,8 +32,8 @@ pub extern "C" fn dobutsu_probe_by(
     ensures told { IsIndexFor file.now index.now → (value : AnyValue) → IsTold file.now text.now value → (result ≡ 0) × (answer.new ≡ shown value) }
     ensures right { IsIndexFor file.now index.now → (table : ClassTable) (setup : AnySetup) → IsFile file.now table → IsValueTable table.family table.values
         → IsTextOf text.now setup → result ≡ 0 → (value : AnyValue) × HasValue table.family.profile setup value × (answer.new ≡ shown value) }
-    ensures refused { IsIndexFor file.now index.now → result ≢ 0 → (fault : AnyFault) × HasProbeFault file.now text.now fault × (result ≡ number_of fault) }
-    ensures fault { IsIndexFor file.now index.now → (fault : AnyFault) → HasProbeFault file.now text.now fault → result ≡ number_of fault }
+    ensures refused { IsIndexFor file.now index.now → result ≢ 0 → (fault : AnyFault) × HasProbeFault file.now text.now fault × (result ≡ fault_number fault) }
+    ensures fault { IsIndexFor file.now index.now → (fault : AnyFault) → HasProbeFault file.now text.now fault → result ≡ fault_number fault }
     ensures other { (format : AnyFormat) (family : AnyFamily) → NamesFamily format family file.now → ¬ IsMarked family index.now → result ≢ 0 }
     ensures unchanged { result ≢ 0 → answer.new ≡ answer.old }
 {

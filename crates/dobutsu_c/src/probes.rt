@@ -6,7 +6,7 @@ ghost use Rattle.dob_value.specs.Follows.{ClassTable, IsValueTable};
 ghost use Rattle.dob_value.specs.Values.{HasValue};
 ghost use Rattle.dob_dbfile.specs.Format.{IsFile};
 ghost use Rattle.dobutsu_c.specs.declared.fault.Fault.{Fault as AnyFault};
-ghost use Rattle.dobutsu_c.specs.Faults.{number_of};
+ghost use Rattle.dobutsu_c.specs.Faults.{fault_number};
 ghost use Rattle.dobutsu_c.specs.Probes.{IsTextOf, IsTold, HasProbeFault, shown};
 
 use crate::asked::ask;
@@ -23,8 +23,8 @@ pub extern "C" fn dobutsu_probe(file: &[u8], text: &[u8], answer: &mut DobutsuVa
     ensures told { (value : AnyValue) → IsTold file.now text.now value → (result ≡ 0) × (answer.new ≡ shown value) }
     ensures right { (table : ClassTable) (setup : AnySetup) → IsFile file.now table → IsValueTable table.family table.values
         → IsTextOf text.now setup → result ≡ 0 → (value : AnyValue) × HasValue table.family.profile setup value × (answer.new ≡ shown value) }
-    ensures refused { result ≢ 0 → (fault : AnyFault) × HasProbeFault file.now text.now fault × (result ≡ number_of fault) }
-    ensures fault { (fault : AnyFault) → HasProbeFault file.now text.now fault → result ≡ number_of fault }
+    ensures refused { result ≢ 0 → (fault : AnyFault) × HasProbeFault file.now text.now fault × (result ≡ fault_number fault) }
+    ensures fault { (fault : AnyFault) → HasProbeFault file.now text.now fault → result ≡ fault_number fault }
     ensures unchanged { result ≢ 0 → answer.new ≡ answer.old }
 {
     match ask(file, text) {

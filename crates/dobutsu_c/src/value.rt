@@ -2,6 +2,7 @@
 ghost use Rattle.std.specs.Prelude.{◌≡◌};
 ghost use Rattle.dobutsu_c.specs.Probes.{shown};
 
+use dob_numbers::{outcome_number, plies_of};
 use dob_value::Value;
 
 /// A value: its kind, 0 for a draw, 1 for a win and 2 for a loss of the side to move, and the least number of plies in which
@@ -17,15 +18,8 @@ pub struct DobutsuValue {
 pub(crate) fn shown(value: Value) -> DobutsuValue
     ensures { result ≡ shown value }
 {
-    match value {
-        Value::Draw => DobutsuValue { kind: 0, plies: 0 },
-        Value::Win(plies) => DobutsuValue {
-            kind: 1,
-            plies: u32::from(plies),
-        },
-        Value::Loss(plies) => DobutsuValue {
-            kind: 2,
-            plies: u32::from(plies),
-        },
+    DobutsuValue {
+        kind: outcome_number(value),
+        plies: plies_of(value),
     }
 }

@@ -2,21 +2,15 @@
 use Rattle.std.specs.Prelude.{◌≡◌, ℕ, ◌≤◌, List}
 use Rattle.dob_pieces.specs.declared.profile.Family.{Family}
 use Rattle.dob_pieces.specs.declared.profile.Profile.{Profile as AnyProfile}
-use Rattle.dob_pieces.specs.declared.profile.Profile.TheVariants.{A, B}
 use Rattle.dob_pieces.specs.declared.setup.Setup.{Setup}
 use Rattle.dob_rank.specs.Families.{IsPositionOf}
 use Rattle.dob_rank.specs.Numbers.{block_of}
-use Rattle.dob_text.specs.declared.fault.TextFault.{TextFault}
-use Rattle.dob_text.specs.declared.fault.TextFault.TheVariants as text
+use Rattle.dob_numbers.specs.Faults.{text_number}
+use Rattle.dob_numbers.specs.Profiles.{profile_number}
 use Rattle.dob_text.specs.Faults.{HasTextFault}
 use Rattle.dob_text.specs.PositionText.{Spells}
 use Rattle.dobutsu_web.specs.declared.asked.Refusal.{Refusal}
 use Rattle.dobutsu_web.specs.declared.asked.Refusal.TheVariants.{Profile, Text}
-
--- the number of a profile
-abbrev pub profile_number : AnyProfile → ℕ
-profile_number A = 0
-profile_number B = 1
 
 -- the text is that of a position of the family, whose profile has that number
 abbrev pub IsTextAsked : List ℕ → ℕ → Family → Setup → Type 0
@@ -26,20 +20,11 @@ abbrev pub HasRefusal : List ℕ → ℕ → Refusal → Type 0
 HasRefusal text number Profile = 2 ≤ number
 HasRefusal text number (Text fault) = (profile : AnyProfile) × (profile_number profile ≡ number) × HasTextFault profile text fault
 
-abbrev pub text_number : TextFault → ℕ
-text_number text.Shape = 1
-text_number text.Letter = 2
-text_number text.Hand = 3
-text_number text.Lions = 4
-text_number text.Count = 5
-text_number text.FarLion = 6
-text_number text.FarChick = 26
-
 abbrev pub refusal_number : Refusal → ℕ
 refusal_number Profile = 27
 refusal_number (Text fault) = text_number fault
 
--- why nothing is told, by its number
+-- why there is no answer, by its number
 abbrev pub IsRefused : List ℕ → ℕ → ℕ → Type 0
 IsRefused text number answer = (refusal : Refusal) × HasRefusal text number refusal × (answer ≡ refusal_number refusal)
 

@@ -3,27 +3,16 @@ use Rattle.std.specs.Prelude.{◌≡◌, ℕ, List}
 use Rattle.dob_pieces.specs.declared.profile.Family.{Family}
 use Rattle.dob_rank.specs.Families.{classes_of}
 use Rattle.dob_dbfile.specs.declared.fault.Fault.{Fault}
-use Rattle.dob_dbfile.specs.declared.fault.Fault.TheVariants as file_fault
 use Rattle.dob_dbfile.specs.declared.header.Format.{Format}
 use Rattle.dob_dbfile.specs.Devices.{whole}
 use Rattle.dob_dbfile.specs.Faults.{HasReadFault, IsNoLonger, header_len}
 use Rattle.dob_dbfile.specs.Fronts.{IsFrontOf}
+use Rattle.dob_numbers.specs.Faults.{file_number}
+use Rattle.dob_numbers.specs.Profiles.{profile_number}
 use Rattle.dobutsu_web.specs.declared.headers.DobutsuHeader.{DobutsuHeader}
-use Rattle.dobutsu_web.specs.Asked.{profile_number}
 
-abbrev pub file_number : Fault → ℕ
-file_number file_fault.Truncated = 15
-file_number file_fault.Magic = 16
-file_number file_fault.SetByte = 17
-file_number file_fault.ClassCount = 18
-file_number file_fault.Trailing = 19
-file_number file_fault.Digest = 20
-file_number file_fault.Memory = 23
-file_number (file_fault.Io bytes) = 24
-file_number file_fault.ProfileByte = 27
-
-abbrev pub shown : Format → Family → DobutsuHeader
-shown format family = record {
+abbrev pub shown_header : Format → Family → DobutsuHeader
+shown_header format family = record {
   classes = classes_of family;
   first = header_len format;
   chicks = family.set.chicks;
@@ -34,7 +23,7 @@ shown format family = record {
 
 -- the format and the family of each file of so many bytes that begins so, which has as many bytes as files of that family
 abbrev pub IsToldHeader : List ℕ → ℕ → DobutsuHeader → Type 0
-IsToldHeader front size header = (format : Format) × (family : Family) × (header ≡ shown format family)
+IsToldHeader front size header = (format : Format) × (family : Family) × (header ≡ shown_header format family)
     × ((file : List ℕ) → IsFrontOf front size file → IsNoLonger format family (whole file))
 
 -- the fault of each file of so many bytes that begins so

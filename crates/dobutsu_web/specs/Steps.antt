@@ -1,19 +1,16 @@
 -- Moves as other languages see them.
-use Rattle.std.specs.Prelude.{◌≡◌, ◌⊎◌, ℕ, List, Bool, true, false}
-use Rattle.dob_pieces.specs.declared.kind.Kind.{Kind}
-use Rattle.dob_pieces.specs.declared.kind.Kind.TheVariants.{Lion, Giraffe, Elephant, Chick, Hen}
-use Rattle.dob_pieces.specs.declared.kind.HandKind.{HandKind}
-use Rattle.dob_pieces.specs.declared.kind.HandKind.TheVariants as hand
+use Rattle.std.specs.Prelude.{◌≡◌, ◌⊎◌, ℕ, List}
 use Rattle.dob_pieces.specs.declared.profile.Family.{Family}
 use Rattle.dob_pieces.specs.declared.setup.Setup.{Setup}
 use Rattle.dob_moves.specs.declared.game_move.Move.{Move}
-use Rattle.dob_moves.specs.declared.game_move.Move.TheVariants.{Step, Put}
 use Rattle.dob_moves.specs.declared.position_status.Status.{Status}
 use Rattle.dob_moves.specs.declared.position_status.Status.TheVariants.{Caught, Tried, Stuck, Open}
 use Rattle.dob_pieces.specs.declared.profile.Profile.{Profile}
 use Rattle.dob_moves.specs.AtPlaces.{IsMoveAt, IsCatchAt}
 use Rattle.dob_moves.specs.Moves.{Goes}
 use Rattle.dob_rank.specs.Numbers.{block_of}
+use Rattle.dob_numbers.specs.declared.moves.MoveNumbers.{MoveNumbers}
+use Rattle.dob_numbers.specs.Moves.{move_numbers}
 use Rattle.dobutsu_web.specs.declared.steps.DobutsuStep.{DobutsuStep}
 use Rattle.dobutsu_web.specs.Asked.{IsTextAsked}
 use Rattle.dobutsu_web.specs.Rows.{IsClassBy}
@@ -24,27 +21,13 @@ status_number Caught = 1
 status_number Tried = 2
 status_number Stuck = 3
 
-abbrev pub kind_number : Kind → ℕ
-kind_number Chick = 0
-kind_number Elephant = 1
-kind_number Giraffe = 2
-kind_number Hen = 3
-kind_number Lion = 4
+-- the numbers of a move, and the block of what it leads to
+abbrev pub with_block : MoveNumbers → ℕ → DobutsuStep
+with_block numbers block =
+    record { block = block; kind = numbers.kind; from = numbers.from; to = numbers.to; catches = numbers.catches; grows = numbers.grows }
 
-abbrev pub hand_number : HandKind → ℕ
-hand_number hand.Chick = 0
-hand_number hand.Elephant = 1
-hand_number hand.Giraffe = 2
-
-abbrev pub flag : Bool → ℕ
-flag true = 1
-flag false = 0
-
--- a move, and the block of what it leads to; a piece that is dropped comes from 12
 abbrev pub shown_step : Move → ℕ → DobutsuStep
-shown_step (Step kind from to catch grows) block =
-    record { block = block; kind = kind_number kind; from = from; to = to; catches = flag catch; grows = flag grows }
-shown_step (Put kind to) block = record { block = block; kind = hand_number kind; from = 12; to = to; catches = 0; grows = 0 }
+shown_step move block = with_block (move_numbers move) block
 
 -- the move of an open position at that place, or the step there that catches the lion
 abbrev pub IsMoveAtPlace : Profile → Setup → ℕ → Move → Type 0

@@ -2,16 +2,15 @@
 use Rattle.std.specs.Prelude.{◌≡◌, ℕ, List}
 use Rattle.byteorder.specs.Endian.{little_bytes}
 use Rattle.dob_value.specs.declared.value.Value.{Value}
-use Rattle.dob_value.specs.declared.value.Value.TheVariants.{Win, Loss, Draw}
+use Rattle.dob_value.specs.Bounds.{plies_of}
 use Rattle.dob_value.specs.Codes.{code_of_value}
 use Rattle.dob_value.specs.Follows.{IsEntry}
+use Rattle.dob_numbers.specs.Values.{outcome_number}
 use Rattle.dobutsu_web.specs.declared.values.DobutsuValue.{DobutsuValue}
 
 -- the record of the value
 abbrev pub IsRecordOf : Value → List ℕ → Type 0
 IsRecordOf value bytes = IsEntry value × (bytes ≡ little_bytes 2 (code_of_value value))
 
-abbrev pub shown : Value → DobutsuValue
-shown Draw = record { kind = 0; plies = 0 }
-shown (Win plies) = record { kind = 1; plies = plies }
-shown (Loss plies) = record { kind = 2; plies = plies }
+abbrev pub shown_value : Value → DobutsuValue
+shown_value value = record { kind = outcome_number value; plies = plies_of value }

@@ -1,11 +1,11 @@
 // What a database's file says of itself in its first bytes, for a program that reads it by slices.
 ghost use Rattle.std.specs.Prelude.{◌≡◌, ◌≢◌};
-ghost use Rattle.dobutsu_web.specs.Headers.{IsToldHeader, IsNoFile, file_number, shown};
-ghost use Rattle.dobutsu_web.specs.Asked.{profile_number};
+ghost use Rattle.dobutsu_web.specs.Headers.{IsToldHeader, IsNoFile, shown_header};
 
 use dob_classes::count_classes;
-use dob_dbfile::{Fault, Format, front_family, header_len};
-use dob_pieces::{Family, Profile};
+use dob_dbfile::{Format, front_family, header_len};
+use dob_numbers::{file_number, profile_number};
+use dob_pieces::Family;
 
 /// What the header of a file says: how many classes its family has, how many bytes stand before the first class's record, of which each has two, the numbers
 /// of chicks, elephants and giraffes, and the profile's number, 0 for A and 1 for B.
@@ -30,16 +30,16 @@ pub extern "C" fn dobutsu_header(front: &[u8], size: u64, header: &mut DobutsuHe
 {
     match front_family(front, size) {
         Ok((format, family)) => {
-            *header = shown(format, family);
+            *header = shown_header(format, family);
             0
         }
         Err(fault) => file_number(fault),
     }
 }
 
-// What a header says, as it is shown.
-fn shown(format: Format, family: Family) -> DobutsuHeader
-    ensures { result ≡ shown format family }
+// What a header says, as it is shown_header.
+fn shown_header(format: Format, family: Family) -> DobutsuHeader
+    ensures { result ≡ shown_header format family }
 {
     let set = family.set;
     DobutsuHeader {
@@ -49,33 +49,5 @@ fn shown(format: Format, family: Family) -> DobutsuHeader
         elephants: u32::from(set.elephants),
         giraffes: u32::from(set.giraffes),
         profile: profile_number(family.profile),
-    }
-}
-
-// The number of a profile.
-fn profile_number(profile: Profile) -> u32
-    ensures { result ≡ profile_number profile }
-{
-    match profile {
-        Profile::A => 0,
-        Profile::B => 1,
-    }
-}
-
-// The number of a file's fault.
-fn file_number(fault: Fault) -> u32
-    ensures number { result ≡ file_number fault }
-    ensures positive { result ≢ 0 }
-{
-    match fault {
-        Fault::Truncated => 15,
-        Fault::Magic => 16,
-        Fault::SetByte => 17,
-        Fault::ClassCount => 18,
-        Fault::Trailing => 19,
-        Fault::Digest => 20,
-        Fault::Memory => 23,
-        Fault::Io(_) => 24,
-        Fault::ProfileByte => 27,
     }
 }

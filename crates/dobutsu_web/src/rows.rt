@@ -1,4 +1,4 @@
-// Class numbers by rows that the caller keeps, so that each is told at once.
+// Class numbers by rows that the caller keeps, so that each is found at once.
 ghost use Rattle.std.specs.Prelude.{◌≡◌, ◌≢◌, ◌<◌, MatchOption};
 ghost use Rattle.dob_pieces.specs.declared.profile.Family.{Family as AnyFamily};
 ghost use Rattle.dob_pieces.specs.declared.setup.Setup.{Setup as AnySetup};

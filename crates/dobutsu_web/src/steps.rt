@@ -8,14 +8,15 @@ ghost use Rattle.dob_moves.specs.Moves.{Goes};
 ghost use Rattle.dob_rank.specs.Families.{IsPositionOf};
 ghost use Rattle.dobutsu_web.specs.Asked.{IsTextAsked, IsRefused};
 ghost use Rattle.dobutsu_web.specs.Rows.{IsRightRow};
-ghost use Rattle.dobutsu_web.specs.Steps.{IsMoveAtPlace, HasNone, HasNoMove, IsShownMove, IsStepShown, IsToldStep, IsToldClassAfter, IsOutcomeAt, shown_step, kind_number, hand_number, flag};
+ghost use Rattle.dobutsu_web.specs.Steps.{IsMoveAtPlace, HasNone, HasNoMove, IsShownMove, IsStepShown, IsToldStep, IsToldClassAfter, IsOutcomeAt, shown_step};
 
 use crate::asked::{Asked, ask};
 use crate::numbers::{NO_MOVE, NO_ROW};
 use crate::rows::class_below;
 use dob_classes::block_number;
 use dob_moves::{Move, apply, catch_at, move_at};
-use dob_pieces::{HandKind, Kind, Position, Square};
+use dob_numbers::{MoveNumbers, move_numbers};
+use dob_pieces::Position;
 
 /// A move: a step of a piece of that kind from one square to another, or where it comes from 12 a drop. Chick 0, elephant 1, giraffe 2, hen 3,
 /// lion 4, as the piece was before; square a1 is 0, b1 1, c1 2, a2 3 and so on to c4, 11. `catches` is 1 where a piece is caught and `grows` where
@@ -144,62 +145,19 @@ pub(crate) fn outcome_of(asked: &Asked, place: usize, the_move: &Move) -> Positi
 fn shown_step(the_move: &Move, block: u64) -> DobutsuStep
     ensures { result ≡ shown_step the_move.now block }
 {
-    match *the_move {
-        Move::Step {
-            kind,
-            from,
-            to,
-            catch,
-            grows,
-        } => DobutsuStep {
-            block,
-            kind: kind_number(kind),
-            from: square_number(from),
-            to: square_number(to),
-            catches: u32::from(catch),
-            grows: u32::from(grows),
-        },
-        Move::Put { kind, to } => DobutsuStep {
-            block,
-            kind: hand_number(kind),
-            from: HAND,
-            to: square_number(to),
-            catches: 0,
-            grows: 0,
-        },
-    }
-}
-
-// Where a piece that is dropped comes from.
-const HAND: u32 = 12;
-
-// The number of a square.
-fn square_number(square: Square) -> u32
-    ensures { result ≡ square }
-{
-    square.index() as u32
-}
-
-// The number of a kind.
-fn kind_number(kind: Kind) -> u32
-    ensures { result ≡ kind_number kind }
-{
-    match kind {
-        Kind::Chick => 0,
-        Kind::Elephant => 1,
-        Kind::Giraffe => 2,
-        Kind::Hen => 3,
-        Kind::Lion => 4,
-    }
-}
-
-// The number of a kind in hand.
-fn hand_number(kind: HandKind) -> u32
-    ensures { result ≡ hand_number kind }
-{
-    match kind {
-        HandKind::Chick => 0,
-        HandKind::Elephant => 1,
-        HandKind::Giraffe => 2,
+    let MoveNumbers {
+        kind,
+        from,
+        to,
+        catches,
+        grows,
+    } = move_numbers(*the_move);
+    DobutsuStep {
+        block,
+        kind,
+        from,
+        to,
+        catches,
+        grows,
     }
 }

@@ -2,10 +2,11 @@
 ghost use Rattle.std.specs.Prelude.{◌≡◌, ◌≢◌, length, MatchOption};
 ghost use Rattle.dob_value.specs.declared.value.Value.{Value as AnyValue};
 ghost use Rattle.dob_probe.specs.ValuedMoves.{seen_from_before};
-ghost use Rattle.dobutsu_web.specs.Values.{IsRecordOf, shown};
+ghost use Rattle.dobutsu_web.specs.Values.{IsRecordOf, shown_value};
 
 use crate::numbers::TRUNCATED;
 use dob_dbfile::value_in;
+use dob_numbers::{outcome_number, plies_of};
 use dob_probe::value_seen;
 use dob_value::Value;
 
@@ -21,13 +22,13 @@ pub struct DobutsuValue {
 /// aren't two, and writes nothing.
 #[unsafe(no_mangle)]
 pub extern "C" fn dobutsu_value(bytes: &[u8], value: &mut DobutsuValue) -> u32
-    ensures told { result ≡ 0 → (v : AnyValue) × IsRecordOf v bytes.now × (value.new ≡ shown v) }
+    ensures told { result ≡ 0 → (v : AnyValue) × IsRecordOf v bytes.now × (value.new ≡ shown_value v) }
     ensures short { result ≢ 0 → (result ≡ 15) × (length bytes.now ≢ 2) }
     ensures unchanged { result ≢ 0 → value.new ≡ value.old }
 {
     match value_of(bytes) {
         Some(found) => {
-            *value = shown(found);
+            *value = shown_value(found);
             0
         }
         None => TRUNCATED,
@@ -38,13 +39,13 @@ pub extern "C" fn dobutsu_value(bytes: &[u8], value: &mut DobutsuValue) -> u32
 /// more than that is won in, or a draw. It answers as `dobutsu_value`.
 #[unsafe(no_mangle)]
 pub extern "C" fn dobutsu_value_of_move(bytes: &[u8], value: &mut DobutsuValue) -> u32
-    ensures told { result ≡ 0 → (v : AnyValue) × IsRecordOf v bytes.now × (value.new ≡ shown (seen_from_before v)) }
+    ensures told { result ≡ 0 → (v : AnyValue) × IsRecordOf v bytes.now × (value.new ≡ shown_value (seen_from_before v)) }
     ensures short { result ≢ 0 → (result ≡ 15) × (length bytes.now ≢ 2) }
     ensures unchanged { result ≢ 0 → value.new ≡ value.old }
 {
     match value_of(bytes) {
         Some(found) => {
-            *value = shown(value_seen(found));
+            *value = shown_value(value_seen(found));
             0
         }
         None => TRUNCATED,
@@ -62,19 +63,12 @@ fn value_of(bytes: &[u8]) -> Option<Value>
     }
 }
 
-// The value as it is shown.
-fn shown(value: Value) -> DobutsuValue
-    ensures { result ≡ shown value }
+// The value as it is shown_value.
+fn shown_value(value: Value) -> DobutsuValue
+    ensures { result ≡ shown_value value }
 {
-    match value {
-        Value::Draw => DobutsuValue { kind: 0, plies: 0 },
-        Value::Win(plies) => DobutsuValue {
-            kind: 1,
-            plies: u32::from(plies),
-        },
-        Value::Loss(plies) => DobutsuValue {
-            kind: 2,
-            plies: u32::from(plies),
-        },
+    DobutsuValue {
+        kind: outcome_number(value),
+        plies: plies_of(value),
     }
 }

@@ -19,7 +19,8 @@ use Rattle.dob_rank.proofs.Positions.Blocks.{sum_below_more}
 use Rattle.dob_rank.proofs.InRuns.RunPlaces.{spot_there}
 use Rattle.dob_rank.proofs.InRuns.RunMarks.{run_start_first, run_start_next, run_start_end}
 use Rattle.dob_rank.proofs.InRuns.RunSums.{lions_there}
-use Rattle.dob_classes.proofs.MarksOfRuns.FamilyMarks.{IsStretchIn, stretch_in, first_marks, later_marks, classes_before_place}
+use Rattle.dob_classes.specs.Walks.{IsStretchIn}
+use Rattle.dob_classes.proofs.MarksOfRuns.FamilyMarks.{stretch_in, first_marks, later_marks, classes_before_place}
 use Rattle.dob_rank.proofs.Marked.Words.{marks_below-upto}
 use Rattle.dob_classes.proofs.Tables.RunTables.{marks_small}
 use Rattle.dob_classes.proofs.Counting.FamilySums.{run_marks, marks_of_lions, marks_of_runs}
@@ -145,7 +146,7 @@ pub in_run_before : (family : Family) (block run place marks : ℕ) → block < 
 in_run_before family block run place marks within below upto is =
     ap (λ n. marks_below (is_marked family) (run_start family.set block run) + n) is ∙ sym (classes_before_place family block run place within below upto)
 
--- where the lions tell it
+-- where the lions show it
 pub first_before : (family : Family) (block run place : ℕ) → block < product (block_bases family.set) → run < runs_in family.set block
     → place ≤ run_size family.set block → run_kind (run % lion_pairs) ≡ First
     → marks_below (is_there family block run) place ≡ marks_below (local_marks_in family block run) (marks_below (is_there family block run) place)

@@ -1,5 +1,5 @@
 -- What a step of a walk passes, and that a walk counts few.
-use Rattle.std.proofs.Common.{◌≡◌, ℕ, ◌≤◌, ◌<◌, ◌^◌, min, Bool, arith}
+use Rattle.std.proofs.Common.{◌≡◌, ℕ, ◌≤◌, ◌<◌, ◌^◌, min, Bool, ap, ◌∙◌, arith}
 use Rattle.dob_classes.specs.declared.class_walks.MixedRun.{MixedRun}
 use Rattle.dob_classes.specs.declared.class_walks.Walk.{Walk}
 use Rattle.dob_classes.specs.FamilyRuns.{is_there, local_marks_in}
@@ -7,7 +7,7 @@ use Rattle.dob_rank.specs.Marks.{marks_below}
 use Rattle.dob_rank.specs.Runs.{run_size}
 use Rattle.dob_classes.specs.Stretches.{local_marks}
 use Rattle.dob_classes.specs.Walks.{IsWalk, marks_before}
-use Rattle.dob_rank.proofs.Marked.Words.{marks_below-le}
+use Rattle.dob_rank.proofs.Marked.Words.{marks_below-le, marks_below_none}
 use Rattle.dob_rank.proofs.InRuns.RunPlaces.{run_size-small}
 use Rattle.dob_classes.proofs.Counting.ClassesBefore.{IsAdded, added}
 
@@ -26,3 +26,8 @@ walked_few run walk is =
     let upto = is.upto in
     let small = run_size-small run.family.set run.block run.within in
     omega (arith, marks, number, there, upto, small)
+
+-- a walk from the run's first place
+pub walk_starts : (run : MixedRun) (walk : Walk) → IsWalk run walk → walk.place ≡ 0 → walk.number ≡ 0
+walk_starts run walk is first =
+    is.number_is ∙ ap (marks_below (is_there run.family run.block run.run)) first ∙ marks_below_none (is_there run.family run.block run.run)

@@ -13,6 +13,7 @@ use Rattle.dob_rank.specs.Families.{IsPositionOf, is_present, is_marked}
 use Rattle.dob_rank.specs.Runs.{runs_in, run_size, run_start, run_kind, run_of, local_of, lion_pairs, form_bases, IsInRun}
 use Rattle.dob_classes.specs.Stretches.{local_marks}
 use Rattle.dob_rank.specs.Weights.{may_have, are_allowed}
+use Rattle.dob_classes.specs.Walks.{IsStretchIn}
 use Rattle.dob_classes.specs.FamilyRuns.{is_there, run_size_in, place_of_number, local_marks_in, classes_before, IsInRunOf, IsNumbered}
 use Rattle.dob_rank.proofs.Marked.Marks.{marked-first_of}
 use Rattle.dob_rank.proofs.Marked.Words.{marks_below_more, marks_below_none, marks_below-le, marks_below-upto}
@@ -241,11 +242,6 @@ run_size_in-small family block run within =
     omega (arith, few, small)
 
 -- the positions of the family on the places from one on up to another
-pub record IsStretchIn (family : Family) (block run start next : ℕ) (on : Bool) : Type 0 where
-  pub further : start ≤ next
-  pub within : next ≤ run_size_in family block run
-  pub same : (number : ℕ) → start ≤ number → number < next → local_marks_in family block run number ≡ on
-
 pub stretch_in : (family : Family) (block run place end start next : ℕ) (on : Bool) → block < product (block_bases family.set)
     → run < runs_in family.set block → end ≤ run_size family.set block → start ≡ marks_below (is_there family block run) place
     → next ≡ marks_below (is_there family block run) end → place < end

@@ -21,7 +21,7 @@ use Rattle.dob_rank.proofs.InRuns.RunPlaces.{local_digits}
 
 -- ---- squares
 
--- the layers up to one tell the choice that it makes on the mirror image
+-- the layers up to one give the choice that it makes on the mirror image
 image_choice : (t : ℕ) (s : Setup) → t < order Empty → length s.board ≡ 12 →
     choice t (map layer (mirrored s).board) ≡ choice t (mirror_layers (hide (suc t) (map layer s.board)))
 image_choice t s low twelve =
@@ -35,7 +35,7 @@ pub same_image_choice : (t : ℕ) (p q : Setup) → t < order Empty → length p
 same_image_choice t p q low hp hq same =
     image_choice t p low hp ∙ ap (λ ls. choice t (mirror_layers ls)) same ∙ sym (image_choice t q low hq)
 
--- one more choice tells one more layer
+-- one more choice gives one more layer
 pub hide_more : (t : ℕ) (p q : Setup) → t < order Empty → hide t (map layer p.board) ≡ hide t (map layer q.board) →
     count t (map layer p.board) ≡ count t (map layer q.board) → choice t (map layer p.board) ≡ choice t (map layer q.board) →
     hide (suc t) (map layer p.board) ≡ hide (suc t) (map layer q.board)
@@ -92,7 +92,7 @@ forms_shown t (cell ∷ cells) low =
           ∙ rest ∙ sym (forms_number_other t cell cells other)
     ]
 
--- the forms number of a layer tells its cells, where the layers are known
+-- the forms number of a layer gives its cells, where the layers are known
 same_shown : (t : ℕ) (xs ys : List Cell) → map layer xs ≡ map layer ys → forms_number t xs ≡ forms_number t ys → map (shown t) xs ≡ map (shown t) ys
 same_shown t [] [] layers forms = refl
 same_shown t [] (y ∷ ys) layers forms = absurd cc

@@ -18,7 +18,7 @@ use Rattle.dob_pieces.specs.Setups.{Cell, at, piece_of}
 use Rattle.dob_pieces.proofs.MaskBits.{bit_if, IsMask-same}
 use Rattle.dob_classes.specs.declared.bits.bitboards.Bitboards.{Bitboards}
 use Rattle.dob_classes.specs.Bitboards.{is_own_lion, is_enemy_lion, is_chick, is_elephant, is_giraffe, is_hen, is_enemy, AreBitboards}
-use Rattle.dob_classes.specs.Changes.{IsWith}
+use Rattle.dob_classes.specs.Changes.{IsWith, with_own, with_enemy}
 
 -- ---- one set
 
@@ -70,16 +70,8 @@ module _ (before after : Setup) (square : ℕ) (cell : Cell) (lt : square < 12) 
 
 -- the sets with that piece on an empty square
 abbrev pub with_piece : Side → Kind → ℕ → Bitboards → Bitboards
-with_piece Mover Lion k b = record b { own_lion = bit_or b.own_lion (bit k) }
-with_piece Mover Giraffe k b = record b { giraffes = bit_or b.giraffes (bit k) }
-with_piece Mover Elephant k b = record b { elephants = bit_or b.elephants (bit k) }
-with_piece Mover Chick k b = record b { chicks = bit_or b.chicks (bit k) }
-with_piece Mover Hen k b = record b { chicks = bit_or b.chicks (bit k); hens = bit_or b.hens (bit k) }
-with_piece Enemy Lion k b = record b { enemy_lion = bit_or b.enemy_lion (bit k) }
-with_piece Enemy Giraffe k b = record b { giraffes = bit_or b.giraffes (bit k); enemies = bit_or b.enemies (bit k) }
-with_piece Enemy Elephant k b = record b { elephants = bit_or b.elephants (bit k); enemies = bit_or b.enemies (bit k) }
-with_piece Enemy Chick k b = record b { chicks = bit_or b.chicks (bit k); enemies = bit_or b.enemies (bit k) }
-with_piece Enemy Hen k b = record b { chicks = bit_or b.chicks (bit k); hens = bit_or b.hens (bit k); enemies = bit_or b.enemies (bit k) }
+with_piece Mover kind k b = with_own kind (bit k) b
+with_piece Enemy kind k b = with_enemy kind (bit k) b
 
 module _ (before after : Setup) (square : ℕ) (lt : square < 12) (b : Bitboards) (are : AreBitboards before b) where
   pub without_piece : IsWith before after square None → (new : Bitboards)

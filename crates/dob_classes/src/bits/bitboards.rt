@@ -1,4 +1,4 @@
-// A setup as sets of squares, with no board: what a position's rank needs is told from them.
+// A setup as sets of squares, with no board: what a position's rank needs is found from them.
 ghost use Rattle.std.specs.Prelude.{◌≡◌, ◌<◌, ◌≤◌, ◌/◌, ◌%◌, length};
 ghost use Rattle.std.specs.Int.{bit_at};
 ghost use Rattle.dob_pieces.specs.declared.setup.Setup.{Setup};

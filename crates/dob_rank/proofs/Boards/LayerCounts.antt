@@ -146,7 +146,7 @@ holds_kind-layer hand.Elephant = of_cell (λ cell. holds_kind hand.Elephant cell
 holds_kind-layer hand.Giraffe = of_cell (λ cell. holds_kind hand.Giraffe cell ≡ eqb (layer cell) (order Giraffes)) refl
     (refl, refl, refl, refl, refl) (refl, refl, refl, refl, refl)
 
--- what passes a test that tells a layer is as many as the layer has, on the squares of the layer
+-- what passes a test that picks a layer is as many as the layer has, on the squares of the layer
 pub count-layer : (test : Cell → Bool) (t : ℕ) → ((cell : Cell) → test cell ≡ eqb (layer cell) t)
     → (cells : List Cell) → count_by test cells ≡ count t (map layer cells)
 count-layer test t h cells = sym (is_count_by (λ (xs : List Cell). count t (map layer xs)) test refl

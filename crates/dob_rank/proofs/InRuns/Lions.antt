@@ -117,7 +117,7 @@ lions_of-below set s p =
 
 -- ---- what their columns say
 
--- the kind of run tells how the number of the lions compares with that of the mirrored ones
+-- the kind of run says how the number of the lions compares with that of the mirrored ones
 abbrev tells : RunKind → ℕ → ℕ → Bool
 tells First lions image = ltb lions image
 tells Later lions image = ltb image lions

@@ -5,13 +5,13 @@ use Rattle.dob_pieces.specs.declared.profile.Family.{Family}
 use Rattle.dob_rank.specs.Families.{is_present, is_marked, size_of, classes_of}
 use Rattle.dob_rank.specs.Numbers.{size_of_set, product, block_bases}
 use Rattle.dob_rank.proofs.Positions.BlockStarts.{start_few}
-use Rattle.dob_rank.proofs.Positions.Blocks.{blocks_small, size_of_set-sum}
+use Rattle.dob_rank.proofs.Positions.Blocks.{size_of_set-sum}
 use Rattle.dob_rank.proofs.Marked.Words.{marks_below-le}
 
 size_few : (set : PieceSet) → size_of_set set < 2 ^ 31
 size_few set =
     subst (λ (n : ℕ). n < 2 ^ 31) (sym (size_of_set-sum set))
-    (start_few set (product (block_bases set)) (all_blocks (product (block_bases set))) (blocks_small set))
+    (start_few set (product (block_bases set)) (all_blocks (product (block_bases set))))
   where
     all_blocks : (n : ℕ) → n ≤ n
     all_blocks n = omega arith

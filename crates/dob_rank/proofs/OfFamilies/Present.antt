@@ -1,16 +1,18 @@
 -- The positions of a family, counted among the setups of its set.
-use Rattle.std.proofs.Common.{◌≡◌, ℕ, zero, suc, ◌<◌, Bool, true, false, ◌&&◌, refl, sym, ap, ◌∙◌, arith}
+use Rattle.std.proofs.Common.{◌≡◌, ℕ, zero, suc, ◌+◌, ◌<◌, ◌≤◌, Bool, true, false, ◌&&◌, refl, sym, ap, ◌∙◌, arith}
+use Rattle.dob_pieces.specs.declared.piece_set.PieceSet.{PieceSet}
 use Rattle.dob_pieces.specs.declared.profile.Family.{Family}
 use Rattle.dob_pieces.specs.declared.profile.Profile.{Profile}
-use Rattle.dob_pieces.specs.declared.profile.Profile.TheVariants.{A, B}
+use Rattle.dob_pieces.specs.declared.profile.Profile.TheVariants.{A}
 use Rattle.dob_pieces.specs.declared.setup.Setup.{Setup}
 use Rattle.dob_pieces.specs.Profiles.{is_allowed}
 use Rattle.dob_rank.specs.Order.{IsPositionOfSet, Before}
-use Rattle.dob_rank.specs.Numbers.{size_of_set, rank_of_set, nth, product, block_bases, start_of}
+use Rattle.dob_rank.specs.Numbers.{size_of_set, rank_of_set, nth, product, block_bases, block_size, start_of}
 use Rattle.dob_rank.specs.Marks.{one_if, marks_below, is_first}
 use Rattle.dob_rank.specs.Families.{IsPositionOf, HasSize, HasRank, IsRepresentative, HasClasses, HasClass}
 use Rattle.dob_rank.specs.Families.{family_of, is_present, is_marked, size_of, rank_of, classes_of}
 use Rattle.dob_rank.proofs.Positions.Numbering.{nth-rank_of_set, rank_of_set-below, rank_of_set-rises, Before-from_rank}
+use Rattle.dob_rank.proofs.Positions.Blocks.{sum_below_more}
 use Rattle.dob_rank.proofs.Marked.Marks.{HasCount-same, HasCount-marked, IsMarkedBelow, numbering, first-marked, marked-first}
 
 -- a position's number is present just where the position is one of the family
@@ -111,11 +113,35 @@ pub rank_of-whole : (family : Family) (s : Setup) → family.profile ≡ A → r
 unfolding rank_of
 rank_of-whole family s a = all_present family (rank_of_set family.set s) a
 
--- ---- in profile B those before the end of the last block are all
+-- a place in a block, counted among the positions of the family, is one counted among all
+pub record IsInWholeBlock (set : PieceSet) (block place rank : ℕ) : Type 0 where
+  pub below : place < block_size set block
+  pub whole : start_of set block + place ≡ rank
 
-pub size_of-end : (family : Family) (blocks number : ℕ) → family.profile ≡ B → blocks ≡ product (block_bases family.set)
-    → number ≡ marks_below (is_present (family_of family.set B)) (start_of family.set blocks) → number ≡ size_of family
+pub in_whole_block : (set : PieceSet) (block place rank : ℕ) → marks_below (is_present (family_of set A)) (start_of set block) + place ≡ rank
+    → rank < marks_below (is_present (family_of set A)) (start_of set (block + 1)) → IsInWholeBlock set block place rank
+in_whole_block set block place rank is below =
+    let start = all_present (family_of set A) (start_of set block) refl in
+    let end = all_present (family_of set A) (start_of set (block + 1)) refl ∙ sum_below_more (block_size set) block in
+    record { below = omega (arith, start, end, is, below); whole = omega (arith, start, is) }
+
+-- ---- those before the end of the last block are all
+
+pub size_of-end : (family : Family) (blocks number : ℕ) → blocks ≡ product (block_bases family.set)
+    → number ≡ marks_below (is_present family) (start_of family.set blocks) → number ≡ size_of family
 unfolding size_of size_of_set
-size_of-end family blocks number b whole is =
-    is ∙ ap (λ (n : ℕ). marks_below (is_present (family_of family.set B)) (start_of family.set n)) whole
-    ∙ ap (λ (p : Profile). marks_below (is_present (family_of family.set p)) (start_of family.set (product (block_bases family.set)))) (sym b)
+size_of-end family blocks number whole is = is ∙ ap (λ (n : ℕ). marks_below (is_present family) (start_of family.set n)) whole
+
+-- past the last block nothing is left
+pub none_beyond : (family : Family) (rank start block blocks : ℕ) → rank < size_of family → blocks ≡ product (block_bases family.set) → blocks ≤ block
+    → block ≤ blocks → start ≡ marks_below (is_present family) (start_of family.set block) → start ≤ rank → ⊥
+none_beyond family rank start block blocks below is low high start_is upto =
+    let same : block ≡ product (block_bases family.set) = equal block blocks (product (block_bases family.set)) low high is in
+    let whole = size_of-end family block start same start_is in
+    over (size_of family) start rank below whole upto
+  where
+    equal : (a b c : ℕ) → b ≤ a → a ≤ b → b ≡ c → a ≡ c
+    equal a b c h k l = omega (arith, h, k, l)
+
+    over : (size start rank : ℕ) → rank < size → start ≡ size → start ≤ rank → ⊥
+    over size start rank h e k = omega (arith, h, e, k)

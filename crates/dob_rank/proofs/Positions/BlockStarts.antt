@@ -1,7 +1,8 @@
--- The table of the blocks' starts is the sum of the blocks before: computed for each set and each block.
+-- The table of the blocks' starts, profile by profile: what is computed of each set and each block holds of every one. In profile A an entry is the sum
+-- of the blocks before.
 use Rattle.std.proofs.Common.{◌≡◌, ℕ, ◌+◌, ◌-◌, ◌*◌, ◌^◌, ◌<◌, ◌≤◌, ◌||◌, nat_eq, nat_lt, Bool, true, false, List, [], ◌∷◌}
 use Rattle.std.proofs.Common.{slice_index, slice_index_or, refl, sym, subst, ◌∙◌, inl, inr, arith}
-use Rattle.std.proofs.lemmas.Bool.{le-ltb, ltb-true, cases_eq, ne_eqb}
+use Rattle.std.proofs.lemmas.Bool.{ltb-true, cases_eq, ne_eqb}
 use Rattle.dob_pieces.specs.declared.piece_set.PieceSet.{PieceSet}
 use Rattle.dob_pieces.proofs.Boards.{all_below, all_below-at}
 use Rattle.dob_rank.specs.declared.starts.TheConstants.{STARTS}
@@ -9,34 +10,47 @@ use Rattle.dob_rank.specs.Numbers.{product, digits_of, sum_below, choose, block_
 use Rattle.dob_lists.proofs.Sums.{sum_same}
 use Rattle.dob_rank.proofs.Positions.Numbering.{block_size-product}
 
--- the bases and the size of a block by the numbers of the set
+-- ---- each set by its numbers, and each of its blocks with the end
+
 abbrev pub bases_of : ℕ → ℕ → ℕ → List ℕ
 bases_of c e g = (c + 1) ∷ (e + 1) ∷ (g + 1) ∷ []
 
-abbrev bases_in : ℕ → ℕ → ℕ → List ℕ → List ℕ
-bases_in c e g ob =
-    let i = slice_index ob 0 in
-    let j = slice_index ob 1 in
-    let k = slice_index ob 2 in
-    (c - i + 1) ∷ (e - j + 1) ∷ (g - k + 1)
-    ∷ own_squares ∷ enemy_squares ∷ choose free_squares i ∷ choose (free_squares - i) j ∷ choose (free_squares - i - j) k
-    ∷ (4 ^ i) ∷ (2 ^ j) ∷ (2 ^ k) ∷ []
+abbrev on_blocks : (ℕ → ℕ → ℕ → ℕ → Bool) → ℕ → ℕ → ℕ → Bool
+on_blocks f c e g = all_below (f c e g) (product (bases_of c e g) + 1)
 
-abbrev size_by : ℕ → ℕ → ℕ → ℕ → ℕ
-size_by c e g block = product (bases_in c e g (digits_of (bases_of c e g) block))
+abbrev on_row : (ℕ → ℕ → ℕ → ℕ → Bool) → ℕ → ℕ → Bool
+on_row f c e = all_below (on_blocks f c e) 3
 
-abbrev pub start_in : ℕ → ℕ → ℕ
-start_in row block = slice_index_or (slice_index_or STARTS row []) block 0
+abbrev pub on_all : (ℕ → ℕ → ℕ → ℕ → Bool) → Bool
+on_all f = all_below (λ c. all_below (on_row f c) 3) 3
 
-abbrev agrees : ℕ → ℕ → ℕ → ℕ → Bool
-agrees c e g block =
-    nat_lt (product (bases_of c e g)) block || nat_eq (start_in (9 * c + 3 * e + g) block) (sum_below (size_by c e g) block)
+pub at_block : (f : ℕ → ℕ → ℕ → ℕ → Bool) → on_all f ≡ true → (set : PieceSet) (block : ℕ) → block ≤ product (block_bases set)
+    → f set.chicks set.elephants set.giraffes block ≡ true
+at_block f all set block upto =
+    let some = all_below-at (λ c. all_below (on_row f c) 3) 3 set.chicks all (small set.chicks set.few_chicks) in
+    let row = all_below-at (on_row f set.chicks) 3 set.elephants some (small set.elephants set.few_elephants) in
+    let here = all_below-at (on_blocks f set.chicks set.elephants) 3 set.giraffes row (small set.giraffes set.few_giraffes) in
+    all_below-at (f set.chicks set.elephants set.giraffes) (product (block_bases set) + 1) block here (within block (product (block_bases set)) upto)
+  where
+    small : (n : ℕ) → n ≤ 2 → n < 3
+    small n h = omega (arith, h)
 
-abbrev agree : ℕ → ℕ → Bool
-agree c e = all_below (λ g. all_below (agrees c e g) 28) 3
+    within : (a b : ℕ) → a ≤ b → a < b + 1
+    within a b h = omega (arith, h)
 
-computed : all_below (λ c. all_below (agree c) 3) 3 ≡ true
-computed = refl
+-- ---- the table's entries
+
+abbrev row_of : ℕ → ℕ → ℕ → ℕ → List ℕ
+row_of profile c e g = slice_index_or (slice_index_or STARTS profile []) (9 * c + 3 * e + g) []
+
+abbrev start_in : ℕ → ℕ → ℕ → ℕ → ℕ → ℕ
+start_in profile c e g block = slice_index_or (row_of profile c e g) block 0
+
+abbrev pub start_at : ℕ → PieceSet → ℕ → ℕ
+start_at profile set block = start_in profile set.chicks set.elephants set.giraffes block
+
+abbrev pub agrees : ℕ → (ℕ → ℕ → ℕ → ℕ → ℕ) → ℕ → ℕ → ℕ → ℕ → Bool
+agrees profile size c e g block = nat_eq (start_in profile c e g block) (sum_below (size c e g) block)
 
 pub same_number : (a b : ℕ) → nat_eq a b ≡ true → a ≡ b
 same_number a b h = elim (cases_eq a b) [
@@ -51,42 +65,42 @@ second true b h e = elim (absurd_bool e) [ ]
     absurd_bool q = cc
 second false b h e = h
 
-tells : (c e g block : ℕ) → c < 3 → e < 3 → g < 3 → block ≤ product (bases_of c e g) → block < 28 →
-    start_in (9 * c + 3 * e + g) block ≡ sum_below (size_by c e g) block
-tells c e g block lc le lg upto few =
-    let some = all_below-at (λ c. all_below (agree c) 3) 3 c computed lc in
-    let row = all_below-at (agree c) 3 e some le in
-    let all = all_below-at (λ g. all_below (agrees c e g) 28) 3 g row lg in
-    let here = all_below-at (agrees c e g) 28 block all few in
-    same_number (start_in (9 * c + 3 * e + g) block) (sum_below (size_by c e g) block)
-    (second (nat_lt (product (bases_of c e g)) block) (nat_eq (start_in (9 * c + 3 * e + g) block) (sum_below (size_by c e g) block)) here
-    (le-ltb (product (bases_of c e g)) block upto))
+-- an entry that was computed
+pub entry_is : (profile : ℕ) (size : ℕ → ℕ → ℕ → ℕ → ℕ) → on_all (agrees profile size) ≡ true → (set : PieceSet) (block : ℕ)
+    → block ≤ product (block_bases set) → start_at profile set block ≡ sum_below (size set.chicks set.elephants set.giraffes) block
+entry_is profile size all set block upto =
+    same_number (start_at profile set block) (sum_below (size set.chicks set.elephants set.giraffes) block) (at_block (agrees profile size) all set block upto)
 
-pub small_set : (n : ℕ) → n ≤ 2 → n < 3
-small_set n h = omega arith
+-- ---- in profile A
 
-pub start_is : (set : PieceSet) (block : ℕ) → block ≤ product (block_bases set) → product (block_bases set) ≤ 27 →
-    start_in (9 * set.chicks + 3 * set.elephants + set.giraffes) block ≡ sum_below (block_size set) block
-start_is set block upto few =
-    tells set.chicks set.elephants set.giraffes block (small_set _ set.few_chicks) (small_set _ set.few_elephants)
-    (small_set _ set.few_giraffes) upto (omega arith)
+abbrev bases_in : ℕ → ℕ → ℕ → List ℕ → List ℕ
+bases_in c e g ob =
+    let i = slice_index ob 0 in
+    let j = slice_index ob 1 in
+    let k = slice_index ob 2 in
+    (c - i + 1) ∷ (e - j + 1) ∷ (g - k + 1)
+    ∷ own_squares ∷ enemy_squares ∷ choose free_squares i ∷ choose (free_squares - i) j ∷ choose (free_squares - i - j) k
+    ∷ (4 ^ i) ∷ (2 ^ j) ∷ (2 ^ k) ∷ []
+
+abbrev size_by : ℕ → ℕ → ℕ → ℕ → ℕ
+size_by c e g block = product (bases_in c e g (digits_of (bases_of c e g) block))
+
+computed : on_all (agrees 0 size_by) ≡ true
+computed = refl
+
+pub start_is : (set : PieceSet) (block : ℕ) → block ≤ product (block_bases set) → start_at 0 set block ≡ sum_below (block_size set) block
+start_is set block upto =
+    entry_is 0 size_by computed set block upto
     ∙ sym (sum_same (block_size set) (size_by set.chicks set.elephants set.giraffes) block (λ n low. block_size-product set n))
 
--- ---- how large they are: the entries of all rows
+-- ---- how large they are
 
-abbrev few_in : ℕ → ℕ → Bool
-few_in row block = nat_lt (start_in row block) (2 ^ 31)
+abbrev few_in : ℕ → ℕ → ℕ → ℕ → Bool
+few_in c e g block = nat_lt (start_in 0 c e g block) (2 ^ 31)
 
-few_all : all_below (λ row. all_below (few_in row) 28) 27 ≡ true
+few_all : on_all few_in ≡ true
 few_all = refl
 
-row_within : (set : PieceSet) → 9 * set.chicks + 3 * set.elephants + set.giraffes < 27
-row_within set = omega (arith, set.few_chicks, set.few_elephants, set.few_giraffes)
-
-pub start_few : (set : PieceSet) (block : ℕ) → block ≤ product (block_bases set) → product (block_bases set) ≤ 27 →
-    sum_below (block_size set) block < 2 ^ 31
-start_few set block upto few =
-    let row = 9 * set.chicks + 3 * set.elephants + set.giraffes in
-    let each = all_below-at (λ r. all_below (few_in r) 28) 27 row few_all (row_within set) in
-    let here = all_below-at (few_in row) 28 block each (omega arith) in
-    subst (λ (n : ℕ). n < 2 ^ 31) (start_is set block upto few) (ltb-true (start_in row block) (2 ^ 31) here)
+pub start_few : (set : PieceSet) (block : ℕ) → block ≤ product (block_bases set) → sum_below (block_size set) block < 2 ^ 31
+start_few set block upto =
+    subst (λ (n : ℕ). n < 2 ^ 31) (start_is set block upto) (ltb-true (start_at 0 set block) (2 ^ 31) (at_block few_in few_all set block upto))

@@ -283,19 +283,6 @@ start_step set start size earlier block h lt e s i b =
         → size ≤ 2 ^ 36 → start + size < 2 ^ 64
     less_word start size earlier blocks h k l m = omega arith
 
--- past the last block nothing is left
-pub none_left : (set : PieceSet) (rank start block blocks : ℕ) → rank < size_of_set set → blocks ≡ product (block_bases set) → blocks ≤ block → block ≤ blocks
-    → start ≡ sum_below (block_size set) block → start ≤ rank → ⊥
-none_left set rank start block blocks h e l m i k =
-    let same : block ≡ product (block_bases set) = equal block blocks (product (block_bases set)) l m e in
-    over (size_of_set set) (sum_below (block_size set) (product (block_bases set))) start rank h (size_of_set-sum set) (i ∙ ap (sum_below (block_size set)) same) k
-  where
-    equal : (a b c : ℕ) → b ≤ a → a ≤ b → b ≡ c → a ≡ c
-    equal a b c h k l = omega arith
-
-    over : (size sum start rank : ℕ) → rank < size → size ≡ sum → start ≡ sum → start ≤ rank → ⊥
-    over size sum start rank h e i k = absurd (omega arith)
-
 -- a block has few runs
 pub run_bases-few : (set : PieceSet) (ob : List ℕ) → product (run_bases set ob) ≤ 2 ^ 12
 run_bases-few set ob =

@@ -33,7 +33,7 @@ squares_key s =
     ++ (layer_squares (order Chicks) 0 (map layer s.board)
     ++ (layer_squares (order Elephants) 0 (map layer s.board) ++ (layer_squares (order Giraffes) 0 (map layer s.board) ++ forms_key s))))
 
--- a test that tells a layer, in each part of the key
+-- a test that picks a layer, in each part of the key
 kind_forms : (kind : HandKind) (t : ℕ) (s : Setup) → ((cell : Cell) → holds_kind kind cell ≡ eqb (layer cell) t) → forms kind s ≡ layer_forms t s.board
 kind_forms kind t s h = ap (map form) (filter_agree (holds_kind kind) (λ (cell : Cell). eqb (layer cell) t) h s.board)
 

@@ -108,7 +108,7 @@ same_numbers p q c e g =
     ≡ set_with q.chicks q.elephants x q.few_chicks q.few_elephants f) g
     (λ f. ap (λ (h : p.giraffes ≤ 2). set_with q.chicks q.elephants p.giraffes q.few_chicks q.few_elephants h) (le_prop p.few_giraffes f)) q.few_giraffes
 
--- so the pieces of a position tell its set
+-- so the pieces of a position give its set
 pub set_of_position : (p q : PieceSet) (s : Setup) → IsPositionOfSet p s → IsPositionOfSet q s → p ≡ q
 set_of_position p q s hp hq =
     same_numbers p q (sym (hp.pieces hand.Chick) ∙ hq.pieces hand.Chick) (sym (hp.pieces hand.Elephant) ∙ hq.pieces hand.Elephant)

@@ -6,7 +6,7 @@ use Rattle.dob_pieces.specs.declared.setup.Setup.{Setup}
 use Rattle.dob_rank.specs.Order.{IsPositionOfSet}
 use Rattle.dob_rank.specs.Numbers.{product, block_bases, size_of_set, rank_of_set, choose, free_squares, block_of, start_of, on_board, digits, layer, count, order}
 use Rattle.dob_rank.specs.Marks.{marks_below}
-use Rattle.dob_rank.specs.Runs.{run_of, lions_of, lion_pairs, local_of}
+use Rattle.dob_rank.specs.Runs.{run_number, run_of, lions_of, lion_pairs, local_of}
 use Rattle.dob_rank.specs.Families.{family_of, IsPositionOf, is_present, rank_of}
 use Rattle.dob_rank.specs.Weights.{may_have, allowed_number, others_squares, others_forms, squares_by, others_by, place_in}
 use Rattle.dob_rank.specs.declared.layers.Layer.TheVariants.{Chicks}
@@ -15,7 +15,7 @@ use Rattle.dob_rank.proofs.Positions.Digits.{HasParts-from_position, HasDigits-d
 use Rattle.dob_rank.proofs.Positions.Numbering.{rank_of_set-below}
 use Rattle.dob_rank.proofs.Marked.Words.{marks_below-le}
 use Rattle.dob_rank.proofs.InRuns.RunMarks.{start_small}
-use Rattle.dob_rank.proofs.Positions.Found.{spot_small}
+use Rattle.dob_rank.proofs.Positions.Found.{run_is_of, spot_small}
 use Rattle.dob_rank.proofs.InRuns.RunPlaces.{hand_of, run_of-lions}
 use Rattle.dob_rank.proofs.InRuns.Lions.{lions_of-below}
 use Rattle.dob_rank.proofs.OfFamilies.FamilyRanks.{rank_of-parts}
@@ -40,12 +40,12 @@ own_parts set s p =
           (slice_index (digits s) 9 ∷ slice_index (digits s) 10 ∷ []) (h.1.1.1.1.1.1.1.1.1.0, (h.1.1.1.1.1.1.1.1.1.1.0, tt));
     }
 
-pub far_parts : (set : PieceSet) (s : Setup) (ob ds : List ℕ) (run : ℕ) → IsPositionOfSet set s → ob ≡ on_board s → ds ≡ digits s → run ≡ run_of set s
-    → AreFarParts ob ds run
+pub far_parts : (set : PieceSet) (s : Setup) (ob ds : List ℕ) (run : ℕ) → IsPositionOfSet set s → ob ≡ on_board s → ds ≡ digits s
+    → run ≡ run_number set ob ds → AreFarParts ob ds run
 far_parts set s ob ds run p ob_is ds_is run_is =
     subst (λ (xs : List ℕ). AreFarParts xs ds run) (sym ob_is)
     (subst (λ (xs : List ℕ). AreFarParts (on_board s) xs run) (sym ds_is)
-    (subst (AreFarParts (on_board s) (digits s)) (sym run_is) (own_parts set s p)))
+    (subst (AreFarParts (on_board s) (digits s)) (sym (run_is_of set s ob ds run ob_is ds_is run_is)) (own_parts set s p)))
 
 pub chicks_on_board : (s : Setup) (ob : List ℕ) → ob ≡ on_board s → get_or ob 0 0 ≡ count (order Chicks) (map layer s.board)
 chicks_on_board s ob is = ap (λ (xs : List ℕ). get_or xs 0 0) is

@@ -83,7 +83,7 @@ pub record AreSpotParts (ob : List ℕ) (lions c q d g f number : ℕ) : Type 0 
   pub counted : marks_below (stands lions (slice_index ob 0) c) g ≡ d
   pub number_is : (forms_before B lions (slice_index ob 0) c * others_squares ob + q * choice_weight B lions (slice_index ob 0) c + d) * others_forms ob + f ≡ number
 
--- lions alone tell the weights and the forms
+-- lions alone give the weights and the forms
 same_parts : (ob : List ℕ) (run lions c q d g f number : ℕ) → run % lion_pairs ≡ lions % lion_pairs
     → AreSpotParts ob lions c q d g f number → AreSpotParts ob run c q d g f number
 same_parts ob run lions c q d g f number e p = record {

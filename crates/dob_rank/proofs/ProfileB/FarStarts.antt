@@ -1,23 +1,19 @@
 -- The table of the blocks' starts in profile B is the sum of the blocks before: computed for each set and each block.
-use Rattle.std.proofs.Common.{◌≡◌, ℕ, ◌+◌, ◌-◌, ◌*◌, ◌^◌, ◌<◌, ◌≤◌, ◌||◌, nat_eq, nat_lt, Bool, true, List, [], ◌∷◌}
-use Rattle.std.proofs.Common.{slice_index, slice_index_or, refl, sym, ap, ◌∙◌, arith}
-use Rattle.std.proofs.lemmas.Bool.{le-ltb}
+use Rattle.std.proofs.Common.{◌≡◌, ℕ, ◌+◌, ◌-◌, ◌*◌, ◌<◌, ◌≤◌, true, List, [], ◌∷◌, slice_index, refl, sym, ap, ◌∙◌, arith}
 use Rattle.dob_pieces.specs.declared.piece_set.PieceSet.{PieceSet}
-use Rattle.dob_pieces.specs.declared.profile.Profile.TheVariants.{B}
-use Rattle.dob_pieces.proofs.Boards.{all_below, all_below-at}
-use Rattle.dob_rank.specs.declared.far_starts.TheConstants.{FAR_STARTS}
-use Rattle.dob_rank.specs.Numbers.{product, digits_of, sum_below, block_bases, start_of}
+use Rattle.dob_pieces.specs.declared.profile.Profile.{Profile}
+use Rattle.dob_pieces.specs.declared.profile.Profile.TheVariants.{A, B}
+use Rattle.dob_rank.specs.Numbers.{product, digits_of, block_bases, start_of}
 use Rattle.dob_rank.specs.Marks.{marks_below}
 use Rattle.dob_rank.specs.Runs.{lion_pairs}
 use Rattle.dob_rank.specs.Families.{family_of, is_present}
 use Rattle.dob_rank.specs.Weights.{others_squares, others_forms}
 use Rattle.dob_lists.proofs.Sums.{sum_same}
-use Rattle.dob_rank.proofs.Positions.Blocks.{few_in_block, blocks_small}
+use Rattle.dob_rank.proofs.Positions.Blocks.{few_in_block}
 use Rattle.dob_rank.proofs.InRuns.DigitParts.{AreFewOnBoard-digits}
-use Rattle.dob_rank.proofs.Positions.BlockStarts.{bases_of, same_number, second, small_set}
-use Rattle.dob_rank.proofs.InRuns.RunMarks.{start_small}
-use Rattle.dob_rank.proofs.Marked.Words.{marks_below-le}
+use Rattle.dob_rank.proofs.Positions.BlockStarts.{bases_of, on_all, agrees, start_at, entry_is, start_is}
 use Rattle.dob_rank.proofs.ProfileB.FarTables.{lions_entry, before_lions}
+use Rattle.dob_rank.proofs.OfFamilies.Present.{all_present}
 use Rattle.dob_rank.proofs.OfFamilies.FamilyRuns.{present_size, blocks_present}
 
 -- the size of a block by the numbers of the set
@@ -29,29 +25,8 @@ size_on c e g ob =
 abbrev size_by : ℕ → ℕ → ℕ → ℕ → ℕ
 size_by c e g block = size_on c e g (digits_of (bases_of c e g) block)
 
-abbrev pub far_start_in : ℕ → ℕ → ℕ
-far_start_in row block = slice_index_or (slice_index_or FAR_STARTS row []) block 0
-
-abbrev agrees : ℕ → ℕ → ℕ → ℕ → Bool
-agrees c e g block =
-    nat_lt (product (bases_of c e g)) block || nat_eq (far_start_in (9 * c + 3 * e + g) block) (sum_below (size_by c e g) block)
-
-abbrev agree : ℕ → ℕ → Bool
-agree c e = all_below (λ g. all_below (agrees c e g) 28) 3
-
-computed : all_below (λ c. all_below (agree c) 3) 3 ≡ true
+computed : on_all (agrees 1 size_by) ≡ true
 computed = refl
-
-tells : (c e g block : ℕ) → c < 3 → e < 3 → g < 3 → block ≤ product (bases_of c e g) → block < 28 →
-    far_start_in (9 * c + 3 * e + g) block ≡ sum_below (size_by c e g) block
-tells c e g block lc le lg upto few =
-    let some = all_below-at (λ c. all_below (agree c) 3) 3 c computed lc in
-    let row = all_below-at (agree c) 3 e some le in
-    let all = all_below-at (λ g. all_below (agrees c e g) 28) 3 g row lg in
-    let here = all_below-at (agrees c e g) 28 block all few in
-    same_number (far_start_in (9 * c + 3 * e + g) block) (sum_below (size_by c e g) block)
-    (second (nat_lt (product (bases_of c e g)) block) (nat_eq (far_start_in (9 * c + 3 * e + g) block) (sum_below (size_by c e g) block)) here
-    (le-ltb (product (bases_of c e g)) block upto))
 
 size_is : (set : PieceSet) (block : ℕ) → block < product (block_bases set) → size_by set.chicks set.elephants set.giraffes block ≡ present_size (family_of set B) block
 size_is set block within =
@@ -65,19 +40,17 @@ size_is set block within =
     all_lions : lion_pairs ≤ lion_pairs
     all_lions = omega arith
 
--- what the code reads
-pub record IsFarStart (set : PieceSet) (block : ℕ) : Type 0 where
-  pub value_is : far_start_in (9 * set.chicks + 3 * set.elephants + set.giraffes) block ≡ marks_below (is_present (family_of set B)) (start_of set block)
-  pub few : far_start_in (9 * set.chicks + 3 * set.elephants + set.giraffes) block ≤ 27 * 2 ^ 36
-
-pub far_start : (set : PieceSet) (block : ℕ) → block ≤ product (block_bases set) → IsFarStart set block
-far_start set block upto =
-    let most = blocks_small set in
-    let value : far_start_in (9 * set.chicks + 3 * set.elephants + set.giraffes) block ≡ marks_below (is_present (family_of set B)) (start_of set block) =
-    tells set.chicks set.elephants set.giraffes block (small_set _ set.few_chicks) (small_set _ set.few_elephants) (small_set _ set.few_giraffes) upto
-    (omega (arith, upto, most))
+pub far_start_is : (set : PieceSet) (block : ℕ) → block ≤ product (block_bases set)
+    → start_at 1 set block ≡ marks_below (is_present (family_of set B)) (start_of set block)
+far_start_is set block upto =
+    entry_is 1 size_by computed set block upto
     ∙ sum_same (size_by set.chicks set.elephants set.giraffes) (present_size (family_of set B)) block (λ k low. size_is set k (omega (arith, low, upto)))
-    ∙ sym (blocks_present (family_of set B) block upto) in
-    let few = marks_below-le (is_present (family_of set B)) (start_of set block) in
-    let small = start_small set block upto in
-    record { value_is = value; few = omega (arith, value, few, small) }
+    ∙ sym (blocks_present (family_of set B) block upto)
+
+-- ---- in either profile
+
+pub start_in_family : (profile : Profile) (set : PieceSet) (place block : ℕ) → (profile ≡ A → place ≡ 0) → (profile ≡ B → place ≡ 1)
+    → block ≤ product (block_bases set) → start_at place set block ≡ marks_below (is_present (family_of set profile)) (start_of set block)
+start_in_family A set place block first second upto =
+    ap (λ (n : ℕ). start_at n set block) (first refl) ∙ start_is set block upto ∙ sym (all_present (family_of set A) (start_of set block) refl)
+start_in_family B set place block first second upto = ap (λ (n : ℕ). start_at n set block) (second refl) ∙ far_start_is set block upto

@@ -22,26 +22,12 @@ use Rattle.dob_rank.proofs.Positions.Numbering.{rank_of_set-block, nth-rank_of_s
 use Rattle.dob_rank.proofs.Positions.Found.{made_in_block}
 use Rattle.dob_rank.proofs.InRuns.RunPlaces.{run_start-is, hand_bases, in_set}
 use Rattle.dob_rank.proofs.InRuns.RunSums.{runs_by_hand}
-use Rattle.dob_rank.proofs.OfFamilies.Present.{size_of-end, size_of-whole, rank_of-whole, HasRank-rank_of}
+use Rattle.dob_rank.proofs.OfFamilies.Present.{size_of-whole, rank_of-whole, HasRank-rank_of}
 use Rattle.dob_rank.proofs.OfFamilies.FamilyOrder.{ranked_at}
 use Rattle.dob_rank.proofs.OfFamilies.FamilyRuns.{present_before_run, block_present}
 use Rattle.dob_rank.proofs.ProfileB.FarSpots.{in_choice, hand_size_is}
 
 -- ---- the block
-
--- past the last block nothing is left
-pub none_beyond : (set : PieceSet) (rank start block blocks : ℕ) → rank < size_of (family_of set B) → blocks ≡ product (block_bases set) → blocks ≤ block
-    → block ≤ blocks → start ≡ marks_below (is_present (family_of set B)) (start_of set block) → start ≤ rank → ⊥
-none_beyond set rank start block blocks below is low high start_is upto =
-    let same : block ≡ product (block_bases set) = equal block blocks (product (block_bases set)) low high is in
-    let whole = size_of-end (family_of set B) block start refl same start_is in
-    over (size_of (family_of set B)) start rank below whole upto
-  where
-    equal : (a b c : ℕ) → b ≤ a → a ≤ b → b ≡ c → a ≡ c
-    equal a b c h k l = omega (arith, h, k, l)
-
-    over : (size start rank : ℕ) → rank < size → start ≡ size → start ≤ rank → ⊥
-    over size start rank h e k = omega (arith, h, e, k)
 
 pub reached : (start rank number : ℕ) → start ≤ rank → number ≡ rank - start → start + number ≡ rank
 reached start rank number h e = omega (arith, h, e)

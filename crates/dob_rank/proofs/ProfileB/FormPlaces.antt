@@ -209,7 +209,7 @@ number_of_two ok base t s (cell ∷ cells) two = elim (cases_eq (layer cell) t) 
     second_after : (layer cell ≡ t → ⊥) → second_square t (layer cell ∷ map layer cells) ≡ suc (second_square t (map layer cells))
     second_after n = rw (ne_eqb (layer cell) t n) refl
 
--- ---- the same by the squares that a mask tells
+-- ---- the same by the squares that a mask has
 
 place_at : (ok : ℕ → ℕ → Bool) (cells : List Cell) (found square place : ℕ) → found ≡ square → place ≡ marks_below (ok found) (form (get_or cells found None))
     → place ≡ form_place ok 0 cells square

@@ -4,8 +4,8 @@ use Rattle.std.proofs.Math.Nat.{mul-le-mul}
 use Rattle.dob_pieces.specs.declared.profile.Profile.TheVariants.{B}
 use Rattle.dob_rank.specs.Numbers.{product, number_of, choose, free_squares}
 use Rattle.dob_rank.specs.Runs.{AreFewOnBoard, square_bases}
-use Rattle.dob_rank.specs.Weights.{others_squares, others_forms, squares_by, others_by, hand_size, lions_before, forms_before, choice_weight, place_in}
-use Rattle.dob_rank.specs.Weights.{local_in}
+use Rattle.dob_rank.specs.Weights.{others_squares, others_forms, squares_by, others_by, hand_size, lions_before, forms_before, choice_weight}
+use Rattle.dob_rank.specs.Weights.{place_behind, place_in, local_in}
 use Rattle.dob_rank.proofs.Positions.Blocks.{product-at_most, choose-small, two_small, most_choices}
 
 two_digits : (b c x y : ℕ) → x * c + y ≡ number_of (b ∷ c ∷ []) (x ∷ y ∷ [])
@@ -68,44 +68,30 @@ pub product_few : (a b m n : ℕ) → a ≤ m → b ≤ n → a * b ≤ m * n
 product_few a b m n h k = mul-le-mul h k
 
 -- what the code joins
-pub place_found : (ob ds : List ℕ) (hands lions forms chosen count weight squares r f placed : ℕ)
-    → chosen ≡ hands * hand_size B (slice_index ob 0) + lions_before B (slice_index ob 0) lions + forms_before B lions (slice_index ob 0) (slice_index ds 5)
+pub place_found : (ob ds : List ℕ) (lions chosen forms count weight squares r f placed : ℕ)
     → count ≡ others_squares ob → squares ≡ squares_by ob ds → weight ≡ choice_weight B lions (slice_index ob 0) (slice_index ds 5)
     → placed ≡ chosen * count + (squares * weight + forms) → r ≡ others_forms ob → f ≡ others_by ob ds
-    → placed * r + f ≡ place_in B ob ds hands lions forms
-unfolding place_in
-place_found ob ds hands lions forms chosen count weight squares r f placed chosen_is count_is squares_is weight_is placed_is r_is f_is =
+    → placed * r + f ≡ place_behind B ob ds lions chosen forms
+place_found ob ds lions chosen forms count weight squares r f placed count_is squares_is weight_is placed_is r_is f_is =
     ap (λ (x : ℕ). x * r + f) (placed_is
-    ∙ ap (λ (x : ℕ). x * count + (squares * weight + forms)) chosen_is
-    ∙ ap (λ (x : ℕ). (hands * hand_size B (slice_index ob 0) + lions_before B (slice_index ob 0) lions
-    + forms_before B lions (slice_index ob 0) (slice_index ds 5)) * x + (squares * weight + forms)) count_is
-    ∙ ap (λ (x : ℕ). (hands * hand_size B (slice_index ob 0) + lions_before B (slice_index ob 0) lions
-    + forms_before B lions (slice_index ob 0) (slice_index ds 5)) * others_squares ob + (x * weight + forms)) squares_is
-    ∙ ap (λ (x : ℕ). (hands * hand_size B (slice_index ob 0) + lions_before B (slice_index ob 0) lions
-    + forms_before B lions (slice_index ob 0) (slice_index ds 5)) * others_squares ob + (squares_by ob ds * x + forms)) weight_is)
-    ∙ ap (λ (x : ℕ). ((hands * hand_size B (slice_index ob 0) + lions_before B (slice_index ob 0) lions
-    + forms_before B lions (slice_index ob 0) (slice_index ds 5)) * others_squares ob
-    + (squares_by ob ds * choice_weight B lions (slice_index ob 0) (slice_index ds 5) + forms)) * x + f) r_is
-    ∙ ap (λ (x : ℕ). ((hands * hand_size B (slice_index ob 0) + lions_before B (slice_index ob 0) lions
-    + forms_before B lions (slice_index ob 0) (slice_index ds 5)) * others_squares ob
-    + (squares_by ob ds * choice_weight B lions (slice_index ob 0) (slice_index ds 5) + forms)) * others_forms ob + x) f_is
+    ∙ ap (λ (x : ℕ). chosen * x + (squares * weight + forms)) count_is
+    ∙ ap (λ (x : ℕ). chosen * others_squares ob + (x * weight + forms)) squares_is
+    ∙ ap (λ (x : ℕ). chosen * others_squares ob + (squares_by ob ds * x + forms)) weight_is)
+    ∙ ap (λ (x : ℕ). (chosen * others_squares ob + (squares_by ob ds * choice_weight B lions (slice_index ob 0) (slice_index ds 5) + forms)) * x + f) r_is
+    ∙ ap (λ (x : ℕ). (chosen * others_squares ob + (squares_by ob ds * choice_weight B lions (slice_index ob 0) (slice_index ds 5) + forms))
+    * others_forms ob + x) f_is
 
--- and in a run alone
-pub local_found : (ob ds : List ℕ) (lions forms sum count weight squares r f placed : ℕ)
-    → sum ≡ forms_before B lions (slice_index ob 0) (slice_index ds 5) → count ≡ others_squares ob → squares ≡ squares_by ob ds
-    → weight ≡ choice_weight B lions (slice_index ob 0) (slice_index ds 5) → placed ≡ sum * count + (squares * weight + forms) → r ≡ others_forms ob
-    → f ≡ others_by ob ds → placed * r + f ≡ local_in B ob ds lions forms
+-- behind all choices before it a place is one of the block, and behind those of its run one of the run
+pub place_in_block : (ob ds : List ℕ) (hands lions chosen forms : ℕ)
+    → chosen ≡ hands * hand_size B (slice_index ob 0) + lions_before B (slice_index ob 0) lions + forms_before B lions (slice_index ob 0) (slice_index ds 5)
+    → place_behind B ob ds lions chosen forms ≡ place_in B ob ds hands lions forms
+unfolding place_in
+place_in_block ob ds hands lions chosen forms is = ap (λ (n : ℕ). place_behind B ob ds lions n forms) is
+
+pub place_in_run : (ob ds : List ℕ) (lions chosen forms : ℕ) → chosen ≡ forms_before B lions (slice_index ob 0) (slice_index ds 5)
+    → place_behind B ob ds lions chosen forms ≡ local_in B ob ds lions forms
 unfolding local_in
-local_found ob ds lions forms sum count weight squares r f placed sum_is count_is squares_is weight_is placed_is r_is f_is =
-    ap (λ (x : ℕ). x * r + f) (placed_is
-    ∙ ap (λ (x : ℕ). x * count + (squares * weight + forms)) sum_is
-    ∙ ap (λ (x : ℕ). forms_before B lions (slice_index ob 0) (slice_index ds 5) * x + (squares * weight + forms)) count_is
-    ∙ ap (λ (x : ℕ). forms_before B lions (slice_index ob 0) (slice_index ds 5) * others_squares ob + (x * weight + forms)) squares_is
-    ∙ ap (λ (x : ℕ). forms_before B lions (slice_index ob 0) (slice_index ds 5) * others_squares ob + (squares_by ob ds * x + forms)) weight_is)
-    ∙ ap (λ (x : ℕ). (forms_before B lions (slice_index ob 0) (slice_index ds 5) * others_squares ob
-    + (squares_by ob ds * choice_weight B lions (slice_index ob 0) (slice_index ds 5) + forms)) * x + f) r_is
-    ∙ ap (λ (x : ℕ). (forms_before B lions (slice_index ob 0) (slice_index ds 5) * others_squares ob
-    + (squares_by ob ds * choice_weight B lions (slice_index ob 0) (slice_index ds 5) + forms)) * others_forms ob + x) f_is
+place_in_run ob ds lions chosen forms is = ap (λ (n : ℕ). place_behind B ob ds lions n forms) is
 
 pub sum_of_three : (h a b c x y z : ℕ) → a ≡ x → b ≡ y → c ≡ z → h * a + b + c ≡ h * x + y + z
 sum_of_three h a b c x y z e f g =

@@ -11,7 +11,7 @@ use Rattle.dob_rank.proofs.Boards.Choices.{count_other}
 use Rattle.dob_rank.proofs.Boards.Settled.{settle_kept, settle_taken, settle_left}
 use Rattle.dob_lists.proofs.Sums.{sum_same, sum_times, sum_blocks, sum_alike}
 
--- ---- marks that a part of the place tells
+-- ---- marks that a part of the place gives
 
 -- The low part doesn't matter: marks by blocks of n alike, up to a place within one.
 pub low_alike : (mark high : ℕ → Bool) (n a b : ℕ) → ((q r : ℕ) → q * n + r < a * n + b → r < n → mark (q * n + r) ≡ high q) → b ≤ n

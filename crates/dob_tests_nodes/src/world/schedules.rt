@@ -53,7 +53,7 @@ fn open(rt: &impl Abort, alloc: Global, family: Family, n: usize, dice: &mut Dic
     ensures standing { IsStanding result }
     ensures kept { StandsOrStopped result }
     ensures going { result.failed ≡ None }
-    ensures n { result.n ≡ n }
+    ensures n { result.node_count ≡ n }
 {
     let batch = match dice.roll(3) {
         0 => 1,
@@ -72,10 +72,10 @@ fn happen(rt: &impl Abort, world: &mut World, n: usize, dice: &mut Dice, events:
     requires standing { IsStanding world.old }
     requires kept { StandsOrStopped world.old }
     requires going { world.old.failed ≡ None }
-    requires n { world.old.n ≡ n }
+    requires n { world.old.node_count ≡ n }
     ensures standing { IsStanding world.new }
     ensures going { world.new.failed ≡ None }
-    ensures n { world.new.n ≡ n }
+    ensures n { world.new.node_count ≡ n }
 {
     for _event in 0..events {
         let event = dice.event(n);
@@ -93,7 +93,7 @@ fn lists_are_beginnings(
     n: usize,
 ) -> Result<(), Memory>
     requires standing { IsStanding world.now }
-    requires n { world.now.n ≡ n }
+    requires n { world.now.node_count ≡ n }
 {
     for node in 0..n {
         let told = items_told(rt, alloc, classes, world, node)?;
@@ -111,7 +111,7 @@ fn items_told(
     node: usize,
 ) -> Result<Vec<Item>, Memory>
     requires standing { IsStanding world.now }
-    requires node { node < world.now.n }
+    requires node { node < world.now.node_count }
 {
     let mut items = Vec::new(alloc);
     let history = world.history(node);
@@ -144,7 +144,7 @@ fn add_items(
 
 fn are_sent_in_order(rt: &impl Abort, world: &World, n: usize, from: usize, told: &[Item])
     requires standing { IsStanding world.now }
-    requires n { world.now.n ≡ n }
+    requires n { world.now.node_count ≡ n }
     requires from { from < n }
 {
     for to in 0..n {
@@ -159,7 +159,7 @@ fn are_sent_in_order(rt: &impl Abort, world: &World, n: usize, from: usize, told
     }
 }
 
-// Whether the items are the first of those told that are for that node among so many.
+// Whether the items are the first of those sent that are for that node among so many.
 fn begins(items: &[Item], told: &[Item], to: usize, n: usize) -> bool
     requires { 0 < n }
 {
@@ -178,7 +178,7 @@ fn begins(items: &[Item], told: &[Item], to: usize, n: usize) -> bool
 // How many settlements of the world of so many nodes change a value that isn't a draw.
 fn improvements(world: &World, n: usize) -> u64
     requires standing { IsStanding world.now }
-    requires n { world.now.n ≡ n }
+    requires n { world.now.node_count ≡ n }
 {
     let mut count: u64 = 0;
     for node in 0..n {
@@ -189,7 +189,7 @@ fn improvements(world: &World, n: usize) -> u64
 
 fn improvements_of(world: &World, node: usize) -> u64
     requires standing { IsStanding world.now }
-    requires node { node < world.now.n }
+    requires node { node < world.now.node_count }
 {
     let mut count: u64 = 0;
     let history = world.history(node);

@@ -71,8 +71,8 @@ fn a_stopped_world_stays(rt: HostRuntime) {
 
 // The two worlds of two nodes have done as many events, and lend the same lists.
 fn are_alike(rt: &impl Abort, one: &World, other: &World)
-    requires one { one.now.n ≡ 2 }
-    requires other { other.now.n ≡ 2 }
+    requires one { one.now.node_count ≡ 2 }
+    requires other { other.now.node_count ≡ 2 }
 {
     assert!(rt; one.steps() == other.steps());
     assert!(rt; one.announced() == other.announced());
@@ -83,8 +83,8 @@ fn are_alike(rt: &impl Abort, one: &World, other: &World)
 }
 
 fn have_same_links(rt: &impl Abort, one: &World, other: &World, from: usize)
-    requires one { one.now.n ≡ 2 }
-    requires other { other.now.n ≡ 2 }
+    requires one { one.now.node_count ≡ 2 }
+    requires other { other.now.node_count ≡ 2 }
     requires from { from < 2 }
 {
     for to in 0..2 {
@@ -108,9 +108,9 @@ fn have_same_histories(rt: &impl Abort, one: &History<'_>, other: &History<'_>) 
 // and stays so.
 fn make_both(rt: &impl Abort, one: &mut World, other: &mut World, event: Event) -> bool
     requires kept { StandsOrStopped one.old × StandsOrStopped other.old }
-    requires n { (one.old.n ≡ 2) × (other.old.n ≡ 2) }
+    requires n { (one.old.node_count ≡ 2) × (other.old.node_count ≡ 2) }
     ensures kept { StandsOrStopped one.new × StandsOrStopped other.new }
-    ensures n { (one.new.n ≡ 2) × (other.new.n ≡ 2) }
+    ensures n { (one.new.node_count ≡ 2) × (other.new.node_count ≡ 2) }
 {
     assert!(rt; one.steps() < 1 << 40 && other.steps() < 1 << 40);
     if let Err(fault) = one.step(event) {
@@ -126,9 +126,9 @@ fn make_both(rt: &impl Abort, one: &mut World, other: &mut World, event: Event) 
 // The world that has stopped answers the same at each event.
 fn answers_the_same(rt: &impl Abort, world: &mut World, fault: Fault)
     requires kept { StandsOrStopped world.old }
-    requires n { world.old.n ≡ 2 }
+    requires n { world.old.node_count ≡ 2 }
     ensures kept { StandsOrStopped world.new }
-    ensures n { world.new.n ≡ 2 }
+    ensures n { world.new.node_count ≡ 2 }
 {
     for event in &EVENTS {
         assert!(rt; world.steps() < 1 << 40);

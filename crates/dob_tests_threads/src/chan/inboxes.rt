@@ -5,7 +5,8 @@ ghost use Rattle.dob_chan.specs.Ends.{AreStill, TakesFromSame};
 
 use super::{batches, numbers_of, offer};
 use dob_chan::{SendEnd, TakeEnd, inbox, rejoin_inbox};
-use dob_update::Batch;
+use dob_safra::NodeCount;
+use dob_update::{Batch, Capacity};
 use std::process::Abort;
 use std::sync::Wait;
 use std::test::Fail;
@@ -49,7 +50,9 @@ fn makes_room<R: Wait + Abort>(rt: &R, sends: &mut Vec<SendEnd>, take: &mut Take
 fn two_senders_share_an_inbox_for_two(rt: HostRuntime) -> Result<(), Fail> {
     let mut firsts = batches(&rt, rt.alloc(), 0, 2)?;
     let mut others = batches(&rt, rt.alloc(), 1, 1)?;
-    let (mut sends, mut take) = inbox(rt.alloc(), 2, 2)?;
+    let senders = NodeCount::new(2).expect(&rt, "two");
+    let capacity = Capacity::new(2).expect(&rt, "a capacity");
+    let (mut sends, mut take) = inbox(rt.alloc(), senders, capacity)?;
     assert!(rt; offer_next(&rt, &mut sends, &mut firsts));
     assert!(rt; offer_next(&rt, &mut sends, &mut others));
     let second = firsts.pop().expect(&rt, "a batch");

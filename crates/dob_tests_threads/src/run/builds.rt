@@ -1,4 +1,4 @@
-// Builds by threads: the same table by any number of nodes, what their gates are told, and two nodes that must meet in each of
+// Builds by threads: the same table by any number of nodes, what their gates learn, and two nodes that must meet in each of
 // their first turns.
 ghost use Rattle.std.specs.Prelude.{◌<◌};
 ghost use Rattle.dob_safra.specs.Laws.{IsSize};
@@ -30,7 +30,7 @@ fn the_same_table_by_any_number_of_nodes(rt: HostRuntime) {
     builds(&rt, rt.alloc(), 16, 2);
 }
 
-// Adds up what it is told.
+// Adds up what is reported to it.
 #[derive(Drop)]
 struct Adding {
     told: AtomicU64,

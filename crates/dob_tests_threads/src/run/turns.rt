@@ -1,8 +1,8 @@
 // Runners that are turned by hand, one after the other, in one thread.
 ghost use Rattle.std.specs.Prelude.{◌≡◌, IfOk, OnOk, None, ◌∷◌, []};
 ghost use Rattle.dob_run.specs.CrewRunners.{IsNewCrew};
-ghost use Rattle.dob_run.specs.Runners.{KeepsRunner};
-ghost use Rattle.dob_run.specs.declared.runner.Runner.{Runner as AnyRunner};
+ghost use Rattle.dob_runner.specs.Runners.{KeepsRunner};
+ghost use Rattle.dob_runner.specs.declared.runner.Runner.{Runner as AnyRunner};
 
 use super::{is_done, is_table_of_lions, lions};
 use dob_board::{Board, Halt};
@@ -187,7 +187,7 @@ fn held_after_three_turns(rt: HostRuntime) {
     sees_the_hold(&rt, &mut first, &mut second, &classes, &Counting::new(3));
 }
 
-// A runner that fails once the end is announced stops the build all the same: there is no table, and its cause is told.
+// A runner that fails once the end is announced stops the build all the same: there is no table, and its cause is named.
 #[test]
 fn held_after_the_end(rt: HostRuntime) {
     let (classes, board, mut first, mut second) = two_runners(&rt, rt.alloc());

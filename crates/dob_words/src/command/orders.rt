@@ -1,10 +1,10 @@
 // What the matches of each subcommand ask for.
-ghost use Rattle.std.specs.Prelude.{◌≡◌, IfSome, IsSomeAnd, List, Option, Some, codes, option_map, true};
-ghost use Rattle.clap.specs.Words.{found_of, rows_of};
-ghost use Rattle.dob_words.specs.Forms.{Text, form_named};
-ghost use Rattle.dob_words.specs.Shapes.{Finds};
-ghost use Rattle.dob_words.specs.Readings.{IsOrder, IsReadFor, text_given};
-ghost use Rattle.dob_words.specs.Words.{asks, is_number, number_of, profile_named, settled};
+ghost use Rattle.std.specs.Prelude.{◌≡◌, IfSome, Some, codes, if◌then◌else◌, is_some, option_map, true};
+ghost use Rattle.clap.specs.Words.{first_value, found_of};
+ghost use Rattle.dob_words.specs.Forms.{form_named, forms};
+ghost use Rattle.dob_words.specs.Shapes.{HasFit, IsNamed, texts_in};
+ghost use Rattle.dob_words.specs.Readings.{IsOneOf, IsOrder, IsReadFor, text_given};
+ghost use Rattle.dob_words.specs.Words.{asks, is_number, number_in, profile_named, settled};
 
 use super::Order;
 use clap::ArgMatches;
@@ -42,175 +42,146 @@ pub(super) fn unclear_text(words: &[&str]) -> &'static str {
     }
 }
 
-/// What the matches of `value` ask for.
-pub(super) fn value_order<'a>(inner: &ArgMatches<'a>) -> Option<Order<'a>>
-    ensures { (texts : List (Option Text)) → Finds (form_named (codes "value")) texts (Some (codes "value", rows_of (found_of inner.now)))
-        → IsSomeAnd result (IsOrder (codes "value") texts) }
+/// What the matches of the subcommand of that name ask for; nothing where that isn't clear, as `probe` and `look` with both a position
+/// and `--each`.
+pub(super) fn order_named<'a>(name: &str, inner: &ArgMatches<'a>) -> Option<Order<'a>>
+    requires named { IsNamed name.now forms }
+    requires fit { HasFit (form_named name.now) inner.now }
+    ensures { IsReadFor (settled (asks name.now (texts_in (form_named name.now) inner.now))) result }
 {
-    Some(Order::Value {
-        profile: profile_named(inner.get_str("PROFILE")),
-        position: inner.get_str("POSITION")?,
-    })
+    match name {
+        "value" => Some(Order::Value {
+            profile: profile_named(inner.get_str("PROFILE")),
+            position: text(inner, "POSITION"),
+        }),
+        "count" => Some(Order::Count {
+            profile: profile_named(inner.get_str("PROFILE")),
+            set: text(inner, "CEG"),
+        }),
+        "build" => Some(build_order(inner)),
+        "probe" => asked_order(inner, false),
+        "line" => Some(Order::Line {
+            file: text(inner, "FILE"),
+            is_numbered: inner.get_str("numbered").is_some(),
+            position: text(inner, "POSITION"),
+        }),
+        "check" => Some(Order::Check {
+            file: text(inner, "FILE"),
+            is_watched: inner.get_str("progress").is_some(),
+        }),
+        "look" => asked_order(inner, true),
+        "show" => Some(Order::Show {
+            file: inner.get_str("FILE"),
+            picture: inner.get_str("OUT"),
+            position: text(inner, "POSITION"),
+        }),
+        "moves" => Some(Order::Moves {
+            file: text(inner, "FILE"),
+            position: text(inner, "POSITION"),
+        }),
+        "best" => Some(Order::Best {
+            file: text(inner, "FILE"),
+            position: text(inner, "POSITION"),
+        }),
+        "stats" => Some(Order::Stats {
+            file: text(inner, "FILE"),
+            is_csv: inner.get_str("csv").is_some(),
+        }),
+        "puzzles" => Some(puzzles_order(inner)),
+        "migrate" => Some(Order::Migrate {
+            file: text(inner, "FILE"),
+            out: text(inner, "OUT"),
+        }),
+        _ => unreachable!(),
+    }
 }
 
-/// What the matches of `count` ask for.
-pub(super) fn count_order<'a>(inner: &ArgMatches<'a>) -> Option<Order<'a>>
-    ensures { (texts : List (Option Text)) → Finds (form_named (codes "count")) texts (Some (codes "count", rows_of (found_of inner.now)))
-        → IsSomeAnd result (IsOrder (codes "count") texts) }
+// What the matches of `build` ask for.
+fn build_order<'a>(inner: &ArgMatches<'a>) -> Order<'a>
+    requires { HasFit (form_named (codes "build")) inner.now }
+    ensures { IsOrder (codes "build") (texts_in (form_named (codes "build")) inner.now) result }
 {
-    Some(Order::Count {
+    Order::Build {
         profile: profile_named(inner.get_str("PROFILE")),
-        set: inner.get_str("CEG")?,
-    })
-}
-
-/// What the matches of `build` ask for.
-pub(super) fn build_order<'a>(inner: &ArgMatches<'a>) -> Option<Order<'a>>
-    ensures { (texts : List (Option Text)) → Finds (form_named (codes "build")) texts (Some (codes "build", rows_of (found_of inner.now)))
-        → IsSomeAnd result (IsOrder (codes "build") texts) }
-{
-    Some(Order::Build {
-        profile: profile_named(inner.get_str("PROFILE")),
-        set: inner.get_str("CEG")?,
-        nodes: inner.get_str("N")?.parse().ok()?,
-        file: inner.get_str("FILE")?,
+        set: text(inner, "CEG"),
+        nodes: number_given(inner.get_str("N")),
+        file: text(inner, "FILE"),
         is_watched: inner.get_str("progress").is_some(),
-    })
+    }
 }
 
-/// What the matches of `probe` ask for; nothing where both a position and `--each` are given, or none of them.
-pub(super) fn probe_order<'a>(inner: &ArgMatches<'a>) -> Option<Order<'a>>
-    ensures { (texts : List (Option Text)) → Finds (form_named (codes "probe")) texts (Some (codes "probe", rows_of (found_of inner.now)))
-        → IsReadFor (settled (asks (codes "probe") texts)) result }
+// What the matches of `puzzles` ask for.
+fn puzzles_order<'a>(inner: &ArgMatches<'a>) -> Order<'a>
+    requires { HasFit (form_named (codes "puzzles")) inner.now }
+    ensures { IsOrder (codes "puzzles") (texts_in (form_named (codes "puzzles")) inner.now) result }
 {
-    let file = inner.get_str("FILE")?;
+    Order::Puzzles {
+        file: text(inner, "FILE"),
+        plies: number(text(inner, "D")),
+        count: number(text(inner, "N")),
+        from: number_given(inner.get_str("CLASS")),
+        seed: number_given(inner.get_str("SEED")),
+        is_numbered: inner.get_str("numbered").is_some(),
+    }
+}
+
+// What the matches of `probe`, or those of `look`, ask for, where it is clear.
+fn asked_order<'a>(inner: &ArgMatches<'a>, is_look: bool) -> Option<Order<'a>>
+    requires { HasFit (form_named (codes "probe")) inner.now }
+    ensures { IsReadFor (settled (asks (if is_look then codes "look" else codes "probe") (texts_in (form_named (codes "probe")) inner.now))) result }
+{
+    let file = text(inner, "FILE");
+    match (is_look, asked_of(inner)?) {
+        (false, Some(position)) => Some(Order::Probe { file, position }),
+        (false, None) => Some(Order::Each(file)),
+        (true, Some(position)) => Some(Order::Look { file, position }),
+        (true, None) => Some(Order::LookEach(file)),
+    }
+}
+
+// The position that is asked for, or none where it is `--each`; nothing where both are given, or none of them.
+fn asked_of<'a>(inner: &ArgMatches<'a>) -> Option<Option<&'a str>>
+    ensures { IsOneOf (first_value (found_of inner.now) (codes "each")) (first_value (found_of inner.now) (codes "POSITION")) result }
+{
     match (inner.get_str("each"), inner.get_str("POSITION")) {
-        (None, Some(position)) => Some(Order::Probe { file, position }),
-        (Some(_), None) => Some(Order::Each(file)),
+        (None, Some(position)) => Some(Some(position)),
+        (Some(_), None) => Some(None),
         (Some(_), Some(_)) => None,
         (None, None) => None,
     }
 }
 
-/// What the matches of `line` ask for.
-pub(super) fn line_order<'a>(inner: &ArgMatches<'a>) -> Option<Order<'a>>
-    ensures { (texts : List (Option Text)) → Finds (form_named (codes "line")) texts (Some (codes "line", rows_of (found_of inner.now)))
-        → IsSomeAnd result (IsOrder (codes "line") texts) }
+// The text of that label, which is there.
+fn text<'a>(inner: &ArgMatches<'a>, label: &str) -> &'a str
+    requires { is_some (first_value (found_of inner.now) label.now) ≡ true }
+    ensures { first_value (found_of inner.now) label.now ≡ Some result.now }
 {
-    Some(Order::Line {
-        file: inner.get_str("FILE")?,
-        is_numbered: inner.get_str("numbered").is_some(),
-        position: inner.get_str("POSITION")?,
-    })
-}
-
-/// What the matches of `check` ask for.
-pub(super) fn check_order<'a>(inner: &ArgMatches<'a>) -> Option<Order<'a>>
-    ensures { (texts : List (Option Text)) → Finds (form_named (codes "check")) texts (Some (codes "check", rows_of (found_of inner.now)))
-        → IsSomeAnd result (IsOrder (codes "check") texts) }
-{
-    Some(Order::Check {
-        file: inner.get_str("FILE")?,
-        is_watched: inner.get_str("progress").is_some(),
-    })
-}
-
-/// What the matches of `look` ask for; nothing where both a position and `--each` are given, or none of them.
-pub(super) fn look_order<'a>(inner: &ArgMatches<'a>) -> Option<Order<'a>>
-    ensures { (texts : List (Option Text)) → Finds (form_named (codes "look")) texts (Some (codes "look", rows_of (found_of inner.now)))
-        → IsReadFor (settled (asks (codes "look") texts)) result }
-{
-    let file = inner.get_str("FILE")?;
-    match (inner.get_str("each"), inner.get_str("POSITION")) {
-        (None, Some(position)) => Some(Order::Look { file, position }),
-        (Some(_), None) => Some(Order::LookEach(file)),
-        (Some(_), Some(_)) => None,
-        (None, None) => None,
+    match inner.get_str(label) {
+        Some(text) => text,
+        None => unreachable!(),
     }
 }
 
-/// What the matches of `show` ask for.
-pub(super) fn show_order<'a>(inner: &ArgMatches<'a>) -> Option<Order<'a>>
-    ensures { (texts : List (Option Text)) → Finds (form_named (codes "show")) texts (Some (codes "show", rows_of (found_of inner.now)))
-        → IsSomeAnd result (IsOrder (codes "show") texts) }
+// The number that the text tells.
+fn number(text: &str) -> u64
+    requires { is_number text.now ≡ true }
+    ensures { result ≡ number_in text.now }
 {
-    Some(Order::Show {
-        file: inner.get_str("FILE"),
-        picture: inner.get_str("OUT"),
-        position: inner.get_str("POSITION")?,
-    })
+    match text.parse() {
+        Ok(number) => number,
+        Err(_) => unreachable!(),
+    }
 }
 
-/// What the matches of `moves` ask for.
-pub(super) fn moves_order<'a>(inner: &ArgMatches<'a>) -> Option<Order<'a>>
-    ensures { (texts : List (Option Text)) → Finds (form_named (codes "moves")) texts (Some (codes "moves", rows_of (found_of inner.now)))
-        → IsSomeAnd result (IsOrder (codes "moves") texts) }
-{
-    Some(Order::Moves {
-        file: inner.get_str("FILE")?,
-        position: inner.get_str("POSITION")?,
-    })
-}
-
-/// What the matches of `best` ask for.
-pub(super) fn best_order<'a>(inner: &ArgMatches<'a>) -> Option<Order<'a>>
-    ensures { (texts : List (Option Text)) → Finds (form_named (codes "best")) texts (Some (codes "best", rows_of (found_of inner.now)))
-        → IsSomeAnd result (IsOrder (codes "best") texts) }
-{
-    Some(Order::Best {
-        file: inner.get_str("FILE")?,
-        position: inner.get_str("POSITION")?,
-    })
-}
-
-/// What the matches of `stats` ask for.
-pub(super) fn stats_order<'a>(inner: &ArgMatches<'a>) -> Option<Order<'a>>
-    ensures { (texts : List (Option Text)) → Finds (form_named (codes "stats")) texts (Some (codes "stats", rows_of (found_of inner.now)))
-        → IsSomeAnd result (IsOrder (codes "stats") texts) }
-{
-    Some(Order::Stats {
-        file: inner.get_str("FILE")?,
-        is_csv: inner.get_str("csv").is_some(),
-    })
-}
-
-/// What the matches of `puzzles` ask for.
-pub(super) fn puzzles_order<'a>(inner: &ArgMatches<'a>) -> Option<Order<'a>>
-    ensures { (texts : List (Option Text)) → Finds (form_named (codes "puzzles")) texts (Some (codes "puzzles", rows_of (found_of inner.now)))
-        → IsSomeAnd result (IsOrder (codes "puzzles") texts) }
-{
-    Some(Order::Puzzles {
-        file: inner.get_str("FILE")?,
-        plies: inner.get_str("D")?.parse().ok()?,
-        count: inner.get_str("N")?.parse().ok()?,
-        from: number_given(inner.get_str("CLASS"))?,
-        seed: number_given(inner.get_str("SEED"))?,
-        is_numbered: inner.get_str("numbered").is_some(),
-    })
-}
-
-// The number that the text tells, where one is given; nothing where it tells none.
-fn number_given(text: Option<&str>) -> Option<Option<u64>>
-    ensures { IfSome (text_given text.entry) (λ t. is_number t ≡ true) → result ≡ Some (option_map number_of (text_given text.entry)) }
+// The number that the text tells, where one is given.
+fn number_given(text: Option<&str>) -> Option<u64>
+    requires { IfSome (text_given text) (λ t. is_number t ≡ true) }
+    ensures { result ≡ option_map number_in (text_given text.entry) }
 {
     match text {
-        None => Some(None),
-        Some(text) => match text.parse() {
-            Ok(number) => Some(Some(number)),
-            Err(_) => None,
-        },
+        None => None,
+        Some(text) => Some(number(text)),
     }
-}
-
-/// What the matches of `migrate` ask for.
-pub(super) fn migrate_order<'a>(inner: &ArgMatches<'a>) -> Option<Order<'a>>
-    ensures { (texts : List (Option Text)) → Finds (form_named (codes "migrate")) texts (Some (codes "migrate", rows_of (found_of inner.now)))
-        → IsSomeAnd result (IsOrder (codes "migrate") texts) }
-{
-    Some(Order::Migrate {
-        file: inner.get_str("FILE")?,
-        out: inner.get_str("OUT")?,
-    })
 }
 
 // The profile that the text of `--rules` names, A where it is left out.

@@ -1,12 +1,12 @@
 -- the one end of an inbox of one sender is at place 0
-use Rattle.std.proofs.Common.{◌≡◌, ap}
+use Rattle.std.proofs.Common.{◌≡◌, ap, ◌∙◌}
 use Rattle.std.specs.Prelude.{slice_get, Some}
 use Rattle.dob_chan.proofs.pairs.pair.Goals as goal
 
 pub returns-clause-paired : goal.returns-clause-paired
 returns-clause-paired c =
     let at : slice_get c.in_ok-sends.sends.items 0 ≡ Some c.only_one.result = ap (λ l. slice_get l 0) c.only_one.ensures in
-    let ends = c.in_ok-sends.ensures.senders in (ends.0, ends.1.1 0 c.only_one.result at)
+    let ends = c.in_ok-sends.ensures.senders in (ends.0 ∙ c.one.ensures, ends.1.1 0 c.only_one.result at)
 
 pub returns-clause-capacity : goal.returns-clause-capacity
 returns-clause-capacity c =

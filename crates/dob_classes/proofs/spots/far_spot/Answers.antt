@@ -1,9 +1,10 @@
 -- The digits are below their bases, and tell the position's number.
-use Rattle.std.proofs.Common.{refl}
+use Rattle.std.proofs.Common.{ℕ, ◌<◌, ◌≤◌, refl, ◌∙◌, arith}
 use Rattle.dob_rank.specs.Numbers.{block_bases}
 use Rattle.dob_rank.proofs.Positions.Found.{HasDigits-same, HasDigits-board, HasDigits-place, block_found, run_is_of}
 use Rattle.dob_rank.proofs.InRuns.DigitParts.{AreFewOnBoard-digits}
 use Rattle.dob_rank.proofs.ProfileB.FarPlaces.{far_parts, chicks_on_board}
+use Rattle.dob_rank.proofs.ProfileB.PlaceParts.{place_in_run}
 use Rattle.dob_classes.proofs.Counting.FarCounts.{number_by_digits}
 use Rattle.dob_classes.proofs.spots.far_spot.Goals as goal
 
@@ -29,24 +30,33 @@ allowed_forms-forms-requires-clause-mask c = c.requires.masks.chicks
 pub allowed_forms-forms-requires-clause-pieces : goal.allowed_forms-forms-requires-clause-pieces
 allowed_forms-forms-requires-clause-pieces c = chicks_on_board c.args.position.now.setup _ c.numbers_on_board-on_board.ensures
 
-pub far_local-local-requires-clause-few : goal.far_local-local-requires-clause-few
-far_local-local-requires-clause-few c =
+pub before_choice-chosen-requires-clause-chicks : goal.before_choice-chosen-requires-clause-chicks
+before_choice-chosen-requires-clause-chicks c =
+    (AreFewOnBoard-digits c.args.set _ (HasDigits-board c.args.set c.args.position.now.setup _ c.requires.position c.numbers_on_board-on_board.ensures)).chicks
+
+pub before_choice-chosen-requires-clause-choice : goal.before_choice-chosen-requires-clause-choice
+before_choice-chosen-requires-clause-choice c =
+    upto
+    (far_parts c.args.set c.args.position.now.setup _ _ _ c.requires.position c.numbers_on_board-on_board.ensures c.digits_of-digits.ensures c.spot_from-run.ensures.run).choice_below
+  where
+    upto : {m n : ℕ} → m < n → m ≤ n
+    upto below = omega (arith, below)
+
+pub place_behind-local-requires-clause-few : goal.place_behind-local-requires-clause-few
+place_behind-local-requires-clause-few c =
     AreFewOnBoard-digits c.args.set _ (HasDigits-board c.args.set c.args.position.now.setup _ c.requires.position c.numbers_on_board-on_board.ensures)
 
-pub far_local-local-requires-clause-choice : goal.far_local-local-requires-clause-choice
-far_local-local-requires-clause-choice c =
-    (far_parts c.args.set c.args.position.now.setup _ _ _ c.requires.position c.numbers_on_board-on_board.ensures c.digits_of-digits.ensures
-    (run_is_of c.args.set c.args.position.now.setup _ _ _ c.numbers_on_board-on_board.ensures c.digits_of-digits.ensures c.spot_from-run.ensures.run)).choice_below
+pub place_behind-local-requires-clause-choice : goal.place_behind-local-requires-clause-choice
+place_behind-local-requires-clause-choice c =
+    (far_parts c.args.set c.args.position.now.setup _ _ _ c.requires.position c.numbers_on_board-on_board.ensures c.digits_of-digits.ensures c.spot_from-run.ensures.run).choice_below
 
-pub far_local-local-requires-clause-squares : goal.far_local-local-requires-clause-squares
-far_local-local-requires-clause-squares c =
-    (far_parts c.args.set c.args.position.now.setup _ _ _ c.requires.position c.numbers_on_board-on_board.ensures c.digits_of-digits.ensures
-    (run_is_of c.args.set c.args.position.now.setup _ _ _ c.numbers_on_board-on_board.ensures c.digits_of-digits.ensures c.spot_from-run.ensures.run)).squares_below
+pub place_behind-local-requires-clause-squares : goal.place_behind-local-requires-clause-squares
+place_behind-local-requires-clause-squares c =
+    (far_parts c.args.set c.args.position.now.setup _ _ _ c.requires.position c.numbers_on_board-on_board.ensures c.digits_of-digits.ensures c.spot_from-run.ensures.run).squares_below
 
-pub far_local-local-requires-clause-others : goal.far_local-local-requires-clause-others
-far_local-local-requires-clause-others c =
-    (far_parts c.args.set c.args.position.now.setup _ _ _ c.requires.position c.numbers_on_board-on_board.ensures c.digits_of-digits.ensures
-    (run_is_of c.args.set c.args.position.now.setup _ _ _ c.numbers_on_board-on_board.ensures c.digits_of-digits.ensures c.spot_from-run.ensures.run)).others_below
+pub place_behind-local-requires-clause-others : goal.place_behind-local-requires-clause-others
+place_behind-local-requires-clause-others c =
+    (far_parts c.args.set c.args.position.now.setup _ _ _ c.requires.position c.numbers_on_board-on_board.ensures c.digits_of-digits.ensures c.spot_from-run.ensures.run).others_below
 
 pub returns-clause-block : goal.returns-clause-block
 returns-clause-block c =
@@ -61,4 +71,5 @@ returns-clause-local c =
     number_by_digits c.args.set c.args.position.now.setup _ _ _ _ _ _ (record { of_set = c.requires.position; allowed = c.requires.allowed })
     c.numbers_on_board-on_board.ensures c.digits_of-digits.ensures
     (run_is_of c.args.set c.args.position.now.setup _ _ _ c.numbers_on_board-on_board.ensures c.digits_of-digits.ensures c.spot_from-run.ensures.run)
-    refl c.allowed_forms-forms.ensures.value c.far_local-local.ensures
+    refl c.allowed_forms-forms.ensures.value
+    (c.place_behind-local.ensures.value ∙ place_in_run _ _ _ _ c.allowed_forms-forms.result c.before_choice-chosen.ensures.value)

@@ -1,4 +1,4 @@
--- The spot in the set's numbering tells how many positions of the family stand before.
+-- The spot in the set's numbering says how many positions of the family stand before.
 use Rattle.std.proofs.Common.{ℕ, refl, ap, ◌∙◌, arith, ◌≤◌, ◌<◌}
 use Rattle.dob_classes.specs.Bitboards.{IsShownOfSet}
 use Rattle.dob_rank.specs.Marks.{marks_below}

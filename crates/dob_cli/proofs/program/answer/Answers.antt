@@ -1,50 +1,49 @@
 -- Each subcommand's answer is the order's.
+use Rattle.std.proofs.Common.{rules}
+use Rattle.dob_query.proofs.Endings.{answered_by}
+use Rattle.dob_shelf.specs.Shelves.{shelf_change}
+use Rattle.dob_cli.specs.Orders.{AreLinesFor, IsFaultFor}
 use Rattle.dob_cli.proofs.program.answer.Goals as goal
 
-pub returns-in-Count-clause-ok : goal.returns-in-Count-clause-ok
-returns-in-Count-clause-ok g c = rw c.in-Count.is c.answer_count.ensures.ok
+pub returns-in-Value-clause-answered : goal.returns-in-Value-clause-answered
+returns-in-Value-clause-answered g c =
+    let shelf = g.S.Shelf.state c.args.shelf.now in
+    answered_by (shelf_change shelf shelf) _ _ _ (rw c.in-Value.is c.answer_value.ensures.ok) (rw c.in-Value.is c.answer_value.ensures.err) (search rules)
 
-pub returns-in-Count-clause-err : goal.returns-in-Count-clause-err
-returns-in-Count-clause-err g c = rw c.in-Count.is c.answer_count.ensures.err
+pub returns-in-Count-clause-answered : goal.returns-in-Count-clause-answered
+returns-in-Count-clause-answered g c =
+    let shelf = g.S.Shelf.state c.args.shelf.now in
+    answered_by (shelf_change shelf shelf) _ _ _ (rw c.in-Count.is c.answer_count.ensures.ok) (rw c.in-Count.is c.answer_count.ensures.err) (search rules)
 
-pub returns-in-Probe-clause-ok : goal.returns-in-Probe-clause-ok
-returns-in-Probe-clause-ok g c = rw c.in-Probe.is c.answer_probe.ensures.ok
+pub returns-in-Probe-clause-answered : goal.returns-in-Probe-clause-answered
+returns-in-Probe-clause-answered g c = rw c.in-Probe.is c.answer_probe.ensures.answered
 
-pub returns-in-Line-clause-ok : goal.returns-in-Line-clause-ok
-returns-in-Line-clause-ok g c = rw c.in-Line.is c.answer_line.ensures.ok
+pub returns-in-Line-clause-answered : goal.returns-in-Line-clause-answered
+returns-in-Line-clause-answered g c = rw c.in-Line.is c.answer_line.ensures.answered
 
-pub returns-in-Check-clause-ok : goal.returns-in-Check-clause-ok
-returns-in-Check-clause-ok g c = rw c.in-Check.is c.answer_check.ensures.ok
+pub returns-in-Check-clause-answered : goal.returns-in-Check-clause-answered
+returns-in-Check-clause-answered g c = rw c.in-Check.is c.answer_check.ensures.answered
 
-pub returns-in-Look-clause-ok : goal.returns-in-Look-clause-ok
-returns-in-Look-clause-ok g c = rw c.in-Look.is c.answer_look.ensures.ok
+pub returns-in-Look-clause-answered : goal.returns-in-Look-clause-answered
+returns-in-Look-clause-answered g c = rw c.in-Look.is c.answer_look.ensures.answered
 
-pub returns-in-Build-clause-ok : goal.returns-in-Build-clause-ok
-returns-in-Build-clause-ok g c = rw c.in-Build.is c.answer_build.ensures.ok
+pub returns-in-Build-clause-answered : goal.returns-in-Build-clause-answered
+returns-in-Build-clause-answered g c = rw c.in-Build.is c.answer_build.ensures.answered
 
-pub returns-in-Build-clause-err : goal.returns-in-Build-clause-err
-returns-in-Build-clause-err g c = rw c.in-Build.is c.answer_build.ensures.err
+pub returns-in-Moves-clause-answered : goal.returns-in-Moves-clause-answered
+returns-in-Moves-clause-answered g c = rw c.in-Moves.is c.answer_moves.ensures.answered
 
-pub returns-in-Moves-clause-ok : goal.returns-in-Moves-clause-ok
-returns-in-Moves-clause-ok g c = rw c.in-Moves.is c.answer_moves.ensures.ok
+pub returns-in-Show-clause-answered : goal.returns-in-Show-clause-answered
+returns-in-Show-clause-answered g c = rw c.in-Show.is c.answer_show.ensures.answered
 
-pub returns-in-Show-clause-ok : goal.returns-in-Show-clause-ok
-returns-in-Show-clause-ok g c = rw c.in-Show.is c.answer_show.ensures.ok
+pub returns-in-Best-clause-answered : goal.returns-in-Best-clause-answered
+returns-in-Best-clause-answered g c = rw c.in-Best.is c.answer_best.ensures.answered
 
-pub returns-in-Best-clause-ok : goal.returns-in-Best-clause-ok
-returns-in-Best-clause-ok g c = rw c.in-Best.is c.answer_best.ensures.ok
+pub returns-in-Stats-clause-answered : goal.returns-in-Stats-clause-answered
+returns-in-Stats-clause-answered g c = rw c.in-Stats.is c.answer_stats.ensures.answered
 
-pub returns-in-Stats-clause-ok : goal.returns-in-Stats-clause-ok
-returns-in-Stats-clause-ok g c = rw c.in-Stats.is c.answer_stats.ensures.ok
+pub returns-in-Migrate-clause-answered : goal.returns-in-Migrate-clause-answered
+returns-in-Migrate-clause-answered g c = rw c.in-Migrate.is c.answer_migrate.ensures.answered
 
-pub returns-in-Puzzles-clause-ok : goal.returns-in-Puzzles-clause-ok
-returns-in-Puzzles-clause-ok g c = rw c.in-Puzzles.is (rw c.search_of-search.ensures at c.answer_puzzles.ensures.ok)
-
-pub returns-in-Puzzles-clause-err : goal.returns-in-Puzzles-clause-err
-returns-in-Puzzles-clause-err g c = rw c.in-Puzzles.is (rw c.search_of-search.ensures at c.answer_puzzles.ensures.err)
-
-pub returns-in-Migrate-clause-ok : goal.returns-in-Migrate-clause-ok
-returns-in-Migrate-clause-ok g c = rw c.in-Migrate.is c.answer_migrate.ensures.ok
-
-pub returns-in-Migrate-clause-err : goal.returns-in-Migrate-clause-err
-returns-in-Migrate-clause-err g c = rw c.in-Migrate.is c.answer_migrate.ensures.err
+pub returns-in-Puzzles-clause-answered : goal.returns-in-Puzzles-clause-answered
+returns-in-Puzzles-clause-answered g c = rw c.in-Puzzles.is (rw c.search_of-search.ensures at c.answer_puzzles.ensures.answered)

@@ -1,6 +1,6 @@
 -- Where there are no arguments, nothing but the one text is told, and the files are as they were.
 use Rattle.std.proofs.Common.{refl}
-use Rattle.dob_query.proofs.Shelves.{unchanged}
+use Rattle.dob_shelf.proofs.Shelves.{unchanged}
 use Rattle.dob_cli.proofs.program.run_given.Goals as goal
 
 pub returns-in-Ok-clause-words : goal.returns-in-Ok-clause-words

@@ -1,21 +1,17 @@
--- An order is one for each line of standard input, or one that lines tell.
-use Rattle.dob_cli.proofs.Orders.{answered_by_lines, is_by_lines}
+-- What is told goes with the answers, or with the fault.
+use Rattle.dob_shelf.specs.Shelves.{shelf_change}
+use Rattle.dob_query.proofs.EachLine.{each_refused, each_told}
+use Rattle.dob_cli.specs.Orders.{AreToldFor, IsFaultFor}
 use Rattle.dob_cli.proofs.program.run_order.Goals as goal
 
-pub returns-in-Each-clause-done : goal.returns-in-Each-clause-done
-returns-in-Each-clause-done g c = rw c.in-Each.is c.run_each.ensures.done
+pub returns-in-Ok-clause-done : goal.returns-in-Ok-clause-done
+returns-in-Ok-clause-done g c =
+    let change = shelf_change (g.S.Shelf.state c.args.shelf.now) (g.S.Shelf.state c.answers_for.new.shelf) in
+    each_told change (AreToldFor change c.args.order) (IsFaultFor change c.args.order) c.in-Ok.answers.is_refused _ _ _
+    c.in-Ok.ensures.answered.0 c.in-Ok.ensures.answered.1 c.status.ensures (rw c.as_str.ensures.value at c.tell.ensures)
 
-pub returns-in-Each-clause-files : goal.returns-in-Each-clause-files
-returns-in-Each-clause-files g c = rw c.in-Each.is c.run_each.ensures.files
-
-pub returns-in-LookEach-clause-done : goal.returns-in-LookEach-clause-done
-returns-in-LookEach-clause-done g c = rw c.in-LookEach.is c.run_look_each.ensures.done
-
-pub returns-in-LookEach-clause-files : goal.returns-in-LookEach-clause-files
-returns-in-LookEach-clause-files g c = rw c.in-LookEach.is c.run_look_each.ensures.files
-
-pub run_by_lines-requires-clause-lined : goal.run_by_lines-requires-clause-lined
-run_by_lines-requires-clause-lined g c = λ κs lives. is_by_lines c.args.order c.in_default.not-Each c.in_default.not-LookEach
-
-pub returns-in_default-clause-done : goal.returns-in_default-clause-done
-returns-in_default-clause-done g c = answered_by_lines _ _ c.args.order c.in_default.not-Each c.in_default.not-LookEach c.run_by_lines.ensures.done
+pub returns-in-Err-clause-done : goal.returns-in-Err-clause-done
+returns-in-Err-clause-done g c =
+    let change = shelf_change (g.S.Shelf.state c.args.shelf.now) (g.S.Shelf.state c.answers_for.new.shelf) in
+    each_refused change (AreToldFor change c.args.order) (IsFaultFor change c.args.order) _ _ _ _
+    c.in-Err.ensures.answered.0 c.in-Err.ensures.answered.1 c.tell_fault.ensures

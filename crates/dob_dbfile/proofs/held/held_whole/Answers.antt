@@ -1,4 +1,4 @@
--- How many bytes there are tells whether the file is cut or goes on.
+-- How many bytes there are shows whether the file is cut or goes on.
 use Rattle.std.proofs.Common.{◌≤◌, arith, inr, refl, length}
 use Rattle.dob_dbfile.specs.Faults.{file_len}
 use Rattle.dob_dbfile.proofs.held.held_whole.Goals as goal

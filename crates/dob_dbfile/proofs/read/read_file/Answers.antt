@@ -1,4 +1,4 @@
--- Each part of the file that is read tells its faults, and the last one the values.
+-- Each part of the file that is read gives its faults, and the last one the values.
 use Rattle.std.proofs.Common.{◌≡◌, ◌∙◌, ℕ, List, sym, subst, ap, length, false}
 use Rattle.std.proofs.lemmas.Result.{err_from_is_err_and}
 use Rattle.dob_pieces.specs.declared.profile.Family.{Family}

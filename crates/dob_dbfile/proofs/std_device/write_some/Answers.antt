@@ -1,4 +1,4 @@
--- As many bytes are written as are told.
+-- As many bytes are written as are reported.
 use Rattle.std.proofs.Common.{rules}
 use Rattle.dob_dbfile.proofs.std_device.write_some.Goals as goal
 

@@ -10,6 +10,7 @@ use Rattle.dob_dbfile.specs.declared.header.Format.TheVariants.{Second}
 use Rattle.dob_dbfile.proofs.FileBytes.{file_parts, header_records, length-contents}
 use Rattle.dob_dbfile.proofs.Sinks.{puts_more, stops_behind, stops_last, writes_more, writes_none}
 use Rattle.dob_dbfile.proofs.write.put_file.Goals as goal
+use Rattle.dob_dbfile.proofs.write.put_file.Goals.{In_ok-write_records}
 
 pub write_records-requires-clause-counted : goal.write_records-requires-clause-counted
 write_records-requires-clause-counted g c =
@@ -40,35 +41,36 @@ returns-in_err-write_records-clause-part g c =
     piece (records table.values) digest (bytes_of table) _ c.in_ok-write_hashed.ensures.done (ap length is)
     (file_parts Second table ∙ ap (λ (h : List ℕ). h ++ (records table.values ++ digest)) (sym is)) c.in_err-write_records.ensures.part)
 
-pub returns-clause-done : goal.returns-clause-done
-returns-clause-done g c =
+-- before the digest the header and the records went in, and the hasher holds them
+before : (g : _) (c : In_ok-write_records g) → Holds256 c.write_records.new.hasher (contents_in Second c.args.table.now)
+    × Writes (change (g.W.Sink.state c.args.sink.now) (g.W.Sink.state c.write_records.new.sink)) (contents_in Second c.args.table.now)
+before g c =
     let table = c.args.table.now in
     let piece = c.deref.result.now in
     let all : piece ++ records table.values ≡ contents_in Second table =
-    ap (λ (h : List ℕ). h ++ records table.values) (c.deref.ensures.value ∙ c.requires.header) ∙ header_records Second table in
-    let holds = subst (Holds256 c.write_records.new.hasher) all
-    (c.in_ok-write_records.ensures.hashed piece (c.write_hashed.ensures.hashed [] c.new-hasher.ensures)) in
-    let wrote = subst (Writes (change (g.W.Sink.state c.args.sink.now) (g.W.Sink.state c.write_records.new.sink))) all
-    (writes_more (g.W.Sink.state c.args.sink.now) (g.W.Sink.state c.write_hashed.new.sink) (g.W.Sink.state c.write_records.new.sink) piece
-    (records table.values) c.in_ok-write_hashed.ensures.done c.in_ok-write_records.ensures.done) in
+    ap (λ (h : List ℕ). h ++ records table.values) (c.deref.ensures.value ∙ c.requires.header) ∙ header_records Second table in (
+      subst (Holds256 c.write_records.new.hasher) all
+          (c.in_ok-write_records.ensures.hashed piece (c.write_hashed.ensures.hashed [] c.new-hasher.ensures)),
+      subst (Writes (change (g.W.Sink.state c.args.sink.now) (g.W.Sink.state c.write_records.new.sink))) all
+          (writes_more (g.W.Sink.state c.args.sink.now) (g.W.Sink.state c.write_hashed.new.sink) (g.W.Sink.state c.write_records.new.sink) piece
+          (records table.values) c.in_ok-write_hashed.ensures.done c.in_ok-write_records.ensures.done),
+    )
+
+pub returns-clause-done : goal.returns-clause-done
+returns-clause-done g c =
+    let table = c.args.table.now in
+    let done = before g (goal.at.returns-clause-done g c).In_ok-write_records in
     on_ok_weaker c.put_digest.result
     (puts_more (g.W.Sink.state c.args.sink.now) (g.W.Sink.state c.write_records.new.sink) (g.W.Sink.state c.put_digest.new.sink) (contents_in Second table)
-    (sha256 (contents_in Second table)) wrote) (c.put_digest.ensures.done (contents_in Second table) holds)
+    (sha256 (contents_in Second table)) done.1) (c.put_digest.ensures.done (contents_in Second table) done.0)
 
 pub returns-clause-part : goal.returns-clause-part
 returns-clause-part g c =
     let table = c.args.table.now in
-    let piece = c.deref.result.now in
     let digest = sha256 (contents_in Second table) in
-    let all : piece ++ records table.values ≡ contents_in Second table =
-    ap (λ (h : List ℕ). h ++ records table.values) (c.deref.ensures.value ∙ c.requires.header) ∙ header_records Second table in
-    let holds = subst (Holds256 c.write_records.new.hasher) all
-    (c.in_ok-write_records.ensures.hashed piece (c.write_hashed.ensures.hashed [] c.new-hasher.ensures)) in
-    let wrote = subst (Writes (change (g.W.Sink.state c.args.sink.now) (g.W.Sink.state c.write_records.new.sink))) all
-    (writes_more (g.W.Sink.state c.args.sink.now) (g.W.Sink.state c.write_hashed.new.sink) (g.W.Sink.state c.write_records.new.sink) piece
-    (records table.values) c.in_ok-write_hashed.ensures.done c.in_ok-write_records.ensures.done) in
+    let done = before g (goal.at.returns-clause-part g c).In_ok-write_records in
     let counted = c.class_count-count.ensures.number ∙ ap classes_of c.classes.ensures.family ∙ c.classes.ensures.count in
     let long : length (contents_in Second table) ≡ 21 + 2 * c.class_count-count.result = length-contents Second table ∙ ap (λ (n : ℕ). 21 + 2 * n) (sym counted) in
     IfErr-weaker c.put_digest.result _ _
     (λ failed. stops_last (g.W.Sink.state c.args.sink.now) (g.W.Sink.state c.write_records.new.sink) (g.W.Sink.state c.put_digest.new.sink)
-    (21 + 2 * c.class_count-count.result) (contents_in Second table) digest (bytes_of table) failed wrote long refl) (c.put_digest.ensures.part (contents_in Second table) holds)
+    (21 + 2 * c.class_count-count.result) (contents_in Second table) digest (bytes_of table) failed done.1 long refl) (c.put_digest.ensures.part (contents_in Second table) done.0)

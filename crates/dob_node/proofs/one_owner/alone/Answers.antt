@@ -2,7 +2,7 @@
 use Rattle.std.proofs.Common.{◌≡◌, ℕ, ◌≤◌, Option, Ok, IfSome, ap, subst, ◌∙◌}
 use Rattle.std.proofs.lemmas.Result.{err_from_is_err_and}
 use Rattle.dob_pieces.specs.declared.profile.Family.{Family}
-use Rattle.dob_node.specs.declared.node.Node.{Node}
+use Rattle.dob_node.specs.NodeViews.{NodeView}
 use Rattle.dob_node.specs.Alone.{HasMade, IsDone, IsTooDeepWithin, IsUnderWay}
 use Rattle.dob_node.proofs.AloneStops.{never_too_deep}
 use Rattle.dob_node.proofs.one_owner.alone.Goals as goal
@@ -25,8 +25,8 @@ returns-in_default-clause-none c = λ is.
 pub returns-clause-done : goal.returns-clause-done
 returns-clause-done c =
     let out = c.in_ok-ended.ensures in
-    let same = subst (λ (given : Option Node). IfSome given (λ ended. ended.family ≡ c.in_ok-node.node.family)) c.in-Some.is out.family in
-    let done = subst (λ (given : Option Node). IfSome given (λ ended. (steps : ℕ) × (steps ≤ c.args.limit) × HasMade steps ended × IsDone ended))
+    let same = subst (λ (given : Option NodeView). IfSome given (λ ended. ended.family ≡ c.in_ok-node.node.family)) c.in-Some.is out.family in
+    let done = subst (λ (given : Option NodeView). IfSome given (λ ended. (steps : ℕ) × (steps ≤ c.args.limit) × HasMade steps ended × IsDone ended))
     c.in-Some.is out.done in
     record {
       node = c.in-Some.ended;

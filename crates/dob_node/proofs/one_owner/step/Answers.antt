@@ -1,6 +1,6 @@
 -- One step more is made.
 use Rattle.std.proofs.Common.{◌≡◌, ℕ, ◌<◌, [], Ok, ap, sym, subst}
-use Rattle.dob_node.specs.declared.node.Node.{Node}
+use Rattle.dob_node.specs.NodeViews.{NodeView}
 use Rattle.dob_node.specs.Alone.{HasMade, HasStoppedAlone}
 use Rattle.dob_node.proofs.AloneSteps.{made_applied, made_expanded}
 use Rattle.dob_node.proofs.TakenLists.{carried}
@@ -12,16 +12,16 @@ returns-in_err-apply_own-clause-stopped c =
     let node = c.args.node.now in
     let why = c.in_err-apply_own.field-0.0 in
     carried (λ given. (steps limit : ℕ) → HasMade steps node → steps < limit → HasStoppedAlone node.family limit given) c.from_residual.result why
-    c.from_residual.ensures.1 (λ steps limit made low. stopped_alone node steps limit why made low c.in_err-apply_own.ensures.stopped)
+    c.from_residual.ensures.1 (λ steps limit made low. stopped_alone node steps limit why made low c.in_err-apply_own.ensures.step.stopped)
 
 pub returns-then-branch-clause-made : goal.returns-then-branch-clause-made
 returns-then-branch-clause-made c = λ is steps made.
-    made_applied c.args.node.now c.apply_own.new.self c.in_ok-apply_own.ensures.sound
-    (c.in_ok-apply_own.ensures.applied (ap Ok c.if-branch.true)) steps made
+    made_applied c.args.node.now c.apply_own.new.self c.in_ok-apply_own.ensures.keeps.sound
+    (c.in_ok-apply_own.ensures.step.applied (ap Ok c.if-branch.true)) steps made
 
 pub returns-clause-made : goal.returns-clause-made
 returns-clause-made c = λ is steps made.
-    let same : c.apply_own.new.self ≡ c.args.node.now = c.in_ok-apply_own.ensures.nothing (ap Ok c.if-branch.false) in
-    made_expanded c.apply_own.new.self c.expand.new.self c.expand.ensures.sound
-    (subst (λ (node : Node). node.own.items ≡ []) (sym same) (c.in_ok-apply_own.ensures.done.0 (ap Ok c.if-branch.false)))
-    (c.expand.ensures.expanded is) steps (subst (λ (node : Node). HasMade steps node) (sym same) made)
+    let same : c.apply_own.new.self ≡ c.args.node.now = c.in_ok-apply_own.ensures.step.nothing (ap Ok c.if-branch.false) in
+    made_expanded c.apply_own.new.self c.expand.new.self c.expand.ensures.keeps.sound
+    (subst (λ (node : NodeView). node.own ≡ []) (sym same) (c.in_ok-apply_own.ensures.step.done.0 (ap Ok c.if-branch.false)))
+    (c.expand.ensures.step.expanded is) steps (subst (λ (node : NodeView). HasMade steps node) (sym same) made)

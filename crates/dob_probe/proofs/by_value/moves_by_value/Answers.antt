@@ -13,15 +13,10 @@ loop-the_move-init c =
     subst (λ (xs : List ValuedMove). AreListed c.args.table.now.family.profile (GivenBy c.args.table.now) c.args.position.now.setup c.args.the_moves.now 0 xs)
     (sym c.new-list.ensures.items) (listed_none c.args.table.now.family.profile (GivenBy c.args.table.now) c.args.position.now.setup c.args.the_moves.now)
 
-pub value_to-requires-clause-open : goal.value_to-requires-clause-open
-value_to-requires-clause-open c =
-    (move_goes c.args.table.now.family.profile c.args.position.now.setup c.args.the_moves.now c.loop-the_move.the_move-index c.the_move-item.result
-    c.requires.the_moves c.loop-the_move-test.true c.the_move-item.is).0
-
-pub value_to-requires-clause-can_go : goal.value_to-requires-clause-can_go
-value_to-requires-clause-can_go c =
-    (move_goes c.args.table.now.family.profile c.args.position.now.setup c.args.the_moves.now c.loop-the_move.the_move-index c.the_move-item.result
-    c.requires.the_moves c.loop-the_move-test.true c.the_move-item.is).1
+pub value_to-requires-clause-the_move : goal.value_to-requires-clause-the_move
+value_to-requires-clause-the_move c =
+    move_goes c.args.table.now.family.profile c.args.position.now.setup c.args.the_moves.now c.loop-the_move.the_move-index c.the_move-item.result
+    c.requires.the_moves c.loop-the_move-test.true c.the_move-item.is
 
 pub value_seen-value-requires : goal.value_seen-value-requires
 value_seen-value-requires c =

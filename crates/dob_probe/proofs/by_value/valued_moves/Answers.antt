@@ -1,5 +1,5 @@
 -- By a consistent table the moves have the right values.
-use Rattle.std.proofs.Common.{refl, subst}
+use Rattle.std.proofs.Common.{subst}
 use Rattle.dob_pieces.specs.declared.profile.Family.{Family}
 use Rattle.dob_rank.specs.Families.{IsPositionOf}
 use Rattle.dob_value.proofs.Consistency.{consistent_is_right}

@@ -13,7 +13,7 @@ loop-catch-init c =
 
 pub returns-in-Some-clause-line : goal.returns-in-Some-clause-line
 returns-in-Some-clause-line c =
-    subst (IsLine c.args.table.now.family.profile (GivenBy c.args.table.now) c.args.position.setup) (sym c.in_ok-push.ensures.items)
+    subst (IsLine c.args.table.now.family.profile (GivenBy c.args.table.now) c.args.position.setup) (sym c.in_ok-push_move.ensures)
     (line_catches c.args.table.now c.args.position.setup c.loop-catch.line.items c.loop-catch.position.setup c.loop-catch.value
     c.loop-catch.invariant c.in-Some.catch c.in-Some.ensures)
 
@@ -32,7 +32,7 @@ returns-in_err-the_move-clause-fault c =
 pub loop-catch-preserved : goal.loop-catch-preserved
 loop-catch-preserved c =
     subst (λ (ms : List Move). IsOnLine c.args.table.now c.args.position.setup ms c.in_ok-the_move.next.setup c.in-Some-value_wanted.wanted)
-    (sym c.in_ok-push-2.ensures.items)
+    (sym c.in_ok-push_move-2.ensures)
     (on_line_more c.args.table.now c.args.position.setup c.loop-catch.line.items c.loop-catch.position.setup c.loop-catch.value
     c.loop-catch.invariant c.in-Some-value_wanted.wanted c.in_ok-the_move.the_move c.in_ok-the_move.next.setup
     c.in_default.ensures (sym c.value_wanted.ensures ∙ c.in-Some-value_wanted.is) c.in_ok-the_move.ensures.found)

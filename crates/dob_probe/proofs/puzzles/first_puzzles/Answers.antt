@@ -1,11 +1,97 @@
--- No table has a longer distance than 65,535.
-use Rattle.std.proofs.Common.{sym, subst, List}
+-- The puzzles of one place more, until there are as many as were asked for.
+use Rattle.std.proofs.Common.{◌≡◌, ◌≤◌, ◌<◌, ◌+◌, ◌++◌, ◌∷◌, [], ℕ, rules, arith, length, length-append, subst, sym, ap, ◌∙◌, List, None, Some, Option, vec_len}
 use Rattle.dob_probe.specs.declared.puzzles.Puzzle.{Puzzle}
 use Rattle.dob_probe.specs.Puzzles.{ArePuzzles}
-use Rattle.dob_probe.proofs.OnlyMoves.{puzzles_too_long}
+use Rattle.dob_probe.specs.SingleMoves.{IsPuzzleOf}
+use Rattle.dob_probe.specs.Walks.{begin_at, class_on, first_class}
+use Rattle.dob_probe.proofs.OnlyMoves.{ArePuzzlesBelow, begin, puzzles_all, puzzles_full, puzzles_more, puzzles_none, puzzles_same, puzzles_too_long}
+use Rattle.dob_probe.proofs.Walked.{first_below}
 use Rattle.dob_probe.proofs.puzzles.first_puzzles.Goals as goal
+use Rattle.dob_probe.proofs.puzzles.first_puzzles.Goals.{After-begin_at-begin, in-Some+in_ok-push, in_default}
+
+-- the class that comes first, and the first place, by the table's classes
+first_is : (c : After-begin_at-begin) → c.first_class-first.result ≡ first_class c.args.walk.seed (length c.args.table.now.values)
+first_is c = c.first_class-first.ensures ∙ ap (first_class c.args.walk.seed) c.class_count-classes.ensures.length
+
+begin_is : (c : After-begin_at-begin) → c.begin_at-begin.result ≡ begin c.args.table.now c.args.plies c.args.walk
+begin_is c =
+    c.begin_at-begin.ensures ∙ (ap (λ (n : ℕ). begin_at c.args.walk.behind c.first_class-first.result n) c.class_count-classes.ensures.length
+    ∙ ap (λ (n : ℕ). begin_at c.args.walk.behind n (length c.args.table.now.values)) (first_is c))
 
 pub returns-then-plies : goal.returns-then-plies
 returns-then-plies c =
     subst (λ (xs : List Puzzle). ArePuzzles c.args.table.now c.args.walk c.args.plies c.args.count xs) (sym c.new.ensures.items)
     (puzzles_too_long c.args.table.now c.args.plies c.args.walk c.args.count c.family-family.ensures.table c.if-plies.true)
+
+pub begin_at-begin-requires : goal.begin_at-begin-requires
+begin_at-begin-requires c = λ some.
+    subst (λ (n : ℕ). n < c.class_count-classes.result) (sym c.first_class-first.ensures) (first_below c.args.walk.seed c.class_count-classes.result some)
+
+pub class_on-requires-clause-first : goal.class_on-requires-clause-first
+class_on-requires-clause-first c =
+    let here : c.loop-place.place < c.class_count-classes.result = c.loop-place-test.true in
+    subst (λ (n : ℕ). n < c.class_count-classes.result) (sym c.first_class-first.ensures)
+    (first_below c.args.walk.seed c.class_count-classes.result (omega (arith, here)))
+
+pub loop-place-init : goal.loop-place-init
+loop-place-init c =
+    let table = c.args.table.now in
+    let at = begin_is (goal.at.loop-place-init c).After-begin_at-begin in
+    let empty : c.new-list.result.items ≡ [] = c.new-list.ensures.items in (
+      omega (arith, at),
+      rw empty (omega arith),
+      rw empty (subst (λ (n : ℕ). ArePuzzlesBelow table c.args.plies c.args.walk n []) (sym at) (puzzles_none table c.args.plies c.args.walk)),
+    )
+
+pub returns-then-len-count : goal.returns-then-len-count
+returns-then-len-count c =
+    let list = c.loop-place.list.items in
+    let long : vec_len c.loop-place.list ≡ length list = c.loop-place.list.ok.0 in
+    let few : length list ≤ c.args.count = c.loop-place.invariant.1 in
+    let enough : c.args.count ≤ c.len.result = c.if-len-count.true in
+    let is : c.len.result ≡ vec_len c.loop-place.list = c.len.ensures in
+    puzzles_full c.args.table.now c.args.plies c.args.walk c.loop-place.place c.args.count list (omega (arith, long, few, enough, is)) c.loop-place.invariant.2
+
+pub loop-place-preserved : goal.loop-place-preserved
+loop-place-preserved c =
+    let table = c.args.table.now in
+    let plies = c.args.plies in
+    let walk = c.args.walk in
+    let place : ℕ = c.loop-place.place in
+    let class : ℕ = c.class_on.result in
+    let list = c.loop-place.list.items in
+    let long : vec_len c.loop-place.list ≡ length list = c.loop-place.list.ok.0 in
+    let fewer : c.len.result < c.args.count = c.if-len-count.false in
+    let is : c.len.result ≡ vec_len c.loop-place.list = c.len.ensures in
+    let from : begin table plies walk ≤ place = c.loop-place.invariant.0 in
+    let below : place < c.class_count-classes.result = c.loop-place-test.true in
+    let count : c.class_count-classes.result ≡ length table.values = c.class_count-classes.ensures.length in
+    let here : place < length table.values = omega (arith, below, count) in
+    let on : class ≡ class_on (first_class walk.seed (length table.values)) (length table.values) place =
+    c.class_on.ensures.class ∙ (ap (λ (n : ℕ). class_on c.first_class-first.result n place) count
+    ∙ ap (λ (n : ℕ). class_on n (length table.values) place) (first_is (goal.at.loop-place-preserved c).After-begin_at-begin)) in
+    elim c.match-branch-2.branch [
+      | in-Some+in_ok-push w ↦
+          let puzzle : Puzzle = w.in-Some.puzzle in
+          let found : IsPuzzleOf table plies class (Some puzzle) =
+          subst (λ (o : Option Puzzle). IsPuzzleOf table plies class o) w.in-Some.is (c.in_ok-puzzle.ensures) in
+          let more : length (list ++ puzzle ∷ []) ≡ length list + 1 = length-append list (puzzle ∷ []) in
+          let same : c.match-branch-2.list.items ≡ list ++ puzzle ∷ [] = search rules in
+          rw same (
+            omega (arith, from),
+            omega (arith, more, long, fewer, is),
+            puzzles_more table plies walk place class here on list puzzle from found c.loop-place.invariant.2,
+          )
+      | in_default w ↦
+          let missing : IsPuzzleOf table plies class None =
+          subst (λ (o : Option Puzzle). IsPuzzleOf table plies class o) w.in_default.is (c.in_ok-puzzle.ensures) in
+          let same : c.match-branch-2.list.items ≡ list = search rules in
+          rw same (omega (arith, from), c.loop-place.invariant.1, puzzles_same table plies walk place class here on list missing c.loop-place.invariant.2)
+    ]
+
+pub returns : goal.returns
+returns c =
+    let all : c.class_count-classes.result ≤ c.loop-place.place = c.loop-place-test.false in
+    let count : c.class_count-classes.result ≡ length c.args.table.now.values = c.class_count-classes.ensures.length in
+    puzzles_all c.args.table.now c.args.plies c.args.walk c.loop-place.place c.args.count c.loop-place.list.items (omega (arith, all, count)) c.loop-place.invariant.1
+    c.loop-place.invariant.2

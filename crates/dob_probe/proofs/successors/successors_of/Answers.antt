@@ -11,15 +11,10 @@ pub loop-the_move-init : goal.loop-the_move-init
 loop-the_move-init c =
     ([], successors_none c.args.table.now.family.profile (λ (v : Value) q. GivenBy c.args.table.now q v) c.args.position.now.setup _, c.none-kept.ensures)
 
-pub value_to-value-requires-clause-open : goal.value_to-value-requires-clause-open
-value_to-value-requires-clause-open c =
-    (move_goes c.args.table.now.family.profile c.args.position.now.setup c.args.the_moves.now c.loop-the_move.the_move-index c.the_move-item.result
-    c.requires.the_moves c.loop-the_move-test.true c.the_move-item.is).0
-
-pub value_to-value-requires-clause-can_go : goal.value_to-value-requires-clause-can_go
-value_to-value-requires-clause-can_go c =
-    (move_goes c.args.table.now.family.profile c.args.position.now.setup c.args.the_moves.now c.loop-the_move.the_move-index c.the_move-item.result
-    c.requires.the_moves c.loop-the_move-test.true c.the_move-item.is).1
+pub value_to-value-requires-clause-the_move : goal.value_to-value-requires-clause-the_move
+value_to-value-requires-clause-the_move c =
+    move_goes c.args.table.now.family.profile c.args.position.now.setup c.args.the_moves.now c.loop-the_move.the_move-index c.the_move-item.result
+    c.requires.the_moves c.loop-the_move-test.true c.the_move-item.is
 
 pub loop-the_move-preserved : goal.loop-the_move-preserved
 loop-the_move-preserved c =

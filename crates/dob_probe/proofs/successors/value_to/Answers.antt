@@ -11,16 +11,16 @@ use Rattle.dob_probe.proofs.successors.value_to.Goals as goal
 
 pub apply-requires-clause-open : goal.apply-requires-clause-open
 apply-requires-clause-open c =
-    status_there c.args.table.now.family.profile c.args.position.now.setup Open c.args.position.now.legal c.requires.open
+    status_there c.args.table.now.family.profile c.args.position.now.setup Open c.args.position.now.legal c.requires.the_move.0
 
 pub apply-requires-clause-can_go : goal.apply-requires-clause-can_go
-apply-requires-clause-can_go c = can_go c.args.table.now.family.profile c.args.position.now.setup c.args.the_move c.requires.can_go
+apply-requires-clause-can_go c = can_go c.args.table.now.family.profile c.args.position.now.setup c.args.the_move c.requires.the_move.1
 
 pub value_of-requires : goal.value_of-requires
 value_of-requires c =
     let setup = c.args.position.now.setup in
-    moves_keep_the_family c.args.table.now.family setup c.args.the_move c.apply.result.setup c.requires.member c.requires.open
-    (goes_there c.args.table.now.family.profile setup c.args.the_move c.apply.result.setup c.requires.can_go c.apply.ensures)
+    moves_keep_the_family c.args.table.now.family setup c.args.the_move c.apply.result.setup c.requires.member c.requires.the_move.0
+    (goes_there c.args.table.now.family.profile setup c.args.the_move c.apply.result.setup c.requires.the_move.1 c.apply.ensures)
 
 pub returns : goal.returns
 returns c = λ q by.

@@ -1,11 +1,9 @@
 -- The four lines, one after the other.
 use Rattle.std.proofs.Common.{◌∙◌}
-use Rattle.std.proofs.lemmas.Result.{IfOk-weaker}
 use Rattle.dob_query.proofs.Kept.{lines_told}
 use Rattle.dob_query.proofs.keeping.lines_of.Goals as goal
 
 pub returns : goal.returns
 returns g c =
-    IfOk-weaker c.format.result _ _
-    (λ s e. e ∙ lines_told c.args.table.now.values c.tally_of-tally.result c.class_count-classes.result c.class_count-classes.ensures.length
-    c.tally_of-tally.ensures) c.format.ensures.ok
+    c.in_ok-format.ensures.ok
+    ∙ lines_told c.args.table.now.values c.tally_of-tally.result c.class_count-classes.result c.class_count-classes.ensures.length c.tally_of-tally.ensures

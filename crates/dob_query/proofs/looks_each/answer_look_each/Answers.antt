@@ -1,25 +1,23 @@
 -- What the source told is what the file has.
-use Rattle.std.proofs.lemmas.Result.{err_from_is_err_and}
+use Rattle.std.proofs.Common.{rules}
 use Rattle.rayon.proofs.ListFacts.{IfOk-then}
 use Rattle.std.specs.Prelude.{string_bytes}
-use Rattle.dob_query.specs.LooksEach.{ArePlaceLines, EndsRecords, IsLookedFor, IsPlacesFault, TellsRecords}
-use Rattle.dob_query.specs.Looks.{GivesWhole}
-use Rattle.dob_query.specs.Shelves.{shelf_change}
+use Rattle.dob_query.specs.LooksEach.{IsPlacesFault}
+use Rattle.dob_shelf.specs.Shelves.{shelf_change}
+use Rattle.dob_query.proofs.Endings.{answered_by}
 use Rattle.dob_query.proofs.Placed.{err_weaker, places_ended, places_told}
 use Rattle.dob_query.proofs.looks_each.answer_look_each.Goals as goal
 
-pub returns-clause-ok : goal.returns-clause-ok
-returns-clause-ok g c =
+pub returns-clause-answered : goal.returns-clause-answered
+returns-clause-answered g c =
     let change = shelf_change (g.S.Shelf.state c.args.shelf.now) (g.S.Shelf.state c.close.new.self) in
-    IfOk-then c.answers_by-answers.result _ _ c.answers_by-answers.ensures.ok (λ answers told.
-    places_told change c.args.file.now (g.S.Src.Source.gives c.in_ok-source.source) (g.S.Src.Source.shows c.in_ok-source.source)
-    c.in_ok-source.ensures.found c.in_ok-source.ensures.shown (g.S.Shelf.state c.find.new.self).input c.find.ensures.input answers.is_refused
-    (string_bytes answers.lines) told)
-
-pub returns-clause-err : goal.returns-clause-err
-returns-clause-err g c =
-    let change = shelf_change (g.S.Shelf.state c.args.shelf.now) (g.S.Shelf.state c.close.new.self) in
-    err_weaker _ (IsPlacesFault change c.args.file.now) c.answers_by-answers.result
-    (places_ended change c.args.file.now (g.S.Src.Source.gives c.in_ok-source.source) (g.S.Src.Source.shows c.in_ok-source.source)
-    c.in_ok-source.ensures.found c.in_ok-source.ensures.shown (g.S.Shelf.state c.find.new.self).input c.find.ensures.input)
-    c.answers_by-answers.ensures.err
+    let gives = g.S.Src.Source.gives c.in_ok-source.source in
+    let shows = g.S.Src.Source.shows c.in_ok-source.source in
+    answered_by change _ (IsPlacesFault change c.args.file.now) c.answers_by-answers.result
+    (IfOk-then c.answers_by-answers.result _ _ c.answers_by-answers.ensures.ok (λ answers told.
+    places_told change c.args.file.now gives shows c.in_ok-source.ensures.found c.in_ok-source.ensures.shown (g.S.Shelf.state c.find.new.self).input
+    c.find.ensures.input answers.is_refused (string_bytes answers.lines) told))
+    (err_weaker _ (IsPlacesFault change c.args.file.now) c.answers_by-answers.result
+    (places_ended change c.args.file.now gives shows c.in_ok-source.ensures.found c.in_ok-source.ensures.shown (g.S.Shelf.state c.find.new.self).input
+    c.find.ensures.input) c.answers_by-answers.ensures.err)
+    (search rules)

@@ -1,5 +1,5 @@
 -- One line more is answered each time, while the source works.
-use Rattle.std.proofs.Common.{◌≡◌, ◌∙◌, Err, ap, false, string_bytes, subst, sym}
+use Rattle.std.proofs.Common.{◌∙◌, ap, string_bytes, subst, sym}
 use Rattle.std.specs.Prelude.{Result}
 use Rattle.std.proofs.lemmas.Result.{err_from_is_err_and}
 use Rattle.dob_value.specs.declared.value.Value.{Value}

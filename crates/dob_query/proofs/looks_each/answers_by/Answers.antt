@@ -3,7 +3,7 @@ use Rattle.std.proofs.Common.{List, inl, string_bytes, subst, ℕ}
 use Rattle.std.proofs.lemmas.Result.{err_from_is_err_and}
 use Rattle.rayon.proofs.ListFacts.{IfOk-then}
 use Rattle.dob_query.specs.Each.{TellsLinesOf}
-use Rattle.dob_query.specs.LooksEach.{EndsRecords, IsRecordAnswer}
+use Rattle.dob_query.specs.LooksEach.{IsRecordAnswer}
 use Rattle.dob_query.proofs.EachLine.{tells_are}
 use Rattle.dob_query.proofs.Placed.{ends_all, err_weaker, input_ends_records, record_weaker}
 use Rattle.dob_query.proofs.looks_each.answers_by.Goals as goal

@@ -1,31 +1,29 @@
--- The position that was read is the text's, and the table the file's.
+-- A position that the table refuses is one of the file's faults.
 use Rattle.std.proofs.lemmas.Result.{err_from_is_err_and}
-use Rattle.dob_query.proofs.TableFaults.{opening_fault_holds, refusal_holds}
+use Rattle.dob_query.proofs.TableFaults.{refusal_holds}
 use Rattle.dob_query.proofs.tables.answer_probe.Goals as goal
 
-pub returns-in_err-table-clause-err : goal.returns-in_err-table-clause-err
-returns-in_err-table-clause-err g c =
-    let p = err_from_is_err_and c.from_residual-in_err-table.result c.from_residual-in_err-table.ensures.1 in
-    let position = c.in_ok-position.position in
-    rw (p.1, p.2) (opening_fault_holds ((g.S.Shelf.state c.args.shelf.now).has c.args.file.now) c.args.text.now position.setup _
-    (position.legal, record { squares = position.legal.squares; spelled = c.in_ok-position.ensures.read }) c.in_err-table.ensures.fault)
-
-pub returns-in_err-value-clause-err : goal.returns-in_err-value-clause-err
-returns-in_err-value-clause-err g c =
+pub returns-in_err-value-clause-answered : goal.returns-in_err-value-clause-answered
+returns-in_err-value-clause-answered g c =
     let p = err_from_is_err_and c.from_residual-in_err-value.result c.from_residual-in_err-value.ensures.1 in
-    let position = c.in_ok-position.position in
-    rw (p.1, p.2) (refusal_holds ((g.S.Shelf.state c.args.shelf.now).has c.args.file.now) c.in_ok-table.table c.in_ok-table.ensures.table
-    c.args.text.now position.setup c.in_err-value.field-0.0
-    (position.legal, record { squares = position.legal.squares; spelled = c.in_ok-position.ensures.read }) c.in_err-value.ensures.refused)
+    let asked = c.in_ok-table.ensures.asked in
+    rw (p.1, p.2) (
+      refusal_holds ((g.S.Shelf.state c.args.shelf.now).has c.args.file.now) c.in_ok-table.table asked.0.0 c.args.text.now
+          c.in_ok-table.position.setup c.in_err-value.field-0.0 asked.0.1 c.in_err-value.ensures.refused,
+      asked.1,
+    )
 
-pub returns-clause-ok : goal.returns-clause-ok
-returns-clause-ok g c =
-    let position = c.in_ok-position.position in record {
-      table = c.in_ok-table.table;
-      file = c.in_ok-table.ensures.table;
-      position = position.setup;
-      named = (position.legal, record { squares = position.legal.squares; spelled = c.in_ok-position.ensures.read });
-      value = c.in_ok-value.value;
-      given = c.in_ok-value.ensures.value;
-      same = c.in_ok-line_of.ensures;
-    }
+pub returns-clause-answered : goal.returns-clause-answered
+returns-clause-answered g c =
+    let asked = c.in_ok-table.ensures.asked in (
+      record {
+        table = c.in_ok-table.table;
+        file = asked.0.0;
+        position = c.in_ok-table.position.setup;
+        named = asked.0.1;
+        value = c.in_ok-value.value;
+        given = c.in_ok-value.ensures.value;
+        same = c.in_ok-line_of.ensures;
+      },
+      asked.1,
+    )

@@ -15,8 +15,8 @@ number_of-block-requires-clause-below c =
     HasDigits-same _ (block_bases c.piece_set_of-set.result) _ _ c.block_bases_of.ensures refl
     (HasDigits-board c.piece_set_of-set.result c.args.position.now.setup _ is c.numbers_on_board-on_board.ensures)
 
-pub far_start-requires : goal.far_start-requires
-far_start-requires c =
+pub block_start-requires : goal.block_start-requires
+block_start-requires c =
     let of_set = c.piece_set_of-set.ensures in
     let is = IsPositionOfSet-totals c.piece_set_of-set.result c.args.position.now.setup c.args.position.now.legal of_set.chicks of_set.elephants of_set.giraffes in
     block_upto c.piece_set_of-set.result c.args.position.now.setup _ is
@@ -31,7 +31,7 @@ pub overflow_add-result : goal.overflow_add-result
 overflow_add-result c =
     let of_set = c.piece_set_of-set.ensures in
     let is = IsPositionOfSet-totals c.piece_set_of-set.result c.args.position.now.setup c.args.position.now.legal of_set.chicks of_set.elephants of_set.giraffes in
-    let whole = far_rank_is c.piece_set_of-set.result c.args.position.now.setup _ _ _ c.far_start.ensures.value
+    let whole = far_rank_is c.piece_set_of-set.result c.args.position.now.setup _ _ _ c.block_start.ensures.value
     (block_found c.piece_set_of-set.result c.args.position.now.setup _ _ _ c.block_bases_of.ensures c.numbers_on_board-on_board.ensures c.number_of-block.ensures)
     c.far_place.ensures in
     let few = far_rank_small c.piece_set_of-set.result c.args.position.now.setup is in
@@ -41,7 +41,7 @@ pub returns : goal.returns
 returns c = λ set of_set.
     let own = c.piece_set_of-set.ensures in
     let is = IsPositionOfSet-totals c.piece_set_of-set.result c.args.position.now.setup c.args.position.now.legal own.chicks own.elephants own.giraffes in
-    far_rank_is c.piece_set_of-set.result c.args.position.now.setup _ _ _ c.far_start.ensures.value
+    far_rank_is c.piece_set_of-set.result c.args.position.now.setup _ _ _ c.block_start.ensures.value
     (block_found c.piece_set_of-set.result c.args.position.now.setup _ _ _ c.block_bases_of.ensures c.numbers_on_board-on_board.ensures c.number_of-block.ensures)
     c.far_place.ensures
     ∙ ap (λ q. rank_of (family_of q B) c.args.position.now.setup) (set_of_position c.piece_set_of-set.result set c.args.position.now.setup is of_set)

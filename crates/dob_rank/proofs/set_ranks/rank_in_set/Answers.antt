@@ -1,5 +1,5 @@
 -- A rank is the start of the position's block and its place there, and the same under each set of the position.
-use Rattle.std.proofs.Common.{◌∙◌, arith}
+use Rattle.std.proofs.Common.{refl, ◌∙◌, arith}
 use Rattle.dob_rank.proofs.InRuns.DigitParts.{AreFewOnBoard-digits}
 use Rattle.dob_rank.proofs.Positions.Sets.{IsPositionOfSet-totals, rank_of_set-sets}
 use Rattle.dob_rank.proofs.Positions.Found.{HasDigits-board, block_upto, spot_small, place_is_of, ranked, rank_small}
@@ -43,5 +43,5 @@ returns c = λ set is_of.
     let is = IsPositionOfSet-totals c.piece_set_of-set.result c.args.position.now.setup c.args.position.now.legal of_set.chicks of_set.elephants of_set.giraffes in
     let place = place_is_of c.piece_set_of-set.result c.args.position.now.setup _ _ _ _ c.numbers_on_board-on_board.ensures
     c.spot_with-block.ensures.run c.spot_with-block.ensures.local c.place_of.ensures in
-    ranked c.piece_set_of-set.result c.args.position.now.setup _ _ _ c.spot_with-block.ensures.block place c.block_start.ensures.value
+    ranked c.piece_set_of-set.result c.args.position.now.setup _ _ _ c.spot_with-block.ensures.block place (c.block_start.ensures.whole refl)
     ∙ rank_of_set-sets c.piece_set_of-set.result set c.args.position.now.setup is is_of

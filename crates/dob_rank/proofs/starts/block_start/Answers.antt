@@ -1,13 +1,25 @@
 -- The table's entry is the sum, computed for each set and each block.
-use Rattle.std.proofs.Common.{ℕ, ◌<◌, ◌^◌, subst, sym}
-use Rattle.dob_rank.proofs.Positions.BlockStarts.{start_is, start_few}
-use Rattle.dob_rank.proofs.Positions.Blocks.{blocks_small}
+use Rattle.std.proofs.Common.{ℕ, ◌<◌, ◌≤◌, ◌^◌, sym, ◌∙◌, subst, arith}
+use Rattle.dob_rank.specs.Numbers.{start_of}
+use Rattle.dob_rank.specs.Families.{is_present}
+use Rattle.dob_rank.proofs.Positions.BlockStarts.{start_few}
+use Rattle.dob_rank.proofs.Marked.Words.{marks_below-le}
+use Rattle.dob_rank.proofs.OfFamilies.Present.{all_present}
+use Rattle.dob_rank.proofs.ProfileB.FarStarts.{start_in_family}
 use Rattle.dob_rank.proofs.starts.block_start.Goals as goal
 
 pub returns-clause-value : goal.returns-clause-value
-returns-clause-value c = start_is c.args.set c.args.block c.requires (blocks_small c.args.set)
+returns-clause-value c =
+    start_in_family c.args.family.profile c.args.family.set _ c.args.block c.place_of.ensures.first c.place_of.ensures.second c.requires
+
+pub returns-clause-whole : goal.returns-clause-whole
+returns-clause-whole c = λ a. returns-clause-value c ∙ all_present c.args.family (start_of c.args.family.set c.args.block) a
 
 pub returns-clause-bound : goal.returns-clause-bound
 returns-clause-bound c =
-    subst (λ (n : ℕ). n < 2 ^ 31) (sym (start_is c.args.set c.args.block c.requires (blocks_small c.args.set)))
-    (start_few c.args.set c.args.block c.requires (blocks_small c.args.set))
+    let few = marks_below-le (is_present c.args.family) (start_of c.args.family.set c.args.block) in
+    let small = start_few c.args.family.set c.args.block c.requires in
+    subst (λ (n : ℕ). n < 2 ^ 31) (sym (returns-clause-value c)) (within few small)
+  where
+    within : {m n k : ℕ} → m ≤ n → n < k → m < k
+    within h l = omega (arith, h, l)

@@ -1,5 +1,5 @@
 -- The threads go over each class number of the part, and the list has the code of each, in order.
-use Rattle.std.proofs.Common.{◌≡◌, ℕ, ◌-◌, ◌<◌, ap, sym, subst, ◌∙◌, arith, List, length}
+use Rattle.std.proofs.Common.{ℕ, ◌-◌, ◌<◌, sym, subst, ◌∙◌, arith, List, length}
 use Rattle.std.specs.List.{AllZip, range_with_len}
 use Rattle.rayon.specs.Numbers.{nat_range}
 use Rattle.rayon.proofs.ToStd.{nat_range-All}

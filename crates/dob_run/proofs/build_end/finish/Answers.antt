@@ -1,7 +1,7 @@
 -- What the words say decides between a failure and the table.
 use Rattle.std.proofs.Common.{◌≡◌, List, map, refl, ap, ◌∙◌, subst}
 use Rattle.dob_node.specs.declared.node.Node.{Node}
-use Rattle.dob_run.specs.declared.runner.Runner.{Runner}
+use Rattle.dob_runner.specs.declared.runner.Runner.{Runner}
 use Rattle.dob_run.specs.BoundedRun.{AreUnfailed, IsFirstFailed}
 use Rattle.dob_run.specs.BuildEnd.{failed_of, share_in}
 use Rattle.dob_run.proofs.CrewStopped.{not_running, some_cause, is_failure, late_failure, owners_are, built_is}

@@ -1,5 +1,5 @@
 -- The owner stands at its place.
-use Rattle.std.proofs.Common.{◌≡◌, ℕ, sym, ap, ◌∙◌, subst, length, Some, slice_get}
+use Rattle.std.proofs.Common.{◌≡◌, ℕ, sym, ◌∙◌, subst, length, Some, slice_get}
 use Rattle.std.proofs.lemmas.Option.{same_Some}
 use Rattle.dob_pieces.proofs.Elements.{read_there}
 use Rattle.dob_share.specs.Owners.{owner_of}

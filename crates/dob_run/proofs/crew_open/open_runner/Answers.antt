@@ -1,8 +1,8 @@
 -- The runner has the endpoint and a node just opened, which has made no step, and nothing has gone over its links.
 use Rattle.std.proofs.Common.{sym, subst}
 use Rattle.dob_node.specs.declared.node.Node.{Node}
-use Rattle.dob_run.specs.declared.endpoint.Endpoint.{Endpoint}
-use Rattle.dob_run.specs.Runners.{IsNew}
+use Rattle.dob_runner.specs.declared.endpoint.Endpoint.{Endpoint}
+use Rattle.dob_runner.specs.Runners.{IsNew}
 use Rattle.dob_run.proofs.crew_open.open_runner.Goals as goal
 use Rattle.dob_run.proofs.crew_open.open_runner.Goals.{In_ok-node}
 
@@ -19,13 +19,13 @@ is_new c =
       untaken = new.untaken.0;
     }
 
-pub new-requires-clause-fresh : goal.new-requires-clause-fresh
-new-requires-clause-fresh c = is_new (goal.at.new-requires-clause-fresh c).In_ok-node
+pub new-requires : goal.new-requires
+new-requires c = is_new (goal.at.new-requires c).In_ok-node
 
 pub returns : goal.returns
 returns c =
     let made = c.new.ensures in (
       made.endpoint,
-      record { family_is = made.family; size_is = made.size; unfailed = made.unfailed },
+      record { family_is = made.family; size_is = made.batch_size; unfailed = made.unfailed },
       subst (λ (p : Node × Endpoint). IsNew c.args.family p.0 p.1) (λ i. ((sym made.node) i, (sym made.endpoint) i)) (is_new (goal.at.returns c).In_ok-node),
     )

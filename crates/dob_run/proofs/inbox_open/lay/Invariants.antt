@@ -3,4 +3,4 @@ use Rattle.dob_run.specs.InboxOpen.{AreLaidUpto}
 use Rattle.dob_run.proofs.inbox_open.lay.Given as goal
 
 abbrev pub invariant-loop : goal.invariant-loop
-invariant-loop l = AreLaidUpto l.capacity l.n l.counter l.rows.items l.inlets.items
+invariant-loop l = AreLaidUpto l.capacity l.nodes l.counter l.rows.items l.inlets.items

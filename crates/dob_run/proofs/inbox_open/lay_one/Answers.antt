@@ -2,11 +2,8 @@
 use Rattle.dob_run.proofs.InboxesOpened.{one_laid}
 use Rattle.dob_run.proofs.inbox_open.lay_one.Goals as goal
 
-pub inbox-requires : goal.inbox-requires
-inbox-requires c = (c.requires.size.0, c.requires.size.1, c.requires.some)
-
 pub returns : goal.returns
 returns c =
     let new = c.in_ok-sends.ensures in
-    one_laid c.args.capacity c.args.n c.in_ok-sends.sends.items c.in_ok-sends.take c.in_ok-outlets.outlets.items c.new.result new.senders.0 new.senders.1 new.opened new.nothing
+    one_laid c.args.capacity c.args.nodes c.in_ok-sends.sends.items c.in_ok-sends.take c.in_ok-outlets.outlets.items c.new.result new.senders.0 new.senders.1 new.opened new.nothing
     c.in_ok-outlets.ensures c.new.ensures.end c.new.ensures.slot

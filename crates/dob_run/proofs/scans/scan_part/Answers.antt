@@ -1,5 +1,5 @@
 -- The threads go over each class number of the part, and the list has the opening of each, in order.
-use Rattle.std.proofs.Common.{◌≡◌, ℕ, ◌-◌, ◌<◌, ap, sym, subst, ◌∙◌, arith, List}
+use Rattle.std.proofs.Common.{ℕ, ◌-◌, ◌<◌, sym, subst, ◌∙◌, arith, List}
 use Rattle.std.specs.List.{AllZip, range_with_len}
 use Rattle.rayon.specs.Numbers.{nat_range}
 use Rattle.rayon.proofs.ToStd.{nat_range-All}

@@ -1,12 +1,12 @@
 -- A runner for which no thread can be made keeps its place when it is handed back, and has failed, at the latest for lack of memory.
 use Rattle.std.proofs.Common.{◌≡◌, rules, subst}
 use Rattle.dob_stops.specs.declared.cause.Cause.TheVariants.{Memory}
-use Rattle.dob_run.specs.declared.runner.Runner.{Runner}
-use Rattle.dob_run.specs.declared.turn_loop.Until.{Until}
-use Rattle.dob_run.specs.TurnLoop.{EndsBy}
-use Rattle.dob_run.specs.Runners.{KeepsRunner}
-use Rattle.dob_run.proofs.Keeping.{failed_after}
-use Rattle.dob_run.proofs.Threaded.{ended_without_memory}
+use Rattle.dob_runner.specs.declared.runner.Runner.{Runner}
+use Rattle.dob_runner.specs.declared.turn_loop.Until.{Until}
+use Rattle.dob_runner.specs.TurnLoop.{EndsBy}
+use Rattle.dob_runner.specs.Runners.{KeepsRunner}
+use Rattle.dob_runner.proofs.Keeping.{failed_after}
+use Rattle.dob_runner.proofs.Ending.{ended_without_memory}
 use Rattle.dob_run.proofs.threads.start.Goals as goal
 
 pub spawn_with-requires-clause-keeps : goal.spawn_with-requires-clause-keeps

@@ -17,13 +17,13 @@ loop-k-preserved c =
     let here : c.listed_status-status.result ≡ status_listed c.args.openings.now c.args.places c.args.n c.args.id (c.args.first + l.k)
     = c.listed_status-status.ensures ∙ ap (λ (k : ℕ). status_listed c.args.openings.now c.args.places c.args.n c.args.id (c.args.first + k)) c.from.ensures in record {
       opens_are = digits_more opens (λ (k : ℕ). status_listed c.args.openings.now c.args.places c.args.n c.args.id (c.args.first + k)) l.k l.opens
-          c.with_digit-opens.result l.invariant.opens_are (c.with_digit-opens.ensures.here ∙ c.open_digit.ensures.digit ∙ ap opens here)
+          c.with_digit-opens.result l.invariant.opens_are (c.with_digit-opens.ensures.here ∙ c.digits_of-is_open.ensures.open ∙ ap opens here)
           c.with_digit-opens.ensures.before c.with_digit-opens.ensures.low;
       caught_are = digits_more catches (λ (k : ℕ). status_listed c.args.openings.now c.args.places c.args.n c.args.id (c.args.first + k)) l.k l.caught
-          c.with_digit-caught.result l.invariant.caught_are (c.with_digit-caught.ensures.here ∙ c.caught_digit.ensures.digit ∙ ap catches here)
+          c.with_digit-caught.result l.invariant.caught_are (c.with_digit-caught.ensures.here ∙ c.digits_of-is_open.ensures.caught ∙ ap catches here)
           c.with_digit-caught.ensures.before c.with_digit-caught.ensures.low;
       tried_are = digits_more tries (λ (k : ℕ). status_listed c.args.openings.now c.args.places c.args.n c.args.id (c.args.first + k)) l.k l.tried
-          c.with_digit-tried.result l.invariant.tried_are (c.with_digit-tried.ensures.here ∙ c.tried_digit.ensures.digit ∙ ap tries here)
+          c.with_digit-tried.result l.invariant.tried_are (c.with_digit-tried.ensures.here ∙ c.digits_of-is_open.ensures.tried ∙ ap tries here)
           c.with_digit-tried.ensures.before c.with_digit-tried.ensures.low;
     }
 

@@ -1,6 +1,9 @@
 -- The square is cleared, what was caught comes back, and the piece stands where it came from.
-use Rattle.std.proofs.Common.{sym, subst}
+use Rattle.std.proofs.Common.{sym, subst, rules}
 use Rattle.dob_pieces.specs.declared.hand.Hands.{Hands}
+use Rattle.dob_pieces.specs.declared.kind.Side.TheVariants.{Mover}
+use Rattle.dob_classes.specs.Bitboards.{AreBitboards}
+use Rattle.dob_classes.proofs.SquareSets.BitChanges.{piece_added}
 use Rattle.dob_unmove.specs.Undoes.{CanGiveBack}
 use Rattle.dob_unmove.proofs.BitUndone.{step_undone}
 use Rattle.dob_unmove.proofs.bits_before.bits_before_step.Goals as goal
@@ -12,4 +15,6 @@ without_caught-requires c =
 pub returns : goal.returns
 returns c = λ after can twelve are.
     step_undone after c.args.kind c.args.from c.args.to c.args.caught twelve can c.args.bits _ _ _ _ are c.without.ensures c.with_caught-given_back.ensures
-    c.with_own.ensures c.without_caught.ensures
+    (λ before next empty w given. subst (AreBitboards next) (sym c.with_own.ensures)
+    (rw c.index.ensures.value (piece_added before next c.args.from (search rules) _ given empty Mover c.args.kind w)))
+    c.without_caught.ensures

@@ -1,9 +1,11 @@
 -- by whether there is one
-use Rattle.std.proofs.Common.{Option, subst, rules}
+use Rattle.std.proofs.Common.{Option, sym, subst, rules}
 use Rattle.dob_pieces.specs.declared.kind.Kind.{Kind}
+use Rattle.dob_pieces.specs.declared.kind.Side.TheVariants.{Enemy}
+use Rattle.dob_classes.specs.Bitboards.{AreBitboards}
 use Rattle.dob_classes.specs.Changes.{IsWith}
 use Rattle.dob_unmove.specs.Undoes.{enemy_cell}
-use Rattle.dob_classes.proofs.SquareSets.BitChanges.{nothing_added}
+use Rattle.dob_classes.proofs.SquareSets.BitChanges.{nothing_added, piece_added}
 use Rattle.dob_unmove.proofs.bits_before.with_caught.Goals as goal
 
 pub returns-in-None : goal.returns-in-None
@@ -13,4 +15,6 @@ returns-in-None c = λ before after empty w are.
 
 pub returns-in-Some : goal.returns-in-Some
 returns-in-Some c = λ before after empty w are.
-    c.with_enemy.ensures before after empty (subst (λ (o : Option Kind). IsWith before after c.args.square (enemy_cell o)) c.in-Some.is w) are
+    subst (AreBitboards after) (sym c.with_enemy.ensures)
+    (rw c.index.ensures.value (piece_added before after c.args.square (search rules) c.args.bits are empty Enemy _
+    (subst (λ (o : Option Kind). IsWith before after c.args.square (enemy_cell o)) c.in-Some.is w)))

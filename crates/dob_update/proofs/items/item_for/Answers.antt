@@ -1,4 +1,4 @@
--- The item tells of the settlement that it comes from.
+-- The item speaks of the settlement that it comes from.
 use Rattle.std.proofs.Common.{rules}
 use Rattle.dob_update.proofs.items.item_for.Goals as goal
 

@@ -1,4 +1,4 @@
--- The code of a win, and the value that it tells.
+-- The code of a win, and the value that it stands for.
 use Rattle.std.proofs.Common.{rules}
 use Rattle.dob_value.proofs.codes.code_of_value.Goals as goal
 

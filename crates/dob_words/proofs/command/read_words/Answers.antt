@@ -3,20 +3,29 @@ use Rattle.std.proofs.Common.{◌∙◌, IfOk, map, subst, sym}
 use Rattle.dob_words.specs.Readings.{IsReadingOf}
 use Rattle.dob_words.specs.Words.{meaning_of_command, settled}
 use Rattle.std.proofs.lemmas.Result.{IfOk-weaker}
-use Rattle.clap.specs.Words.{app_of}
+use Rattle.clap.specs.Words.{app_of, subcommand_rows_of}
 use Rattle.dob_words.proofs.Lines.{order_from_line, reading_at_line}
-use Rattle.dob_words.proofs.Outcomes.{command_meaning, topic_meaning, asked_by_matches, order_is_meant, error_of_words}
+use Rattle.dob_words.proofs.Outcomes.{IsAsked, command_meaning, topic_meaning, asked_by_matches, met_by_some, order_is_meant, error_of_words}
 use Rattle.dob_words.proofs.command.read_words.Goals as goal
+use Rattle.dob_words.proofs.command.read_words.Goals.{In-Ok}
+
+-- something was asked for where there are matches
+asked : (c : In-Ok) → IsAsked (map (λ w. w.now) c.args.words.now) (subcommand_rows_of c.in-Ok.matches)
+asked c =
+    asked_by_matches c.in_ok-dobutsu_command.ensures.0 c.in_ok-dobutsu_command.ensures.1 (app_of c.in_ok-dobutsu_command.field-0)
+    (map (λ w. w.now) c.args.words.now) c.in-Ok.matches (sym c.asks_topic.ensures ∙ c.if-asks_topic.false) c.in_ok-dobutsu_command.ensures.2.0
+    c.in-Ok.ensures.kinds c.in-Ok.ensures.matches
+
+pub order_of-requires : goal.order_of-requires
+order_of-requires c = met_by_some _ _ (asked (goal.at.order_of-requires c).In-Ok)
 
 pub returns-in-Ok-clause-meaning : goal.returns-in-Ok-clause-meaning
 returns-in-Ok-clause-meaning c =
     let words = map (λ w. w.now) c.args.words.now in
-    let no_topic = sym c.asks_topic.ensures ∙ c.if-asks_topic.false in
-    subst (λ m. IfOk c.read_order.result (IsReadingOf m)) (command_meaning words (sym c.asks_version.ensures ∙ c.if-asks_version.false) no_topic)
+    subst (λ m. IfOk c.read_order.result (IsReadingOf m))
+    (command_meaning words (sym c.asks_version.ensures ∙ c.if-asks_version.false) (sym c.asks_topic.ensures ∙ c.if-asks_topic.false))
     (c.read_order.ensures (settled (meaning_of_command words))
-    (order_is_meant words _ c.order_of.result
-    (asked_by_matches c.in_ok-dobutsu_command.ensures.0 c.in_ok-dobutsu_command.ensures.1 (app_of c.in_ok-dobutsu_command.field-0) words c.in-Ok.matches
-    no_topic c.in_ok-dobutsu_command.ensures.2.0 c.in-Ok.ensures.kinds c.in-Ok.ensures.matches) c.order_of.ensures))
+    (order_is_meant words _ c.order_of.result (asked (goal.at.returns-in-Ok-clause-meaning c).In-Ok) c.order_of.ensures))
 
 pub returns-in-Ok-clause-sound : goal.returns-in-Ok-clause-sound
 returns-in-Ok-clause-sound c = IfOk-weaker c.read_order.result _ _ (order_from_line _) (returns-in-Ok-clause-meaning c)

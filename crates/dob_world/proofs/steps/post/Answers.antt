@@ -14,8 +14,8 @@ returns-clause-posted c = λ e.
     (λ full. let yes = c.is_full.ensures.1 full in let no = c.if-is_full.false in cc) in
     record {
       batch = c.in-Some.batch;
-      cut = subst (λ given. IfSome given (λ (b : BatchView). HasCut c.args.to c.args.size b c.args.node.now c.cut_for.new.self)) c.in-Some.is
-          c.in_ok-batch.ensures.cut;
+      cut = subst (λ given. IfSome given (λ (b : BatchView). HasCut c.args.to c.args.batch_size b c.args.node.now c.cut_for.new.self)) c.in-Some.is
+          c.in_ok-batch.ensures.step.cut;
       link = ap (λ w. link_of w c.offer.new.self.capacity) steps
           ∙ ap (λ k. link_of (c.args.lane.now.link.waiting ++ c.in-Some.batch ∷ []) k) c.offer.ensures.capacity;
       sent = c.list_items.ensures ∙ ap (λ xs. xs ++ c.items.result.now) c.in_ok-reserve.ensures.items

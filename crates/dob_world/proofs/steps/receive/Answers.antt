@@ -12,12 +12,12 @@ use Rattle.dob_world.proofs.steps.receive.Goals as goal
 pub apply_batch-requires-clause-n : goal.apply_batch-requires-clause-n
 apply_batch-requires-clause-n c = let P = λ (b : BatchView). IsBatchFor c.args.node.now.family c.args.node.now.n c.args.node.now.id b in
     (All-head P c.in-Some-next.batch c.next.new.self.waiting (subst (λ xs. All P xs) c.in-Some-next.ensures.some c.requires.batches)).of.1
-    ∙ sym c.reserve-2.ensures.unchanged.same.2
+    ∙ sym c.reserve-2.ensures.step.unchanged.same.2
 
 pub apply_batch-requires-clause-family : goal.apply_batch-requires-clause-family
 apply_batch-requires-clause-family c = let P = λ (b : BatchView). IsBatchFor c.args.node.now.family c.args.node.now.n c.args.node.now.id b in
     (All-head P c.in-Some-next.batch c.next.new.self.waiting (subst (λ xs. All P xs) c.in-Some-next.ensures.some c.requires.batches)).of.0
-    ∙ sym c.reserve-2.ensures.unchanged.same.0
+    ∙ sym c.reserve-2.ensures.step.unchanged.same.0
 
 pub apply_batch-requires-clause-entries : goal.apply_batch-requires-clause-entries
 apply_batch-requires-clause-entries c = let P = λ (b : BatchView). IsBatchFor c.args.node.now.family c.args.node.now.n c.args.node.now.id b in
@@ -26,8 +26,8 @@ apply_batch-requires-clause-entries c = let P = λ (b : BatchView). IsBatchFor c
 pub returns-in-Err-clause-front : goal.returns-in-Err-clause-front
 returns-in-Err-clause-front c = λ other.
     let batch = c.in-Some-next.batch in
-    let before = before_since batch.items c.args.node.now c.reserve-2.new.self c.apply_batch.new.self c.in-Err.cause c.reserve-2.ensures.unchanged
-    c.in-Err.ensures.before in
+    let before = before_since batch.items c.args.node.now c.reserve-2.new.self c.apply_batch.new.self c.in-Err.cause c.reserve-2.ensures.step.unchanged
+    c.in-Err.ensures.step.before in
     record {
       batch = batch;
       first = ap (λ w. link_of w c.args.lane.now.link.capacity) c.in-Some-next.ensures.some
@@ -45,8 +45,8 @@ returns-clause-received c = λ e. record {
   batch = c.in-Some-next.batch;
   first = ap (λ w. link_of w c.args.lane.now.link.capacity) c.in-Some-next.ensures.some
       ∙ ap (λ k. link_of (c.in-Some-next.batch ∷ c.next.new.self.waiting) k) (sym c.next.ensures.capacity);
-  taken = taken_since c.in-Some-next.batch.items c.args.node.now c.reserve-2.new.self c.apply_batch.new.self c.reserve-2.ensures.unchanged
-      c.in-Ok.ensures.taken;
+  taken = taken_since c.in-Some-next.batch.items c.args.node.now c.reserve-2.new.self c.apply_batch.new.self c.reserve-2.ensures.step.unchanged
+      c.in-Ok.ensures.step.taken;
   listed = c.list_items.ensures ∙ ap (λ xs. xs ++ c.items.result.now) c.in_ok-reserve.ensures.items
       ∙ ap (λ xs. c.args.lane.now.applied.items ++ xs) c.items.ensures.items;
   same = refl;

@@ -1,7 +1,7 @@
--- What is told are the moves that were listed, or the one fault.
+-- The answer is the moves that were listed, or the one fault.
 use Rattle.std.proofs.Common.{rules, ap, subst, ◌∙◌, List}
 use Rattle.dob_probe.specs.declared.by_value.ValuedMove.{ValuedMove}
-use Rattle.dobutsu_c.specs.Faults.{number_of}
+use Rattle.dobutsu_c.specs.Faults.{fault_number}
 use Rattle.dobutsu_c.specs.Moves.{AreWritten}
 use Rattle.dobutsu_c.proofs.ByFile.{moves_right}
 use Rattle.dobutsu_c.proofs.Exact.{no_fault, one_fault}
@@ -9,7 +9,7 @@ use Rattle.dobutsu_c.proofs.moves.dobutsu_moves.Goals as goal
 
 pub returns-in-Err-clause-fault : goal.returns-in-Err-clause-fault
 returns-in-Err-clause-fault c = λ fault holds.
-    c.number.ensures.number ∙ ap number_of (one_fault c.args.file.now c.args.text.now c.in-Err.fault fault c.in-Err.ensures holds)
+    c.number.ensures.number ∙ ap fault_number (one_fault c.args.file.now c.args.text.now c.in-Err.fault fault c.in-Err.ensures holds)
 
 pub returns-in-Ok-valued_moves-clause-moves : goal.returns-in-Ok-valued_moves-clause-moves
 returns-in-Ok-valued_moves-clause-moves c = λ none.

@@ -1,4 +1,4 @@
--- By the right index what is told are the moves that were listed, or the one fault.
+-- By the right index the answer is the moves that were listed, or the one fault.
 use Rattle.std.proofs.Common.{rules, subst, ◌∙◌, List}
 use Rattle.dob_probe.specs.declared.by_value.ValuedMove.{ValuedMove}
 use Rattle.dobutsu_c.specs.Moves.{AreWritten}

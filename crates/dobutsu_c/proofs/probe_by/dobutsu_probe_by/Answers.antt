@@ -1,4 +1,4 @@
--- By the right index what is told is the one value, or the one fault.
+-- By the right index the answer is the one value, or the one fault.
 use Rattle.std.proofs.Common.{refl, ap, ◌∙◌}
 use Rattle.dobutsu_c.specs.Probes.{shown}
 use Rattle.dobutsu_c.proofs.Exact.{no_fault, one_told, told_right}

@@ -1,6 +1,6 @@
--- What is told is the one value, or the one fault.
+-- The answer is the one value, or the one fault.
 use Rattle.std.proofs.Common.{refl, sym, ap, ◌∙◌}
-use Rattle.dobutsu_c.specs.Faults.{number_of}
+use Rattle.dobutsu_c.specs.Faults.{fault_number}
 use Rattle.dobutsu_c.specs.Probes.{shown}
 use Rattle.dobutsu_c.proofs.Exact.{no_fault, one_fault, one_told, told_right}
 use Rattle.dobutsu_c.proofs.probes.dobutsu_probe.Goals as goal
@@ -40,4 +40,4 @@ returns-in-Err-clause-refused c = λ some. (c.in-Err.fault, c.in-Err.ensures, c.
 
 pub returns-in-Err-clause-fault : goal.returns-in-Err-clause-fault
 returns-in-Err-clause-fault c = λ fault holds.
-    c.number.ensures.number ∙ ap number_of (one_fault c.args.file.now c.args.text.now c.in-Err.fault fault c.in-Err.ensures holds)
+    c.number.ensures.number ∙ ap fault_number (one_fault c.args.file.now c.args.text.now c.in-Err.fault fault c.in-Err.ensures holds)

@@ -30,3 +30,15 @@ returns-else-is_marked-clause-count c =
     let same = counted_off (local_marks_in at.family at.block at.run) c.args.walk.number c.count_before-number.result (marks_before at c.args.walk.number)
     by.further refl (λ k a b. by.same k a b ∙ c.if-is_marked.false) in
     omega (arith, same)
+
+pub returns-then-is_marked-clause-alike : goal.returns-then-is_marked-clause-alike
+returns-then-is_marked-clause-alike c =
+    (passed c.args.self.now c.args.walk c.args.place c.stretch_at-is_marked.result.1 c.min-to.result c.count_before-number.result c.stretch_at-is_marked.result.0
+    c.requires.walk c.requires.further c.requires.within c.stretch_at-is_marked.ensures.some c.min-to.ensures c.count_before-number.ensures
+    c.stretch_at-is_marked.ensures.marks).stretch
+
+pub returns-else-is_marked-clause-alike : goal.returns-else-is_marked-clause-alike
+returns-else-is_marked-clause-alike c =
+    (passed c.args.self.now c.args.walk c.args.place c.stretch_at-is_marked.result.1 c.min-to.result c.count_before-number.result c.stretch_at-is_marked.result.0
+    c.requires.walk c.requires.further c.requires.within c.stretch_at-is_marked.ensures.some c.min-to.ensures c.count_before-number.ensures
+    c.stretch_at-is_marked.ensures.marks).stretch

@@ -1,4 +1,4 @@
--- The mark of the position's rank tells whether it is a representative, and the marks before it are its class.
+-- The mark of the position's rank says whether it is a representative, and the marks before it are its class.
 use Rattle.std.proofs.Common.{◌<◌, ℕ, sym, ◌∙◌, subst}
 use Rattle.dob_rank.specs.Families.{classes_of}
 use Rattle.dob_classes.proofs.OfFamilies.FamilyNumbers.{IsAtClass, at_class, later_unmarked, class_number-below}

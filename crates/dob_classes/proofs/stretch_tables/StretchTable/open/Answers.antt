@@ -1,94 +1,61 @@
 -- Each stretch is appended or goes on with the last one.
-use Rattle.std.proofs.Common.{◌≡◌, sym, ap, ◌∙◌, subst, arith}
+use Rattle.std.proofs.Common.{◌≡◌, ℕ, ◌+◌, ◌≤◌, sym, ap, ◌∙◌, subst, arith}
 use Rattle.dob_rank.specs.Marks.{marks_below}
 use Rattle.dob_classes.specs.Stretches.{AreStretches}
-use Rattle.dob_classes.specs.FamilyRuns.{is_there, run_size_in, local_marks_in}
-use Rattle.dob_rank.proofs.Marked.Words.{marks_below-le, marks_below_none}
-use Rattle.dob_classes.proofs.MarksOfRuns.StretchLists.{AreStretches-none, counted_on, counted_off}
-use Rattle.dob_classes.proofs.MarksOfRuns.FamilyMarks.{run_size_in-small, stretch_in, all_places}
+use Rattle.dob_classes.specs.FamilyRuns.{run_size_in, local_marks_in}
+use Rattle.dob_rank.proofs.Marked.Words.{marks_below_none}
+use Rattle.dob_classes.proofs.Counting.WalkMarks.{walk_starts, walked_few}
+use Rattle.dob_classes.proofs.MarksOfRuns.StretchLists.{AreStretches-none}
+use Rattle.dob_classes.proofs.MarksOfRuns.FamilyMarks.{all_places}
 use Rattle.dob_classes.proofs.stretch_tables.StretchTable.open.Goals as goal
 
-pub loop-place-init : goal.loop-place-init
-loop-place-init c = record {
-  upto = omega arith;
-  start_is = sym (marks_below_none (is_there c.args.family c.args.block c.args.run));
-  are = AreStretches-none (local_marks_in c.args.family c.args.block c.args.run) c.new-list.result.items c.new-list.ensures.items;
-  counted = sym (marks_below_none (local_marks_in c.args.family c.args.block c.args.run));
-  last_is = λ h. absurd (omega (arith, h));
-}
-
-pub overflow_sub-count : goal.overflow_sub-count
-overflow_sub-count c =
-    let from = c.stretch_from-is_marked.ensures in
-    let told = stretch_in c.args.family c.args.block c.args.run c.loop-place.place c.stretch_from-is_marked.result.1 c.loop-place.start c.count_before-next.result
-    c.stretch_from-is_marked.result.0 c.requires.block c.requires.run from.within c.loop-place.invariant.start_is c.count_before-next.ensures from.some from.marks in
-    told.further
+pub loop-walk-init : goal.loop-walk-init
+loop-walk-init c =
+    let mark = local_marks_in c.args.family c.args.block c.args.run in
+    let first = walk_starts _ _ c.walk_from-walk.ensures.walk c.walk_from-walk.ensures.place in
+    record {
+      walk = c.walk_from-walk.ensures.walk;
+      are = subst (λ n. AreStretches mark n c.new-list.result.items) (sym first) (AreStretches-none mark c.new-list.result.items c.new-list.ensures.items);
+      counted = sym (ap (marks_below mark) first ∙ marks_below_none mark);
+      last_is = λ h. absurd (omega (arith, h, first));
+    }
 
 pub overflow_add-count : goal.overflow_add-count
 overflow_add-count c =
-    let mark = local_marks_in c.args.family c.args.block c.args.run in
-    let from = c.stretch_from-is_marked.ensures in
-    let told = stretch_in c.args.family c.args.block c.args.run c.loop-place.place c.stretch_from-is_marked.result.1 c.loop-place.start c.count_before-next.result
-    c.stretch_from-is_marked.result.0 c.requires.block c.requires.run from.within c.loop-place.invariant.start_is c.count_before-next.ensures from.some from.marks in
-    let sum = counted_on mark c.loop-place.start c.count_before-next.result c.loop-place.count told.further c.loop-place.invariant.counted
-    (λ k a b. told.same k a b ∙ c.if-is_marked.true) in
-    let few = marks_below-le mark c.count_before-next.result in
-    let small = run_size_in-small c.args.family c.args.block c.args.run c.requires.block in
-    let within = told.within in
-    omega (arith, sum, few, small, within)
+    let few = walked_few _ _ c.step-marks.ensures.walk in
+    omega (arith, few, c.step-marks.ensures.count, c.loop-walk.invariant.counted)
 
-pub loop-place-preserved-then-is_marked : goal.loop-place-preserved-then-is_marked
-loop-place-preserved-then-is_marked c =
-    let mark = local_marks_in c.args.family c.args.block c.args.run in
-    let from = c.stretch_from-is_marked.ensures in
-    let told = stretch_in c.args.family c.args.block c.args.run c.loop-place.place c.stretch_from-is_marked.result.1 c.loop-place.start c.count_before-next.result
-    c.stretch_from-is_marked.result.0 c.requires.block c.requires.run from.within c.loop-place.invariant.start_is c.count_before-next.ensures from.some from.marks in
-    let done = c.in_ok-push_stretch.ensures mark c.count_before-next.result (record {
-      are = c.loop-place.invariant.are;
-      last_is = c.loop-place.invariant.last_is;
-      further = told.further;
-      counted = c.loop-place.invariant.counted;
-      same = told.same;
+pub loop-walk-preserved : goal.loop-walk-preserved
+loop-walk-preserved c =
+    let kept = c.loop-walk.invariant in
+    let alike = c.step-marks.ensures.alike in
+    let done = c.in_ok-push_stretch.ensures (local_marks_in c.args.family c.args.block c.args.run) c.step-marks.result.0.number (record {
+      are = kept.are;
+      last_is = kept.last_is;
+      further = alike.further;
+      counted = kept.counted;
+      same = alike.same;
     }) in
     record {
-      upto = omega (arith, from.within, c.run_size_in-size.ensures.value);
-      start_is = c.count_before-next.ensures;
+      walk = c.step-marks.ensures.walk;
       are = done.0;
-      counted = counted_on mark c.loop-place.start c.count_before-next.result c.loop-place.count told.further c.loop-place.invariant.counted
-          (λ k a b. told.same k a b ∙ c.if-is_marked.true);
-      last_is = λ h. done.1;
-    }
-
-pub loop-place-preserved : goal.loop-place-preserved
-loop-place-preserved c =
-    let mark = local_marks_in c.args.family c.args.block c.args.run in
-    let from = c.stretch_from-is_marked.ensures in
-    let told = stretch_in c.args.family c.args.block c.args.run c.loop-place.place c.stretch_from-is_marked.result.1 c.loop-place.start c.count_before-next.result
-    c.stretch_from-is_marked.result.0 c.requires.block c.requires.run from.within c.loop-place.invariant.start_is c.count_before-next.ensures from.some from.marks in
-    let done = c.in_ok-push_stretch.ensures mark c.count_before-next.result (record {
-      are = c.loop-place.invariant.are;
-      last_is = c.loop-place.invariant.last_is;
-      further = told.further;
-      counted = c.loop-place.invariant.counted;
-      same = told.same;
-    }) in
-    record {
-      upto = omega (arith, from.within, c.run_size_in-size.ensures.value);
-      start_is = c.count_before-next.ensures;
-      are = done.0;
-      counted = counted_off mark c.loop-place.start c.count_before-next.result c.loop-place.count told.further c.loop-place.invariant.counted
-          (λ k a b. told.same k a b ∙ c.if-is_marked.false);
+      counted = ap (λ n. n + c.step-marks.result.1) kept.counted ∙ c.step-marks.ensures.count;
       last_is = λ h. done.1;
     }
 
 pub invariant_of-result : goal.invariant_of-result
 invariant_of-result c =
-    let whole : c.loop-place.start ≡ run_size_in c.args.family c.args.block c.args.run =
-    all_places c.args.family c.args.block c.args.run c.loop-place.place c.loop-place.start c.run_size_in-size.result c.loop-place.invariant.start_is
-    c.run_size_in-size.ensures.value c.loop-place.invariant.upto c.loop-place-test.false in
+    let mark = local_marks_in c.args.family c.args.block c.args.run in
+    let kept = c.loop-walk.invariant in
+    let whole : c.loop-walk.walk.number ≡ run_size_in c.args.family c.args.block c.args.run =
+    all_places c.args.family c.args.block c.args.run c.loop-walk.walk.place c.loop-walk.walk.number c.run_size_in-size.result kept.walk.number_is
+    c.run_size_in-size.ensures.value (upto _ _ _ kept.walk.upto c.run_size_in-size.ensures.value) c.loop-walk-test.false in
     record {
       within = c.requires.block;
       there = c.requires.run;
-      table = subst (λ n. AreStretches (local_marks_in c.args.family c.args.block c.args.run) n c.loop-place.list.items) whole c.loop-place.invariant.are;
-      counted = c.loop-place.invariant.counted ∙ ap (marks_below (local_marks_in c.args.family c.args.block c.args.run)) whole;
+      table = subst (λ n. AreStretches mark n c.loop-walk.list.items) whole kept.are;
+      counted = kept.counted ∙ ap (marks_below mark) whole;
     }
+  where
+    upto : (place size is : ℕ) → place ≤ is → size ≡ is → place ≤ size
+    upto place size is h e = omega (arith, h, e)

@@ -1,8 +1,10 @@
 -- Nothing is left where each list is empty.
-use Rattle.std.proofs.Common.{◌≡◌, [], List, rules, arith, subst, sym}
+use Rattle.std.proofs.Common.{◌≡◌, ◌↔◌, IsTrue, [], List, rules, arith, subst, sym}
 use Rattle.std.specs.List.{All}
 use Rattle.std.proofs.lemmas.Grind.{common_steps}
 use Rattle.dob_update.specs.Batches.{OutboxView}
+use Rattle.dob_node.specs.NodeViews.{NodeView}
+use Rattle.dob_node.specs.Nodes.{IsIdle}
 use Rattle.dob_node.proofs.Sends.{all_empty, empty_all}
 use Rattle.dob_node.proofs.node.Node.is_idle.Goals as goal
 
@@ -11,12 +13,13 @@ returns-then-not-is_empty c = (λ no. absurd cc, λ idle. let none = idle.applie
 
 pub returns : goal.returns
 returns c =
-    let node = c.args.self.now in
-    let Nothing : List OutboxView → Type 0 = λ xs. All (λ (o : OutboxView). o.items ≡ []) xs in (
+    let core = c.self.inside.core in
+    let Nothing : List OutboxView → Type 0 = λ xs. All (λ (o : OutboxView). o.items ≡ []) xs in
+    subst (λ (node : NodeView). IsTrue c.are_empty.result ↔ IsIdle node) c.self.view_is (
       λ yes. record {
         expanded = search rules;
         applied = grind (arith, common_steps, c.if-not-is_empty.ensures);
-        sent = λ to. all_empty node.outboxes.items (subst Nothing c.deref.ensures.value (c.are_empty.ensures.0 yes)) node.family node.n node.id to;
+        sent = λ to. all_empty core.outboxes.items (subst Nothing c.deref.ensures.value (c.are_empty.ensures.0 yes)) core.family core.n core.id to;
       },
-      λ idle. c.are_empty.ensures.1 (subst Nothing (sym c.deref.ensures.value) (empty_all node.outboxes.items node.family node.n node.id idle.sent)),
+      λ idle. c.are_empty.ensures.1 (subst Nothing (sym c.deref.ensures.value) (empty_all core.outboxes.items core.family core.n core.id idle.sent)),
     )

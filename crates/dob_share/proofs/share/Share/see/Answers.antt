@@ -1,4 +1,4 @@
--- What is seen is the number that was found, and where the run begins that is told there.
+-- What is seen is the number that was found, and where the run begins that stands there.
 use Rattle.dob_share.proofs.Owning.{number_within, seen_not, seen_some}
 use Rattle.dob_share.proofs.share.Share.see.Goals as goal
 

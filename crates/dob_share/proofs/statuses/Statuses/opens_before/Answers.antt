@@ -1,4 +1,4 @@
--- What the word tells and the bits before the place.
+-- What the word says and the bits before the place.
 use Rattle.std.proofs.Common.{◌≡◌, ◌+◌, ◌/◌, ◌<◌, ◌≤◌, ◌^◌, arith, List, Some, slice_get, ap, ◌∙◌, subst}
 use Rattle.std.proofs.Math.Facts.{Fits-of_lt}
 use Rattle.std.specs.Arc.{arc_value}

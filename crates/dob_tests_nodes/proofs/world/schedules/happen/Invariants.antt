@@ -4,4 +4,4 @@ use Rattle.dob_world.specs.Standing.{IsStanding, StandsOrStopped}
 use Rattle.dob_tests_nodes.proofs.world.schedules.happen.Given as goal
 
 abbrev pub invariant-loop-event : goal.invariant-loop-event
-invariant-loop-event g l = IsStanding l.world × StandsOrStopped l.world × (l.world.failed ≡ None) × (l.world.n ≡ l.n)
+invariant-loop-event g l = IsStanding l.world × StandsOrStopped l.world × (l.world.failed ≡ None) × (l.world.node_count ≡ l.n)

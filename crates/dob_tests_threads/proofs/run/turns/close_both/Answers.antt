@@ -4,11 +4,11 @@ use Rattle.std.specs.List.{AllZip}
 use Rattle.dob_pieces.specs.declared.profile.Family.{Family}
 use Rattle.dob_board.specs.declared.board.Board.{Board}
 use Rattle.dob_board.specs.declared.halt.Halt.TheVariants.{Running}
-use Rattle.dob_run.specs.declared.runner.Runner.{Runner}
+use Rattle.dob_runner.specs.declared.runner.Runner.{Runner}
 use Rattle.dob_run.specs.BuildEnd.{HaveStopped}
 use Rattle.dob_run.specs.CrewClose.{IsCrew}
 use Rattle.dob_run.specs.CrewRunners.{IsNewCrew, endpoint_of}
-use Rattle.dob_run.specs.Runners.{KeepsRunner}
+use Rattle.dob_runner.specs.Runners.{KeepsRunner}
 use Rattle.dob_run.proofs.CrewRunners.{zip_at, crew_kept}
 use Rattle.dob_tests_threads.proofs.run.turns.close_both.Goals as goal
 
@@ -27,7 +27,7 @@ module _ (family : Family) (board : Board) (one other first second : Runner) (op
       let ends : AllZip HasEnded (one ∷ other ∷ []) (first ∷ second ∷ []) = ((keeps_one, stopped_one), ((keeps_other, stopped_other), tt)) in
       let was = zip_at HasEnded (one ∷ other ∷ []) (first ∷ second ∷ []) k runner ends at in
       let new = opened.each k was.0 was.1 in
-      record { family_is = was.2.0.family ∙ new.family_is; size_is = was.2.0.size ∙ new.size_is; halted = was.2.1 })
+      record { family_is = was.2.0.family ∙ new.family_is; size_is = was.2.0.batch_size ∙ new.size_is; halted = was.2.1 })
 
 pub finish-requires-clause-crew : goal.finish-requires-clause-crew
 finish-requires-clause-crew g c = λ κs lives. let kept = c.requires.crew in

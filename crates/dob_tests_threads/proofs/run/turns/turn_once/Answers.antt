@@ -3,10 +3,10 @@ use Rattle.std.proofs.Common.{◌≡◌, Result, Ok, Err, None, sym, ◌∙◌}
 use Rattle.std.specs.Prelude.{MatchResult, OnOk}
 use Rattle.dob_board.specs.declared.halt.Halt.{Halt}
 use Rattle.dob_stops.specs.declared.cause.Cause.{Cause}
-use Rattle.dob_run.specs.declared.runner.Runner.{Runner}
-use Rattle.dob_run.specs.Runners.{HasFailed}
-use Rattle.dob_run.specs.Turns.{HasTurned}
-use Rattle.dob_run.proofs.Keeping.{turn_keeps}
+use Rattle.dob_runner.specs.declared.runner.Runner.{Runner}
+use Rattle.dob_runner.specs.Runners.{HasFailed}
+use Rattle.dob_runner.specs.Turns.{HasTurned}
+use Rattle.dob_runner.proofs.Keeping.{turn_keeps}
 use Rattle.dob_tests_threads.proofs.run.turns.turn_once.Goals as goal
 
 pub returns-clause-keeps : goal.returns-clause-keeps

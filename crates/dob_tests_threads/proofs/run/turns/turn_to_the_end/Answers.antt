@@ -1,5 +1,5 @@
 -- What both runners kept so far they keep through one turn more, and so does the first at its last turn.
-use Rattle.dob_run.proofs.Keeping.{runner_trans}
+use Rattle.dob_runner.proofs.Keeping.{runner_trans}
 use Rattle.dob_tests_threads.proofs.run.turns.turn_to_the_end.Goals as goal
 
 pub loop-preserved : goal.loop-preserved

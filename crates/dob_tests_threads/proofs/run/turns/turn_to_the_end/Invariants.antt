@@ -1,6 +1,6 @@
 -- Both runners keep their places so far, and are of the classes' family.
 use Rattle.std.proofs.Common.{◌≡◌}
-use Rattle.dob_run.specs.Runners.{KeepsRunner}
+use Rattle.dob_runner.specs.Runners.{KeepsRunner}
 use Rattle.dob_tests_threads.proofs.run.turns.turn_to_the_end.Given as goal
 
 abbrev pub invariant-loop : goal.invariant-loop

@@ -1,5 +1,5 @@
 -- The two runners keep their places in their crew.
-use Rattle.dob_run.proofs.Keeping.{runner_trans}
+use Rattle.dob_runner.proofs.Keeping.{runner_trans}
 use Rattle.dob_tests_threads.proofs.run.turns.turned_by_hand.Goals as goal
 
 pub close_both-requires-clause-crew : goal.close_both-requires-clause-crew

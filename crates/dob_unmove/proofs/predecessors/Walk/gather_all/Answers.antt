@@ -2,7 +2,7 @@
 use Rattle.std.proofs.Common.{arith}
 use Rattle.dob_unmove.specs.Classes.{RepresentsClass}
 use Rattle.dob_unmove.specs.Walks.{undoes_at, undoes}
-use Rattle.dob_unmove.specs.Ways.{may_end}
+use Rattle.dob_unmove.specs.Ways.{may_have_ended}
 use Rattle.dob_unmove.proofs.Gathered.{gathered_start, gathered_less, passes_lowest, gathered_next, gathered_end}
 use Rattle.dob_unmove.proofs.Dead.{ends_dead, calm_end}
 use Rattle.dob_unmove.proofs.Kept.{legal_turned}
@@ -14,7 +14,7 @@ pub loop-left-init : goal.loop-left-init
 loop-left-init c = λ w.
     let walk = c.args.self.now in
     let after = walk.after.value in
-    gathered_start (RepresentsClass walk.classes.now.family) after (may_end after walk.ways.now.threat w.ways_are.stays) (undoes_at after)
+    gathered_start (RepresentsClass walk.classes.now.family) after (may_have_ended after walk.ways.now.threat w.ways_are.stays) (undoes_at after)
     walk.ways.now.ends c.args.found.now.items w.ways_are.ends_are
 
 pub loop-left-smaller : goal.loop-left-smaller
@@ -22,7 +22,7 @@ loop-left-smaller c =
     let walk = c.args.self.now in
     let after = walk.after.value in
     let w = c.requires in
-    gathered_less (RepresentsClass walk.classes.now.family) after (may_end after walk.ways.now.threat w.ways_are.stays) (undoes_at after)
+    gathered_less (RepresentsClass walk.classes.now.family) after (may_have_ended after walk.ways.now.threat w.ways_are.stays) (undoes_at after)
     c.loop-left.left c.lowest_square-to.result c.without_square-left.result _ _ (c.loop-left.invariant w)
     (omega arith) c.lowest_square-to.ensures c.without_square-left.ensures
 
@@ -34,7 +34,7 @@ gather_all-requires c =
     let stays = w.ways_are.stays in
     let to = c.lowest_square-to.result in
     let ends =
-    passes_lowest (RepresentsClass walk.classes.now.family) after (may_end after walk.ways.now.threat stays) (undoes_at after)
+    passes_lowest (RepresentsClass walk.classes.now.family) after (may_have_ended after walk.ways.now.threat stays) (undoes_at after)
     c.loop-left.left to _ _ (c.loop-left.invariant w) (omega arith) c.lowest_square-to.ensures in
     record {
       walk = w;
@@ -47,7 +47,7 @@ pub loop-left-preserved : goal.loop-left-preserved
 loop-left-preserved c = λ w.
     let walk = c.args.self.now in
     let after = walk.after.value in
-    gathered_next (RepresentsClass walk.classes.now.family) after (may_end after walk.ways.now.threat w.ways_are.stays) (undoes_at after)
+    gathered_next (RepresentsClass walk.classes.now.family) after (may_have_ended after walk.ways.now.threat w.ways_are.stays) (undoes_at after)
     (ends_dead walk w) c.loop-left.left c.lowest_square-to.result c.without_square-left.result _ _ _ (c.loop-left.invariant w)
     (omega arith) c.lowest_square-to.ensures c.without_square-left.ensures c.in_ok-gather_all.ensures
 
@@ -57,7 +57,7 @@ returns c =
     let walk = c.args.self.now in
     let after = walk.after.value in
     let w = c.requires in
-    gathered_end (RepresentsClass walk.classes.now.family) after (may_end after walk.ways.now.threat w.ways_are.stays) (undoes_at after)
+    gathered_end (RepresentsClass walk.classes.now.family) after (may_have_ended after walk.ways.now.threat w.ways_are.stays) (undoes_at after)
     (ends_dead walk w) c.loop-left.left _ _ (c.loop-left.invariant w) (omega arith)
 
 pub lowest_square-to-requires-clause-within : goal.lowest_square-to-requires-clause-within

@@ -2,14 +2,14 @@
 use Rattle.dob_unmove.specs.Classes.{RepresentsClass}
 use Rattle.dob_unmove.specs.Ends.{CanWalk}
 use Rattle.dob_unmove.specs.Walks.{undoes_at}
-use Rattle.dob_unmove.specs.Ways.{may_end}
+use Rattle.dob_unmove.specs.Ways.{may_have_ended}
 use Rattle.dob_unmove.proofs.Gathered.{IsGathered}
 use Rattle.dob_unmove.proofs.predecessors.Walk.gather_all.Given as goal
 
 abbrev pub invariant-loop-left : goal.invariant-loop-left
 invariant-loop-left l =
     (w : CanWalk l.self)
-    → IsGathered (RepresentsClass l.self.classes.now.family) l.self.after.value (may_end l.self.after.value l.self.ways.now.threat w.ways_are.stays)
+    → IsGathered (RepresentsClass l.self.classes.now.family) l.self.after.value (may_have_ended l.self.after.value l.self.ways.now.threat w.ways_are.stays)
     (undoes_at l.self.after.value) l.left l.initial.found.items l.found.items
 
 abbrev pub decreases-loop-left : goal.decreases-loop-left

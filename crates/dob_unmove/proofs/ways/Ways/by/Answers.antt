@@ -7,7 +7,7 @@ use Rattle.dob_pieces.specs.Setups.{piece_of}
 use Rattle.dob_pieces.specs.Masks.{IsMask}
 use Rattle.dob_pieces.proofs.Attacks.{lion_at}
 use Rattle.dob_pieces.proofs.Boards.{within-from_piece}
-use Rattle.dob_unmove.specs.Ways.{may_end}
+use Rattle.dob_unmove.specs.Ways.{may_have_ended}
 use Rattle.dob_unmove.proofs.Threats.{turned_squares, turned_lions}
 use Rattle.dob_unmove.proofs.WayMasks.{away, at_home, calm_ends, lion_ends}
 use Rattle.dob_unmove.proofs.ways.Ways.by.Goals as goal
@@ -37,7 +37,7 @@ returns c =
         stays = false;
         home_is = away after threat lions masks.lion c.homes_of-homes.result c.calm_ends.result masks.own place are.lion_is c.homes_of-homes.ensures are.own_are
             c.calm_ends.ensures there low w.if-masks-homes-eq0.true;
-        ends_are = subst (IsMask (may_end after threat false)) (sym w.ends-is)
+        ends_are = subst (IsMask (may_have_ended after threat false)) (sym w.ends-is)
             (lion_ends after threat lions masks.lion c.homes_of-homes.result c.calm_ends.result masks.own place are.lion_is c.homes_of-homes.ensures are.own_are
             c.calm_ends.ensures there low);
       }
@@ -50,7 +50,7 @@ returns c =
         home_is =
             at_home after threat lions masks.lion c.homes_of-homes.result c.calm_ends.result masks.own place are.lion_is c.homes_of-homes.ensures are.own_are
             c.calm_ends.ensures there low w.if-masks-homes-eq0.false;
-        ends_are = subst (IsMask (may_end after threat true)) (sym w.ends-is)
+        ends_are = subst (IsMask (may_have_ended after threat true)) (sym w.ends-is)
             (calm_ends after threat lions masks.lion c.homes_of-homes.result c.calm_ends.result masks.own place are.lion_is c.homes_of-homes.ensures are.own_are
             c.calm_ends.ensures there low);
       }

@@ -85,7 +85,7 @@ pub returns-then-taken-eq0-clause-none : goal.returns-then-taken-eq0-clause-none
 returns-then-taken-eq0-clause-none c =
     let old = c.self.inside in
     let size_is : c.min-taken.result ≡ min c.args.size (length old.classes.items) = search rules in
-    let some = c.requires.some in
+    let some = c.get.ensures.size.0 in
     let empty = c.if-taken-eq0.true in
     let both = no_items_of_parts old.parts.items old.classes.items c.self.invariant.counted in
     ((λ _. subst (λ (o : OutboxView). o.items ≡ []) c.self.view_is (both.1 (omega (arith, size_is, some, empty)))), (λ _. search rules))

@@ -1,43 +1,38 @@
 -- One count is one more, one counter is one less, and the taker is black.
-use Rattle.std.proofs.Common.{◌≡◌, ◌+◌, ◌*◌, true, pos, ◌-ℤ◌, refl, ap, ◌∙◌, arith, set}
-use Rattle.std.proofs.lemmas.List.{length-set, get_or_default}
-use Rattle.dob_safra.specs.Rings.{counter}
+use Rattle.std.proofs.Common.{◌+◌, ◌*◌, true, pos, ◌-ℤ◌, refl, ap, ◌∙◌, set}
+use Rattle.std.proofs.lemmas.List.{length-set}
 use Rattle.dob_world.specs.Shown.{ring_of}
-use Rattle.dob_world.proofs.Counters.{small_counter, fall_fits, fall_is, takes_shown, takes_counted}
+use Rattle.dob_world.proofs.Counters.{counter_read, small_counter, fall_fits, fall_is, takes_shown, takes_counted}
 use Rattle.dob_world.proofs.detector.Detector.count_take.Goals as goal
 
 pub overflow_sub-index_mut : goal.overflow_sub-index_mut
 overflow_sub-index_mut c =
     let d = c.args.self.now in
     let z = c.index_mut-2.result.now in
-    let is : z ≡ counter d.n (ring_of d) c.args.to = c.index_mut-2.ensures.value
-    ∙ get_or_default d.counters.items c.args.to z (pos 0) (omega (arith, c.requires.to, c.requires.counted.counters))
-    ∙ c.requires.counted.counted c.args.to c.requires.to in
-    fall_fits z (rw is (small_counter d.n (ring_of d) c.args.to c.requires.counted.nodes.1 c.requires.to c.requires.lawful))
+    let is = counter_read d c.args.to z c.requires.ready.counted c.requires.ready.to c.index_mut-2.ensures.value in
+    fall_fits z (rw is (small_counter d.n (ring_of d) c.args.to c.requires.ready.counted.nodes.1 c.requires.ready.to c.requires.ready.lawful))
 
 pub returns-clause-moved : goal.returns-clause-moved
 returns-clause-moved c =
     let d = c.args.self.now in
     takes_shown d.n d.posted.items d.taken.items d.black.items d.token d.announced c.args.from c.args.to c.index_mut.result.now (c.index_mut.result.now + 1)
-    c.requires.from c.requires.to c.requires.counted.taken c.index_mut.ensures.value refl c.requires.counted.black c.requires.waiting
+    c.requires.ready.from c.requires.ready.to c.requires.ready.counted.taken c.index_mut.ensures.value refl c.requires.ready.counted.black c.requires.waiting
 
 pub returns-clause-counted : goal.returns-clause-counted
 returns-clause-counted c =
     let d = c.args.self.now in
     let z = c.index_mut-2.result.now in
-    let is : z ≡ counter d.n (ring_of d) c.args.to = c.index_mut-2.ensures.value
-    ∙ get_or_default d.counters.items c.args.to z (pos 0) (omega (arith, c.requires.to, c.requires.counted.counters))
-    ∙ c.requires.counted.counted c.args.to c.requires.to in
-    let less = fall_is z (rw is (small_counter d.n (ring_of d) c.args.to c.requires.counted.nodes.1 c.requires.to c.requires.lawful)) in (
+    let is = counter_read d c.args.to z c.requires.ready.counted c.requires.ready.to c.index_mut-2.ensures.value in
+    let less = fall_is z (rw is (small_counter d.n (ring_of d) c.args.to c.requires.ready.counted.nodes.1 c.requires.ready.to c.requires.ready.lawful)) in (
       record {
-        nodes = c.requires.counted.nodes;
-        posted = c.requires.counted.posted;
-        taken = length-set d.taken.items (c.args.from * d.n + c.args.to) (c.index_mut.result.now + 1) ∙ c.requires.counted.taken;
-        black = length-set d.black.items c.args.to true ∙ c.requires.counted.black;
-        counters = length-set d.counters.items c.args.to _ ∙ c.requires.counted.counters;
+        nodes = c.requires.ready.counted.nodes;
+        posted = c.requires.ready.counted.posted;
+        taken = length-set d.taken.items (c.args.from * d.n + c.args.to) (c.index_mut.result.now + 1) ∙ c.requires.ready.counted.taken;
+        black = length-set d.black.items c.args.to true ∙ c.requires.ready.counted.black;
+        counters = length-set d.counters.items c.args.to _ ∙ c.requires.ready.counted.counters;
         counted = takes_counted d.n d.posted.items d.taken.items d.black.items d.token d.announced c.args.from c.args.to c.index_mut.result.now
-            (c.index_mut.result.now + 1) c.requires.from c.requires.to c.requires.counted.taken c.index_mut.ensures.value refl d.counters.items _
-            (set d.black.items c.args.to true) c.requires.counted.counters (less ∙ ap (λ y. y -ℤ pos 1) is) c.requires.counted.counted;
+            (c.index_mut.result.now + 1) c.requires.ready.from c.requires.ready.to c.requires.ready.counted.taken c.index_mut.ensures.value refl d.counters.items _
+            (set d.black.items c.args.to true) c.requires.ready.counted.counters (less ∙ ap (λ y. y -ℤ pos 1) is) c.requires.ready.counted.counted;
       },
       refl,
     )

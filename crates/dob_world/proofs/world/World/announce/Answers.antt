@@ -6,7 +6,8 @@ use Rattle.dob_world.specs.Events.{CanHappen}
 use Rattle.dob_world.specs.Shown.{setting_of, state_of, ring_of}
 use Rattle.dob_world.proofs.InPlace.{node_there}
 use Rattle.dob_world.proofs.Cuts.{cuts_same}
-use Rattle.dob_world.proofs.Stood.{stand_after, moved_here, announceable_here, idle_shown, shown_idle}
+use Rattle.dob_world.proofs.Done.{event_done}
+use Rattle.dob_world.proofs.Stood.{moved_here, announceable_here, idle_shown, shown_idle}
 use Rattle.dob_world.proofs.world.World.announce.Goals as goal
 
 pub returns-then-not-is_idle-clause-skipped : goal.returns-then-not-is_idle-clause-skipped
@@ -42,10 +43,5 @@ returns-clause-done c = λ e.
       c.if-self.false,
     ) in
     let moved = moved_here k nodes lanes detector steps stand ring.Announce (ring_of c.announce_end.new.self) c.announce_end.ensures.moved in
-    record {
-      made = record { setting = refl; can = can; happens = (refl, moved) };
-      stands = stand_after k nodes lanes detector steps stand nodes lanes c.announce_end.new.self Announce c.requires.few stand.places
-          c.announce_end.ensures.counted.0 c.announce_end.ensures.counted.1
-          (cuts_same k.n nodes (ring_of detector) (ring_of c.announce_end.new.self) moved.posted stand.cuts) can (refl, moved);
-      same = (refl, refl);
-    }
+    event_done c.args.self.now _ Announce stand c.requires.few refl stand.places c.announce_end.ensures.counted
+    (cuts_same k.n nodes (ring_of detector) (ring_of c.announce_end.new.self) moved.posted stand.cuts) can (refl, moved) (refl, refl)

@@ -13,10 +13,10 @@ use Rattle.dob_world.proofs.world.World.gather.Goals as goal
 use Rattle.dob_world.proofs.world.World.gather.Goals.{After-from_fn}
 
 -- the values given are those that the nodes show
-shown : (c : After-from_fn) → IfOk c.from_fn.result (λ table. AreValuesBelow (value_in c.args.self.now.n (state_of c.args.self.now).world.nodes)
+shown : (c : After-from_fn) → IfOk c.from_fn.result (λ table. AreValuesBelow (value_in c.args.self.now.node_count (state_of c.args.self.now).world.nodes)
     (classes_of c.args.self.now.classes.family) table.values)
 shown c =
-    let value = value_in c.args.self.now.n (state_of c.args.self.now).world.nodes in
+    let value = value_in c.args.self.now.node_count (state_of c.args.self.now).world.nodes in
     IfOk-both c.from_fn.result _ _ _ (λ table given same.
     subst (λ (count : ℕ). AreValuesBelow value count table.values) (ap (λ (family : Family). classes_of family) c.in_ok-classes.ensures.family)
     (values_given _ value (classes_of c.in_ok-classes.classes.family) table.values given (λ class v low has. has.0)))

@@ -10,6 +10,6 @@ returns c =
     let world = c.args.self.now in
     let nodes = world.nodes.items in
     let node = c.index.result.now in
-    let whole : length nodes ≡ world.n = omega (arith, world.nodes_whole) in
-    sym (history_shown (setting_of world) nodes world.lanes.items c.args.node node (node_found nodes world.n c.args.node node whole c.requires.node
+    let whole : length nodes ≡ world.node_count = omega (arith, world.nodes_whole) in
+    sym (history_shown (setting_of world) nodes world.lanes.items c.args.node node (node_found nodes world.node_count c.args.node node whole c.requires.node
     c.index.ensures))

@@ -1,10 +1,11 @@
 -- The world as it is opened.
-use Rattle.std.proofs.Common.{◌<◌, refl, sym, subst}
-use Rattle.std.proofs.lemmas.Bool.{both_ways}
+use Rattle.std.proofs.Common.{ℕ, ◌*◌, ◌<◌, refl, sym, subst}
+use Rattle.dob_safra.specs.Laws.{IsSize}
+use Rattle.dob_update.specs.Batches.{IsBatchSize, IsCapacity}
 use Rattle.dob_world.specs.Worlds.{Setting}
 use Rattle.dob_world.specs.Shown.{world_shown, ring_of}
 use Rattle.dob_world.specs.Standing.{IsSetting}
-use Rattle.dob_world.specs.Start.{AreOpenedNodes}
+use Rattle.dob_world.specs.Start.{AreOpenedNodes, AreEmptyLanes}
 use Rattle.dob_world.proofs.Starts.{places_start, falls_shown, lawful_shown, linked_start, waits_start}
 use Rattle.dob_world.proofs.Cuts.{cuts_start}
 use Rattle.dob_world.proofs.Promise.{matches_start, few_start}
@@ -12,44 +13,41 @@ use Rattle.dob_world.proofs.world.World.open.Goals as goal
 
 pub returns-clause-standing : goal.returns-clause-standing
 returns-clause-standing c =
-    let k : Setting = record { family = c.in_ok-classes.classes.family; n = c.args.n; batch = c.args.batch; capacity = c.args.capacity } in
+    let n = c.in-Some.node_count in
+    let batch = c.in-Some-new.batch_size in
+    let capacity = c.in-Some-new-2.capacity in
+    let k : Setting = record { family = c.in_ok-classes.classes.family; n = n; batch = batch; capacity = capacity } in
     let openings = c.in_ok-openings.openings in
     let nodes = c.in_ok-nodes.nodes.items in
     let lanes = c.in_ok-lanes.lanes.items in
-    let size = c.is_size.ensures.0 c.if-not-is_size.false in
-    let some : 0 < c.args.n = size.0 in
-    let opened : AreOpenedNodes openings k.family k.n k.n nodes =
-    subst (λ st. AreOpenedNodes openings st c.args.n c.args.n nodes) (sym c.in_ok-classes.ensures.family)
-    c.in_ok-nodes.ensures in
+    let size = subst (λ (m : ℕ). IsSize m) (sym c.in-Some.ensures.0) c.in-Some.ensures.1 in
+    let some : 0 < n = size.0 in
+    let opened : AreOpenedNodes openings k.family n n nodes =
+    subst (λ st. AreOpenedNodes openings st n n nodes) (sym c.in_ok-classes.ensures.family) c.in_ok-nodes.ensures in
+    let empty : AreEmptyLanes capacity (n * n) lanes =
+    subst (λ (m : ℕ). AreEmptyLanes capacity (m * m) lanes) (sym c.in-Some.ensures.0) c.in_ok-lanes.ensures in
     let setting : IsSetting k = record {
       nodes = size;
-      sizes = c.are_sizes.ensures.0 c.if-not-are_sizes.false;
+      sizes = (
+        subst (λ (m : ℕ). IsBatchSize m) (sym c.in-Some-new.ensures.0) c.in-Some-new.ensures.1,
+        subst (λ (m : ℕ). IsCapacity m) (sym c.in-Some-new-2.ensures.0) c.in-Some-new-2.ensures.1,
+      );
     } in
     let detector = c.in_ok-detector.detector in (
       record {
         setting = setting;
         openings = (openings, c.in_ok-openings.ensures);
-        places = places_start k openings nodes lanes some c.in_ok-openings.ensures opened c.in_ok-lanes.ensures;
+        places = places_start k openings nodes lanes some c.in_ok-openings.ensures opened empty;
         counted = c.in_ok-detector.ensures.counted.0;
         same_n = c.in_ok-detector.ensures.counted.1;
-        lawful = lawful_shown k openings nodes lanes some c.in_ok-openings.ensures opened c.in_ok-lanes.ensures;
-        falls = falls_shown k openings nodes lanes some c.in_ok-openings.ensures opened c.in_ok-lanes.ensures;
-        linked = linked_start k openings nodes lanes some c.in_ok-openings.ensures opened c.in_ok-lanes.ensures;
-        matches = matches_start k (record { world = world_shown k.family k.n nodes lanes; ring = ring_of detector }) setting c.in_ok-detector.ensures.start
-            (waits_start k openings nodes lanes some c.in_ok-openings.ensures opened c.in_ok-lanes.ensures);
-        few = few_start c.args.n (ring_of detector) 0 c.in_ok-detector.ensures.start;
-        cuts = cuts_start openings k.family k.n nodes (ring_of detector) opened c.in_ok-detector.ensures.start;
+        lawful = lawful_shown k openings nodes lanes some c.in_ok-openings.ensures opened empty;
+        falls = falls_shown k openings nodes lanes some c.in_ok-openings.ensures opened empty;
+        linked = linked_start k openings nodes lanes some c.in_ok-openings.ensures opened empty;
+        matches = matches_start k (record { world = world_shown k.family n nodes lanes; ring = ring_of detector }) setting c.in_ok-detector.ensures.start
+            (waits_start k openings nodes lanes some c.in_ok-openings.ensures opened empty);
+        few = few_start n (ring_of detector) 0 c.in_ok-detector.ensures.start;
+        cuts = cuts_start openings k.family n nodes (ring_of detector) opened c.in_ok-detector.ensures.start;
       },
       refl,
       refl,
     )
-
-pub returns-then-not-is_size-clause-fault : goal.returns-then-not-is_size-clause-fault
-returns-then-not-is_size-clause-fault c =
-    λ size. both_ways _ c.if-not-is_size.true (c.is_size.ensures.1 size)
-
-pub returns-then-not-are_sizes-clause-fault : goal.returns-then-not-are_sizes-clause-fault
-returns-then-not-are_sizes-clause-fault c = (
-  c.is_size.ensures.0 c.if-not-is_size.false,
-  λ sizes. both_ways _ c.if-not-are_sizes.true (c.are_sizes.ensures.1 sizes),
-)

@@ -1,9 +1,9 @@
 -- One event more is made, or skipped.
-use Rattle.std.proofs.Common.{◌≡◌, ◌<◌, arith, refl, sym, subst, ap, Ok}
+use Rattle.std.proofs.Common.{◌≡◌, ◌∙◌, ℕ, ◌<◌, arith, refl, sym, subst, ap, Ok}
 use Rattle.dob_world.specs.declared.event.Event.{Event}
 use Rattle.dob_rank.specs.Families.{classes_of}
 use Rattle.dob_world.specs.Worlds.{Setting}
-use Rattle.dob_world.specs.Rounds.{round_length}
+use Rattle.dob_world.specs.Rounds.{round_length, round_event}
 use Rattle.dob_world.specs.Effects.{IsStopped}
 use Rattle.dob_world.proofs.Ran.{Stepped, stepped}
 use Rattle.dob_world.proofs.Left.{kept_standing}
@@ -13,18 +13,20 @@ use Rattle.dob_world.proofs.world.World.round.Goals as goal
 pub loop-place-preserved : goal.loop-place-preserved
 loop-place-preserved c =
     let out = c.in-Ok.ensures in
+    let event = c.event_at.ensures ∙ ap (λ (n : ℕ). round_event n c.loop-place.place) c.get-n.ensures.value in
     let step = stepped c.event_at.result c.loop-place.self c.step.new.self c.in-Ok.field-0 (λ e. out.done (ap Ok e)) (λ e. out.skipped (ap Ok e)) in
     record {
       way = one_more c.args.self.now c.loop-place.self c.step.new.self c.loop-place.place c.loop-place.invariant.way
-          (subst (λ (e : Event). Stepped e c.loop-place.self c.step.new.self) c.event_at.ensures step) out.going.1 out.going.0;
+          (subst (λ (e : Event). Stepped e c.loop-place.self c.step.new.self) event step) out.going.1 out.going.0;
       before = refl;
-      n = refl;
+      n = c.get-n.ensures.value;
     }
 
 pub returns-clause-made : goal.returns-clause-made
 returns-clause-made c =
-    let whole : c.loop-place.place ≡ round_length c.args.self.now.n = omega (arith, c.loop-place-test.false, c.loop-place.auto.place-end) in
-    round_done c.args.self.now c.loop-place.self c.loop-place.place c.loop-place.invariant.way whole
+    let whole : c.loop-place.place ≡ round_length c.get-n.result = omega (arith, c.loop-place-test.false, c.loop-place.auto.place-end) in
+    round_done c.args.self.now c.loop-place.self c.loop-place.place c.loop-place.invariant.way
+    (whole ∙ ap (λ (n : ℕ). round_length n) c.get-n.ensures.value)
 
 pub returns-in-Err-clause-memory : goal.returns-in-Err-clause-memory
 returns-in-Err-clause-memory c = λ few.
@@ -35,9 +37,11 @@ pub returns-in-Err-clause-stopped : goal.returns-in-Err-clause-stopped
 returns-in-Err-clause-stopped c =
     let mid = c.loop-place.self in
     let way = c.loop-place.invariant.way in
-    let low : c.loop-place.place < round_length c.args.self.now.n = omega (arith, c.loop-place-test.true) in
+    let event = c.event_at.ensures ∙ ap (λ (n : ℕ). round_event n c.loop-place.place) c.get-n.ensures.value in
+    let below : c.loop-place.place < round_length c.get-n.result = omega (arith, c.loop-place-test.true) in
+    let low = subst (λ (n : ℕ). c.loop-place.place < round_length n) c.get-n.ensures.value below in
     round_stops c.args.self.now mid c.step.new.self c.loop-place.place c.in-Err.fault way low
-    (subst (λ (e : Event). IsStopped e c.in-Err.fault mid c.step.new.self) c.event_at.ensures (c.in-Err.ensures.named way.going)) c.in-Err.ensures.stopped.1
+    (subst (λ (e : Event). IsStopped e c.in-Err.fault mid c.step.new.self) event (c.in-Err.ensures.named way.going)) c.in-Err.ensures.stopped.1
 
 pub returns-clause-kept : goal.returns-clause-kept
 returns-clause-kept c = kept_standing c.loop-place.self c.loop-place.invariant.way.standing c.loop-place.invariant.way.going

@@ -1,5 +1,5 @@
 -- The class is its owner's own, which shows the value of the world.
-use Rattle.std.proofs.Common.{◌≡◌, ℕ, subst, Some, slice_get}
+use Rattle.std.proofs.Common.{◌≡◌, ◌<◌, ◌∙◌, ℕ, ap, subst, Some, slice_get}
 use Rattle.dob_share.specs.Owners.{owner_of}
 use Rattle.dob_world.specs.Shown.{setting_of}
 use Rattle.dob_world.proofs.InPlace.{node_there}
@@ -8,12 +8,13 @@ use Rattle.dob_world.proofs.world.World.value_of.Goals as goal
 use Rattle.dob_world.proofs.world.World.value_of.Goals.{After-index}
 
 -- the owner stands at its place
-there : (c : After-index) → slice_get c.args.self.now.nodes.items (owner_of c.args.self.now.n c.args.class) ≡ Some c.index.result.now
+there : (c : After-index) → slice_get c.args.self.now.nodes.items (owner_of c.args.self.now.node_count c.args.class) ≡ Some c.index.result.now
 there c =
     let k = setting_of c.args.self.now in
-    subst (λ (m : ℕ). slice_get c.args.self.now.nodes.items m ≡ Some c.index.result.now) c.owner-node.ensures.owner
+    subst (λ (m : ℕ). slice_get c.args.self.now.nodes.items m ≡ Some c.index.result.now)
+    (c.owner-node.ensures.owner ∙ ap (λ (n : ℕ). owner_of n c.args.class) c.get.ensures.value)
     (node_there k c.args.self.now.nodes.items c.args.self.now.lanes.items c.requires.standing.places c.owner-node.result c.index.result.now
-    c.owner-node.ensures.one_of_n c.index.ensures)
+    (subst (λ (n : ℕ). c.owner-node.result < n) c.get.ensures.value c.owner-node.ensures.one_of_n) c.index.ensures)
 
 pub value-requires : goal.value-requires
 value-requires c =

@@ -1,0 +1,16 @@
+-- What the core has applied the node has.
+use Rattle.std.proofs.Common.{Result, sym, subst}
+use Rattle.dob_stops.specs.declared.cause.Cause.{Cause}
+use Rattle.dob_node.specs.NodeViews.{NodeView, node_of, going}
+use Rattle.dob_node.specs.NodeSteps.{AppliesAll}
+use Rattle.dob_node.proofs.Noted.{applied_all}
+use Rattle.dob_node.proofs.node.Node.apply_batch.Goals as goal
+
+pub returns-clause-step : goal.returns-clause-step
+returns-clause-step c =
+    let items = c.args.batch.now.items in
+    let old = c.self.inside.core in
+    let new = c.apply_batch.new.self in
+    subst (λ (node : NodeView). AppliesAll items c.noted.result node (node_of new c.noted.new.failed)) c.self.view_is
+    (applied_all items c.noted.result old new c.self.inside.failed c.noted.new.failed
+    (subst (λ (result : Result (Unit {0}) Cause). AppliesAll items result (going old) (going new)) (sym c.noted.ensures.same) c.apply_batch.ensures.step))

@@ -1,6 +1,0 @@
--- The values so far are those of the classes at the places so far.
-use Rattle.dob_node.proofs.Parts.{AreValuesBelow}
-use Rattle.dob_node.proofs.node.Node.own_values.Given as goal
-
-abbrev pub invariant-loop-place : goal.invariant-loop-place
-invariant-loop-place l = AreValuesBelow l.self.share l.place l.values.items

@@ -1,0 +1,60 @@
+-- One more settlement is expanded, and its items have its values.
+use Rattle.std.proofs.Common.{◌==◌, ◌+◌, ◌≤◌, ℕ, length, refl, ap, ◌∙◌, ◌++◌, sym, subst}
+use Rattle.std.specs.List.{All, filter}
+use Rattle.dob_unmove.specs.Edges.{predecessors}
+use Rattle.dob_share.specs.Owners.{owner_of}
+use Rattle.dob_update.specs.Items.{items_of}
+use Rattle.dob_node.specs.Stores.{HistoryView}
+use Rattle.dob_node.specs.TakenItems.{HasItemEntries, AreKept}
+use Rattle.dob_node.specs.Outboxes.{IsOutboxTo, outbox_in}
+use Rattle.dob_node.proofs.Sounds.{next_emitted, entries_more}
+use Rattle.dob_node.proofs.Sends.{ready_added, ready_same}
+use Rattle.dob_node.proofs.node_core.Core.expand.Goals as goal
+
+pub add_for_others-requires : goal.add_for_others-requires
+add_for_others-requires c =
+    let node = c.args.self.now in
+    record {
+      addressed = (
+        node.family,
+        c.deref.ensures.value ∙ c.in_ok-targets.ensures.list ∙ ap (λ st. predecessors st c.get-settlement.result.class) c.requires.family,
+        λ to. subst (λ (m : ℕ). IsOutboxTo node.family m node.id to (outbox_in node.family m node.id node.outboxes.items to)) (sym c.requires.sound.receivers)
+            (c.requires.sound.addressed to),
+      );
+    }
+
+pub returns-clause-sound : goal.returns-clause-sound
+returns-clause-sound c =
+    let node = c.args.self.now in
+    let sound = c.requires.sound in
+    let s = c.get-settlement.result in
+    let targets = c.deref-2.result.now in
+    let ready = ready_added node.family c.deref.result.now s node.n node.id node.outboxes.items c.add_for_others.new.outboxes.items
+    c.get-settlement.ensures.was c.get-settlement.ensures.now c.in_ok-add_for_others.ensures.added
+    (record { receivers = sound.receivers; addressed = sound.addressed; nothing_to_self = sound.nothing_to_self }) in
+    record {
+      kept = subst (λ (h : HistoryView). AreKept node.family node.n node.id node.share h) (sym c.seek.ensures.same) sound.kept;
+      emitted = subst (λ (h : HistoryView). node.expanded + 1 ≤ length h.settlements) (sym c.seek.ensures.same)
+          (next_emitted node.expanded _ _ sound.emitted c.len.ensures.count c.if-self-len.false);
+      entries = entries_more s node.own.items c.push_own.new.queue.items (items_of (λ _. targets) node.n node.id s)
+          (filter (λ to. owner_of node.n to == node.id) targets) c.get-settlement.ensures.was c.get-settlement.ensures.now
+          sound.entries refl (c.push_own.ensures ∙ ap (λ xs. xs ++ items_of (λ _. targets) node.n node.id s) c.reserve.ensures.items);
+      receivers = ready.receivers;
+      addressed = ready.addressed;
+      nothing_to_self = ready.nothing_to_self;
+    }
+
+pub returns-in_err-add_for_others-clause-sound : goal.returns-in_err-add_for_others-clause-sound
+returns-in_err-add_for_others-clause-sound c =
+    let node = c.args.self.now in
+    let sound = c.requires.sound in
+    let ready = ready_same node.family node.n node.id node.outboxes.items c.add_for_others.new.outboxes.items c.in_err-add_for_others.ensures.unchanged
+    (record { receivers = sound.receivers; addressed = sound.addressed; nothing_to_self = sound.nothing_to_self }) in
+    record {
+      kept = subst (λ (h : HistoryView). AreKept node.family node.n node.id node.share h) (sym c.seek.ensures.same) sound.kept;
+      emitted = subst (λ (h : HistoryView). node.expanded ≤ length h.settlements) (sym c.seek.ensures.same) sound.emitted;
+      entries = subst (λ xs. All HasItemEntries xs) (sym c.reserve.ensures.items) sound.entries;
+      receivers = ready.receivers;
+      addressed = ready.addressed;
+      nothing_to_self = ready.nothing_to_self;
+    }

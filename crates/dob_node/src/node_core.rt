@@ -1,0 +1,162 @@
+// What a node's steps change: its cells, its history, its own items and its outboxes. A step that fails leaves no note here.
+ghost use Rattle.std.specs.Prelude.{◌≡◌, ◌+◌, ◌<◌, ◌≤◌, ◌++◌, length, IfOk};
+ghost use Rattle.std.specs.List.{All};
+ghost use Rattle.std.specs.VecDeque.{deque_len, deque_capacity};
+ghost use Rattle.dob_update.specs.Items.{items_of};
+ghost use Rattle.dob_node.specs.TakenItems.{HasItemEntries};
+
+use crate::history::History;
+use crate::outboxes::add_for_others;
+use crate::taking::take_items;
+use dob_classes::Classes;
+use dob_pieces::{Family, Memory};
+use dob_share::{Item, Settlement, Share, owner};
+use dob_stops::Cause;
+use dob_unmove::back_into;
+use dob_update::{Batch, BatchSize, Outbox, item_for};
+use dob_value::Value;
+use std::alloc::Global;
+use std::collections::VecDeque;
+use std::mem;
+
+/// How many batches a node may cut for another.
+pub const MAX_BATCHES: u64 = 1 << 40;
+
+/// What one owner, `id` of n, has: the cells of its classes, the classes k * n + id of a family, with their history, of which the first
+/// settlements are expanded; the items that it has for itself; and its outboxes.
+#[derive(Drop)]
+pub(crate) struct Core {
+    pub(crate) alloc: Global,
+    pub(crate) family: Family,
+    pub(crate) id: usize,
+    pub(crate) n: usize,
+    pub(crate) share: Share,
+    pub(crate) history: History,
+    pub(crate) expanded: u64,
+    pub(crate) own: VecDeque<Item>,
+    pub(crate) outboxes: Vec<Outbox>,
+    // A list whose room each expansion uses again.
+    pub(crate) targets: Vec<u64>,
+    // How many items were applied of the batch that was applied last.
+    pub(crate) taken: usize,
+}
+
+impl Core {
+    ghost use Rattle.dob_node.specs.NodeViews.{going};
+    ghost use Rattle.dob_node.specs.Nodes.{IsSound, AreValuesNow};
+    ghost use Rattle.dob_node.specs.NodeSteps.{Expands, AppliesOwn, AppliesAll, MakesRoom, Cuts};
+
+    /// Expands the next settlement. False where there is none.
+    pub(crate) fn expand(&mut self, classes: &Classes) -> Result<bool, Cause>
+        requires family { classes.now.family ≡ self.old.family }
+        requires sound { IsSound (going self.old) }
+        ensures step { Expands result (going self.old) (going self.new) }
+        ensures sound { IsSound (going self.new) }
+    {
+        if self.expanded == self.history.len() {
+            return Ok(false);
+        }
+        self.history.seek(self.expanded);
+        let settlement = self.history.get(self.expanded);
+        let room = mem::replace(&mut self.targets, Vec::new(self.alloc));
+        let targets = back_into(room, classes, settlement.class)?;
+        self.own.reserve(targets.len())?;
+        add_for_others(&mut self.outboxes, settlement, &targets, self.id)?;
+        push_own(&mut self.own, settlement, &targets, self.n, self.id);
+        self.targets = targets;
+        self.expanded += 1;
+        Ok(true)
+    }
+
+    /// Applies the first of the own items. False where there is none.
+    pub(crate) fn apply_own(&mut self) -> Result<bool, Cause>
+        requires { IsSound (going self.old) }
+        ensures step { AppliesOwn result (going self.old) (going self.new) }
+        ensures sound { IsSound (going self.new) }
+    {
+        if self.own.is_empty() {
+            return Ok(false);
+        }
+        let item = self.own[0];
+        let seen = self.share.see(item.to);
+        self.history.take_seen(&mut self.share, item, seen)?;
+        self.own.pop_front();
+        Ok(true)
+    }
+
+    /// Applies the items of a batch in order, and makes its growths first.
+    pub(crate) fn apply_batch(&mut self, batch: &Batch) -> Result<(), Cause>
+        requires sound { IsSound (going self.old) }
+        requires entries { All HasItemEntries batch.now.items }
+        ensures step { AppliesAll batch.now.items result (going self.old) (going self.new) }
+        ensures sound { IsSound (going self.new) }
+    {
+        let items = batch.items();
+        self.taken = 0;
+        self.history.reserve(items.len() as u64)?;
+        take_items(&mut self.share, &mut self.history, &mut self.taken, items)?;
+        Ok(())
+    }
+
+    /// Makes room for as many settlements.
+    pub(crate) fn reserve(&mut self, items: usize) -> Result<(), Cause>
+        requires { IsSound (going self.old) }
+        ensures step { MakesRoom items result (going self.old) (going self.new) }
+        ensures sound { IsSound (going self.new) }
+    {
+        self.history.reserve(items as u64)?;
+        Ok(())
+    }
+
+    /// Cuts a batch of those items that are to be sent to the node `to`. `None` where there are none.
+    pub(crate) fn cut_for(&mut self, to: usize, size: BatchSize) -> Result<Option<Batch>, Cause>
+        requires sound { IsSound (going self.old) }
+        requires to { to < self.old.n }
+        ensures step { Cuts to size result (going self.old) (going self.new) }
+        ensures sound { IsSound (going self.new) }
+    {
+        let outbox = &mut self.outboxes[to];
+        if outbox.is_empty() {
+            return Ok(None);
+        }
+        if outbox.cut_count() >= MAX_BATCHES {
+            return Err(Cause::Counts);
+        }
+        let batch = outbox.cut(size)?;
+        Ok(batch)
+    }
+
+    /// The values of the own classes.
+    pub(crate) fn own_values(&self) -> Result<Vec<Value>, Memory>
+        requires { IsSound (going self.now) }
+        ensures { IfOk result (λ values. AreValuesNow self.now.share values.items) }
+    {
+        let places = self.share.places();
+        let mut values = Vec::with_capacity(self.alloc, places as usize)?;
+        for place in 0..places {
+            let class = place * self.n as u64 + self.id as u64;
+            values.push(self.share.value(class))?;
+        }
+        Ok(values)
+    }
+}
+
+// Appends the settlement's items for the owner `id`, one of `n`; `targets` are the classes with a move into the settled
+// one, and there is room for an item of each.
+fn push_own(
+    queue: &mut VecDeque<Item>,
+    settlement: Settlement,
+    targets: &[u64],
+    n: usize,
+    id: usize,
+)
+    requires owners { 0 < n }
+    requires room { deque_len queue.old + length targets.now ≤ deque_capacity queue.old }
+    ensures { queue.new.items ≡ queue.old.items ++ items_of (λ _. targets.now) n id settlement }
+{
+    for class in targets {
+        if owner(*class, n) == id {
+            queue.push_back_reserved(item_for(settlement, *class));
+        }
+    }
+}

@@ -1,7 +1,0 @@
--- The runner has gone on so far, and has expanded a settlement.
-use Rattle.std.proofs.Common.{◌≡◌, ◌<◌}
-use Rattle.dob_run.specs.Runners.{GoesOn}
-use Rattle.dob_run.proofs.runner.Runner.expand_all.Given as goal
-
-abbrev pub invariant-loop : goal.invariant-loop
-invariant-loop l = GoesOn l.fn.self l.self × (l.fn.self.node.expanded < l.self.node.expanded) × (l.self.endpoint ≡ l.fn.self.endpoint)

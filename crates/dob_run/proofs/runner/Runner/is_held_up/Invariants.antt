@@ -1,7 +1,0 @@
--- None so far holds it up.
-use Rattle.std.proofs.Common.{ℕ, ◌<◌}
-use Rattle.dob_run.specs.TurnRounds.{HoldsUp}
-use Rattle.dob_run.proofs.runner.Runner.is_held_up.Given as goal
-
-abbrev pub invariant-loop-to : goal.invariant-loop-to
-invariant-loop-to l = (k : ℕ) → k < l.to → ¬ HoldsUp l.fn.self k

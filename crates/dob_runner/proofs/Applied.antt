@@ -1,0 +1,87 @@
+-- What a node has applied from each node, after each step of its runner.
+use Rattle.std.proofs.Common.{◌≡◌, ◌≢◌, ℕ, zero, suc, ◌-◌, eqb, cond, refl, sym, ap, ◌∙◌, subst, arith, List, [], ◌∷◌, ◌++◌}
+use Rattle.std.proofs.Common.{length, length-append, length-drop, take, drop}
+use Rattle.std.proofs.lemmas.Bool.{eq-eqb, ne_eqb}
+use Rattle.std.proofs.lemmas.List.{take-append-le}
+use Rattle.dob_pieces.specs.declared.profile.Family.{Family}
+use Rattle.dob_share.specs.declared.news.Item.{Item}
+use Rattle.dob_update.specs.Batches.{BatchView, items_of_batches}
+use Rattle.dob_update.proofs.BatchItems.{items_in_more}
+use Rattle.dob_node.specs.declared.node.Node.{Node}
+use Rattle.dob_runner.specs.declared.slots.Inlet.{Inlet}
+use Rattle.dob_chan.specs.Inboxes.{batches_of}
+use Rattle.dob_chan.proofs.Deliveries.{own_more as batch_more, others_more}
+use Rattle.dob_runner.specs.Links.{worked, worked_from}
+use Rattle.dob_runner.specs.Knows.{KnowsRight}
+use Rattle.dob_runner.specs.LawfulRunners.{planned, items_worked, own_applied, applied_from, AreLast}
+
+-- ---- own items
+
+take_next : (k : ℕ) (xs : List Item) (x : Item) (rest : List Item) → drop k xs ≡ x ∷ rest → take (suc k) xs ≡ take k xs ++ x ∷ []
+take_next zero [] x rest e = absurd (cc)
+take_next zero (y ∷ xs) x rest e = let same : y ≡ x = cc in ap (λ z. z ∷ []) same
+take_next (suc k) [] x rest e = absurd (cc)
+take_next (suc k) (y ∷ xs) x rest e = ap (λ zs. y ∷ zs) (take_next k xs x rest e)
+
+-- one gone more
+pub own_less : (whole own : List Item) (item : Item) (rest : List Item) → AreLast whole own → own ≡ item ∷ rest →
+    take (length whole - length rest) whole ≡ take (length whole - length own) whole ++ item ∷ []
+own_less whole own item rest are is =
+    let k : ℕ = length whole - length own in
+    let left : length whole - k ≡ suc (length rest) = sym (length-drop k whole) ∙ ap length (are ∙ is) in
+    let one : length own ≡ suc (length rest) = ap length is in
+    let next : length whole - length rest ≡ suc k = omega (arith, left, one) in
+    ap (λ m. take m whole) next ∙ take_next k whole item rest (are ∙ is)
+
+-- more planned, and as many left
+pub own_more : (whole own more : List Item) → take (length (whole ++ more) - length (own ++ more)) (whole ++ more) ≡ take (length whole - length own) whole
+own_more whole own more =
+    let same : length (whole ++ more) - length (own ++ more) ≡ length whole - length own =
+    omega (arith, length-append whole more, length-append own more) in
+    ap (λ k. take k (whole ++ more)) same ∙ take-append-le (length whole - length own) whole more (omega arith)
+
+pub own_still : (old new : Node) → planned new new.id ≡ planned old old.id → new.own ≡ old.own → own_applied new ≡ own_applied old
+own_still old new plan own =
+    ap (λ (xs : List Item). take (length (planned new new.id) - length xs) (planned new new.id)) own
+    ∙ ap (λ (xs : List Item). take (length xs - length old.own) xs) plan
+
+-- ---- each node's
+
+pub applied_here : (node : Node) (inlet : Inlet) (k : ℕ) → k ≡ node.id → applied_from node inlet k ≡ own_applied node
+applied_here node inlet k is = ap (λ b. cond b (own_applied node) (items_worked inlet k)) (eq-eqb k node.id is)
+
+pub applied_else : (node : Node) (inlet : Inlet) (k : ℕ) → k ≢ node.id → applied_from node inlet k ≡ items_worked inlet k
+applied_else node inlet k other = ap (λ b. cond b (own_applied node) (items_worked inlet k)) (ne_eqb k node.id other)
+
+pub applied_still : (old new : Node) (before after : Inlet) → new.id ≡ old.id → own_applied new ≡ own_applied old →
+    ((k : ℕ) → items_worked after k ≡ items_worked before k) → (k : ℕ) → applied_from new after k ≡ applied_from old before k
+applied_still old new before after id own same k =
+    ap (λ i. cond (eqb k i) (own_applied new) (items_worked after k)) id
+    ∙ ap (λ xs. cond (eqb k old.id) xs (items_worked after k)) own
+    ∙ ap (λ xs. cond (eqb k old.id) (own_applied old) xs) (same k)
+
+-- ---- what was worked in
+
+pub worked_again : (before after : Inlet) → worked after ≡ worked before → (k : ℕ) → items_worked after k ≡ items_worked before k
+worked_again before after same k = ap (λ (bs : List BatchView). items_of_batches (batches_of k bs)) same
+
+-- one batch more is one of its sender's more
+pub worked_more : (before after : Inlet) (batch : BatchView) → worked after ≡ worked before ++ batch ∷ [] →
+    items_worked after batch.from ≡ items_worked before batch.from ++ batch.items
+worked_more before after batch more =
+    ap (λ (bs : List BatchView). items_of_batches (batches_of batch.from bs)) more ∙ ap items_of_batches (batch_more batch.from (worked before) batch refl)
+    ∙ items_in_more (worked_from before batch.from) batch
+
+pub worked_else : (before after : Inlet) (batch : BatchView) → worked after ≡ worked before ++ batch ∷ [] → (k : ℕ) → k ≢ batch.from →
+    items_worked after k ≡ items_worked before k
+worked_else before after batch more k other =
+    ap (λ (bs : List BatchView). items_of_batches (batches_of k bs)) more ∙ ap items_of_batches (others_more k (worked before) batch (λ e. other (sym e)))
+
+-- ---- what is known, told of the node after a step
+
+pub knows_after : (old new : Node) (applied : ℕ → List Item) → new.family ≡ old.family → new.id ≡ old.id → new.n ≡ old.n →
+    KnowsRight old.family old.n old.id new.share new.history.settlements applied → KnowsRight new.family new.n new.id new.share new.history.settlements applied
+knows_after old new applied family_is id_is n_is knows =
+    subst (λ (s : Family). KnowsRight s new.n new.id new.share new.history.settlements applied) (sym family_is)
+    (subst (λ (m : ℕ). KnowsRight old.family m new.id new.share new.history.settlements applied) (sym n_is)
+    (subst (λ (i : ℕ). KnowsRight old.family old.n i new.share new.history.settlements applied) (sym id_is) knows))

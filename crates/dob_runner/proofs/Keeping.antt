@@ -1,0 +1,352 @@
+-- What links, endpoints and runners keep, through one step and the next.
+use Rattle.std.proofs.Common.{◌≡◌, ◌≢◌, ℕ, zero, suc, List, [], ◌∷◌, ◌++◌, ◌⊎◌, length, set, Bool, true, false, Option, Some, None}
+use Rattle.std.proofs.Common.{refl, sym, ap, ◌∙◌, subst, inl, inr, arith, append_assoc}
+use Rattle.std.proofs.lemmas.List.{append-nil}
+use Rattle.std.specs.Prelude.{slice_get, Result, Ok, Err, IfErr, MatchResult}
+use Rattle.std.specs.Result.{IsErrAnd}
+use Rattle.std.proofs.lemmas.Result.{err_from_is_err_and}
+use Rattle.std.proofs.lemmas.Option.{same_Some}
+use Rattle.std.proofs.lemmas.Bool.{cases_eq}
+use Rattle.dob_pieces.proofs.Elements.{get_set_other}
+use Rattle.dob_pieces.specs.Lists.{IsBeginning}
+use Rattle.dob_share.specs.declared.news.Item.{Item}
+use Rattle.dob_share.specs.declared.share.Share.{Share}
+use Rattle.dob_update.specs.Batches.{BatchView}
+use Rattle.dob_safra.specs.declared.token.Token.{Token}
+use Rattle.dob_board.specs.declared.seat.NodeSeat.{NodeSeat}
+use Rattle.dob_board.specs.declared.halt.Halt.{Halt}
+use Rattle.dob_board.specs.declared.halt.Halt.TheVariants.{Running, Ended, Failed}
+use Rattle.dob_board.specs.Words.{halt_word}
+use Rattle.dob_board.specs.declared.view.Stand.{Stand}
+use Rattle.dob_board.specs.Views.{passes}
+use Rattle.dob_board.specs.Seats.{IsSameSeat, KnewOwnFailure, MovesNothing, stand_of, witnessed_by}
+use Rattle.dob_board.specs.Histories.{token_moves_of}
+use Rattle.dob_stops.specs.declared.cause.Cause.{Cause}
+use Rattle.dob_stops.specs.declared.cause.Cause.TheVariants.{TooDeep, Contradiction, Memory, Held, Counts}
+use Rattle.dob_node.specs.declared.node.Node.{Node}
+use Rattle.dob_node.specs.TakenItems.{IsReason}
+use Rattle.dob_node.specs.Outboxes.{outbox_in}
+use Rattle.dob_node.specs.Nodes.{outbox_to, HasItemFault, IsUnchanged}
+use Rattle.dob_chan.specs.declared.ends.SendEnd.{SendEnd}
+use Rattle.dob_chan.specs.declared.ends.TakeEnd.{TakeEnd}
+use Rattle.dob_chan.specs.Ends.{sent_by, taken_by, SendsToSame, TakesFromSame}
+use Rattle.dob_runner.specs.declared.slots.Outlet.{Outlet}
+use Rattle.dob_runner.specs.declared.slots.Inlet.{Inlet}
+use Rattle.dob_runner.specs.declared.endpoint.Endpoint.{Endpoint}
+use Rattle.dob_runner.specs.declared.runner.Runner.{Runner}
+use Rattle.dob_runner.specs.Links.{KeepsOutlet, KeepsInlet}
+use Rattle.dob_runner.specs.LawfulRunners.{IsSpared}
+use Rattle.dob_runner.specs.Endpoints.{KeepsEach, AreOut}
+use Rattle.dob_runner.specs.Keeps.{KeepsEndpoint, HasSameLinks}
+use Rattle.dob_runner.specs.Runners.{KeepsRunner, GoesOn, HasFailed, HasBroken, HasRefused, HasCutAll, IsReasonFor, IsReasoned, GateIsAsked, no_gate, StepsBy}
+use Rattle.dob_runner.specs.Turns.{HasTurned, HasSameWork}
+use Rattle.dob_runner.proofs.Counted.{there_set}
+
+-- ---- lists of batches
+
+pub goes_on_same : (xs ys : List BatchView) → ys ≡ xs → IsBeginning xs ys
+goes_on_same xs ys same = ([], same ∙ sym (append-nil xs))
+
+goes_on_trans : (xs ys zs : List BatchView) → IsBeginning xs ys → IsBeginning ys zs → IsBeginning xs zs
+goes_on_trans xs ys zs one two = (one.0 ++ two.0, two.1 ∙ ap (λ bs. bs ++ two.0) one.1 ∙ append_assoc xs one.0 two.0)
+
+-- ---- links
+
+pub outlet_kept : (old new : Outlet) → new.end ≡ old.end → KeepsOutlet old new
+outlet_kept old new same =
+    (subst (λ (e : SendEnd). SendsToSame old.end e) (sym same) (refl, refl, refl, refl), goes_on_same (sent_by old.end) (sent_by new.end) (ap (λ (e : SendEnd). sent_by e) same))
+
+pub inlet_kept : (old new : Inlet) → new.end ≡ old.end → KeepsInlet old new
+inlet_kept old new same =
+    (subst (λ (e : TakeEnd). TakesFromSame old.end e) (sym same) (refl, refl), goes_on_same (taken_by old.end) (taken_by new.end) (ap (λ (e : TakeEnd). taken_by e) same))
+
+pub outlet_same : (x : Outlet) → KeepsOutlet x x
+outlet_same x = outlet_kept x x refl
+
+pub inlet_same : (x : Inlet) → KeepsInlet x x
+inlet_same x = inlet_kept x x refl
+
+outlet_trans : (x y z : Outlet) → KeepsOutlet x y → KeepsOutlet y z → KeepsOutlet x z
+outlet_trans x y z one two = ((two.0.0 ∙ one.0.0, two.0.1 ∙ one.0.1, two.0.2 ∙ one.0.2, two.0.3 ∙ one.0.3), goes_on_trans (sent_by x.end) (sent_by y.end) (sent_by z.end) one.1 two.1)
+
+inlet_trans : (x y z : Inlet) → KeepsInlet x y → KeepsInlet y z → KeepsInlet x z
+inlet_trans x y z one two = ((two.0.0 ∙ one.0.0, two.0.1 ∙ one.0.1), goes_on_trans (taken_by x.end) (taken_by y.end) (taken_by z.end) one.1 two.1)
+
+-- ---- lists of links
+
+-- what stood elsewhere and what stands at the place
+pub each_after : {L : Type 0} (Q : ℕ → L → Type 0) (xs : List L) (k : ℕ) (y : L) → ((j : ℕ) (l : L) → j ≢ k → slice_get xs j ≡ Some l → Q j l) → Q k y →
+    (j : ℕ) (l : L) → slice_get (set xs k y) j ≡ Some l → Q j l
+each_after Q xs k y others here j l at = elim (cases_eq j k) [
+  | inl same ↦
+      let is : y ≡ l = there_set xs k y l (ap (slice_get (set xs k y)) (sym same) ∙ at) in
+      subst (λ m. Q m l) (sym same) (subst (λ m. Q k m) is here)
+  | inr apart ↦ others j l apart (sym (get_set_other xs k j y apart) ∙ at)
+]
+
+pub one_kept : {L : Type 0} (Keeps : L → L → Type 0) → ((x : L) → Keeps x x) → (xs : List L) (k : ℕ) (x y : L) → slice_get xs k ≡ Some x → Keeps x y →
+    KeepsEach Keeps xs (set xs k y)
+one_kept Keeps self xs k x y at keeps j before after old new =
+    each_after (λ m l. slice_get xs m ≡ Some before → Keeps before l) xs k y
+    (λ m l apart there was. subst (Keeps before) (same_Some before l (sym was ∙ there)) (self before))
+    (λ was. subst (λ b. Keeps b y) (same_Some x before (sym at ∙ was)) keeps) j after new old
+
+pub each_same : {L : Type 0} (Keeps : L → L → Type 0) → ((x : L) → Keeps x x) → (xs ys : List L) → ys ≡ xs → KeepsEach Keeps xs ys
+each_same Keeps self xs ys same j before after old new =
+    subst (Keeps before) (same_Some before after (sym old ∙ (ap (λ zs. slice_get zs j) (sym same) ∙ new))) (self before)
+
+pub there_is : {L : Type 0} (xs ys : List L) (j : ℕ) (x : L) → length xs ≡ length ys → slice_get xs j ≡ Some x → (y : L) × (slice_get ys j ≡ Some y)
+there_is [] ys j x same at = absurd (cc)
+there_is (a ∷ xs) [] j x same at = absurd (omega (arith, same))
+there_is (a ∷ xs) (b ∷ ys) zero x same at = (b, refl)
+there_is (a ∷ xs) (b ∷ ys) (suc j) x same at = there_is xs ys j x (omega (arith, same)) at
+
+each_trans : {L : Type 0} (Keeps : L → L → Type 0) → ((x y z : L) → Keeps x y → Keeps y z → Keeps x z) → (xs ys zs : List L) → length xs ≡ length ys →
+    KeepsEach Keeps xs ys → KeepsEach Keeps ys zs → KeepsEach Keeps xs zs
+each_trans Keeps trans xs ys zs long one two j before after old new =
+    let between = there_is xs ys j before long old in
+    trans before between.0 after (one j before between.0 old between.1) (two j between.0 after between.1 new)
+
+-- ---- seats and endpoints
+
+pub seat_same : (seat : NodeSeat) → IsSameSeat seat seat
+seat_same seat = record { node = refl; nodes = refl; board = refl }
+
+pub seat_trans : (a b c : NodeSeat) → IsSameSeat a b → IsSameSeat b c → IsSameSeat a c
+seat_trans a b c one two = record { node = two.node ∙ one.node; nodes = two.nodes ∙ one.nodes; board = two.board ∙ one.board }
+
+-- a seat that is as it was moved nothing, nor did one in two steps that moved nothing
+pub still_same : (a b : NodeSeat) → b ≡ a → MovesNothing a b
+still_same a b same = ap (λ (s : NodeSeat). token_moves_of a.node (witnessed_by s)) same
+
+pub still_trans : (a b c : NodeSeat) → b.node ≡ a.node → MovesNothing a b → MovesNothing b c → MovesNothing a c
+still_trans a b c node one two = subst (λ (k : ℕ). token_moves_of k (witnessed_by c) ≡ token_moves_of k (witnessed_by b)) node two ∙ one
+
+pub endpoint_same : (endpoint : Endpoint) → KeepsEndpoint endpoint endpoint
+endpoint_same endpoint = record {
+  seat = seat_same endpoint.seat;
+  outlets = each_same KeepsOutlet outlet_same endpoint.outlets.items endpoint.outlets.items refl;
+  inlet = inlet_same endpoint.inlet;
+}
+
+pub links_kept : (old new : Endpoint) → HasSameLinks old new → KeepsEndpoint old new
+links_kept old new same = record {
+  seat = same.seat;
+  outlets = each_same KeepsOutlet outlet_same old.outlets.items new.outlets.items (ap (λ v. v.items) same.outlets);
+  inlet = inlet_kept old.inlet new.inlet (ap (λ (i : Inlet). i.end) same.inlet);
+}
+
+pub endpoint_trans : (a b c : Endpoint) → KeepsEndpoint a b → KeepsEndpoint b c → KeepsEndpoint a c
+endpoint_trans a b c one two = record {
+  seat = seat_trans a.seat b.seat c.seat one.seat two.seat;
+  outlets = each_trans KeepsOutlet outlet_trans a.outlets.items b.outlets.items c.outlets.items
+      (omega (arith, a.outlets_len, b.outlets_len, one.seat.nodes)) one.outlets two.outlets;
+  inlet = inlet_trans a.inlet b.inlet c.inlet one.inlet two.inlet;
+}
+
+-- ---- halts
+
+-- a seat that knew a halt knew the end, where it finds the end
+pub ended_before : (old new : Halt) → (old ≢ Running → new ≡ old) → new ≡ Ended → (old ≡ Running) ⊎ (old ≡ Ended)
+ended_before Running new stays ended = inl refl
+ended_before Ended new stays ended = inr refl
+ended_before (Failed node) new stays ended = inr (sym (stays (λ running. absurd (omega (arith, ap halt_word running)))) ∙ ended)
+
+-- a seat that finds its own failure knew it
+pub own_before : (old new : NodeSeat) → KnewOwnFailure old new.halt → new.node ≡ old.node → new.halt ≡ Failed new.node → old.halt ≡ Failed old.node
+own_before old new knew node own = (let found : new.halt ≡ Failed old.node = own ∙ ap Failed node in knew found ∙ found)
+
+-- nor where it looked for the token before
+pub own_looked : (old found : NodeSeat) (halt : Halt) → found.halt ≡ old.halt → found.node ≡ old.node → KnewOwnFailure found halt → KnewOwnFailure old halt
+own_looked old found halt same node knew own = sym same ∙ knew (own ∙ ap Failed (sym node))
+
+-- and it knows it still
+pub own_still : (old new : NodeSeat) → new.halt ≡ old.halt → new.node ≡ old.node → new.halt ≡ Failed new.node → old.halt ≡ Failed old.node
+own_still old new halt node own = sym halt ∙ own ∙ ap Failed node
+
+-- and a seat that passed the token that it knew has the same counts
+pub passed_counts : (old new : NodeSeat) (known : Option Token) → old.token ≡ known → old.token ≢ None →
+    ((token : Token) → old.token ≡ Some token → stand_of new ≡ passes old.nodes old.node (stand_of old) token) →
+    (new.posted.items ≡ old.posted.items) × (new.taken.items ≡ old.taken.items)
+passed_counts old new None is some passed = absurd (some is)
+passed_counts old new (Some token) is some passed = (let stand = passed token is in (ap (λ (s : Stand). s.posted) stand, ap (λ (s : Stand). s.taken) stand))
+
+-- one that has failed has a cause
+pub some_cause : (why : Cause) → (let failed : Option Cause = Some why in failed ≡ None) → ⊥
+some_cause why none = absurd (cc)
+
+-- and where its seat didn't find the end, and it failed by an item, nothing is asked of it
+pub failed_first : {L : Type 0} (why : Cause) (halt : Halt) → halt ≢ Ended → (IsSpared (Some why) → ⊥) →
+    (let failed : Option Cause = Some why in failed ≡ None) ⊎ (halt ≡ Ended) ⊎ IsSpared (Some why) → L
+failed_first why halt unended unspared still =
+    elim still [ inl none ↦ absurd (some_cause why none) | inr (inl ended) ↦ absurd (unended ended) | inr (inr spared) ↦ absurd (unspared spared) ]
+
+-- no item makes a runner fail for another cause, but for lack of memory
+pub unspared_reason : (item : Item) (share : Share) (why : Cause) → IsReason item share why → (why ≡ Memory → ⊥) → IsSpared (Some why) → ⊥
+unspared_reason item share TooDeep reason other spared = spared
+unspared_reason item share (Contradiction class) reason other spared = spared
+unspared_reason item share Memory reason other spared = other refl
+unspared_reason item share Held reason other spared = reason
+unspared_reason item share Counts reason other spared = reason
+
+-- ---- the causes of a node and of its runner
+
+-- where the runner hasn't failed its node hasn't
+pub node_goes : (of_node failed : Option Cause) → ((why : Cause) → of_node ≡ Some why → failed ≡ Some why) → failed ≡ None → of_node ≡ None
+node_goes None failed agrees none = refl
+node_goes (Some why) failed agrees none = absurd (let both = sym none ∙ agrees why refl in cc)
+
+-- a node that hasn't failed agrees with any, and one that failed with its own cause
+pub agrees_going : (of_node failed : Option Cause) → of_node ≡ None → (why : Cause) → of_node ≡ Some why → failed ≡ Some why
+agrees_going of_node failed going why is = absurd (let both = sym going ∙ is in cc)
+
+pub agrees_failed : (of_node : Option Cause) (cause : Cause) → of_node ≡ Some cause → (why : Cause) → of_node ≡ Some why → (let failed : Option Cause = Some cause in failed ≡ Some why)
+agrees_failed of_node cause failed why is = sym failed ∙ is
+
+-- ---- reasons
+
+-- an item of the runner's own that can't be applied
+pub own_reason : (runner : Runner) (why : Cause) → HasItemFault runner.node why → IsReasonFor no_gate runner why
+own_reason runner TooDeep has = inl has
+own_reason runner (Contradiction class) has = inl has
+own_reason runner Memory has = tt
+own_reason runner Held has = absurd has.reason
+own_reason runner Counts has = absurd has.reason
+
+-- one of another node's
+pub refused_reason : (runner : Runner) (why : Cause) → HasRefused runner why → IsReasonFor no_gate runner why
+refused_reason runner TooDeep has = inr has
+refused_reason runner (Contradiction class) has = inr has
+refused_reason runner Memory has = tt
+refused_reason runner Held has = absurd has.before.reason
+refused_reason runner Counts has = absurd has.before.reason
+
+-- a batch that can't be cut
+pub cut_reason : (runner : Runner) (why : Cause) → (why ≡ Counts → HasCutAll runner) → (why ≡ Counts) ⊎ (why ≡ Memory) → IsReasonFor no_gate runner why
+cut_reason runner why all (inl counts) = subst (IsReasonFor no_gate runner) (sym counts) (all counts)
+cut_reason runner why all (inr memory) = subst (IsReasonFor no_gate runner) (sym memory) tt
+
+pub memory_reason : (No : ℕ → Type 0) (runner : Runner) (why : Cause) → why ≡ Memory → IsReasonFor No runner why
+memory_reason No runner why memory = subst (IsReasonFor No runner) (sym memory) tt
+
+-- where no gate says no, any gate may be there
+pub reason_with : (No : ℕ → Type 0) (runner : Runner) (why : Cause) → IsReasonFor no_gate runner why → IsReasonFor No runner why
+reason_with No runner TooDeep reason = reason
+reason_with No runner (Contradiction class) reason = reason
+reason_with No runner Memory reason = reason
+reason_with No runner Held reason = absurd reason
+reason_with No runner Counts reason = reason
+
+-- and the runner isn't held back
+pub reason_unheld : (runner : Runner) (why : Cause) → IsReasonFor no_gate runner why → why ≢ Held
+reason_unheld runner why reason held = subst (IsReasonFor no_gate runner) held reason
+
+-- one that hasn't failed needs no reason
+pub reasoned_unfailed : (No : ℕ → Type 0) (runner : Runner) → runner.failed ≡ None → IsReasoned No runner
+reasoned_unfailed No runner unfailed why failed = absurd (let both = sym unfailed ∙ failed in cc)
+
+pub reasoned_failed : (No : ℕ → Type 0) (runner : Runner) (why : Cause) → runner.failed ≡ Some why → IsReasonFor No runner why → IsReasoned No runner
+reasoned_failed No runner why failed reason other is = subst (IsReasonFor No runner) (same_Some why other (sym failed ∙ is)) reason
+
+-- a node that is as it was still can't apply its item, or cut its batch
+pub fault_still : (old new : Node) (why : Cause) → IsUnchanged old new → HasItemFault old why → HasItemFault new why
+fault_still old new why same fault = record {
+  item = fault.item;
+  behind = fault.behind;
+  first = same.kept.2 ∙ fault.first;
+  reason = subst (λ (share : Share). IsReason fault.item share why) (sym same.kept.0) fault.reason;
+}
+
+pub outbox_still : (old new : Node) (to : ℕ) → IsUnchanged old new → outbox_to new to ≡ outbox_to old to
+outbox_still old new to same = λ q. outbox_in (same.same.0 q) (same.same.2 q) (same.same.1 q) (same.outboxes q) to
+
+-- ---- runners
+
+pub runner_same : (r : Runner) → KeepsRunner r r
+runner_same r = record { endpoint = endpoint_same r.endpoint; family = refl; batch_size = refl }
+
+pub runner_trans : (a b c : Runner) → KeepsRunner a b → KeepsRunner b c → KeepsRunner a c
+runner_trans a b c one two = record { endpoint = endpoint_trans a.endpoint b.endpoint c.endpoint one.endpoint two.endpoint; family = two.family ∙ one.family; batch_size = two.batch_size ∙ one.batch_size }
+
+pub goes_trans : (a b c : Runner) → GoesOn a b → GoesOn b c → GoesOn a c
+goes_trans a b c one two = record {
+  keeps = runner_trans a b c one.keeps two.keeps;
+  unfailed = two.unfailed;
+  halt = two.halt ∙ one.halt;
+  still = still_trans a.endpoint.seat b.endpoint.seat c.endpoint.seat one.keeps.endpoint.seat.node one.still two.still;
+}
+
+pub links_trans : (a b c : Endpoint) → HasSameLinks a b → HasSameLinks b c → HasSameLinks a c
+links_trans a b c one two = record { seat = seat_trans a.seat b.seat c.seat one.seat two.seat; outlets = two.outlets ∙ one.outlets; inlet = two.inlet ∙ one.inlet }
+
+-- a runner of which nothing has changed
+pub work_same : (r : Runner) → HasSameWork r r
+work_same r = record { node = refl; links = record { seat = seat_same r.endpoint.seat; outlets = refl; inlet = refl } }
+
+pub failed_after : (a b c : Runner) (why : Cause) → KeepsRunner a b → HasFailed b c why → HasFailed a c why
+failed_after a b c why kept failed = record { keeps = runner_trans a b c kept failed.keeps; cause = failed.cause; stopped = failed.stopped }
+
+-- slots that were empty are
+pub out_still : (old new : Endpoint) → new.seat.nodes ≡ old.seat.nodes →
+    ((j : ℕ) (before after : Outlet) → slice_get old.outlets.items j ≡ Some before → slice_get new.outlets.items j ≡ Some after → before.slot ≡ None → after.slot ≡ None) →
+    AreOut old.outlets.items → AreOut new.outlets.items
+out_still old new nodes each out j after at =
+    let before = there_is new.outlets.items old.outlets.items j after (omega (arith, new.outlets_len, old.outlets_len, nodes)) at in
+    each j before.0 after before.1 at (out j before.0 before.1)
+
+-- a failure that is handed on
+pub broken_on : {A : Type 0} (Did : Runner → Runner → A → Type 0) (a b c : Runner) (r : Result A Cause) (why : Cause) → IsErrAnd r (λ given. given ≡ why) →
+    KeepsRunner a b → MovesNothing a.endpoint.seat b.endpoint.seat → HasBroken b c why → StepsBy Did a c r
+broken_on {A} Did a b c r why is kept still broken =
+    let given = err_from_is_err_and r is in
+    let now : HasBroken a c why = record {
+      failed = failed_after a b c why kept broken.failed;
+      still = still_trans a.endpoint.seat b.endpoint.seat c.endpoint.seat kept.endpoint.seat.node still broken.still;
+      reason = broken.reason;
+    } in
+    subst (λ (s : Result A Cause). StepsBy Did a c s) (sym given.1) (subst (HasBroken a c) (sym given.2) now)
+
+-- and it isn't that a gate held the runner back
+pub unheld_on : {A L : Type 0} (r : Result A Cause) (why : Cause) → IsErrAnd r (λ given. given ≡ why) → why ≢ Held → r ≡ Err Held → L
+unheld_on r why is unheld held =
+    let given = err_from_is_err_and r is in
+    let same : given.0 ≡ Held = (let both = sym given.1 ∙ held in cc) in absurd (unheld (sym given.2 ∙ same))
+
+pub turn_failed : (a b c : Runner) (r : Result Halt Cause) (why : Cause) → IsErrAnd r (λ given. given ≡ why) → KeepsRunner a b → HasFailed b c why →
+    MatchResult r (HasTurned a c) (HasFailed a c)
+turn_failed a b c r why is kept failed =
+    let given = err_from_is_err_and r is in
+    subst (λ s. MatchResult s (HasTurned a c) (HasFailed a c)) (sym given.1) (subst (HasFailed a c) (sym given.2) (failed_after a b c why kept failed))
+
+-- and no token was moved before it
+pub failed_still : {A : Type 0} (a b c : Runner) (r : Result A Cause) → KeepsRunner a b → MovesNothing a.endpoint.seat b.endpoint.seat →
+    MovesNothing b.endpoint.seat c.endpoint.seat → IfErr r (λ _. MovesNothing a.endpoint.seat c.endpoint.seat)
+failed_still a b c (Ok x) kept one two = tt
+failed_still a b c (Err why) kept one two = still_trans a.endpoint.seat b.endpoint.seat c.endpoint.seat kept.endpoint.seat.node one two
+
+-- a turn keeps the runner's place, whatever its answer
+pub turn_keeps : (a b : Runner) (r : Result Halt Cause) → MatchResult r (HasTurned a b) (HasFailed a b) → KeepsRunner a b
+turn_keeps a b (Ok halt) turned = turned.keeps
+turn_keeps a b (Err why) failed = failed.keeps
+
+-- a failure that is handed on with its reason
+pub reason_on : {A : Type 0} (No : ℕ → Type 0) (c : Runner) (r : Result A Cause) (why : Cause) → IsErrAnd r (λ given. given ≡ why) → IsReasonFor no_gate c why →
+    IfErr r (IsReasonFor No c)
+reason_on {A} No c r why is reason =
+    let given = err_from_is_err_and r is in
+    subst (λ (s : Result A Cause). IfErr s (IsReasonFor No c)) (sym given.1) (subst (IsReasonFor No c) (sym given.2) (reason_with No c why reason))
+
+-- the gate's answer, where the node wasn't held back, and where it was
+pub asked_yes : {A : Type 0} (Says : ℕ → Bool → Type 0) (node : ℕ) (answer : Bool) (r : Result A Cause) → Says node answer → answer ≡ true → r ≢ Err Held →
+    GateIsAsked Says node r
+asked_yes Says node answer r said is unheld = (answer, said, (λ no'. absurd (let both = sym is ∙ no' in cc), λ held. absurd (unheld held)))
+
+pub asked_no : {A : Type 0} (Says : ℕ → Bool → Type 0) (node : ℕ) (answer : Bool) (r : Result A Cause) → Says node answer → answer ≡ false → r ≡ Err Held →
+    GateIsAsked Says node r
+asked_no Says node answer r said is held = (answer, said, (λ no'. held, λ held'. is))
+
+-- a runner that has made a turn, or failed in one, has a reason where it failed
+pub turn_reasoned : (No : ℕ → Type 0) (a b : Runner) (r : Result Halt Cause) → MatchResult r (HasTurned a b) (HasFailed a b) →
+    IfErr r (IsReasonFor No b) → IsReasoned No b
+turn_reasoned No a b (Ok halt) turned reason = reasoned_unfailed No b turned.unfailed
+turn_reasoned No a b (Err why) failed reason = reasoned_failed No b why failed.cause reason

@@ -1,0 +1,333 @@
+-- What sending to one node after another does.
+use Rattle.std.proofs.Common.{◌≡◌, ◌≢◌, ◌⊎◌, ℕ, ◌+◌, ◌<◌, ◌≤◌, List, ◌∷◌, [], ◌++◌, length, Bool, true, false, not, ◌||◌, Option, Some, None, Result, Ok, Err}
+use Rattle.std.proofs.Common.{refl, sym, ap, ◌∙◌, subst, inl, inr, arith, length-append}
+use Rattle.std.specs.Prelude.{slice_get}
+use Rattle.std.proofs.lemmas.Bool.{cases_eq, cases_Bool, both_ways}
+use Rattle.std.proofs.lemmas.Option.{same_Some}
+use Rattle.std.proofs.lemmas.List.{append-nil, append_cancel_right}
+use Rattle.dob_update.specs.Batches.{BatchView, OutboxView}
+use Rattle.dob_chan.specs.declared.ends.SendEnd.{SendEnd}
+use Rattle.dob_chan.specs.Ends.{sent_by}
+use Rattle.dob_stops.specs.declared.cause.Cause.{Cause}
+use Rattle.dob_node.specs.Nodes.{outbox_to, HasCut}
+use Rattle.dob_runner.specs.declared.slots.Outlet.{Outlet}
+use Rattle.dob_runner.specs.declared.endpoint.Endpoint.{Endpoint}
+use Rattle.dob_runner.specs.declared.runner.Runner.{Runner}
+use Rattle.dob_runner.specs.Slots.{in_slot}
+use Rattle.dob_runner.specs.Keeps.{KeepsEndpoint}
+use Rattle.dob_runner.specs.Links.{offered, KeepsOutlet, IsFull}
+use Rattle.dob_runner.specs.Endpoints.{HasChangedOne}
+use Rattle.dob_runner.specs.TurnRounds.{HasToSend, IsToFill, IsMoreOut, CutsFor, CutsLeft, FillsFor, IsSent, HasSentOne, SendsTo, SendsBelow}
+use Rattle.dob_runner.specs.Runners.{GoesOn, StepsBy}
+use Rattle.dob_runner.proofs.Keeping.{endpoint_same, runner_same, goes_trans, still_same}
+use Rattle.dob_runner.proofs.Taking.{changed_there, changed_at, changed_else}
+
+-- ---- to all nodes
+
+-- what is to send, where the outbox and the size are the same
+to_send_still : (small : Bool) (to : ℕ) (b c : Runner) → outbox_to c.node to ≡ outbox_to b.node to → c.batch_size ≡ b.batch_size → HasToSend c to small → HasToSend b to small
+to_send_still small to b c outbox size has =
+    subst (λ (p : OutboxView × ℕ). (p.0.items ≢ []) × ((p.1 ≤ length p.0.items) ⊎ (small ≡ true))) (λ q. (outbox q, size q)) has
+
+sent_still : (small : Bool) (to : ℕ) (b c : Runner) (one : Bool) (before after : Outlet) → outbox_to c.node to ≡ outbox_to b.node to → c.batch_size ≡ b.batch_size →
+    IsSent small to b one before after → IsSent small to c one before after
+sent_still small to b c one before after outbox size sent = record {
+  few = sent.few;
+  one = sent.one;
+  none = sent.none;
+  spent = λ unsent out has. sent.spent unsent out (to_send_still small to b c outbox size has);
+  full = sent.full;
+}
+
+-- none yet
+pub none_sent : (small : Bool) (r : Runner) → r.failed ≡ None → SendsBelow 0 small r r false
+none_sent small r unfailed = record {
+  goes = record { keeps = runner_same r; unfailed = unfailed; halt = refl; still = refl };
+  sent = λ to low apart before after was is. absurd (omega (arith, low));
+  some = λ never. absurd (cc);
+  itself = refl;
+  own = refl;
+  later = λ j high. refl;
+  inlet = refl;
+}
+
+-- to whom one more went
+sent_some : (small : Bool) (k : ℕ) (a b c : Runner) (did one : Bool) → SendsBelow k small a b did → SendsTo k small b c one → (did || one) ≡ true →
+    (to : ℕ) × (to < k + 1) × HasSentOne to a.endpoint.outlets.items c.endpoint.outlets.items
+sent_some small k a b c true one so_far next said =
+    let found = so_far.some refl in
+    let apart = next.others found.0 (λ same. absurd (omega (arith, same, found.1))) in
+    (found.0, omega (arith, found.1), (found.2.0, found.2.1, found.2.2, apart ∙ found.2.3, found.2.4))
+sent_some small k a b c false one so_far next said =
+    let found = next.some said in
+    (k, omega arith, (found.0, found.1, sym (so_far.later k (omega arith)) ∙ found.2, found.3, found.4))
+
+-- and the next
+pub sends_more : (small : Bool) (k : ℕ) (a b c : Runner) (did one : Bool) → SendsBelow k small a b did → SendsTo k small b c one →
+    SendsBelow (k + 1) small a c (did || one)
+sends_more small k a b c did one so_far next = record {
+  goes = goes_trans a b c so_far.goes next.goes;
+  sent = λ to low apart before after was is. elim (cases_eq to k) [
+    | inl here ↦
+        let there : slice_get b.endpoint.outlets.items k ≡ Some before =
+        so_far.later k (omega arith) ∙ ap (λ (i : ℕ). slice_get a.endpoint.outlets.items i) (sym here) ∙ was in (
+          one,
+          subst (λ (i : ℕ). IsSent small i c one before after) (sym here) (next.sent (λ same. apart (here ∙ same ∙ so_far.goes.keeps.endpoint.seat.node)) before after there
+              (ap (λ (i : ℕ). slice_get c.endpoint.outlets.items i) (sym here) ∙ is)),
+          λ said. last did one said,
+        )
+    | inr other ↦
+        let found = so_far.sent to (omega (arith, low, other)) apart before after was (sym (next.others to other) ∙ is) in
+        (found.0, sent_still small to b c found.0 before after (next.outboxes to other) next.goes.keeps.batch_size found.1, λ said. first did one (found.2 said))
+  ];
+  some = sent_some small k a b c did one so_far next;
+  itself = elim (cases_eq a.endpoint.seat.node k) [
+    | inl here ↦ ap (λ (l : List Outlet). slice_get l a.endpoint.seat.node) (next.itself (sym here ∙ sym so_far.goes.keeps.endpoint.seat.node)).1 ∙ so_far.itself
+    | inr other ↦ next.others a.endpoint.seat.node other ∙ so_far.itself
+  ];
+  own = next.own ∙ so_far.own;
+  later = λ j high. next.others j (λ same. absurd (omega (arith, same, high))) ∙ so_far.later j (omega (arith, high));
+  inlet = next.inlet ∙ so_far.inlet;
+}
+  where
+    first : (x y : Bool) → x ≡ true → (x || y) ≡ true
+    first x y is = ap (λ (b : Bool). b || y) is
+
+    last : (x y : Bool) → y ≡ true → (x || y) ≡ true
+    last true y is = refl
+    last false y is = is
+
+-- ---- a batch for one
+
+-- nothing is cut
+pub uncut : (to : ℕ) (r : Runner) → r.failed ≡ None → CutsFor to r r false
+uncut to r unfailed = record {
+  goes = record { keeps = runner_same r; unfailed = unfailed; halt = refl; still = refl };
+  one = λ never. absurd (cc);
+  nothing = λ is. (refl, refl);
+  own = refl;
+  others = λ j other. refl;
+  inlet = refl;
+}
+
+-- nor where nothing was left to send
+pub cut_nothing : (to : ℕ) (old new : Runner) → old.failed ≡ None → new.failed ≡ None → new.node ≡ old.node → new.endpoint ≡ old.endpoint → new.family ≡ old.family → new.batch_size ≡ old.batch_size →
+    (outbox_to old.node to).items ≡ [] → CutsLeft to old new false
+cut_nothing to old new going unfailed node endpoint family size empty = (
+  record {
+    goes = record {
+      keeps = record { endpoint = subst (KeepsEndpoint old.endpoint) (sym endpoint) (endpoint_same old.endpoint); family = family; batch_size = size };
+      unfailed = unfailed;
+      halt = ap (λ (m : Endpoint). m.seat.halt) endpoint;
+      still = still_same old.endpoint.seat new.endpoint.seat (ap (λ (m : Endpoint). m.seat) endpoint);
+    };
+    one = λ never. absurd (cc);
+    nothing = λ is. (node, endpoint);
+    own = ap (λ n. n.own) node;
+    others = λ j other. ap (λ n. outbox_to n j) node;
+    inlet = ap (λ (m : Endpoint). m.inlet) endpoint;
+  },
+  (λ is. empty, λ is. refl),
+)
+
+-- and one is cut
+pub cut_more : (to size : ℕ) (batch : BatchView) (old new : Runner) → GoesOn old new → HasCut to size batch old.node new.node →
+    HasChangedOne (IsMoreOut batch) to old.endpoint.outlets.items new.endpoint.outlets.items → new.endpoint.inlet ≡ old.endpoint.inlet →
+    (outbox_to old.node to).items ≢ [] → CutsLeft to old new true
+cut_more to size batch old new goes cut offer inlet some = (
+  record {
+    goes = goes;
+    one = λ did. (batch, offer);
+    nothing = λ never. absurd (cc);
+    own = cut.kept.2;
+    others = cut.others;
+    inlet = inlet;
+  },
+  (λ never. absurd (cc), λ empty. absurd (some empty)),
+)
+
+-- what is cut fills the slot that was to be filled
+pub fills_of : (to : ℕ) (small : Bool) (old new : Runner) (r : Result Bool Cause) → IsToFill old to small → StepsBy (CutsLeft to) old new r →
+    StepsBy (FillsFor to small) old new r
+fills_of to small old new (Ok did) fill cuts = (
+  cuts.0,
+  (
+    λ is. fill,
+    λ again. elim (cases_Bool did) [
+      | inl is ↦ is
+      | inr none ↦ absurd (fill.0.0 (cuts.1.0 none))
+    ],
+  ),
+)
+fills_of to small old new (Err why) fill broken = broken
+
+-- ---- and its way
+
+-- nothing to itself
+pub own_unsent : (small : Bool) (r : Runner) (to : ℕ) → r.failed ≡ None → to ≡ r.endpoint.seat.node → SendsTo to small r r false
+own_unsent small r to unfailed is = record {
+  goes = record { keeps = runner_same r; unfailed = unfailed; halt = refl; still = refl };
+  itself = λ same. (refl, refl);
+  sent = λ apart before after was there. absurd (apart is);
+  some = λ never. absurd (cc);
+  own = refl;
+  outboxes = λ j other. refl;
+  others = λ j other. refl;
+  inlet = refl;
+}
+
+abbrev pub IsSameOut : Outlet → Outlet → Type 0
+IsSameOut before after = KeepsOutlet before after × (offered after ≡ offered before)
+
+filled_slot : (slot : Option BatchView) → slot ≢ None → (batch : BatchView) × (slot ≡ Some batch)
+filled_slot None full = absurd (full refl)
+filled_slot (Some batch) full = (batch, refl)
+
+module _ (to : ℕ) (small : Bool) (old mid : Runner) (any : Bool) (apart : to ≢ old.endpoint.seat.node) (fills : FillsFor to small old mid any) where
+  -- what was offered, after the slot was filled or not
+  few_filled : (before between : Outlet) → slice_get old.endpoint.outlets.items to ≡ Some before → slice_get mid.endpoint.outlets.items to ≡ Some between →
+      (between.end ≡ before.end) × (length (offered between) ≤ length (offered before) + 1)
+  few_filled before between was is = elim (cases_Bool any) [
+    | inl did ↦
+        let one = fills.0.one did in
+        let more = changed_at (IsMoreOut one.0) old.endpoint.outlets.items mid.endpoint.outlets.items to one.1 before between was is in
+        (more.0, omega (arith, ap length more.1, length-append (offered before) (one.0 ∷ [])))
+    | inr none ↦
+        let same : before ≡ between = same_Some before between (sym was ∙ ap (λ (m : Endpoint). slice_get m.outlets.items to) (sym (fills.0.nothing none).1) ∙ is) in
+        (ap (λ (o : Outlet). o.end) (sym same), omega (arith, ap (λ (o : Outlet). length (offered o)) same))
+  ]
+
+  -- the slot is empty where it wasn't filled
+  unfilled : (before between : Outlet) → slice_get old.endpoint.outlets.items to ≡ Some before → slice_get mid.endpoint.outlets.items to ≡ Some between →
+      between.slot ≡ None → any ≡ false
+  unfilled before between was is out = elim (cases_Bool any) [
+    | inl did ↦
+        let one = fills.0.one did in
+        let more = changed_at (IsMoreOut one.0) old.endpoint.outlets.items mid.endpoint.outlets.items to one.1 before between was is in
+        absurd (omega (
+          arith,
+          ap length more.1,
+          length-append (offered before) (one.0 ∷ []),
+          length-append (sent_by before.end) (in_slot before.slot),
+          length-append (sent_by between.end) (in_slot between.slot),
+          ap (λ (h : Option BatchView). length (in_slot h)) out,
+          ap (λ (e : SendEnd). length (sent_by e)) more.0,
+        ))
+    | inr none ↦ none
+  ]
+
+  others : (j : ℕ) → j ≢ to → slice_get mid.endpoint.outlets.items j ≡ slice_get old.endpoint.outlets.items j
+  others j other = elim (cases_Bool any) [
+    | inl did ↦ changed_else (IsMoreOut (fills.0.one did).0) old.endpoint.outlets.items mid.endpoint.outlets.items to j (fills.0.one did).1 other
+    | inr none ↦ ap (λ (m : Endpoint). slice_get m.outlets.items j) (fills.0.nothing none).1
+  ]
+
+  -- nothing lies in the slot
+  pub sends_none : ((outlet : Outlet) → slice_get mid.endpoint.outlets.items to ≡ Some outlet → outlet.slot ≡ None) → SendsTo to small old mid false
+  sends_none out = record {
+    goes = fills.0.goes;
+    itself = λ is. absurd (apart is);
+    sent = λ _ before after was is.
+        let few = few_filled before after was is in
+        let none = unfilled before after was is (out after is) in
+        record {
+          few = few.1;
+          one = λ never. absurd (cc);
+          none = λ unsent. ap sent_by few.0;
+          spent = λ unsent empty has. both_ways any none (fills.1.1 (
+            to_send_still small to old mid (ap (λ n. outbox_to n to) (fills.0.nothing none).0) fills.0.goes.keeps.batch_size has,
+            λ outlet at. out outlet (ap (λ (m : Endpoint). slice_get m.outlets.items to) (fills.0.nothing none).1 ∙ at),
+          ));
+          full = λ unsent stuck. absurd (stuck (out after is));
+        };
+    some = λ never. absurd (cc);
+    own = fills.0.own;
+    outboxes = fills.0.others;
+    others = others;
+    inlet = fills.0.inlet;
+  }
+
+  -- one does, and was offered to the inbox
+  module _ (new : Runner) (goes : GoesOn old new) (node : new.node ≡ mid.node) (inlet : new.endpoint.inlet ≡ mid.endpoint.inlet)
+      (full : (outlet : Outlet) → slice_get mid.endpoint.outlets.items to ≡ Some outlet → outlet.slot ≢ None)
+      (offer : HasChangedOne IsSameOut to mid.endpoint.outlets.items new.endpoint.outlets.items)
+      (tried : (before after : Outlet) → slice_get mid.endpoint.outlets.items to ≡ Some before → slice_get new.endpoint.outlets.items to ≡ Some after →
+      (after.slot ≡ before.slot) ⊎ (after.slot ≡ None))
+      (was_full : (after : Outlet) → slice_get new.endpoint.outlets.items to ≡ Some after → after.slot ≢ None → IsFull after) where
+    same_offer : (after : Outlet) → slice_get new.endpoint.outlets.items to ≡ Some after → offered after ≡ offered offer.0
+    same_offer after is = (changed_at IsSameOut mid.endpoint.outlets.items new.endpoint.outlets.items to offer offer.0 after offer.2 is).1
+
+    few_offered : (before after : Outlet) → slice_get old.endpoint.outlets.items to ≡ Some before → slice_get new.endpoint.outlets.items to ≡ Some after →
+        length (offered after) ≤ length (offered before) + 1
+    few_offered before after was is = omega (arith, (few_filled before offer.0 was offer.2).1, ap length (same_offer after is))
+
+    else_where : (j : ℕ) → j ≢ to → slice_get new.endpoint.outlets.items j ≡ slice_get old.endpoint.outlets.items j
+    else_where j other = changed_else IsSameOut mid.endpoint.outlets.items new.endpoint.outlets.items to j offer other ∙ others j other
+
+    took_it : (before after : Outlet) → slice_get old.endpoint.outlets.items to ≡ Some before → slice_get new.endpoint.outlets.items to ≡ Some after → after.slot ≡ None →
+        (batch : BatchView) × (sent_by after.end ≡ sent_by before.end ++ batch ∷ []) × (after.slot ≡ None)
+    took_it before after was is out =
+        let held = filled_slot offer.0.slot (full offer.0 offer.2) in (
+          held.0,
+          sym (append-nil (sent_by after.end)) ∙ sym (ap (λ (h : Option BatchView). sent_by after.end ++ in_slot h) out) ∙ same_offer after is
+              ∙ ap (λ (h : Option BatchView). sent_by offer.0.end ++ in_slot h) held.1
+              ∙ ap (λ (e : SendEnd). sent_by e ++ held.0 ∷ []) (few_filled before offer.0 was offer.2).0,
+          out,
+        )
+
+    left_it : (before after : Outlet) → slice_get old.endpoint.outlets.items to ≡ Some before → slice_get new.endpoint.outlets.items to ≡ Some after → after.slot ≢ None →
+        sent_by after.end ≡ sent_by before.end
+    left_it before after was is unsent = elim (tried offer.0 after offer.2 is) [
+      | inl same ↦
+          append_cancel_right (sent_by after.end) (sent_by offer.0.end) (in_slot offer.0.slot)
+          (ap (λ (h : Option BatchView). sent_by after.end ++ in_slot h) (sym same) ∙ same_offer after is)
+          ∙ ap (λ (e : SendEnd). sent_by e) (few_filled before offer.0 was offer.2).0
+      | inr out ↦ absurd (unsent out)
+    ]
+
+    was_there : (before : Outlet) × (slice_get old.endpoint.outlets.items to ≡ Some before)
+    was_there = elim (cases_Bool any) [
+      | inl did ↦ ((fills.0.one did).1.0, (fills.0.one did).1.2)
+      | inr none ↦ (offer.0, ap (λ (m : Endpoint). slice_get m.outlets.items to) (sym (fills.0.nothing none).1) ∙ offer.2)
+    ]
+
+    one_more : (after : Outlet) → slice_get new.endpoint.outlets.items to ≡ Some after → after.slot ≡ None → HasSentOne to old.endpoint.outlets.items new.endpoint.outlets.items
+    one_more after is out =
+        let took = took_it was_there.0 after was_there.1 is out in
+        (was_there.0, after, was_there.1, is, omega (arith, ap length took.1, length-append (sent_by was_there.0.end) (took.0 ∷ [])))
+
+    -- it still lies there, or not
+    pub sends_offered : (still : Bool) → (still ≡ true → (outlet : Outlet) → slice_get new.endpoint.outlets.items to ≡ Some outlet → outlet.slot ≢ None) →
+        (still ≡ false → (outlet : Outlet) → slice_get new.endpoint.outlets.items to ≡ Some outlet → outlet.slot ≡ None) → SendsTo to small old new (not still)
+    sends_offered true unsent out = record {
+      goes = goes;
+      itself = λ is. absurd (apart is);
+      sent = λ _ before after was is. record {
+        few = few_offered before after was is;
+        one = λ never. absurd (cc);
+        none = λ left. left_it before after was is (unsent refl after is);
+        spent = λ left empty has. unsent refl after is empty;
+        full = λ left stuck. was_full after is stuck;
+      };
+      some = λ never. absurd (cc);
+      own = ap (λ n. n.own) node ∙ fills.0.own;
+      outboxes = λ j other. ap (λ n. outbox_to n j) node ∙ fills.0.others j other;
+      others = else_where;
+      inlet = inlet ∙ fills.0.inlet;
+    }
+    sends_offered false unsent out = record {
+      goes = goes;
+      itself = λ is. absurd (apart is);
+      sent = λ _ before after was is. record {
+        few = few_offered before after was is;
+        one = λ sent. took_it before after was is (out refl after is);
+        none = λ never. absurd (cc);
+        spent = λ never. absurd (cc);
+        full = λ never. absurd (cc);
+      };
+      some = λ sent. (let there = changed_there IsSameOut mid.endpoint.outlets.items new.endpoint.outlets.items to offer in one_more offer.1 there (out refl offer.1 there));
+      own = ap (λ n. n.own) node ∙ fills.0.own;
+      outboxes = λ j other. ap (λ n. outbox_to n j) node ∙ fills.0.others j other;
+      others = else_where;
+      inlet = inlet ∙ fills.0.inlet;
+    }

@@ -1,0 +1,60 @@
+-- The seat looks for the token, and hands it on just where it finds it: it announces the end just where it may, and else passes it.
+use Rattle.std.proofs.Common.{ℕ, List, refl, sym, subst, ◌∙◌}
+use Rattle.std.proofs.lemmas.Bool.{both_ways}
+use Rattle.dob_board.specs.declared.halt.Halt.{Halt}
+use Rattle.dob_board.specs.Seats.{HasAnnounced, KnewOwnFailure}
+use Rattle.dob_runner.specs.Links.{offered}
+use Rattle.dob_runner.specs.Endpoints.{AreCounts, AreBatchesTaken, AreOwn}
+use Rattle.dob_runner.proofs.Keeping.{links_trans, own_looked, passed_counts}
+use Rattle.dob_runner.proofs.TurnParts.{token_away, token_moved}
+use Rattle.dob_runner.proofs.endpoint.Endpoint.move_token.Goals as goal
+
+pub invariant_of-self-else-may_announce : goal.invariant_of-self-else-may_announce
+invariant_of-self-else-may_announce c =
+    let found = c.finds_token.new.self in
+    let same = c.pass.ensures.same in
+    let counts = passed_counts found.seat c.pass.new.self found.seat.token refl (c.finds_token.ensures.found.0 c.if-not-finds_token.false) c.pass.ensures.passed in
+    record {
+      outlets_len = found.outlets_len ∙ sym same.nodes;
+      senders = found.senders ∙ sym same.nodes;
+      own = subst (λ (node : ℕ). AreOwn node found.outlets.items) (sym same.node) found.own;
+      posted = subst (λ (counts : List ℕ). AreCounts offered counts found.outlets.items) (sym counts.0) found.posted;
+      taken = subst (λ (p : ℕ × List ℕ). AreBatchesTaken p.0 p.1 found.inlet) (λ q. ((sym same.nodes) q, (sym counts.1) q)) found.taken;
+    }
+
+pub returns-then-not-finds_token-clause-moves : goal.returns-then-not-finds_token-clause-moves
+returns-then-not-finds_token-clause-moves c =
+    token_away c.args.self.now.seat c.finds_token.new.self.seat c.finds_token.result c.if-not-finds_token.true c.finds_token.ensures.looked c.finds_token.ensures.found
+
+pub returns-then-not-finds_token-clause-own : goal.returns-then-not-finds_token-clause-own
+returns-then-not-finds_token-clause-own c = λ own. sym c.finds_token.ensures.halt
+
+pub returns-then-may_announce-clause-moves : goal.returns-then-may_announce-clause-moves
+returns-then-may_announce-clause-moves c =
+    let found = c.finds_token.new.self.seat in
+    let halt_is = c.announce.ensures.found.halt_is in
+    token_moved c.args.self.now.seat found c.announce.new.self c.finds_token.result c.if-not-finds_token.false
+    c.finds_token.ensures.looked c.finds_token.ensures.found
+    (record {
+      announced = λ may. subst (λ (h : Halt). HasAnnounced found c.announce.new.self h) (sym halt_is) c.announce.ensures.event;
+      passed = λ unable. absurd (unable (c.may_announce.ensures.0 c.if-may_announce.true));
+    })
+
+pub returns-then-may_announce-clause-links : goal.returns-then-may_announce-clause-links
+returns-then-may_announce-clause-links c =
+    links_trans c.args.self.now c.finds_token.new.self _ c.finds_token.ensures.links (record { seat = c.announce.ensures.same; outlets = refl; inlet = refl })
+
+pub returns-then-may_announce-clause-own : goal.returns-then-may_announce-clause-own
+returns-then-may_announce-clause-own c =
+    own_looked c.args.self.now.seat c.finds_token.new.self.seat c.announce.new.self.halt c.finds_token.ensures.halt c.finds_token.ensures.links.seat.node
+    (subst (λ (h : Halt). KnewOwnFailure c.finds_token.new.self.seat h) (sym c.announce.ensures.found.halt_is) c.announce.ensures.own)
+
+pub returns-else-may_announce-clause-moves : goal.returns-else-may_announce-clause-moves
+returns-else-may_announce-clause-moves c =
+    token_moved c.args.self.now.seat c.finds_token.new.self.seat c.pass.new.self c.finds_token.result c.if-not-finds_token.false
+    c.finds_token.ensures.looked c.finds_token.ensures.found
+    (record { announced = λ may. absurd (both_ways _ c.if-may_announce.false (c.may_announce.ensures.1 may)); passed = λ unable. c.pass.ensures.event })
+
+pub returns-else-may_announce-clause-links : goal.returns-else-may_announce-clause-links
+returns-else-may_announce-clause-links c =
+    links_trans c.args.self.now c.finds_token.new.self _ c.finds_token.ensures.links (record { seat = c.pass.ensures.same; outlets = refl; inlet = refl })

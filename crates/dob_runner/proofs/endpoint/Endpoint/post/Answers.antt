@@ -1,0 +1,56 @@
+-- The posted batch is one more of the outlet's offered ones and of the seat's count, and the other links are kept.
+use Rattle.std.proofs.Common.{◌≡◌, suc, List, ℕ, [], ◌∷◌, length, Some, rules, arith, refl, sym, ap, ◌∙◌, subst, length-append}
+use Rattle.std.specs.Prelude.{slice_get, slice_set}
+use Rattle.dob_pieces.proofs.Elements.{read_there}
+use Rattle.dob_board.specs.declared.view.Stand.{Stand}
+use Rattle.dob_chan.specs.declared.ends.SendEnd.{SendEnd}
+use Rattle.dob_chan.specs.Ends.{place_of}
+use Rattle.dob_runner.specs.Links.{offered, KeepsOutlet}
+use Rattle.dob_runner.specs.Endpoints.{AreCounts, AreBatchesTaken, AreOwn}
+use Rattle.dob_runner.proofs.Counted.{counts_rise, own_set}
+use Rattle.dob_runner.proofs.Keeping.{outlet_same, outlet_kept, inlet_same, one_kept}
+use Rattle.dob_runner.proofs.endpoint.Endpoint.post.Goals as goal
+
+pub hold-requires-clause-own : goal.hold-requires-clause-own
+hold-requires-clause-own c =
+    let endpoint = c.args.self.now in
+    let old = c.index_mut.result.now in
+    let at : slice_get endpoint.outlets.items c.args.to ≡ Some old = read_there endpoint.outlets.items c.args.to old (search rules) c.index_mut.ensures.value in
+    c.requires.own ∙ sym (endpoint.own c.args.to old at)
+
+pub invariant_of-self : goal.invariant_of-self
+invariant_of-self c =
+    let endpoint = c.args.self.now in
+    let old = c.index_mut.result.now in
+    let at : slice_get endpoint.outlets.items c.args.to ≡ Some old = read_there endpoint.outlets.items c.args.to old (search rules) c.index_mut.ensures.value in
+    let more : length (offered c.hold.new.self) ≡ suc (length (offered old)) =
+    omega (arith, ap length c.hold.ensures.offered, length-append (offered old) (c.args.batch ∷ [])) in
+    let posted_is = ap (λ (s : Stand). s.posted) c.post.ensures.counted in
+    let taken_is = ap (λ (s : Stand). s.taken) c.post.ensures.counted in
+    record {
+      outlets_len = endpoint.outlets_len ∙ sym c.post.ensures.same.nodes;
+      senders = endpoint.senders ∙ sym c.post.ensures.same.nodes;
+      own = subst (λ (node : ℕ). AreOwn node (slice_set endpoint.outlets.items c.args.to c.hold.new.self)) (sym c.post.ensures.same.node)
+          (own_set endpoint.seat.node endpoint.outlets.items c.args.to old c.hold.new.self endpoint.own at (ap (λ (e : SendEnd). place_of e) c.hold.ensures.end));
+      posted = subst (λ (counts : List ℕ). AreCounts offered counts (slice_set endpoint.outlets.items c.args.to c.hold.new.self)) (sym posted_is)
+          (counts_rise offered endpoint.seat.posted.items endpoint.outlets.items c.args.to old c.hold.new.self endpoint.posted at (omega (arith, endpoint.seat.posted_len, c.requires.node)) more);
+      taken = subst (λ (p : ℕ × List ℕ). AreBatchesTaken p.0 p.1 endpoint.inlet) (λ q. ((sym c.post.ensures.same.nodes) q, (sym taken_is) q)) endpoint.taken;
+    }
+
+pub returns-clause-offered : goal.returns-clause-offered
+returns-clause-offered c =
+    let endpoint = c.args.self.now in
+    let old = c.index_mut.result.now in
+    let at : slice_get endpoint.outlets.items c.args.to ≡ Some old = read_there endpoint.outlets.items c.args.to old (search rules) c.index_mut.ensures.value in
+    (old, c.hold.new.self, at, (c.hold.ensures.end, c.hold.ensures.offered), refl)
+
+pub returns-clause-keeps : goal.returns-clause-keeps
+returns-clause-keeps c =
+    let endpoint = c.args.self.now in
+    let old = c.index_mut.result.now in
+    let at : slice_get endpoint.outlets.items c.args.to ≡ Some old = read_there endpoint.outlets.items c.args.to old (search rules) c.index_mut.ensures.value in
+    record {
+      seat = c.post.ensures.same;
+      outlets = one_kept KeepsOutlet outlet_same endpoint.outlets.items c.args.to old c.hold.new.self at (outlet_kept old c.hold.new.self c.hold.ensures.end);
+      inlet = inlet_same endpoint.inlet;
+    }

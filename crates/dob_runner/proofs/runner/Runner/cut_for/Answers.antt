@@ -1,0 +1,128 @@
+-- A slot is filled just where it is empty and there is something to send. A node that cuts a batch was black and had cut fewer than 2^40; with the batch in the slot the runner is lawful.
+use Rattle.std.proofs.Common.{◌≡◌, ◌<◌, ◌≤◌, ◌^◌, true, false, refl, sym, ap, ◌∙◌, subst, inl, inr, arith, Ok, Err, Some, None, IfSome, Option, Result}
+use Rattle.std.proofs.lemmas.Bool.{cases_Bool, both_ways}
+use Rattle.dob_pieces.proofs.Elements.{some_at}
+use Rattle.dob_update.specs.Batches.{BatchView, OutboxView}
+use Rattle.dob_board.specs.declared.view.Stand.{Stand}
+use Rattle.dob_board.specs.Histories.{token_moves_of}
+use Rattle.dob_board.proofs.Halting.{same_halt}
+use Rattle.dob_stops.specs.declared.cause.Cause.{Cause}
+use Rattle.dob_node.specs.Nodes.{outbox_to, HasCut}
+use Rattle.dob_runner.proofs.Keeping.{own_still, links_kept, cut_reason, outbox_still, some_cause, node_goes, agrees_going, agrees_failed}
+use Rattle.dob_runner.proofs.Lawfuls.{cut_one, few_cut, unchanged_failed}
+use Rattle.dob_runner.proofs.Sending.{uncut, fills_of, cut_nothing, cut_more}
+use Rattle.dob_runner.proofs.runner.Runner.cut_for.Goals as goal
+
+cut_none : (cut : Option BatchView) (batch : BatchView) → cut ≡ Some batch → (let given : Result (Option BatchView) Cause = Ok cut in given ≡ Ok None) → ⊥
+cut_none cut batch some none = absurd (cc)
+
+cut_counts : (cut : Option BatchView) (why : Cause) → (let given : Result (Option BatchView) Cause = Ok cut in given ≡ Err why) → ⊥
+cut_counts cut why is = absurd (cc)
+
+abbrev err_of : Cause → Result (Option BatchView) Cause
+err_of why = Err why
+
+pub cut_for-requires-clause-going : goal.cut_for-requires-clause-going
+cut_for-requires-clause-going c = (let r = c.args.self.now in node_goes r.node.failed r.failed r.agrees c.requires.unfailed)
+
+pub invariant_of-self : goal.invariant_of-self
+invariant_of-self c =
+    let r = c.args.self.now in
+    record {
+      going = λ running. absurd (c.fail.ensures.stopped running);
+      own = λ _ none. some_cause c.in-Err.why none;
+      agrees = agrees_failed c.cut_for.new.self.failed c.in-Err.why c.in-Err.ensures.keeps.failed;
+      lawful = λ _. unchanged_failed r.family r.batch_size r.node c.cut_for.new.self r.endpoint c.fail.new.self (r.lawful (inl c.requires.unfailed))
+          c.in-Err.ensures.step.unchanged c.in-Err.ensures.keeps.sound c.fail.ensures.links c.fail.ensures.colour;
+    }
+
+pub returns-in-Err : goal.returns-in-Err
+returns-in-Err c = fills_of c.args.to c.args.small c.args.self.now _ (Err c.in-Err.why) (c.has_to_send.ensures.0 c.if-not-has_to_send.false, c.is_full.ensures.empty c.if-is_full.false) (record {
+  failed = record {
+    keeps = record { endpoint = links_kept c.args.self.now.endpoint c.fail.new.self c.fail.ensures.links; family = refl; batch_size = refl };
+    cause = refl;
+    stopped = c.fail.ensures.stopped;
+  };
+  still = c.fail.ensures.still;
+  reason = cut_reason _ c.in-Err.why
+      (λ counts. (let still = outbox_still c.args.self.now.node c.cut_for.new.self c.args.to c.in-Err.ensures.step.unchanged in
+      let full = c.in-Err.ensures.step.counts.0 (ap (λ (w : Cause). err_of w) counts) in
+      record {
+        to = c.args.to;
+        other = λ same. c.requires.other (same ∙ c.fail.ensures.links.seat.node);
+        left = λ none. full.0 (ap (λ (o : OutboxView). o.items) (sym still) ∙ none);
+        many = subst (λ (o : OutboxView). 2 ^ 40 ≤ o.next) (sym still) full.1;
+      }))
+      c.in-Err.ensures.step.why;
+})
+
+pub post-requires-clause-few : goal.post-requires-clause-few
+post-requires-clause-few c =
+    let r = c.args.self.now in
+    let law = r.lawful (inl c.requires.unfailed) in
+    let spot = some_at r.endpoint.outlets.items c.args.to (omega (arith, r.endpoint.outlets_len, c.requires.node)) in
+    let few : (outbox_to r.node c.args.to).next < 2 ^ 40 = few_cut (outbox_to r.node c.args.to).next
+    (λ many. cut_counts c.in-Ok.cut _ (c.in-Ok.ensures.step.counts.1 (λ empty. cut_none c.in-Ok.cut c.in-Some.batch c.in-Some.is (c.in-Ok.ensures.step.none.1 empty), many))) in
+    omega (arith, few, r.endpoint.posted c.args.to spot.0 spot.1, (law.sends c.args.to spot.0 c.requires.other spot.1).cut)
+
+pub post-requires-clause-own : goal.post-requires-clause-own
+post-requires-clause-own c =
+    let r = c.args.self.now in
+    let cut : HasCut c.args.to r.batch_size c.in-Some.batch r.node c.cut_for.new.self =
+    subst (λ given. IfSome given (λ (b : BatchView). HasCut c.args.to r.batch_size b r.node c.cut_for.new.self)) c.in-Some.is c.in-Ok.ensures.step.cut in
+    cut.of.2 ∙ (r.lawful (inl c.requires.unfailed)).of.1
+
+pub invariant_of-self-2 : goal.invariant_of-self-2
+invariant_of-self-2 c =
+    let r = c.args.self.now in
+    let law = r.lawful (inl c.requires.unfailed) in
+    let cut : HasCut c.args.to r.batch_size c.in-Some.batch r.node c.cut_for.new.self =
+    subst (λ given. IfSome given (λ (b : BatchView). HasCut c.args.to r.batch_size b r.node c.cut_for.new.self)) c.in-Some.is c.in-Ok.ensures.step.cut in
+    let was_black : r.endpoint.seat.black ≡ true = elim (cases_Bool r.endpoint.seat.black) [
+      | inl black ↦ black
+      | inr white ↦ absurd (cut_none c.in-Ok.cut c.in-Some.batch c.in-Some.is (c.in-Ok.ensures.step.none.1 ((law.white white).0.sent c.args.to)))
+    ] in
+    record {
+      going = λ _. c.requires.unfailed;
+      own = λ found. r.own (own_still r.endpoint.seat c.post.new.self.seat
+          (same_halt c.post.new.self.seat.halt r.endpoint.seat.halt (ap (λ (s : Stand). s.halt) c.post.ensures.counted)) c.post.ensures.same.node found);
+      agrees = agrees_going c.cut_for.new.self.failed _ c.in-Ok.ensures.keeps.going;
+      lawful = λ _. cut_one r.family r.batch_size c.args.to c.in-Some.batch r.node c.cut_for.new.self r.endpoint c.post.new.self law c.requires.other cut c.in-Ok.ensures.keeps.sound
+          c.post.ensures.same.node c.post.ensures.same.nodes (ap (λ (s : Stand). s.black) c.post.ensures.counted ∙ was_black) c.post.ensures.offered
+          c.post.ensures.inlet;
+    }
+
+pub returns-in_default : goal.returns-in_default
+returns-in_default c = fills_of c.args.to c.args.small c.args.self.now _ (Ok false) (c.has_to_send.ensures.0 c.if-not-has_to_send.false, c.is_full.ensures.empty c.if-is_full.false)
+    (cut_nothing c.args.to c.args.self.now _ c.requires.unfailed c.requires.unfailed
+    (c.in-Ok.ensures.step.nothing (ap Ok c.in_default.is)) refl refl refl (c.in-Ok.ensures.step.none.0 (ap Ok c.in_default.is)))
+
+pub returns : goal.returns
+returns c =
+    let r = c.args.self.now in
+    let cut : HasCut c.args.to r.batch_size c.in-Some.batch r.node c.cut_for.new.self =
+    subst (λ given. IfSome given (λ (b : BatchView). HasCut c.args.to r.batch_size b r.node c.cut_for.new.self)) c.in-Some.is c.in-Ok.ensures.step.cut in
+    fills_of c.args.to c.args.small r _ (Ok true) (c.has_to_send.ensures.0 c.if-not-has_to_send.false, c.is_full.ensures.empty c.if-is_full.false)
+    (cut_more c.args.to r.batch_size c.in-Some.batch r _
+    (record {
+      keeps = record { endpoint = c.post.ensures.keeps; family = refl; batch_size = refl };
+      unfailed = c.requires.unfailed;
+      halt = same_halt c.post.new.self.seat.halt r.endpoint.seat.halt (ap (λ (s : Stand). s.halt) c.post.ensures.counted);
+      still = ap (token_moves_of r.endpoint.seat.node) c.post.ensures.event.is_next ∙ c.post.ensures.event.alone;
+    })
+    cut c.post.ensures.offered c.post.ensures.inlet
+    (λ empty. cut_none c.in-Ok.cut c.in-Some.batch c.in-Some.is (c.in-Ok.ensures.step.none.1 empty)))
+
+pub returns-then-is_full : goal.returns-then-is_full
+returns-then-is_full c =
+    let r = c.args.self.now in
+    let spot = some_at r.endpoint.outlets.items c.args.to (omega (arith, r.endpoint.outlets_len, c.requires.node)) in (
+      uncut c.args.to r c.requires.unfailed,
+      (λ never. absurd (cc), λ fill. absurd (c.is_full.ensures.full c.if-is_full.true spot.0 spot.1 (fill.1 spot.0 spot.1))),
+    )
+
+pub returns-then-not-has_to_send : goal.returns-then-not-has_to_send
+returns-then-not-has_to_send c = (
+  uncut c.args.to c.args.self.now c.requires.unfailed,
+  (λ never. absurd (cc), λ fill. absurd (both_ways _ c.if-not-has_to_send.true (c.has_to_send.ensures.1 fill.0))),
+)

@@ -1,0 +1,7 @@
+-- The runner has gone on so far, and has expanded a settlement.
+use Rattle.std.proofs.Common.{◌≡◌, ◌<◌}
+use Rattle.dob_runner.specs.Runners.{GoesOn}
+use Rattle.dob_runner.proofs.runner.Runner.expand_all.Given as goal
+
+abbrev pub invariant-loop : goal.invariant-loop
+invariant-loop l = GoesOn l.fn.self l.self × (l.fn.self.node.expanded < l.self.node.expanded) × (l.self.endpoint ≡ l.fn.self.endpoint)

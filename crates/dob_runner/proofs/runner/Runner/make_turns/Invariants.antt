@@ -1,0 +1,11 @@
+-- The runner keeps its place so far, has a reason where it failed, and was let on where it made a turn.
+use Rattle.std.proofs.Common.{◌≡◌, ◌⊎◌, true, None}
+use Rattle.dob_runner.specs.Runners.{KeepsRunner, IsReasoned, says_no}
+use Rattle.dob_runner.proofs.runner.Runner.make_turns.Given as goal
+
+abbrev pub invariant-loop : goal.invariant-loop
+invariant-loop g l = record {
+  keeps : KeepsRunner l.fn.self l.self;
+  reasoned : IsReasoned (says_no (g.G.Gate.says l.fn.gate)) l.self;
+  let_on : (l.self.endpoint.seat.halt ≡ l.fn.self.endpoint.seat.halt) ⊎ (l.self.failed ≡ None → g.G.Gate.says l.fn.gate l.self.endpoint.seat.node true);
+}

@@ -1,0 +1,65 @@
+-- Taking, expanding, applying and sending make one step of the runner, which fails where one of the four fails.
+use Rattle.std.proofs.Common.{refl, sym, ◌∙◌}
+use Rattle.dob_runner.specs.TurnRounds.{Works}
+use Rattle.dob_runner.specs.Runners.{GoesOn}
+use Rattle.dob_runner.proofs.Keeping.{runner_same, goes_trans, broken_on}
+use Rattle.dob_runner.proofs.Pacing.{adds_one}
+use Rattle.dob_runner.proofs.runner.Runner.work.Goals as goal
+
+pub returns-in_err-took : goal.returns-in_err-took
+returns-in_err-took g c = broken_on Works c.args.self.now c.args.self.now c.take_one.new.self c.from_residual.result c.in_err-took.field-0.0 c.from_residual.ensures.1
+    (runner_same c.args.self.now) refl c.in_err-took.ensures.step
+
+pub expand_all-requires-clause-family : goal.expand_all-requires-clause-family
+expand_all-requires-clause-family g c =
+    let took : GoesOn c.args.self.now c.take_one.new.self = c.in_ok-took.ensures.step.goes in
+    c.requires.family ∙ sym took.keeps.family
+
+pub returns-in_err-expanded : goal.returns-in_err-expanded
+returns-in_err-expanded g c =
+    let took : GoesOn c.args.self.now c.take_one.new.self = c.in_ok-took.ensures.step.goes in
+    broken_on Works c.args.self.now c.take_one.new.self c.expand_all.new.self c.from_residual-in_err-expanded.result c.in_err-expanded.field-0.0
+    c.from_residual-in_err-expanded.ensures.1 took.keeps took.still c.in_err-expanded.ensures
+
+pub returns-in_err-applied : goal.returns-in_err-applied
+returns-in_err-applied g c =
+    let expanded : GoesOn c.args.self.now c.expand_all.new.self =
+    goes_trans c.args.self.now c.take_one.new.self c.expand_all.new.self c.in_ok-took.ensures.step.goes c.in_ok-expanded.ensures.goes in
+    broken_on Works c.args.self.now c.expand_all.new.self c.apply_all.new.self c.from_residual-in_err-applied.result c.in_err-applied.field-0.0
+    c.from_residual-in_err-applied.ensures.1 expanded.keeps expanded.still c.in_err-applied.ensures
+
+pub returns-in_err-sent : goal.returns-in_err-sent
+returns-in_err-sent g c =
+    let expanded : GoesOn c.args.self.now c.expand_all.new.self =
+    goes_trans c.args.self.now c.take_one.new.self c.expand_all.new.self c.in_ok-took.ensures.step.goes c.in_ok-expanded.ensures.goes in
+    let applied : GoesOn c.args.self.now c.apply_all.new.self =
+    goes_trans c.args.self.now c.expand_all.new.self c.apply_all.new.self expanded c.in_ok-applied.ensures.goes in
+    broken_on Works c.args.self.now c.apply_all.new.self c.send_all.new.self c.from_residual-in_err-sent.result c.in_err-sent.field-0.0
+    c.from_residual-in_err-sent.ensures.1 applied.keeps applied.still c.in_err-sent.ensures
+
+pub returns : goal.returns
+returns g c =
+    let expanded : GoesOn c.args.self.now c.expand_all.new.self =
+    goes_trans c.args.self.now c.take_one.new.self c.expand_all.new.self c.in_ok-took.ensures.step.goes c.in_ok-expanded.ensures.goes in
+    let applied : GoesOn c.args.self.now c.apply_all.new.self =
+    goes_trans c.args.self.now c.expand_all.new.self c.apply_all.new.self expanded c.in_ok-applied.ensures.goes in
+    record {
+      goes = goes_trans c.args.self.now c.apply_all.new.self c.send_all.new.self applied c.in_ok-sent.ensures.goes;
+      none = c.in_ok-sent.ensures.own ∙ c.in_ok-applied.ensures.none;
+      few = adds_one c.args.self.now c.take_one.new.self c.apply_all.new.self c.send_all.new.self _ _ _ c.in_ok-took.ensures.step
+          (c.in_ok-applied.ensures.endpoint ∙ c.in_ok-expanded.ensures.endpoint) c.in_ok-sent.ensures;
+      took = c.in_ok-took.took;
+      expanded = c.in_ok-expanded.expanded;
+      applied = c.in_ok-applied.applied;
+      sent = c.in_ok-sent.sent;
+      small = _;
+      taker = c.take_one.new.self;
+      expander = c.expand_all.new.self;
+      sender = c.apply_all.new.self;
+      takes = c.in_ok-took.ensures.step;
+      expands = c.in_ok-expanded.ensures;
+      applies = c.in_ok-applied.ensures;
+      sends = c.in_ok-sent.ensures;
+      is_small = c.sends_small-small.ensures;
+      is_done = refl;
+    }

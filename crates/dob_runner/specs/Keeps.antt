@@ -1,0 +1,18 @@
+-- What the endpoint of a runner keeps, whatever it does: its seat and its inboxes.
+use Rattle.std.specs.Prelude.{◌≡◌}
+use Rattle.dob_board.specs.Seats.{IsSameSeat}
+use Rattle.dob_runner.specs.declared.endpoint.Endpoint.{Endpoint}
+use Rattle.dob_runner.specs.Links.{KeepsOutlet, KeepsInlet}
+use Rattle.dob_runner.specs.Endpoints.{KeepsEach}
+
+-- The endpoint is of the same seat, and each of its ends of the same inbox; nothing is taken back.
+pub record KeepsEndpoint (old new : Endpoint) : Type 0 where
+  pub seat : IsSameSeat old.seat new.seat
+  pub outlets : KeepsEach KeepsOutlet old.outlets.items new.outlets.items
+  pub inlet : KeepsInlet old.inlet new.inlet
+
+-- its links are the same ones
+pub record HasSameLinks (old new : Endpoint) : Type 0 where
+  pub seat : IsSameSeat old.seat new.seat
+  pub outlets : new.outlets ≡ old.outlets
+  pub inlet : new.inlet ≡ old.inlet

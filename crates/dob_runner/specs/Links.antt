@@ -1,0 +1,42 @@
+-- The batches of a runner's links, and what a link keeps.
+use Rattle.std.specs.Prelude.{◌≡◌, ◌≢◌, ℕ, List, ◌++◌, Some}
+use Rattle.dob_pieces.specs.declared.profile.Family.{Family}
+use Rattle.dob_pieces.specs.Lists.{IsBeginning}
+use Rattle.dob_update.specs.Batches.{BatchView}
+use Rattle.dob_chan.specs.Inboxes.{batches_of}
+use Rattle.dob_chan.specs.Ends.{sent_by, taken_by, place_of, senders_beside, capacity_of, send_told, WasFull, SendsToSame, TakesFromSame}
+use Rattle.dob_runner.specs.declared.slots.Outlet.{Outlet}
+use Rattle.dob_runner.specs.declared.slots.Inlet.{Inlet}
+use Rattle.dob_runner.specs.Batches.{IsBatchFor}
+use Rattle.dob_runner.specs.Slots.{in_slot, worked_of}
+
+-- the batches that the inbox took, and then the one in the slot
+abbrev pub offered : Outlet → List BatchView
+offered outlet = sent_by outlet.end ++ in_slot outlet.slot
+
+-- the batches that came out of the inbox, without the one in the slot, and those of one sender
+abbrev pub worked : Inlet → List BatchView
+worked inlet = worked_of inlet.end inlet.slot
+
+abbrev pub worked_from : Inlet → ℕ → List BatchView
+worked_from inlet from = batches_of from (worked inlet)
+
+-- In the slot lies a batch of the node `from`, which is for the node `to`, another one, of that family and one of n.
+pub record HoldsFor (family : Family) (n from to : ℕ) (inlet : Inlet) : Type 0 where
+  pub batch : BatchView
+  pub held : inlet.slot ≡ Some batch
+  pub sender : batch.from ≡ from
+  pub other : from ≢ to
+  pub fits : IsBatchFor family n from to batch
+
+-- the outlet's inbox was full at some moment after the end was told of it
+abbrev pub IsFull : Outlet → Type 0
+IsFull outlet = WasFull (capacity_of outlet.end) (senders_beside outlet.end) (place_of outlet.end) (sent_by outlet.end) (send_told outlet.end)
+
+-- the outlet sends to the same inbox, which took the same batches and maybe more
+abbrev pub KeepsOutlet : Outlet → Outlet → Type 0
+KeepsOutlet old new = SendsToSame old.end new.end × IsBeginning (sent_by old.end) (sent_by new.end)
+
+-- the inlet takes from the same inbox, of which it got the same batches and maybe more
+abbrev pub KeepsInlet : Inlet → Inlet → Type 0
+KeepsInlet old new = TakesFromSame old.end new.end × IsBeginning (taken_by old.end) (taken_by new.end)

@@ -1,0 +1,31 @@
+// A runner of a build: a node, and its endpoint.
+ghost use Rattle.std.specs.Prelude.{◌≡◌, ◌≢◌, ◌⊎◌, None, Some};
+ghost use Rattle.std.specs.Coded.{Π_prop};
+ghost use Rattle.dob_board.specs.declared.halt.Halt.TheVariants.{Running, Ended, Failed};
+ghost use Rattle.dob_stops.specs.declared.cause.Cause.{Cause};
+ghost use Rattle.dob_runner.specs.LawfulRunners.{IsLawfulRunner, IsSpared};
+ghost use Rattle.dob_runner.specs.Props.{IsLawfulRunner-prop};
+
+use crate::endpoint::Endpoint;
+use crossbeam_utils::Backoff;
+use dob_node::{Cause, Node};
+use dob_pieces::Family;
+use dob_update::BatchSize;
+
+/// A runner of a build by nodes that own the classes of a family: its node, its seat with its ends of the inboxes, and
+/// the greatest size of a batch. It is lawful at every moment, unless an item of another node's batch made it fail before the end
+/// was announced: where it failed for another cause, as for lack of memory, it has changed nothing. The board says that its
+/// node failed only where it has, and where its node has failed it has failed for the same cause.
+#[derive(Drop)]
+pub struct Runner {
+    pub node: Node,
+    pub endpoint: Endpoint,
+    pub family: Family,
+    pub batch_size: BatchSize,
+    pub failed: Option<Cause>,
+    pub(crate) backoff: Backoff,
+    pub ghost going: { endpoint.seat.halt ≡ Running → failed ≡ None },
+    pub ghost own: { endpoint.seat.halt ≡ Failed endpoint.seat.node → failed ≢ None },
+    pub ghost agrees: { (why : Cause) → node.failed ≡ Some why → failed ≡ Some why },
+    pub ghost lawful: { (failed ≡ None) ⊎ (endpoint.seat.halt ≡ Ended) ⊎ IsSpared failed → IsLawfulRunner family batch_size node endpoint } by { Π_prop (λ _. IsLawfulRunner-prop family batch_size node endpoint) },
+}

@@ -1,0 +1,174 @@
+// A turn of a runner.
+ghost use Rattle.std.specs.Prelude.{◌≡◌, ◌≢◌, ◌↔◌, ◌-◌, IsTrue, Err, None, IfErr, MatchResult, length, false};
+ghost use Rattle.dob_board.specs.declared.halt.Halt.TheVariants.{Running};
+ghost use Rattle.dob_board.specs.Seats.{MovesNothing};
+ghost use Rattle.dob_stops.specs.declared.cause.Cause.TheVariants.{Held};
+ghost use Rattle.dob_runner.specs.Runners.{StepsBy, GoesRound, HasFailed, IsHeldBack, IsNew, GateIsAsked, IsReasonFor, says_no};
+ghost use Rattle.dob_runner.specs.TurnRounds.{Works};
+ghost use Rattle.dob_runner.specs.Turns.{HasTurned, HasSeen, EndsTurn, GateIsTold};
+
+use crate::endpoint::Endpoint;
+use crate::gate::Gate;
+use crate::runner::Runner;
+use crossbeam_utils::Backoff;
+use dob_board::Halt;
+use dob_classes::Classes;
+use dob_node::{Cause, Node};
+use dob_pieces::Family;
+use dob_update::BatchSize;
+use std::sync::Wait;
+
+impl Runner {
+    /// The runner of a node that was opened for the family and has made no step, and of the endpoint of its seat, over which
+    /// nothing has gone. It cuts batches of at most that size.
+    pub fn new(node: Node, endpoint: Endpoint, family: Family, batch_size: BatchSize) -> Runner
+        requires { IsNew family node endpoint }
+        ensures node { result.node ≡ node }
+        ensures endpoint { result.endpoint ≡ endpoint }
+        ensures family { result.family ≡ family }
+        ensures batch_size { result.batch_size ≡ batch_size }
+        ensures unfailed { result.failed ≡ None }
+    {
+        Runner {
+            node,
+            endpoint,
+            family,
+            batch_size,
+            failed: None,
+            backoff: Backoff::new(),
+        }
+    }
+
+    /// Whether the runner's seat has seen that the run ended or failed.
+    pub fn stopped(&self) -> bool
+        ensures { IsTrue result ↔ (self.now.endpoint.seat.halt ≢ Running) }
+    {
+        self.endpoint.seat.halt != Halt::Running
+    }
+
+    /// Why the runner has failed, if it has.
+    pub fn failure(&self) -> Option<Cause>
+        ensures { result ≡ self.now.failed }
+    {
+        self.failed
+    }
+
+    /// Gives up for a cause that isn't the node's own: the board is told, and the runner keeps the cause. Its node is as it
+    /// was.
+    pub fn abandon(&mut self, why: Cause)
+        requires { self.old.failed ≡ None }
+        ensures failed { HasFailed self.old self.new why }
+        ensures still { MovesNothing self.old.endpoint.seat self.new.endpoint.seat }
+        ensures same { IsHeldBack self.old self.new }
+    {
+        self.failed = Some(why);
+        self.endpoint.fail();
+    }
+
+    /// One turn: a runner that the gate lets pass and whose run goes on does a turn's work for its node, of which the gate is told,
+    /// and if there was none it looks for the token, or pauses. The answer is the halt that its seat knows.
+    ///
+    /// # Errors
+    ///
+    /// After which the run has failed, if it hadn't ended or failed before, and before which the runner moved no token: `Held`
+    /// just where the gate says no, and then the runner has done nothing: its node and what went over its links are as they were;
+    /// else the cause of the node: an item that can't be applied, too many batches, or lack of memory.
+    pub fn turn<R: Wait, G: Gate>(
+        &mut self,
+        rt: &R,
+        classes: &Classes,
+        gate: &G,
+    ) -> Result<Halt, Cause>
+        requires running { self.old.endpoint.seat.halt ≡ Running }
+        requires family { classes.now.family ≡ self.old.family }
+        ensures turned { MatchResult result (HasTurned self.old self.new) (HasFailed self.old self.new) }
+        ensures asked { GateIsAsked (G.says gate.now) self.old.endpoint.seat.node result }
+        ensures reason { IfErr result (IsReasonFor (says_no (G.says gate.now)) self.new) }
+        ensures held { result ≡ Err Held → IsHeldBack self.old self.new }
+        ensures still { IfErr result (λ _. MovesNothing self.old.endpoint.seat self.new.endpoint.seat) }
+        ensures told { GateIsTold (G.told gate.now) self.old self.new }
+    {
+        if !gate.enter(self.endpoint.seat.node) {
+            self.abandon(Cause::Held);
+            return Err(Cause::Held);
+        }
+        let halt = self.looks();
+        let Halt::Running = halt else {
+            return Ok(halt);
+        };
+        let did = self.work_and_tell(rt, classes, gate)?;
+        self.ends_turn(did);
+        Ok(self.endpoint.seat.halt)
+    }
+
+    // Looks whether the run goes on.
+    fn looks(&mut self) -> Halt
+        requires { self.old.failed ≡ None }
+        ensures goes { GoesRound self.old self.new }
+        ensures seen { HasSeen self.old self.new }
+        ensures halt { result ≡ self.new.endpoint.seat.halt }
+    {
+        self.endpoint.halted()
+    }
+
+    // What is left of a turn: one that did nothing looks for the token, and pauses where the runner isn't idle or hasn't got it.
+    fn ends_turn(&mut self, did: bool)
+        requires { self.old.failed ≡ None }
+        ensures goes { GoesRound self.old self.new }
+        ensures ends { EndsTurn did self.old self.new }
+    {
+        if did {
+            self.backoff.reset();
+            return;
+        }
+        if self.seeks_token() {
+            self.backoff.reset();
+        } else {
+            self.backoff.snooze();
+        }
+    }
+
+    /// A turn's work, after which the gate is told how many settlements it has expanded, also where it has failed.
+    pub(crate) fn work_and_tell<R: Wait, G: Gate>(
+        &mut self,
+        rt: &R,
+        classes: &Classes,
+        gate: &G,
+    ) -> Result<bool, Cause>
+        requires unfailed { self.old.failed ≡ None }
+        requires family { classes.now.family ≡ self.old.family }
+        ensures works { StepsBy Works self.old self.new result }
+        ensures told { G.told gate.now self.old.endpoint.seat.node (self.new.node.expanded - self.old.node.expanded) }
+    {
+        let before = self.node.expanded();
+        let did = self.work(rt, classes);
+        let expanded = self.node.expanded().saturating_sub(before);
+        gate.worked(self.endpoint.seat.node, expanded);
+        did
+    }
+
+    /// A turn's work: at most one batch is applied; settlements are expanded until as many items are made as
+    /// a batch holds, and the own items are applied; and at most one batch is sent to each node. Whether anything was done.
+    pub(crate) fn work<R: Wait>(&mut self, rt: &R, classes: &Classes) -> Result<bool, Cause>
+        requires unfailed { self.old.failed ≡ None }
+        requires family { classes.now.family ≡ self.old.family }
+        ensures { StepsBy Works self.old self.new result }
+    {
+        let took = self.take_one(rt)?;
+        let expanded = self.expand_all(classes)?;
+        let applied = self.apply_all()?;
+        let small = self.sends_small(took);
+        let sent = self.send_all(rt, small)?;
+        Ok(took | expanded | applied | sent)
+    }
+
+    // Whether batches that aren't whole are sent too: where nothing was taken, and nothing is left to expand.
+    fn sends_small(&self, took: bool) -> bool
+        ensures { IsTrue result ↔ ((took ≡ false) × (self.now.node.expanded ≡ length self.now.node.history.settlements)) }
+    {
+        if took {
+            return false;
+        }
+        self.node.is_expanded()
+    }
+}

@@ -1,0 +1,84 @@
+// What a runner does with the words of the board besides its counts: the token and the halt.
+ghost use Rattle.std.specs.Prelude.{◌≡◌, ◌≢◌, ◌↔◌, IsTrue, None, true};
+ghost use Rattle.dob_board.specs.declared.halt.Halt.TheVariants.{Running, Ended};
+ghost use Rattle.dob_board.specs.Seats.{KnewOwnFailure, ObservesHalt, TellsHalt, MovesNothing};
+ghost use Rattle.dob_runner.specs.Endpoints.{AreOut};
+ghost use Rattle.dob_runner.specs.Keeps.{HasSameLinks};
+ghost use Rattle.dob_runner.specs.TurnToken.{HasLooked, MovesToken};
+
+use crate::endpoint::Endpoint;
+use crate::slots::Outlet;
+use dob_board::Halt;
+
+impl Endpoint {
+    // Whether the board's token is at the node, which knows it from then on until it passes it.
+    fn finds_token(&mut self) -> bool
+        ensures found { IsTrue result ↔ (self.new.seat.token ≢ None) }
+        ensures looked { HasLooked self.old.seat self.new.seat }
+        ensures links { HasSameLinks self.old self.new }
+        ensures colour { self.new.seat.black ≡ self.old.seat.black }
+        ensures halt { self.new.seat.halt ≡ self.old.seat.halt }
+    {
+        let token = self.seat.token();
+        token.at == self.seat.node
+    }
+
+    /// Passes the token, or announces the end where that may be done, if the board's token is at the node, which is idle. Whether
+    /// it is. The seat finds the node's own failure only where it knew that.
+    pub(crate) fn move_token(&mut self) -> bool
+        ensures moves { MovesToken self.old.seat self.new.seat result }
+        ensures links { HasSameLinks self.old self.new }
+        ensures own { KnewOwnFailure self.old.seat self.new.seat.halt }
+    {
+        if !self.finds_token() {
+            return false;
+        }
+        if self.seat.may_announce() {
+            let _ = self.seat.announce();
+        } else {
+            self.seat.pass();
+        }
+        true
+    }
+
+    /// Says that the node failed the run, and moves no token. The halt that its seat finds isn't `Running`; it is the one that it knew,
+    /// if it knew one; and `Ended` only where the node is white.
+    pub(crate) fn fail(&mut self)
+        ensures still { MovesNothing self.old.seat self.new.seat }
+        ensures links { HasSameLinks self.old self.new }
+        ensures colour { self.new.seat.black ≡ self.old.seat.black }
+        ensures stopped { self.new.seat.halt ≢ Running }
+        ensures stays { self.old.seat.halt ≢ Running → self.new.seat.halt ≡ self.old.seat.halt }
+        ensures black { self.old.seat.black ≡ true → self.new.seat.halt ≢ Ended }
+    {
+        let _ = self.seat.fail();
+    }
+
+    /// Whether the run goes on, as the board says now: just where no node has failed and no end was announced so far. It says that
+    /// the node itself failed only where the seat knew that.
+    pub(crate) fn halted(&mut self) -> Halt
+        ensures halt { result ≡ self.new.seat.halt }
+        ensures links { HasSameLinks self.old self.new }
+        ensures colour { self.new.seat.black ≡ self.old.seat.black }
+        ensures stays { self.old.seat.halt ≢ Running → self.new.seat.halt ≡ self.old.seat.halt }
+        ensures own { KnewOwnFailure self.old.seat self.new.seat.halt }
+        ensures observed { ObservesHalt self.old.seat self.new.seat self.new.seat.halt }
+        ensures told { TellsHalt self.new.seat self.new.seat.halt }
+    {
+        self.seat.halted()
+    }
+
+    /// Whether no batch lies in a slot.
+    pub(crate) fn has_empty_slots(&self) -> bool
+        ensures { IsTrue result ↔ (AreOut self.now.outlets.items × (self.now.inlet.slot ≡ None)) }
+    {
+        are_out(&self.outlets) && !self.inlet.is_full()
+    }
+}
+
+// Whether each sending slot is empty.
+fn are_out(outlets: &[Outlet]) -> bool
+    ensures { IsTrue result ↔ AreOut outlets.now }
+{
+    outlets.iter().all(|outlet| !outlet.is_full())
+}

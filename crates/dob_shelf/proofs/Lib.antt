@@ -1,0 +1,1 @@
+pub mod Shelves  -- what a map has after one name is given other bytes

@@ -1,0 +1,207 @@
+// The files that the system has, each written beside its name and put there when it is whole, and the standard input that it gives.
+ghost use Rattle.std.specs.Prelude.{◌≡◌, None, false};
+
+use crate::inputs::read_all;
+use crate::shelf::{Shelf, ShelfFault, is_failed};
+use dob_dbfile::{Failed, Sink, Source, Std};
+use std::alloc::Global;
+use std::fs::{self, File, OpenFile};
+use std::io::{self, ErrorKind, Read, Write};
+use std::os::unix::fs::MetadataExt;
+use std::rt::Files;
+
+/// The files that the system has, and a reader as standard input, of which no bytes are told.
+///
+/// A file is written under its name with `.part` behind it, and takes its name once the system was made to put its bytes on the
+/// disk; then the folder is put there too. So the file of that name is as it was until then, whatever happens, and whole from then
+/// on; where only the folder fails, it is whole, and the shelf says that it failed. A part that a run left behind is taken away
+/// by the next one; so of two that write one name at once the later one keeps its file, and the other one fails. What is no
+/// regular file (a pipe, a device, a link) is written where it is; what a link leads to is put on the disk then.
+#[derive(Drop)]
+pub struct DiskShelf<'a, R, I> {
+    rt: &'a R,
+    alloc: Global,
+    input: Std<I>,
+    has_failed: bool,
+}
+
+/// A file that is being written, and its name until it is kept, where that is another one.
+#[derive(Drop)]
+pub struct DiskFile<F> {
+    file: F,
+    part: Option<String>,
+}
+
+impl<F: Write> Write for DiskFile<F> {
+    fn write(&mut self, bytes: &[u8]) -> io::Result<usize> {
+        self.file.write(bytes)
+    }
+
+    fn flush(&mut self) -> io::Result<()> {
+        self.file.flush()
+    }
+}
+
+impl<'a, R, I> DiskShelf<'a, R, I> {
+    /// The files of the system and that standard input, of which no call has failed.
+    pub fn new(rt: &'a R, alloc: Global, input: I) -> DiskShelf<'a, R, I>
+        ensures { result.has_failed ≡ false }
+    {
+        DiskShelf {
+            rt,
+            alloc,
+            input: Std::new(input),
+            has_failed: false,
+        }
+    }
+}
+
+impl<R: Files, I> DiskShelf<'_, R, I> {
+    // The file of that name.
+    fn open(&self, name: &str) -> Result<R::File, ShelfFault> {
+        Ok(fs::open(self.rt, name)?)
+    }
+
+    // Whether the name has a regular file or none, so that another file may take its place.
+    fn can_be_replaced(&self, name: &str) -> io::Result<bool> {
+        match fs::symlink_metadata(self.rt, name) {
+            Ok(found) => Ok(found.is_file()),
+            Err(error) if error.kind() == ErrorKind::NotFound => Ok(true),
+            Err(error) => Err(error),
+        }
+    }
+
+    // The name under which the file of that name is written; `None` where that is the same.
+    fn part_of(&self, name: &str) -> Result<Option<String>, ShelfFault> {
+        if self.can_be_replaced(name)? {
+            Ok(Some(format!(in self.alloc; "{name}.part")?))
+        } else {
+            Ok(None)
+        }
+    }
+
+    // The file of a part that is new, where a part of an earlier run may be left.
+    fn begin(&self, part: &str) -> io::Result<R::File> {
+        let _ = fs::remove_file(self.rt, part);
+        File::create_new(self.rt, part)
+    }
+
+    // A new file for the bytes of that name.
+    fn create(&self, name: &str) -> Result<DiskFile<R::File>, ShelfFault> {
+        let part = self.part_of(name)?;
+        let file = match &part {
+            Some(part) => self.begin(part.as_str())?,
+            None => fs::create(self.rt, name)?,
+        };
+        Ok(DiskFile { file, part })
+    }
+
+    // Whether the part's name still has that file, and no other run's.
+    fn is_own(&self, file: &R::File, part: &str) -> io::Result<bool> {
+        let made = file.metadata()?;
+        let found = fs::symlink_metadata(self.rt, part)?;
+        Ok(found.dev() == made.dev() && found.ino() == made.ino())
+    }
+
+    // Puts the bytes on the disk, the part under the name, and then the name on the disk.
+    fn put_in_place(&self, file: &R::File, part: &str, name: &str) -> io::Result<()> {
+        file.sync_all()?;
+        if !self.is_own(file, part)? {
+            return Err(ErrorKind::AlreadyExists.into());
+        }
+        fs::rename(self.rt, part, name)?;
+        fs::open(self.rt, folder_of(name))?.sync_all()
+    }
+
+    // Puts the bytes of a file that has its name on the disk; a pipe and a device have none there.
+    fn put_down(&self, file: &R::File) -> io::Result<()> {
+        if file.metadata()?.is_file() {
+            file.sync_all()
+        } else {
+            Ok(())
+        }
+    }
+
+    // Keeps the file under the name. One that isn't kept takes its part along.
+    fn keep_file(&self, name: &str, kept: DiskFile<R::File>) -> io::Result<()> {
+        let DiskFile { file, part } = kept;
+        let Some(part) = part else {
+            return self.put_down(&file);
+        };
+        let done = self.put_in_place(&file, part.as_str(), name);
+        if done.is_err() {
+            self.take_away(&file, part.as_str());
+        }
+        done
+    }
+
+    // Takes the part away, where it is still that file's.
+    fn take_away(&self, file: &R::File, part: &str) {
+        if let Ok(true) = self.is_own(file, part) {
+            let _ = fs::remove_file(self.rt, part);
+        }
+    }
+}
+
+// The folder of the name: what stands before its last slash, or the one where the program runs.
+fn folder_of(name: &str) -> &str {
+    match name.rsplit_once('/') {
+        Some(("", _)) => "/",
+        Some((folder, _)) => folder,
+        None => ".",
+    }
+}
+
+impl<R: Files, I: Read> Shelf for DiskShelf<'_, R, I> {
+    type Src = Std<R::File>;
+
+    type Dst = Std<DiskFile<R::File>>;
+
+    ghost state = { λ shelf. record {
+      has = λ _ _. ⊥;
+      tells = false;
+      has_failed = shelf.has_failed;
+      input = None;
+    } };
+
+    fn find(&mut self, name: &str) -> Result<Std<R::File>, ShelfFault> {
+        let found = self.open(name);
+        self.has_failed |= is_failed(&found);
+        Ok(Std::new(found?))
+    }
+
+    fn close(&mut self, source: Std<R::File>) {
+        self.has_failed |= Source::failed(&source);
+    }
+
+    fn make(&mut self, name: &str) -> Result<Std<DiskFile<R::File>>, ShelfFault> {
+        let made = self.create(name);
+        self.has_failed |= is_failed(&made);
+        Ok(Std::new(made?))
+    }
+
+    fn keep(&mut self, name: &str, sink: Std<DiskFile<R::File>>) -> Result<(), Failed> {
+        self.has_failed |= Sink::failed(&sink);
+        match self.keep_file(name, sink.into_inner()) {
+            Ok(()) => Ok(()),
+            Err(_) => {
+                self.has_failed = true;
+                Err(Failed)
+            }
+        }
+    }
+
+    fn discard(&mut self, _name: &str, sink: Std<DiskFile<R::File>>) {
+        self.has_failed |= Sink::failed(&sink);
+        let DiskFile { file, part } = sink.into_inner();
+        if let Some(part) = part {
+            self.take_away(&file, part.as_str());
+        }
+    }
+
+    fn input(&mut self) -> Result<Vec<u8>, ShelfFault> {
+        let read = read_all(self.alloc, &mut self.input);
+        self.has_failed |= is_failed(&read);
+        read
+    }
+}

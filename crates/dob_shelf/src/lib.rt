@@ -1,0 +1,9 @@
+// Shelves: where the program finds and keeps files by name, and its standard input.
+#![tactic(auto)]
+
+mod disk;
+mod inputs;
+mod shelf;
+
+pub use disk::{DiskFile, DiskShelf};
+pub use shelf::{MemShelf, Shelf, ShelfFault};

@@ -1,0 +1,352 @@
+// Files of the set of lions alone, in both formats: what is in them, and what is read of files that are spoilt.
+ghost use Rattle.std.specs.Prelude.{◌<◌};
+
+use crate::sets::{are_one_table, family};
+use dob_dbfile::{
+    Fault, Format, MemSink, MemSource, Sink, Source, read_classes, read_table, read_value,
+    write_table,
+};
+use dob_pieces::Profile;
+use dob_value::{Table, Value, sweep_table};
+use sha2::{Digest, Sha256};
+use std::process::Abort;
+
+/// How many bytes the file has.
+pub(super) const FILE_LEN: usize = 161;
+
+/// How many of them stand before the digest.
+const CONTENTS_LEN: usize = 129;
+
+/// How many bytes the file of the first format has, and how many of them stand before the digest.
+const FIRST_LEN: usize = 160;
+
+const FIRST_CONTENTS_LEN: usize = 128;
+
+/// The digests of the files of both profiles and of the file of the first format, as another program made them from values
+/// that others found.
+const DIGEST_A: [u8; 32] = [
+    0x69, 0x1c, 0x2a, 0xf8, 0xbf, 0x1a, 0x12, 0x79, 0xcc, 0xba, 0x2a, 0x14, 0x15, 0x48, 0xdf, 0x7e,
+    0xd1, 0x40, 0x2e, 0xf7, 0x17, 0x73, 0xa6, 0x1e, 0x89, 0x14, 0x27, 0x32, 0x1e, 0x6f, 0xfb, 0xff,
+];
+
+const DIGEST_B: [u8; 32] = [
+    0xdc, 0x0f, 0xe6, 0x37, 0x9d, 0xea, 0x06, 0x61, 0x14, 0xda, 0x4c, 0x04, 0xf1, 0xa9, 0xe3, 0x79,
+    0xed, 0x7a, 0x92, 0x8c, 0x95, 0xd5, 0x7e, 0x43, 0x75, 0x33, 0xd2, 0x89, 0x92, 0xb9, 0x62, 0x20,
+];
+
+const FIRST_DIGEST: [u8; 32] = [
+    0x09, 0x8b, 0xe5, 0x0e, 0xc1, 0xac, 0x90, 0x52, 0x85, 0x05, 0xba, 0x83, 0xd4, 0xea, 0x8f, 0xa4,
+    0x18, 0x13, 0x33, 0xf8, 0x61, 0x22, 0xef, 0x38, 0x42, 0x78, 0xd1, 0x0c, 0x81, 0x88, 0x30, 0x74,
+];
+
+/// The table of lions alone in profile A.
+pub(super) fn table(rt: &(impl Abort + AllocGlobal)) -> Table {
+    sweep_table(rt.alloc(), family(rt, "000", Profile::A)).expect(rt, "a table")
+}
+
+/// The file of that profile.
+pub(super) fn file_in(rt: &(impl Abort + AllocGlobal), profile: Profile) -> Vec<u8> {
+    let table = sweep_table(rt.alloc(), family(rt, "000", profile)).expect(rt, "a table");
+    let mut sink = MemSink::new(rt.alloc());
+    write_table(rt.alloc(), &table, &mut sink).expect(rt, "a file");
+    sink.into_bytes()
+}
+
+pub(super) fn file(rt: &(impl Abort + AllocGlobal)) -> Vec<u8> {
+    file_in(rt, Profile::A)
+}
+
+// The file of the first format: the same records behind the header of that format, with the digest that others made.
+fn first_file(rt: &(impl Abort + AllocGlobal)) -> Vec<u8> {
+    let mut bytes = Vec::new(rt.alloc());
+    let written = file(rt);
+    let records = written.get(21..CONTENTS_LEN).expect(rt, "records");
+    for part in [
+        b"DOBUTSU1".as_slice(),
+        [0, 0, 0, 2, 54, 0, 0, 0, 0, 0, 0, 0].as_slice(),
+        records,
+        FIRST_DIGEST.as_slice(),
+    ] {
+        bytes.extend_from_slice(part).expect(rt, "memory");
+    }
+    bytes
+}
+
+// The bytes with all bits of the one at that place turned.
+fn spoilt(mut bytes: Vec<u8>, place: usize) -> Vec<u8> {
+    if let Some(byte) = bytes.get_mut(place) {
+        *byte = !*byte;
+    }
+    bytes
+}
+
+// The bytes with those from that place on.
+fn changed(mut bytes: Vec<u8>, start: usize, change: &[u8]) -> Vec<u8> {
+    for (offset, byte) in change.iter().enumerate() {
+        if let Some(place) = bytes.get_mut(start.saturating_add(offset)) {
+            *place = *byte;
+        }
+    }
+    bytes
+}
+
+// What reading the source answers in place of a table.
+fn fault_of(rt: &(impl Abort + AllocGlobal), mut source: MemSource) -> Option<Fault> {
+    if source.failed() {
+        return None;
+    }
+    read_table(rt.alloc(), &mut source).err()
+}
+
+// The bytes are refused so.
+fn is_refused(rt: &(impl Abort + AllocGlobal), bytes: Vec<u8>, fault: Fault) {
+    assert!(rt; fault_of(rt, MemSource::new(bytes)) == Some(fault));
+}
+
+// The file has the profile's byte, and the digest.
+fn has_profile(rt: &(impl Abort + AllocGlobal), profile: Profile, byte: u8, digest: &[u8]) {
+    let bytes = file_in(rt, profile);
+    assert!(rt; bytes.len() == FILE_LEN);
+    assert!(rt; bytes[..8] == b"DOBUTSU2"[..]);
+    assert!(rt; bytes[8..21] == [0, 0, 0, 2, byte, 54, 0, 0, 0, 0, 0, 0, 0]);
+    assert!(rt; bytes[21..31] == [2, 0, 1, 0, 2, 0, 2, 0, 3, 0]);
+    assert!(rt; bytes.get(21..CONTENTS_LEN) == file(rt).get(21..CONTENTS_LEN));
+    assert!(rt; &bytes[CONTENTS_LEN..] == digest);
+}
+
+#[test]
+fn the_bytes_of_the_files(rt: HostRuntime) {
+    has_profile(&rt, Profile::A, 0, &DIGEST_A);
+    has_profile(&rt, Profile::B, 1, &DIGEST_B);
+}
+
+#[test]
+fn written_and_read_in_pieces(rt: HostRuntime) {
+    let table = table(&rt);
+    for longest in 1..9 {
+        let mut sink = MemSink::new(rt.alloc()).in_pieces(longest);
+        assert!(rt; write_table(rt.alloc(), &table, &mut sink) == Ok(()));
+        assert!(rt; sink.flushes() == [FILE_LEN].as_slice());
+        let mut source = MemSource::new(sink.into_bytes()).in_pieces(longest);
+        let again = read_table(rt.alloc(), &mut source).expect(&rt, "the table");
+        are_one_table(&rt, &again, &table);
+    }
+}
+
+// What is read of the file is a table of that profile, and is written as that one of the second format.
+fn is_read_as(rt: &(impl Abort + AllocGlobal), bytes: Vec<u8>, profile: Profile, written: &[u8]) {
+    let mut source = MemSource::new(bytes).in_pieces(7);
+    let table = read_table(rt.alloc(), &mut source).expect(rt, "a table");
+    assert!(rt; table.family() == family(rt, "000", profile));
+    let mut sink = MemSink::new(rt.alloc());
+    assert!(rt; write_table(rt.alloc(), &table, &mut sink) == Ok(()));
+    assert!(rt; sink.bytes() == written);
+}
+
+#[test]
+fn both_formats_are_read(rt: HostRuntime) {
+    let by_a = file(&rt);
+    let by_b = file_in(&rt, Profile::B);
+    is_read_as(&rt, first_file(&rt), Profile::A, &by_a);
+    is_read_as(&rt, file(&rt), Profile::A, &by_a);
+    is_read_as(&rt, file_in(&rt, Profile::B), Profile::B, &by_b);
+}
+
+// The bytes are cut short at each length below that.
+fn is_cut_below(rt: &(impl Abort + AllocGlobal), whole: &[u8], end: usize) {
+    for len in 0..end {
+        let mut bytes = Vec::new(rt.alloc());
+        bytes.extend_from_slice(whole).expect(rt, "memory");
+        bytes.truncate(len);
+        is_refused(rt, bytes, Fault::Truncated);
+    }
+}
+
+#[test]
+fn cut_to_each_length(rt: HostRuntime) {
+    is_cut_below(&rt, &file(&rt), FILE_LEN);
+    is_cut_below(&rt, &first_file(&rt), FIRST_LEN);
+}
+
+// The fault of a file whose byte at that place is wrong.
+fn fault_at(place: usize) -> Fault {
+    match place {
+        0..8 => Fault::Magic,
+        8..12 => Fault::SetByte,
+        12 => Fault::ProfileByte,
+        13..21 => Fault::ClassCount,
+        _ => Fault::Digest,
+    }
+}
+
+#[test]
+fn each_byte_turned(rt: HostRuntime) {
+    for place in 0..FILE_LEN {
+        is_refused(&rt, spoilt(file(&rt), place), fault_at(place));
+    }
+}
+
+// The first format has no byte of a profile.
+#[test]
+fn each_byte_of_the_first_format_turned(rt: HostRuntime) {
+    for place in 0..FIRST_LEN {
+        let expected = if place < 12 {
+            fault_at(place)
+        } else {
+            fault_at(place + 1)
+        };
+        is_refused(&rt, spoilt(first_file(&rt), place), expected);
+    }
+}
+
+#[test]
+fn other_sets(rt: HostRuntime) {
+    is_refused(&rt, changed(file(&rt), 8, &[1]), Fault::ClassCount);
+    is_refused(&rt, changed(file(&rt), 8, &[2, 2, 2]), Fault::ClassCount);
+    is_refused(&rt, changed(first_file(&rt), 8, &[1]), Fault::ClassCount);
+}
+
+// The byte of the profile is tested after that of the set before it, once the whole header has come. Byte 12 of the first
+// format is the lowest of the number of classes, 54.
+#[test]
+fn bytes_of_a_profile(rt: HostRuntime) {
+    is_refused(&rt, changed(file(&rt), 12, &[2]), Fault::ProfileByte);
+    is_refused(&rt, changed(file(&rt), 12, &[1]), Fault::Digest);
+    is_refused(&rt, changed(file(&rt), 11, &[1, 2]), Fault::SetByte);
+    is_refused(&rt, changed(file(&rt), 12, &[2, 0]), Fault::ProfileByte);
+    is_refused(&rt, changed(first_file(&rt), 7, b"2"), Fault::ProfileByte);
+    let mut head = changed(file(&rt), 12, &[2]);
+    head.truncate(20);
+    is_refused(&rt, head, Fault::Truncated);
+}
+
+#[test]
+fn a_byte_added_and_a_record_changed(rt: HostRuntime) {
+    let mut bytes = spoilt(file(&rt), 21);
+    bytes.push(0).expect(&rt, "memory");
+    is_refused(&rt, bytes, Fault::Trailing);
+    let mut bytes = spoilt(first_file(&rt), 20);
+    bytes.push(0).expect(&rt, "memory");
+    is_refused(&rt, bytes, Fault::Trailing);
+}
+
+#[test]
+fn a_source_that_fails_at_each_place(rt: HostRuntime) {
+    for count in 0..FILE_LEN + 1 {
+        let source = MemSource::new(file(&rt)).failing_after(count);
+        assert!(rt; fault_of(&rt, source) == Some(Fault::Io(count as u64)));
+    }
+    for count in 0..FIRST_LEN + 1 {
+        let source = MemSource::new(first_file(&rt)).failing_after(count);
+        assert!(rt; fault_of(&rt, source) == Some(Fault::Io(count as u64)));
+    }
+}
+
+// The fault that reading those bytes gives where their source fails after so many of them.
+fn fails_with(rt: &(impl Abort + AllocGlobal), bytes: Vec<u8>, count: usize, fault: Fault) {
+    let source = MemSource::new(bytes).failing_after(count);
+    assert!(rt; fault_of(rt, source) == Some(fault));
+}
+
+#[test]
+fn what_is_told_before_a_failure(rt: HostRuntime) {
+    fails_with(&rt, spoilt(file(&rt), 0), 20, Fault::Magic);
+    fails_with(&rt, spoilt(file(&rt), 11), 20, Fault::SetByte);
+    fails_with(&rt, spoilt(file(&rt), 12), 20, Fault::Io(20));
+    fails_with(&rt, spoilt(file(&rt), 12), 21, Fault::ProfileByte);
+    let whole = FILE_LEN as u64;
+    fails_with(&rt, spoilt(file(&rt), 140), FILE_LEN, Fault::Io(whole));
+    fails_with(&rt, spoilt(first_file(&rt), 0), 30, Fault::Magic);
+    fails_with(&rt, spoilt(first_file(&rt), 140), FIRST_LEN, Fault::Io(160));
+}
+
+#[test]
+fn a_sink_that_fails_at_each_place(rt: HostRuntime) {
+    let whole = file(&rt);
+    let table = table(&rt);
+    for count in 0..FILE_LEN {
+        let mut sink = MemSink::new(rt.alloc()).in_pieces(7).failing_after(count);
+        assert!(rt; write_table(rt.alloc(), &table, &mut sink) == Err(Fault::Io(count as u64)));
+        assert!(rt; sink.failed());
+        assert!(rt; Some(sink.bytes()) == whole.get(..count));
+    }
+}
+
+#[test]
+fn a_sink_that_fails_to_flush(rt: HostRuntime) {
+    let mut sink = MemSink::new(rt.alloc()).failing_at_flush();
+    assert!(rt; write_table(rt.alloc(), &table(&rt), &mut sink) == Err(Fault::Io(FILE_LEN as u64)));
+    assert!(rt; sink.bytes() == file(&rt).as_slice());
+    assert!(rt; sink.flushes().is_empty());
+}
+
+// The file of the first format with that code for the class, and with the digest of that.
+fn forged(rt: &(impl Abort + AllocGlobal), class: u8, code: u16) -> Vec<u8> {
+    let place = 20 + 2 * usize::from(class);
+    let mut bytes = changed(first_file(rt), place, &code.to_le_bytes());
+    bytes.truncate(FIRST_CONTENTS_LEN);
+    let digest = Sha256::digest(bytes.as_slice());
+    bytes.extend_from_slice(&digest).expect(rt, "memory");
+    bytes
+}
+
+#[test]
+fn a_wrong_record_is_read_as_it_is(rt: HostRuntime) {
+    let mut source = MemSource::new(forged(&rt, 17, 8));
+    let table = read_table(rt.alloc(), &mut source).expect(&rt, "a table");
+    assert!(rt; table.class_count() == 54);
+    if 17 < table.class_count() {
+        assert!(rt; table.value(17) == Value::Win(7));
+    }
+}
+
+// The records of three classes in a file of that format.
+fn has_records(rt: &(impl Abort + AllocGlobal), bytes: Vec<u8>, format: Format, longest: usize)
+    requires { 0 < longest }
+{
+    let mut source = MemSource::new(bytes).in_pieces(longest);
+    assert!(rt; read_value(&mut source, format, 28) == Ok(Value::Win(3)));
+    assert!(rt; read_value(&mut source, format, 4) == Ok(Value::Loss(2)));
+    assert!(rt; read_value(&mut source, format, 35) == Ok(Value::Draw));
+}
+
+#[test]
+fn one_record(rt: HostRuntime) {
+    for longest in 1..4 {
+        has_records(&rt, file(&rt), Format::Second, longest);
+        has_records(&rt, first_file(&rt), Format::First, longest);
+    }
+}
+
+// What the header of those bytes names.
+fn is_named(rt: &(impl Abort + AllocGlobal), bytes: Vec<u8>, format: Format, profile: Profile) {
+    let mut source = MemSource::new(bytes).in_pieces(3).failing_after(21);
+    if source.failed() {
+        return;
+    }
+    let (found, classes) = read_classes(rt.alloc(), &mut source).expect(rt, "classes");
+    assert!(rt; found == format);
+    assert!(rt; classes.family == family(rt, "000", profile));
+}
+
+#[test]
+fn what_headers_name(rt: HostRuntime) {
+    is_named(&rt, first_file(&rt), Format::First, Profile::A);
+    is_named(&rt, file(&rt), Format::Second, Profile::A);
+    is_named(&rt, file_in(&rt, Profile::B), Format::Second, Profile::B);
+}
+
+// The record of class 4 stands behind 29 bytes.
+#[test]
+fn a_record_that_is_cut(rt: HostRuntime) {
+    for count in 21..31 {
+        let mut bytes = file(&rt);
+        bytes.truncate(count);
+        let mut source = MemSource::new(bytes);
+        assert!(rt; read_value(&mut source, Format::Second, 4) == Err(Fault::Truncated));
+        let mut source = MemSource::new(file(&rt)).failing_after(count);
+        assert!(rt;
+            read_value(&mut source, Format::Second, 4) == Err(Fault::Io(count.max(29) as u64))
+        );
+    }
+}
