@@ -169,7 +169,7 @@ fn asks_topic(words: &[&str]) -> bool
     }
 }
 
-// What the words from `help` on come to. Which of its two texts `clap` tells its contract leaves open, so the words say it.
+// What the words from `help` on come to. Which of its two texts `clap` prints its contract leaves open, so the words say it.
 fn read_topic<'a>(alloc: Global, words: &'a [&'a str]) -> Result<Reading<'a>, AllocError>
     requires { is_topic (map (λ w. w.now) words.now) ≡ true }
     ensures { IfOk result (IsReadingOf (meaning_of_topic (map (λ w. w.now) words.now))) }

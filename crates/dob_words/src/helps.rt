@@ -30,10 +30,10 @@ A fault is one line on standard error. The status is 1, and 3 for E12, E14, E23 
   E24 Io           standard output, standard input or the file failed
   E25 SetText      the piece set isn't three digits, each 0, 1 or 2
   E26 FarChick     by rules B, or of a file of rules B: a chick stands on its own far row. So
-                   `dobutsu value --rules B \"C.l/.../.../L.. - -\"` is told
+                   `dobutsu value --rules B \"C.l/.../.../L.. - -\"` is refused
   E27 ProfileByte  byte 12 of the file says other rules than A and B
 
-Words that the program doesn't know are told with status 2.";
+A usage error ends with status 2.";
 
 pub(crate) const POSITION: &str =
     "A position: four rows of three letters, row 4 (the far row of the side to move) first, joined
@@ -54,7 +54,7 @@ a file once, which `dobutsu look` asks at once.
 Answers: `win D`, `loss D` or `draw`, where D is the distance in plies.
 
 Example: dobutsu value \"..l/.../L../... - -\" prints `win 3`.
-dobutsu value --rules B \"C.l/.../.../L.. - -\" is told `E26 FarChick`: its chick stands on row 4. By rules A it is a `draw`.";
+dobutsu value --rules B \"C.l/.../.../L.. - -\" is refused with `E26 FarChick`: its chick stands on row 4. By rules A it is a `draw`.";
 
 pub(crate) const SET: &str =
     "A piece set: three digits CEG, each 0, 1 or 2: how many chicks (hens counted with them), elephants
@@ -79,8 +79,8 @@ The table is written to FILE with `.part` behind it, and takes the place of FILE
 the disk: until then FILE is as it was, whatever happens. A pipe, a device or a link is written where it is.
 
 The file says by which rules its values are, so that `dobutsu probe` and the others need no `--rules`. They read a position
-by rules A, and of a file of rules B one with a chick on its own far row is told E26. `dobutsu value --help` says what the
-rules are.
+by rules A; where the file is one of rules B they refuse a chick on its own far row (E26). `dobutsu value --help` says what
+the rules are.
 
 With `--progress` it says on standard error what memory it takes, before it takes it, and then, a line a second at most,
 how far it is, as `12 s, 34 %, 23 s left`: the seconds since it began, what part is done, and the seconds that are left by the
@@ -89,7 +89,7 @@ speed so far. On a terminal the lines take each other's place.
 Answers: `classes N`, `win N`, `loss N` and `draw N`, where a class is a position with its mirror image.
 
 Example: dobutsu build --set 000 --out 000.db prints `classes 54`, `win 38`, `loss 12` and
-`draw 4`. `dobutsu check --db 000.db` then tells that the file is right.";
+`draw 4`. `dobutsu check --db 000.db` then says that the file is right.";
 
 pub(crate) const PROBE: &str =
     "A file: what `dobutsu check --db FILE` calls consistent holds the values by definition; of any other
@@ -100,7 +100,7 @@ answered by a line, in the same order. One that is refused is answered by its fa
 next by its own answer. The file is read once, so that this is the way to ask for many positions.
 
 Answers: `win D`, `loss D` or `draw`, where D is the distance in plies. With `--each` the status is 0 where
-all lines were told, and 1 where one was refused.
+all lines were answered, and 1 where one was refused.
 
 Example: dobutsu probe --db 000.db \"..l/.../L../... - -\" prints `win 3`. `dobutsu value --help` says
 how a position is written. Two positions, the second with a malformed hand:
@@ -141,7 +141,7 @@ With `--each` in place of POSITION the positions come from standard input, one o
 line, in the same order, as `dobutsu probe --help` says. The file is opened once, and of each position only its 2 bytes are read.
 
 Answers: `win D`, `loss D` or `draw`, where D is the distance in plies. With `--each` the status is 0 where
-all lines were told, and 1 where one was refused.
+all lines were answered, and 1 where one was refused.
 
 Example: dobutsu look --db 000.db \"..l/.../L../... - -\" prints `win 3`. `dobutsu value --help` says
 how a position is written.";
@@ -196,11 +196,11 @@ slower, or don't win. D counts the plies of both sides up to the catch of the li
 answer, win. A file that `dobutsu check` calls consistent holds the values by definition.
 
 Answers: a line for each position, `POSITION  MOVE`, its text, two spaces and that move, in the order of the file, the first N of
-them; or `none`. Of a position and its mirror image only the one that stands first is told. `dobutsu show POSITION` draws it, and
-`dobutsu line --numbered --db FILE POSITION` plays it to its end. Where D is even or below 3, that is said with status 2.
+them; or `none`. Of a position and its mirror image only the one that stands first is printed. `dobutsu show POSITION` draws it,
+and `dobutsu line --numbered --db FILE POSITION` plays it to its end. A D that is even or below 3 is a usage error (status 2).
 
 With `--numbered` the number of its class and two spaces stand before each. With `--from CLASS` only those behind the class of this
-number are told, never its own: with the number of the last one it goes on where the last call ended, so that no position comes
+number are printed, never its own: with the number of the last one it goes on where the last call ended, so that no position comes
 twice. Behind a number that no class has there is none.
 
 With `--random SEED` the order begins at a class that the number SEED makes, the same on each machine, and goes on with the first

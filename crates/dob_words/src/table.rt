@@ -142,7 +142,7 @@ pub const ROWS: &[Row] = &[
     ),
     (
         "check",
-        "Tells whether a database file is right, without trusting who made it",
+        "Checks that a database file is right, whoever made it",
         &[DB],
         &[PROGRESS],
         &[],
@@ -228,7 +228,7 @@ pub const ROWS: &[Row] = &[
                     "CLASS",
                     Kind::Number,
                     Need::May,
-                    "Only those behind the class of this number, which itself isn't told",
+                    "Only those behind the class of this number, which itself isn't printed",
                 ),
             ),
             (

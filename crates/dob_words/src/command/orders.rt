@@ -162,7 +162,7 @@ fn text<'a>(inner: &ArgMatches<'a>, label: &str) -> &'a str
     }
 }
 
-// The number that the text tells.
+// The number that the text gives.
 fn number(text: &str) -> u64
     requires { is_number text.now ≡ true }
     ensures { result ≡ number_in text.now }
@@ -173,7 +173,7 @@ fn number(text: &str) -> u64
     }
 }
 
-// The number that the text tells, where one is given.
+// The number that the text gives, where there is one.
 fn number_given(text: Option<&str>) -> Option<u64>
     requires { IfSome (text_given text) (λ t. is_number t ≡ true) }
     ensures { result ≡ option_map number_in (text_given text.entry) }
