@@ -1,9 +1,10 @@
 /* Dobutsu shogi: values and moves by a database's file, its check, and the sizes of families. C99, and C++ too.
 
    Link with libdobutsu.a or libdobutsu.so. A call keeps nothing, starts no thread and touches no file: the bytes of a database's file are the caller's, read
-   or mapped as a whole. Only dobutsu_moves, dobutsu_moves_by and dobutsu_check take memory, by malloc and realloc, and give all back by free. Calls may be
-   made by several threads at once, and none from a signal handler. Each pointer must be valid for as many items as its length says, aligned as its type is,
-   and none may be null, also where a length is 0; what is written to is read and written by nobody else meanwhile. */
+   or mapped as a whole. Only dobutsu_moves, dobutsu_moves_by and dobutsu_check take memory, by malloc and realloc, and give all back by free. No call makes
+   a move: examples/solve.c shows how. Calls may be made by several threads at once, and none from a signal handler. Each pointer must be valid for as many
+   items as its length says, aligned as its type is, and none may be null, also where a length is 0; what is written to is read and written by nobody else
+   meanwhile. */
 
 #ifndef DOBUTSU_H
 #define DOBUTSU_H
