@@ -11,6 +11,7 @@ use dob_classes::Classes;
 use dob_lists::{SegmentLength, Segments};
 use dob_node::opening_in;
 use dob_pieces::{Family, Memory};
+use dob_safra::NodeCount;
 use dob_share::{Item, Opening, Share, owner};
 use dob_value::{Fault, Value};
 use std::alloc::{AllocError, Global};
@@ -39,7 +40,10 @@ pub(crate) fn about_cell(
         return Ok("none".to_string(alloc)?);
     }
     let openings = openings_of(alloc, classes, class + 1)?;
-    let mut share = Share::open(alloc, &openings, owner(class, OWNERS), OWNERS)?;
+    let Some(nodes) = NodeCount::new(OWNERS) else {
+        unreachable!()
+    };
+    let mut share = Share::open(alloc, &openings, owner(class, OWNERS), nodes)?;
     Ok(tell_replies(alloc, &mut share, class, changes)?)
 }
 

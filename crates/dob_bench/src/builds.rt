@@ -8,6 +8,7 @@ use dob_classes::Classes;
 use dob_lists::SegmentLength;
 use dob_node::{alone, opening};
 use dob_pieces::Memory;
+use dob_safra::NodeCount;
 use dob_share::{Item, Share};
 use dob_unmove::back_into;
 use dob_value::{Table, Value};
@@ -104,7 +105,7 @@ fn apply_items<R: Print + Clock + AllocGlobal>(
 // The cells of one owner of all classes, of which nothing is known but the openings.
 fn open_share(alloc: Global, classes: &Classes) -> Result<Share> {
     let openings = opening(alloc, classes, SegmentLength::longest())?;
-    let share = Share::open(alloc, &openings, 0, 1)?;
+    let share = Share::open(alloc, &openings, 0, NodeCount::one())?;
     Ok(share)
 }
 

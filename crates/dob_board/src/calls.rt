@@ -7,7 +7,6 @@ ghost use Rattle.dob_board.specs.Histories.{MakesEvent, Observes, HasPosted};
 ghost use Rattle.dob_board.specs.Seats.{stand_of, witnessed_by, IsSameSeat, TakesOne, TakesNone};
 
 use crate::rule::{Looks, Posts, Takes};
-use crate::words::{posted_index, taken_index};
 use crate::{NodeSeat, NotPosted};
 
 impl NodeSeat {
@@ -24,7 +23,7 @@ impl NodeSeat {
             (witnessed_by self.old) (witnessed_by self.new) }
         ensures goes_on { self.old.halt ≢ Ended }
     {
-        let word = posted_index(self.nodes, self.node, to);
+        let word = self.posted_index(self.node, to);
         self.board
             .shared
             .fetch_add::<Posts>(&mut self.seat, word, 1);
@@ -41,7 +40,7 @@ impl NodeSeat {
         ensures taken_first { slice_index self.old.taken.items from ≤ result }
         ensures observed { Observes self.old.nodes self.old.node (stand_of self.new) (witnessed_by self.old) (witnessed_by self.new) (HasPosted from self.old.node result) }
     {
-        let word = posted_index(self.nodes, from, self.node);
+        let word = self.posted_index(from, self.node);
         let number = self.board.shared.load::<Looks>(&mut self.seat, word);
         self.seen[from] = number;
         number
@@ -56,7 +55,7 @@ impl NodeSeat {
         ensures event { MakesEvent self.old.nodes self.old.node (Take from self.old.node) (stand_of self.old) (stand_of self.new)
             (witnessed_by self.old) (witnessed_by self.new) }
     {
-        let word = taken_index(self.nodes, from, self.node);
+        let word = self.taken_index(from, self.node);
         self.board
             .shared
             .fetch_add::<Takes>(&mut self.seat, word, 1);

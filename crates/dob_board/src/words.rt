@@ -1,9 +1,8 @@
 // Which word of a board is which, and what the halt's says.
-ghost use Rattle.std.specs.Prelude.{◌≡◌, ◌≤◌, ◌<◌};
+ghost use Rattle.std.specs.Prelude.{◌≡◌, ◌<◌};
 ghost use Rattle.dob_board.specs.Words.{posted_word, taken_word, word_count, halt_word, halt_after};
-ghost use Rattle.dob_safra.specs.Tokens.{most_nodes};
 
-use crate::Halt;
+use crate::{Halt, NodeSeat};
 use dob_safra::NodeCount;
 
 // The word of the number of nodes.
@@ -35,24 +34,24 @@ pub(crate) fn word_count(nodes: NodeCount) -> usize
     COUNTS + 2 * nodes * nodes
 }
 
-/// The word of what node `from` posted to node `to`, of so many nodes.
-pub(crate) fn posted_index(nodes: usize, from: usize, to: usize) -> usize
-    requires few { nodes ≤ most_nodes }
-    requires from { from < nodes }
-    requires to { to < nodes }
-    ensures { result ≡ posted_word nodes from to }
-{
-    COUNTS + (from * nodes + to)
-}
+impl NodeSeat {
+    /// The word of what node `from` posted to node `to` of the seat's board.
+    pub(crate) fn posted_index(&self, from: usize, to: usize) -> usize
+        requires from { from < self.now.nodes }
+        requires to { to < self.now.nodes }
+        ensures { result ≡ posted_word self.now.nodes from to }
+    {
+        COUNTS + (from * self.nodes + to)
+    }
 
-/// The word of what node `to` took of node `from`.
-pub(crate) fn taken_index(nodes: usize, from: usize, to: usize) -> usize
-    requires few { nodes ≤ most_nodes }
-    requires from { from < nodes }
-    requires to { to < nodes }
-    ensures { result ≡ taken_word nodes from to }
-{
-    COUNTS + (nodes * nodes + (from * nodes + to))
+    /// The word of what node `to` took of node `from` of the seat's board.
+    pub(crate) fn taken_index(&self, from: usize, to: usize) -> usize
+        requires from { from < self.now.nodes }
+        requires to { to < self.now.nodes }
+        ensures { result ≡ taken_word self.now.nodes from to }
+    {
+        COUNTS + (self.nodes * self.nodes + (from * self.nodes + to))
+    }
 }
 
 /// The halt of the word.

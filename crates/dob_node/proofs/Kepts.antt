@@ -71,8 +71,8 @@ pub sure_fits : (share : Share) (item : Item) → ¬ ¬ Fits share item → Fits
 unfolding Fits IsOwn
 sure_fits share item sure = (
   (
-    sure_same (item.to % share.n) share.id (λ no. sure (λ fits. no fits.0.0)),
-    sure_less (item.to / share.n) (share.statuses.places) (λ no. sure (λ fits. no fits.0.1)),
+    sure_same (item.to % share.nodes) share.id (λ no. sure (λ fits. no fits.0.0)),
+    sure_less (item.to / share.nodes) (share.statuses.places) (λ no. sure (λ fits. no fits.0.1)),
   ),
   sure_open (status_at share item.to) (λ no. sure (λ fits. no fits.1)),
   sure_takes item.was item.now (cell_at share item.to) (λ no. sure (λ fits. no fits.2)),
@@ -91,9 +91,9 @@ same_history history = ap (λ (xs : List Settlement). record history { settlemen
 same_owned : (old new : Share) → SameClasses old new → (class : ℕ) → IsOwn new class → IsOwn old class
 unfolding IsOwn places_of
 same_owned old new same class own =
-    let n_is : new.n ≡ old.n = same.n in (
+    let n_is : new.nodes ≡ old.nodes = same.nodes in (
       subst (λ (m : ℕ). class % m ≡ old.id) n_is (own.0 ∙ same.id),
-      subst (λ (m : ℕ). class / m < old.statuses.places) n_is (subst (λ (m : ℕ). class / new.n < m) same.places own.1),
+      subst (λ (m : ℕ). class / m < old.statuses.places) n_is (subst (λ (m : ℕ). class / new.nodes < m) same.places own.1),
     )
 
 -- ---- what is asked of a settlement
@@ -166,7 +166,7 @@ module _ (family : Family) (n id : ℕ) (share after : Share) (history : History
   pub kept_still : (given : Option Settlement) → HasSettled share after item.to given → (grown : HistoryView) →
       grown ≡ record history { settlements = history.settlements ++ listed given; room = grown.room } → AreKept family n id after grown
   kept_still given settled grown is = subst (λ (view : HistoryView). AreKept family n id after view) (sym is) (record {
-    share_is = (same.n ∙ kept.share_is.0, same.id ∙ kept.share_is.1);
+    share_is = (same.nodes ∙ kept.share_is.0, same.id ∙ kept.share_is.1);
     history_is = kept.history_is;
     one_of_n = kept.one_of_n;
     few = kept.few;

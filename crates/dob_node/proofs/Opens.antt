@@ -67,7 +67,7 @@ settled_low status n id count (suc k) low =
 
 -- ---- the places
 
-place_own : (share : Share) (n id place : ℕ) → share.n ≡ n → share.id ≡ id → id < n → place < places_of share → IsOwn share (place * n + id)
+place_own : (share : Share) (n id place : ℕ) → share.nodes ≡ n → share.id ≡ id → id < n → place < places_of share → IsOwn share (place * n + id)
 unfolding IsOwn places_of
 place_own share n id place n_is id_is less low =
     subst (λ (m : ℕ). ((place * n + id) % m ≡ share.id) × ((place * n + id) / m < share.statuses.places)) (sym n_is) (
@@ -75,14 +75,14 @@ place_own share n id place n_is id_is less low =
       subst (λ (k : ℕ). k < share.statuses.places) (sym (div-mul-add place n id less)) low,
     )
 
-own_place : (share : Share) (n id place : ℕ) → share.n ≡ n → id < n → IsOwn share (place * n + id) → place < places_of share
+own_place : (share : Share) (n id place : ℕ) → share.nodes ≡ n → id < n → IsOwn share (place * n + id) → place < places_of share
 unfolding IsOwn places_of
 own_place share n id place n_is less own =
     subst (λ (k : ℕ). k < share.statuses.places) (div-mul-add place n id less)
     (subst (λ (m : ℕ). (place * n + id) / m < share.statuses.places) n_is own.1)
 
 -- the places are those of the owner's classes
-pub places_are : (share : Share) (openings : List Opening) (n id : ℕ) → (share.id ≡ id) × (share.n ≡ n) → id < n →
+pub places_are : (share : Share) (openings : List Opening) (n id : ℕ) → (share.id ≡ id) × (share.nodes ≡ n) → id < n →
     ((class : ℕ) → IsOwn share class ↔ ((class % n ≡ id) × (class < length openings))) →
     (place : ℕ) → (place < places_of share) ↔ (place * n + id < length openings)
 places_are share openings n id who less owned place = (
@@ -91,7 +91,7 @@ places_are share openings n id who less owned place = (
 )
 
 -- what is listed of its classes are their statuses
-pub status_listed : (share : Share) (openings : List Opening) (n id : ℕ) → (share.id ≡ id) × (share.n ≡ n) → id < n →
+pub status_listed : (share : Share) (openings : List Opening) (n id : ℕ) → (share.id ≡ id) × (share.nodes ≡ n) → id < n →
     ((class : ℕ) → IsOwn share class → status_at share class ≡ (opening_of openings class).status) →
     (place : ℕ) → place < places_of share → start_status share.statuses place ≡ opening_status openings (class_of_place n id place)
 unfolding status_at
@@ -134,7 +134,7 @@ fresh_parities : (moves : ℕ) → HasParities (fresh moves)
 fresh_parities moves = record { wins = λ plies some. absurd (omega arith); least = λ plies is. absurd cc }
 
 pub opened_kept : (family : Family) (openings : List Opening) (n id : ℕ) (share : Share) (history : HistoryView) → AreOpenings family openings →
-    id < n → length openings ≤ 2 ^ 32 → (share.id ≡ id) × (share.n ≡ n) →
+    id < n → length openings ≤ 2 ^ 32 → (share.id ≡ id) × (share.nodes ≡ n) →
     ((class : ℕ) → IsOwn share class ↔ ((class % n ≡ id) × (class < length openings))) →
     ((class : ℕ) → IsOwn share class → SameCell (cell_at share class) (fresh (opening_of openings class).moves)) →
     share.settled ≡ settled_among (λ place. (opening_of openings (class_of_place n id place)).status) (places_of share) →

@@ -19,14 +19,14 @@ use Rattle.dob_node.specs.TakenItems.{HasItemEntries, AreKept, IsTaken, listed}
 
 -- by the share's own numbers
 pub kept_own : (family : Family) (n id : ℕ) (share : Share) (history : HistoryView) → AreKept family n id share history →
-    AreKept family share.n share.id share history
+    AreKept family share.nodes share.id share history
 kept_own family n id share history kept = subst (λ (m : ℕ). AreKept family m share.id share history) (sym kept.share_is.0)
     (subst (λ (k : ℕ). AreKept family n k share history) (sym kept.share_is.1) kept)
 
 pub kept_back : (family : Family) (n id : ℕ) (share after : Share) (history grown : HistoryView) → AreKept family n id share history →
-    ((any : Family) → AreKept any share.n share.id share history → AreKept any share.n share.id after grown) → AreKept family n id after grown
+    ((any : Family) → AreKept any share.nodes share.id share history → AreKept any share.nodes share.id after grown) → AreKept family n id after grown
 kept_back family n id share after history grown kept still = subst (λ (m : ℕ). AreKept family m id after grown) kept.share_is.0
-    (subst (λ (k : ℕ). AreKept family share.n k after grown) kept.share_is.1 (still family (kept_own family n id share history kept)))
+    (subst (λ (k : ℕ). AreKept family share.nodes k after grown) kept.share_is.1 (still family (kept_own family n id share history kept)))
 
 -- what is expanded is less than a longer history
 pub emitted_still : (item : Item) (share after : Share) (history grown : HistoryView) (expanded : ℕ) → IsTaken item share after history grown →

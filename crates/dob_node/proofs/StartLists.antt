@@ -113,7 +113,7 @@ pub start_entry : (status : Status) (now : Value) → opening_value status ≡ S
 start_entry status now is = subst (λ (o : Option Value). IsEntry (or_else o Draw)) is (entry_opened status)
 
 -- those of a share as it is opened are the settlements of the opening
-pub share_opened : (share : Share) (openings : List Opening) (n id : ℕ) → (share.id ≡ id) × (share.n ≡ n) → id < n →
+pub share_opened : (share : Share) (openings : List Opening) (n id : ℕ) → (share.id ≡ id) × (share.nodes ≡ n) → id < n →
     ((class : ℕ) → IsOwn share class → status_at share class ≡ (opening_of openings class).status) →
     starts_of n id share.statuses ≡ opening_settlements (opening_status openings) n id (places_of share)
 unfolding places_of

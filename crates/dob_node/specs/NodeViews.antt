@@ -27,7 +27,7 @@ abbrev pub node_of : Core → Option Cause → NodeView
 node_of core failed = record {
   family = core.family;
   id = core.id;
-  n = core.n;
+  n = core.nodes;
   share = core.share;
   history = core.history;
   expanded = core.expanded;

@@ -116,4 +116,4 @@ pub record IsIdle (node : NodeView) : Type 0 where
 pub record AreValuesNow (share : Share) (values : List Value) : Type 0 where
   pub whole : length values ≡ places_of share
   pub each : (place : ℕ) (value : Value) → slice_get values place ≡ Some value →
-      HasValueNow share (class_of_place share.n share.id place) value
+      HasValueNow share (class_of_place share.nodes share.id place) value

@@ -26,7 +26,7 @@ pub record HasParities (cell : Cell) : Type 0 where
 -- The share and the history of owner `id` among n of a family's classes: the share has its own classes and gave as
 -- many settlements as the history has, each of an own class.
 pub record AreKept (family : Family) (n id : ℕ) (share : Share) (history : HistoryView) : Type 0 where
-  pub share_is : (share.n ≡ n) × (share.id ≡ id)
+  pub share_is : (share.nodes ≡ n) × (share.id ≡ id)
   pub history_is : (history.n ≡ n) × (history.id ≡ id)
   pub one_of_n : id < n
   pub few : classes_of family ≤ 2 ^ 32

@@ -13,6 +13,7 @@ ghost use Rattle.dob_node.specs.TakenItems.{HasItemEntries, AreKept, IsHistory, 
 use crate::start_statuses::StartStatuses;
 use dob_lists::{SegmentLength, Segments};
 use dob_pieces::Memory;
+use dob_safra::NodeCount;
 use dob_share::{Item, Seen, Settlement, Share};
 use dob_stops::Cause;
 use dob_value::{Value, code_of_value, value_of_code};
@@ -27,12 +28,12 @@ pub(crate) struct Stored {
     pub(crate) now: u16,
 }
 
-/// The settlements of one owner `id` among `n`, in order: those of the start, and the first `count` of those stored. What is stored
+/// The settlements of one owner `id` among `nodes`, in order: those of the start, and the first `count` of those stored. What is stored
 /// behind them is room for the next; for so many as `room` says there is some.
 #[derive(Drop)]
 pub(crate) struct History {
     id: usize,
-    n: usize,
+    nodes: NodeCount,
     starts: StartStatuses,
     count: u64,
     room: u64,
@@ -45,27 +46,26 @@ impl Model for History {
 
     ghost Value = { HistoryView };
 
-    ghost view = { λ h. record { id = h.id; n = h.n; settlements = settlements_of h.n h.id h.starts (take h.count h.stored); room = h.room } };
+    ghost view = { λ h. record { id = h.id; n = h.nodes; settlements = settlements_of h.nodes h.id h.starts (take h.count h.stored); room = h.room } };
 
-    ghost invariant = { λ h. (h.id < h.n) × (h.n ≤ 16) × (h.count + h.room ≤ length h.stored) };
+    ghost invariant = { λ h. (h.id < h.nodes) × (h.count + h.room ≤ length h.stored) };
 }
 
 impl History {
-    /// The history of owner `id` among `n` at the start, in segments of that length.
+    /// The history of owner `id` among `nodes` at the start, in segments of that length.
     pub(crate) fn new(
         alloc: Global,
         id: usize,
-        n: usize,
+        nodes: NodeCount,
         starts: StartStatuses,
         segment_length: SegmentLength,
     ) -> History
-        requires one_of_n { id < n }
-        requires few { n ≤ 16 }
-        ensures { result ≡ record { id = id; n = n; settlements = starts_of n id starts; room = 0 } }
+        requires { id < nodes }
+        ensures { result ≡ record { id = id; n = nodes; settlements = starts_of nodes id starts; room = 0 } }
     {
         History {
             id,
-            n,
+            nodes,
             starts,
             count: 0,
             room: 0,
@@ -91,11 +91,12 @@ impl History {
         ensures now { IsEntry result.now }
     {
         let first = self.starts.settled();
+        let nodes = self.nodes.get() as u64;
         if number < first {
             let start = self.starts.find(number);
             return Settlement {
                 number,
-                class: start.place * self.n as u64 + self.id as u64,
+                class: start.place * nodes + self.id as u64,
                 was: Value::Draw,
                 now: start.now,
             };
@@ -103,7 +104,7 @@ impl History {
         let stored = self.stored.get(number - first);
         Settlement {
             number,
-            class: u64::from(stored.place) * self.n as u64 + self.id as u64,
+            class: u64::from(stored.place) * nodes + self.id as u64,
             was: value_of_code(stored.was),
             now: value_of_code(stored.now),
         }
@@ -145,7 +146,7 @@ impl History {
         seen: Option<Seen>,
     ) -> Result<(), Cause>
         requires seen { IsSeen share.old item.to seen }
-        requires kept { (family : Set) × AreKept family share.old.n share.old.id share.old self.old }
+        requires kept { (family : Set) × AreKept family share.old.nodes share.old.id share.old self.old }
         requires entries { HasItemEntries item }
         ensures contradiction { result ≢ Err cause.Memory → (result ≡ Err (cause.Contradiction item.to)) ↔ (¬ Fits share.old item) }
         ensures too_deep { result ≢ Err cause.Memory → (result ≡ Err cause.TooDeep) ↔ (Fits share.old item × GoesTooDeep share.old item) }
@@ -154,7 +155,7 @@ impl History {
         ensures room { OnOk result (self.old.room ≤ self.new.room + 1) }
         ensures unchanged { OnErr result ((share.new ≡ share.old) × (self.new ≡ self.old)) }
         ensures taken { OnOk result (IsTaken item share.old share.new self.old self.new) }
-        ensures kept { OnOk result ((family : Set) → AreKept family share.old.n share.old.id share.old self.old → AreKept family share.old.n share.old.id share.new self.new) }
+        ensures kept { OnOk result ((family : Set) → AreKept family share.old.nodes share.old.id share.old self.old → AreKept family share.old.nodes share.old.id share.new self.new) }
         ensures seen { OnOk result ((class : ℕ) (look : Option Seen) → IsSeen share.old class look → IsSeen share.new class look) }
     {
         // Numbers of settlements always fit.
@@ -163,7 +164,7 @@ impl History {
         room_for_one(&mut self.stored, self.count)?;
         let given = share.apply_seen(item, seen)?;
         if let Some(settlement) = given {
-            store(&mut self.stored, self.count, self.n, settlement);
+            store(&mut self.stored, self.count, self.nodes, settlement);
             self.count += 1;
             self.room = self.room.saturating_sub(1);
         }
@@ -207,18 +208,17 @@ fn room_for_one(stored: &mut Segments<Stored>, count: u64) -> Result<(), Memory>
     make_room(stored, count, 1)
 }
 
-// Stores a settlement of a class among `n` owners behind the first `count`, where there is room.
-fn store(stored: &mut Segments<Stored>, count: u64, n: usize, settlement: Settlement)
+// Stores a settlement of a class among `nodes` owners behind the first `count`, where there is room.
+fn store(stored: &mut Segments<Stored>, count: u64, nodes: NodeCount, settlement: Settlement)
     requires room { count < length stored.old }
-    requires owners { 0 < n }
-    requires place { settlement.class / n < 2 ^ 32 }
+    requires place { settlement.class / nodes < 2 ^ 32 }
     requires was { IsEntry settlement.was }
     requires now { IsEntry settlement.now }
-    ensures one_more { (id first : ℕ) → owner_of n settlement.class ≡ id → settlement.number ≡ first + count → settlements_from n id first (take (count + 1) stored.new) ≡ settlements_from n id first (take count stored.old) ++ settlement ∷ [] }
+    ensures one_more { (id first : ℕ) → owner_of nodes settlement.class ≡ id → settlement.number ≡ first + count → settlements_from nodes id first (take (count + 1) stored.new) ≡ settlements_from nodes id first (take count stored.old) ++ settlement ∷ [] }
     ensures same { length stored.new ≡ length stored.old }
 {
     stored[count as usize] = Stored {
-        place: (settlement.class / n as u64) as u32,
+        place: (settlement.class / nodes.get() as u64) as u32,
         was: code_of_value(settlement.was),
         now: code_of_value(settlement.now),
     };

@@ -11,6 +11,7 @@ use crate::start_statuses::StartStatuses;
 use dob_classes::Classes;
 use dob_lists::{SegmentLength, Segments};
 use dob_pieces::{Family, Memory};
+use dob_safra::NodeCount;
 use dob_share::{Item, Opening, Settlement, Share};
 use dob_stops::Cause;
 use dob_update::{Batch, BatchSize};
@@ -19,7 +20,7 @@ use std::alloc::Global;
 use std::collections::VecDeque;
 use std::marker::Model;
 
-/// A node that owns the classes k * n + id of a family, one of n. Once a call that grows it or applies an item has failed, the
+/// A node that owns the classes k * nodes + id of a family, one of so many nodes. Once a call that grows it or applies an item has failed, the
 /// node has failed for that cause, and what it has stays as it is.
 #[derive(Drop)]
 pub struct Node {
@@ -48,7 +49,7 @@ impl Node {
     ghost use Rattle.dob_node.specs.NodeSteps.{Keeps, Expands, AppliesOwn, AppliesAll, MakesRoom, Cuts};
     ghost use Rattle.dob_share.specs.Shares.{IsOwn, HasValueNow};
 
-    /// The node of owner `id`, one of `n`, at most 16, before its first step. Its history has a settlement for each own
+    /// The node of owner `id`, one of `nodes`, before its first step. Its history has a settlement for each own
     /// class that is caught, tried or stuck, in the order of the classes. Its lists have segments as long as those of the openings.
     ///
     /// # Errors
@@ -59,22 +60,21 @@ impl Node {
         openings: &Segments<Opening>,
         family: Family,
         id: usize,
-        n: usize,
+        nodes: NodeCount,
     ) -> Result<Node, Memory>
         requires openings { AreOpenings family openings.now }
-        requires owner { id < n }
-        requires owners { n ≤ 16 }
-        ensures opened { IfOk result (λ node. IsOpened openings.now family id n node) }
+        requires owner { id < nodes }
+        ensures opened { IfOk result (λ node. IsOpened openings.now family id nodes node) }
         ensures sound { IfOk result (λ node. IsSound node) }
     {
-        let share = Share::open(alloc, openings, id, n)?;
-        let history = opening_history(alloc, &share, id, n, openings.segment_length())?;
-        let outboxes = empty_outboxes(alloc, family, n, id)?;
+        let share = Share::open(alloc, openings, id, nodes)?;
+        let history = opening_history(alloc, &share, id, nodes, openings.segment_length())?;
+        let outboxes = empty_outboxes(alloc, family, nodes, id)?;
         let core = Core {
             alloc,
             family,
             id,
-            n,
+            nodes,
             share,
             history,
             expanded: 0,
@@ -294,18 +294,17 @@ fn noted<T>(failed: &mut Option<Cause>, answer: Result<T, Cause>) -> Result<T, C
     answer
 }
 
-// The history of owner `id`, one of `n`, when its node opens, by the statuses of its classes.
+// The history of owner `id`, one of `nodes`, when its node opens, by the statuses of its classes.
 fn opening_history(
     alloc: Global,
     share: &Share,
     id: usize,
-    n: usize,
+    nodes: NodeCount,
     segment_length: SegmentLength,
 ) -> Result<History, Memory>
-    requires owner { id < n }
-    requires owners { n ≤ 16 }
-    ensures { IfOk result (λ history. history ≡ record { id = id; n = n; settlements = starts_of n id share.now.statuses; room = 0 }) }
+    requires { id < nodes }
+    ensures { IfOk result (λ history. history ≡ record { id = id; n = nodes; settlements = starts_of nodes id share.now.statuses; room = 0 }) }
 {
     let starts = StartStatuses::new(share.statuses()?);
-    Ok(History::new(alloc, id, n, starts, segment_length))
+    Ok(History::new(alloc, id, nodes, starts, segment_length))
 }

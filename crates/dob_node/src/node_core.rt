@@ -10,6 +10,7 @@ use crate::outboxes::add_for_others;
 use crate::taking::take_items;
 use dob_classes::Classes;
 use dob_pieces::{Family, Memory};
+use dob_safra::NodeCount;
 use dob_share::{Item, Settlement, Share, owner};
 use dob_stops::Cause;
 use dob_unmove::back_into;
@@ -22,14 +23,14 @@ use std::mem;
 /// How many batches a node may cut for another.
 pub const MAX_BATCHES: u64 = 1 << 40;
 
-/// What one owner, `id` of n, has: the cells of its classes, the classes k * n + id of a family, with their history, of which the first
+/// What one owner, `id` of the nodes, has: the cells of its classes, the classes k * nodes + id of a family, with their history, of which the first
 /// settlements are expanded; the items that it has for itself; and its outboxes.
 #[derive(Drop)]
 pub(crate) struct Core {
     pub(crate) alloc: Global,
     pub(crate) family: Family,
     pub(crate) id: usize,
-    pub(crate) n: usize,
+    pub(crate) nodes: NodeCount,
     pub(crate) share: Share,
     pub(crate) history: History,
     pub(crate) expanded: u64,
@@ -62,7 +63,7 @@ impl Core {
         let targets = back_into(room, classes, settlement.class)?;
         self.own.reserve(targets.len())?;
         add_for_others(&mut self.outboxes, settlement, &targets, self.id)?;
-        push_own(&mut self.own, settlement, &targets, self.n, self.id);
+        push_own(&mut self.own, settlement, &targets, self.nodes, self.id);
         self.targets = targets;
         self.expanded += 1;
         Ok(true)
@@ -111,7 +112,7 @@ impl Core {
     /// Cuts a batch of those items that are to be sent to the node `to`. `None` where there are none.
     pub(crate) fn cut_for(&mut self, to: usize, size: BatchSize) -> Result<Option<Batch>, Cause>
         requires sound { IsSound (going self.old) }
-        requires to { to < self.old.n }
+        requires to { to < self.old.nodes }
         ensures step { Cuts to size result (going self.old) (going self.new) }
         ensures sound { IsSound (going self.new) }
     {
@@ -134,28 +135,27 @@ impl Core {
         let places = self.share.places();
         let mut values = Vec::with_capacity(self.alloc, places as usize)?;
         for place in 0..places {
-            let class = place * self.n as u64 + self.id as u64;
+            let class = place * self.nodes.get() as u64 + self.id as u64;
             values.push(self.share.value(class))?;
         }
         Ok(values)
     }
 }
 
-// Appends the settlement's items for the owner `id`, one of `n`; `targets` are the classes with a move into the settled
+// Appends the settlement's items for the owner `id`, one of `nodes`; `targets` are the classes with a move into the settled
 // one, and there is room for an item of each.
 fn push_own(
     queue: &mut VecDeque<Item>,
     settlement: Settlement,
     targets: &[u64],
-    n: usize,
+    nodes: NodeCount,
     id: usize,
 )
-    requires owners { 0 < n }
-    requires room { deque_len queue.old + length targets.now ≤ deque_capacity queue.old }
-    ensures { queue.new.items ≡ queue.old.items ++ items_of (λ _. targets.now) n id settlement }
+    requires { deque_len queue.old + length targets.now ≤ deque_capacity queue.old }
+    ensures { queue.new.items ≡ queue.old.items ++ items_of (λ _. targets.now) nodes id settlement }
 {
     for class in targets {
-        if owner(*class, n) == id {
+        if owner(*class, nodes.get()) == id {
             queue.push_back_reserved(item_for(settlement, *class));
         }
     }

@@ -14,6 +14,7 @@ use crate::openings::opening;
 use dob_classes::Classes;
 use dob_lists::SegmentLength;
 use dob_pieces::{Family, Memory};
+use dob_safra::NodeCount;
 use dob_stops::Cause;
 use dob_value::{Table, Value};
 use std::alloc::Global;
@@ -51,7 +52,7 @@ fn begin(alloc: Global, classes: &Classes, family: Family) -> Result<Node, Memor
     ensures going { IfOk result (λ node. node.failed ≡ None) }
 {
     let openings = opening(alloc, classes, SegmentLength::longest())?;
-    Node::open(alloc, &openings, family, 0, 1)
+    Node::open(alloc, &openings, family, 0, NodeCount::one())
 }
 
 // The node when it has nothing left to do, after steps up to that many. `None` where it has something left after them.

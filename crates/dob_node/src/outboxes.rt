@@ -9,23 +9,25 @@ ghost use Rattle.dob_update.specs.Batches.{OutboxView, HasOneMore, empty_outbox,
 ghost use Rattle.dob_node.specs.Outboxes.{outbox_in, IsOutboxTo, AreAdded, HaveOneMore};
 
 use dob_pieces::{Family, Memory};
+use dob_safra::NodeCount;
 use dob_share::Settlement;
 use dob_update::{Outbox, count_items};
 use std::alloc::Global;
 
-/// Outboxes with nothing to send, of node `from` among `n`, for each node.
+/// Outboxes with nothing to send, of node `from` among `nodes`, for each node.
 pub(crate) fn empty_outboxes(
     alloc: Global,
     family: Family,
-    n: usize,
+    nodes: NodeCount,
     from: usize,
 ) -> Result<Vec<Outbox>, Memory>
-    ensures whole { IfOk result (λ list. length list.items ≡ n) }
-    ensures empty { IfOk result (λ list. (to : ℕ) → outbox_in family n from list.items to ≡ empty_outbox family n from to) }
+    ensures whole { IfOk result (λ list. length list.items ≡ nodes) }
+    ensures empty { IfOk result (λ list. (to : ℕ) → outbox_in family nodes from list.items to ≡ empty_outbox family nodes from to) }
 {
-    let mut outboxes = Vec::with_capacity(alloc, n)?;
-    for to in 0..n {
-        outboxes.push(Outbox::new(alloc, family, n, from, to))?;
+    let count = nodes.get();
+    let mut outboxes = Vec::with_capacity(alloc, count)?;
+    for to in 0..count {
+        outboxes.push(Outbox::new(alloc, family, count, from, to))?;
     }
     Ok(outboxes)
 }
@@ -46,8 +48,8 @@ pub(crate) fn add_for_others(
     ensures added { let n = length outboxes.old.items in OnOk result (AreAdded targets.now settlement n from n outboxes.old.items outboxes.new.items) }
     ensures unchanged { OnErr result (outboxes.new.items ≡ outboxes.old.items) }
 {
-    let n = outboxes.len();
-    for to in 0..n {
+    let nodes = outboxes.len();
+    for to in 0..nodes {
         if to != from {
             match add_to(outboxes, to, settlement, targets) {
                 Ok(()) => {}
@@ -84,10 +86,10 @@ fn take_back(outboxes: &mut Vec<Outbox>, targets: &[u64], from: usize, upto: usi
     requires added { (before : List OutboxView) × HaveOneMore targets.now from upto before outboxes.old.items }
     ensures { (before : List OutboxView) → HaveOneMore targets.now from upto before outboxes.old.items → outboxes.new.items ≡ before }
 {
-    let n = outboxes.len();
+    let nodes = outboxes.len();
     for to in 0..upto {
         if to != from {
-            let count = count_items(targets, n, to);
+            let count = count_items(targets, nodes, to);
             take_back_at(outboxes, to, count);
         }
     }

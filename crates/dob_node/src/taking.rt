@@ -25,14 +25,14 @@ pub(crate) fn take_items(
     taken: &mut usize,
     items: &[Item],
 ) -> Result<(), Cause>
-    requires kept { (family : Set) × AreKept family share.old.n share.old.id share.old history.old }
+    requires kept { (family : Set) × AreKept family share.old.nodes share.old.id share.old history.old }
     requires entries { All HasItemEntries items.now }
     ensures stopped { IfErr result (λ why. StopsAt items.now share.old history.old why) }
     ensures before { IfErr result (λ why. AreTakenBefore items.now taken.new share.old share.new history.old history.new why) }
     ensures taken { OnOk result (AreTaken items.now share.old share.new history.old history.new) }
     ensures all { OnOk result (taken.new ≡ length items.now) }
     ensures memory { result ≡ Err cause.Memory → history.old.room < length items.now }
-    ensures kept { ((family : Set) → AreKept family share.old.n share.old.id share.old history.old → AreKept family share.old.n share.old.id share.new history.new) }
+    ensures kept { ((family : Set) → AreKept family share.old.nodes share.old.id share.old history.old → AreKept family share.old.nodes share.old.id share.new history.new) }
 {
     *taken = 0;
     let mut looks = [None; AHEAD];

@@ -110,13 +110,10 @@ fn open_runner(
     requires new { (capacity : ℕ) × IsNewEndpoint capacity endpoint }
     ensures { IfOk result (IsRunnerOf family batch_size endpoint) }
 {
-    let node = Node::open(
-        alloc,
-        openings,
-        family,
-        endpoint.seat.node,
-        endpoint.seat.nodes,
-    )?;
+    let Some(nodes) = NodeCount::new(endpoint.seat.nodes) else {
+        unreachable!()
+    };
+    let node = Node::open(alloc, openings, family, endpoint.seat.node, nodes)?;
     Ok(Runner::new(node, endpoint, family, batch_size))
 }
 

@@ -35,7 +35,7 @@ pub(crate) fn part_outlets(
     Ok((ends, slots))
 }
 
-/// What is in a node's taking slot, at the place of its sender among all `n` nodes.
+/// What is in a node's taking slot, at the place of its sender among all `nodes`.
 ///
 /// # Errors
 ///
@@ -43,13 +43,13 @@ pub(crate) fn part_outlets(
 pub(crate) fn spread_slot(
     alloc: Global,
     slot: Option<Batch>,
-    n: usize,
+    nodes: usize,
 ) -> Result<Vec<Option<Batch>>, Memory>
-    ensures { IfOk result (λ slots. slots.items ≡ slot_row n slot) }
+    ensures { IfOk result (λ slots. slots.items ≡ slot_row nodes slot) }
 {
     let mut left = slot;
-    let mut slots = Vec::with_capacity(alloc, n)?;
-    for from in 0..n {
+    let mut slots = Vec::with_capacity(alloc, nodes)?;
+    for from in 0..nodes {
         slots.push(take_of(&mut left, from))?;
     }
     Ok(slots)
@@ -85,8 +85,8 @@ pub(crate) fn rejoin_all<R: Wait>(
     requires { AreEnds (vec_len takes) sends.items takes.items }
     ensures { IfOk result (λ links. AreJoined (vec_len takes) sends.items takes.items links.items) }
 {
-    let n = takes.len();
-    let mut rows = empty_rows(alloc, n)?;
+    let nodes = takes.len();
+    let mut rows = empty_rows(alloc, nodes)?;
     let mut left = takes.into_iter();
     for row in sends {
         let Some(take) = left.next() else {
@@ -95,7 +95,7 @@ pub(crate) fn rejoin_all<R: Wait>(
         let links = rejoin_one(rt, alloc, row, take)?;
         deal(links, &mut rows)?;
     }
-    join(alloc, rows, n)
+    join(alloc, rows, nodes)
 }
 
 // Ends an inbox.

@@ -6,12 +6,12 @@ use dob_node::have_entries;
 use dob_pieces::{Family, PieceSet, Profile};
 use dob_update::Batch;
 
-/// Whether the batch is one of the family among `n` nodes, from that node to the other, with items that have such values
+/// Whether the batch is one of the family among `nodes` nodes, from that node to the other, with items that have such values
 /// as a table can have.
-pub(crate) fn is_for(batch: &Batch, family: Family, n: usize, from: usize, to: usize) -> bool
-    ensures { IsTrue result ↔ IsBatchFor family n from to batch.now }
+pub(crate) fn is_for(batch: &Batch, family: Family, nodes: usize, from: usize, to: usize) -> bool
+    ensures { IsTrue result ↔ IsBatchFor family nodes from to batch.now }
 {
-    if !is_one_family(batch.family(), family) || batch.owners() != n {
+    if !is_one_family(batch.family(), family) || batch.owners() != nodes {
         return false;
     }
     if batch.from() != from || batch.to() != to {

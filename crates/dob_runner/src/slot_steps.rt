@@ -87,10 +87,10 @@ impl Inlet {
         batch.items().len()
     }
 
-    /// The sender of the batch in the slot, if that is one that another node cut for the node `to` of that family, one of `n`,
+    /// The sender of the batch in the slot, if that is one that another node cut for the node `to` of that family, one of `nodes`,
     /// with items that such a node can work in. Any other batch is none of the node's.
-    pub(crate) fn sender_for(&self, family: Family, n: usize, to: usize) -> Option<usize>
-        ensures { MatchOption result ((from : ℕ) → ¬ HoldsFor family n from to self.now) (λ from. HoldsFor family n from to self.now) }
+    pub(crate) fn sender_for(&self, family: Family, nodes: usize, to: usize) -> Option<usize>
+        ensures { MatchOption result ((from : ℕ) → ¬ HoldsFor family nodes from to self.now) (λ from. HoldsFor family nodes from to self.now) }
     {
         let Some(batch) = &self.slot else {
             return None;
@@ -99,7 +99,7 @@ impl Inlet {
         if from == to {
             return None;
         }
-        if !is_for(batch, family, n, from, to) {
+        if !is_for(batch, family, nodes, from, to) {
             return None;
         }
         Some(from)

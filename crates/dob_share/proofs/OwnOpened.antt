@@ -119,42 +119,42 @@ cell_by_status b cell Stuck moves is same = subst (λ (k : ℕ). SameCell (cell_
 
 module _ (share : Share) (openings : List Opening)
     (statuses : (place : ℕ) → place < share.statuses.places →
-    IsStatusOf (word_of share.statuses.words place) (place % 64) (opening_of openings (class_of_place share.n share.id place)).status) where
-  pub owned_here : ((place : ℕ) → (place < share.statuses.places) ↔ (place * share.n + share.id < length openings)) →
-      (class : ℕ) → IsOwn share class ↔ ((class % share.n ≡ share.id) × (class < length openings))
+    IsStatusOf (word_of share.statuses.words place) (place % 64) (opening_of openings (class_of_place share.nodes share.id place)).status) where
+  pub owned_here : ((place : ℕ) → (place < share.statuses.places) ↔ (place * share.nodes + share.id < length openings)) →
+      (class : ℕ) → IsOwn share class ↔ ((class % share.nodes ≡ share.id) × (class < length openings))
   unfolding IsOwn
   owned_here places class = (
-    λ own. (own.0, subst (λ (k : ℕ). k < length openings) (class_back class share.n share.id own.0) ((places (class / share.n)).0 own.1)),
-    λ both. (both.0, (places (class / share.n)).1 (subst (λ (k : ℕ). k < length openings) (sym (class_back class share.n share.id both.0)) both.1)),
+    λ own. (own.0, subst (λ (k : ℕ). k < length openings) (class_back class share.nodes share.id own.0) ((places (class / share.nodes)).0 own.1)),
+    λ both. (both.0, (places (class / share.nodes)).1 (subst (λ (k : ℕ). k < length openings) (sym (class_back class share.nodes share.id both.0)) both.1)),
   )
 
-  told : (class : ℕ) → IsOwn share class → IsStatusOf (word_of share.statuses.words (class / share.n)) (class / share.n % 64) (opening_of openings class).status
+  told : (class : ℕ) → IsOwn share class → IsStatusOf (word_of share.statuses.words (class / share.nodes)) (class / share.nodes % 64) (opening_of openings class).status
   unfolding IsOwn
-  told class own = subst (λ (k : ℕ). IsStatusOf (word_of share.statuses.words (class / share.n)) (class / share.n % 64) (opening_of openings k).status)
-      (class_back class share.n share.id own.0) (statuses (class / share.n) own.1)
+  told class own = subst (λ (k : ℕ). IsStatusOf (word_of share.statuses.words (class / share.nodes)) (class / share.nodes % 64) (opening_of openings k).status)
+      (class_back class share.nodes share.id own.0) (statuses (class / share.nodes) own.1)
 
   pub status_here : (class : ℕ) → IsOwn share class → status_at share class ≡ (opening_of openings class).status
   unfolding status_at
-  status_here class own = status_told (word_of share.statuses.words (class / share.n)) (class / share.n % 64) (opening_of openings class).status (told class own)
+  status_here class own = status_told (word_of share.statuses.words (class / share.nodes)) (class / share.nodes % 64) (opening_of openings class).status (told class own)
 
   module _ (entries : ℕ) (pool_is : share.pool ≡ replicate entries vacant)
-      (below : AreSlotsBelow share.statuses.words openings share.n share.id share.statuses.places share.slots entries) where
-    open_cell : (class : ℕ) → IsOwn share class → open_at share.statuses.words (class / share.n) ≡ 1 →
-        SameCell (cell_in share.slots share.pool (opens_below share.statuses.words (class / share.n))) (fresh (opening_of openings class).moves)
+      (below : AreSlotsBelow share.statuses.words openings share.nodes share.id share.statuses.places share.slots entries) where
+    open_cell : (class : ℕ) → IsOwn share class → open_at share.statuses.words (class / share.nodes) ≡ 1 →
+        SameCell (cell_in share.slots share.pool (opens_below share.statuses.words (class / share.nodes))) (fresh (opening_of openings class).moves)
     unfolding IsOwn
     open_cell class own one =
-        let number : ℕ = opens_below share.statuses.words (class / share.n) in
+        let number : ℕ = opens_below share.statuses.words (class / share.nodes) in
         let inside : number < length share.slots = subst (λ (k : ℕ). number < k) (sym below.count)
-        (rank_less share.statuses.words (class / share.n) share.statuses.places own.1 one) in
+        (rank_less share.statuses.words (class / share.nodes) share.statuses.places own.1 one) in
         let left : (slot_at share.slots (length share.pool) number).left ≡ (opening_of openings class).moves
         = ap (λ s. s.left) (get_or_default share.slots number (beyond (length share.pool)) (beyond 0) inside)
-        ∙ below.moves (class / share.n) own.1 one
-        ∙ ap (λ (k : ℕ). (opening_of openings k).moves) (class_back class share.n share.id own.0) in
+        ∙ below.moves (class / share.nodes) own.1 one
+        ∙ ap (λ (k : ℕ). (opening_of openings k).moves) (class_back class share.nodes share.id own.0) in
         subst (λ (k : ℕ). SameCell (cell_in share.slots share.pool number) (fresh k)) left
         (cell_fresh share.slots share.pool (subst (λ xs. AreOpened share.slots xs) (sym pool_is) below.opened) number)
 
     pub cell_here_fresh : (class : ℕ) → IsOwn share class → SameCell (cell_at share class) (fresh (cell_moves (opening_of openings class)))
     unfolding cell_at open_number
-    cell_here_fresh class own = cell_by_status (open_at share.statuses.words (class / share.n))
-        (cell_in share.slots share.pool (opens_below share.statuses.words (class / share.n))) (opening_of openings class).status (opening_of openings class).moves
+    cell_here_fresh class own = cell_by_status (open_at share.statuses.words (class / share.nodes))
+        (cell_in share.slots share.pool (opens_below share.statuses.words (class / share.nodes))) (opening_of openings class).status (opening_of openings class).moves
         (told class own).opens_is (open_cell class own)

@@ -33,15 +33,15 @@ pub not_open : (share : Share) (item : Item) → (IsOwnOpen share item.to → �
 unfolding IsOwnOpen Fits
 not_open share item not fits = not (fits.0, fits.1)
 
-is_open : (share : Share) (class : ℕ) → IsOwnOpen share class → open_at share.statuses.words (class / share.n) ≡ 1
+is_open : (share : Share) (class : ℕ) → IsOwnOpen share class → open_at share.statuses.words (class / share.nodes) ≡ 1
 unfolding IsOwnOpen status_at
-is_open share class open_here = open_at_open share.statuses.words (class / share.n) open_here.1
+is_open share class open_here = open_at_open share.statuses.words (class / share.nodes) open_here.1
 
 pub number_within : (share : Share) (class number : ℕ) → IsOwnOpen share class → number ≡ open_number share class → number < length share.slots
 unfolding IsOwnOpen IsOwn open_number
 number_within share class number open_here is = subst (λ (k : ℕ). k < length share.slots) (sym is)
-    (subst (λ (k : ℕ). opens_below share.statuses.words (class / share.n) < k) (sym share.opens)
-    (rank_less share.statuses.words (class / share.n) share.statuses.places open_here.0.1 (is_open share class open_here)))
+    (subst (λ (k : ℕ). opens_below share.statuses.words (class / share.nodes) < k) (sym share.opens)
+    (rank_less share.statuses.words (class / share.nodes) share.statuses.places open_here.0.1 (is_open share class open_here)))
 
 -- what is seen of a class: that it is open, its cell's number, and where its run begins
 pub seen_open : (share : Share) (class : ℕ) (seen : Seen) → IsSeen share class (Some seen) →
@@ -71,27 +71,27 @@ seen_told : (share : Share) (class : ℕ) (seen : Seen) → IsOwnOpen share clas
 unfolding IsSeen
 seen_told share class seen open_here is start = (open_here, is, start)
 
-open_back : (old new : Share) → new.id ≡ old.id → new.n ≡ old.n → new.statuses ≡ old.statuses → (class : ℕ) → IsOwnOpen old class → IsOwnOpen new class
+open_back : (old new : Share) → new.id ≡ old.id → new.nodes ≡ old.nodes → new.statuses ≡ old.statuses → (class : ℕ) → IsOwnOpen old class → IsOwnOpen new class
 unfolding IsOwnOpen IsOwn status_at
 open_back old new id_same n_same same class own = (
   (
     ap (λ (k : ℕ). class % k) n_same ∙ own.0.0 ∙ sym id_same,
-    subst (λ (s : StatusesView). class / new.n < s.places) (sym same) (subst (λ (k : ℕ). class / k < old.statuses.places) (sym n_same) own.0.1),
+    subst (λ (s : StatusesView). class / new.nodes < s.places) (sym same) (subst (λ (k : ℕ). class / k < old.statuses.places) (sym n_same) own.0.1),
   ),
-  ap (λ (k : ℕ). status_in new.statuses.words (class / k)) n_same ∙ ap (λ (s : StatusesView). status_in s.words (class / old.n)) same ∙ own.1,
+  ap (λ (k : ℕ). status_in new.statuses.words (class / k)) n_same ∙ ap (λ (s : StatusesView). status_in s.words (class / old.nodes)) same ∙ own.1,
 )
 
-number_same : (old new : Share) → new.n ≡ old.n → new.statuses ≡ old.statuses → (class : ℕ) → open_number new class ≡ open_number old class
+number_same : (old new : Share) → new.nodes ≡ old.nodes → new.statuses ≡ old.statuses → (class : ℕ) → open_number new class ≡ open_number old class
 unfolding open_number
 number_same old new n_same same class = ap (λ (k : ℕ). opens_below new.statuses.words (class / k)) n_same
-    ∙ ap (λ (s : StatusesView). opens_below s.words (class / old.n)) same
+    ∙ ap (λ (s : StatusesView). opens_below s.words (class / old.nodes)) same
 
 pub seen_not : (share : Share) (class : ℕ) → (IsOwnOpen share class → ⊥) → IsSeen share class None
 unfolding IsSeen
 seen_not share class not = not
 
 cell_form : (share : Share) (class : ℕ) →
-    cell_at share class ≡ cell_where (open_at share.statuses.words (class / share.n)) (cell_in share.slots share.pool (open_number share class))
+    cell_at share class ≡ cell_where (open_at share.statuses.words (class / share.nodes)) (cell_in share.slots share.pool (open_number share class))
 unfolding cell_at
 cell_form share class = refl
 
@@ -102,11 +102,11 @@ cell_there share class place open_here is = ap (λ (k : ℕ). cell_in share.slot
 
 -- the value of an own class that is open, by its cell
 pub open_has : (share : Share) (class : ℕ) (value : Value) → status_at share class ≡ Open →
-    CellValue (cell_in share.slots share.pool (opens_below share.statuses.words (class / share.n))) value → HasValueNow share class value
+    CellValue (cell_in share.slots share.pool (opens_below share.statuses.words (class / share.nodes))) value → HasValueNow share class value
 unfolding cell_at status_at open_number
 open_has share class value is has = subst (λ s. IsValue s (cell_at share class) value) (sym is)
     (subst (λ (b : ℕ). CellValue (cell_where b (cell_in share.slots share.pool (open_number share class))) value)
-    (sym (open_at_open share.statuses.words (class / share.n) is)) has)
+    (sym (open_at_open share.statuses.words (class / share.nodes) is)) has)
 
 where_same : (b : ℕ) (x y : Cell) → b < 2 → (b ≡ 1 → SameCell x y) → SameCell (cell_where b x) (cell_where b y)
 where_same zero x y low same = same_itself (fresh 0)
@@ -143,11 +143,11 @@ apart n id a b x y z =
     let g : a / n * n ≡ b / n * n = ap (λ (k : ℕ). k * n) z in
     omega arith
 
-own_id : (share : Share) (class : ℕ) → IsOwn share class → class % share.n ≡ share.id
+own_id : (share : Share) (class : ℕ) → IsOwn share class → class % share.nodes ≡ share.id
 unfolding IsOwn
 own_id share class own = own.0
 
-open_id : (share : Share) (class : ℕ) → IsOwnOpen share class → class % share.n ≡ share.id
+open_id : (share : Share) (class : ℕ) → IsOwnOpen share class → class % share.nodes ≡ share.id
 unfolding IsOwnOpen IsOwn
 open_id share class own = own.0.0
 
@@ -177,7 +177,7 @@ module _ (old : Share) (item : Item) (place : ℕ) (open_here : IsOwnOpen old it
   value_before value has = value_there old item.to value (open_status old item.to open_here)
       (subst (λ c. CellValue c value) (cell_there old item.to place open_here is) has)
 
-  module _ (new : Share) (id_same : new.id ≡ old.id) (n_same : new.n ≡ old.n) (same : new.statuses ≡ old.statuses) where
+  module _ (new : Share) (id_same : new.id ≡ old.id) (n_same : new.nodes ≡ old.nodes) (same : new.statuses ≡ old.statuses) where
     open_new : IsOwnOpen new item.to
     open_new = open_back old new id_same n_same same item.to open_here
 
@@ -188,13 +188,13 @@ module _ (old : Share) (item : Item) (place : ℕ) (open_here : IsOwnOpen old it
     unfolding places_of IsOwn status_at
     classes_same = record {
       id = id_same;
-      n = n_same;
+      nodes = n_same;
       places = ap (λ (s : StatusesView). s.places) same;
       owned = λ class own. (
         ap (λ (k : ℕ). class % k) n_same ∙ own.0 ∙ sym id_same,
-        subst (λ (s : StatusesView). class / new.n < s.places) (sym same) (subst (λ (k : ℕ). class / k < old.statuses.places) (sym n_same) own.1),
+        subst (λ (s : StatusesView). class / new.nodes < s.places) (sym same) (subst (λ (k : ℕ). class / k < old.statuses.places) (sym n_same) own.1),
       );
-      statuses = λ class. ap (λ (k : ℕ). status_in new.statuses.words (class / k)) n_same ∙ ap (λ (s : StatusesView). status_in s.words (class / old.n)) same;
+      statuses = λ class. ap (λ (k : ℕ). status_in new.statuses.words (class / k)) n_same ∙ ap (λ (s : StatusesView). status_in s.words (class / old.nodes)) same;
     }
 
     pub cell_changed : SameCell (cell_in new.slots new.pool place) (changed item.was item.now (cell_in old.slots old.pool place)) →
@@ -203,24 +203,24 @@ module _ (old : Share) (item : Item) (place : ℕ) (open_here : IsOwnOpen old it
         (subst (λ c. SameCell (cell_in new.slots new.pool place) (changed item.was item.now c)) (cell_there old item.to place open_here is) alike)
 
     -- an own class that is open has another cell
-    other_number : (class : ℕ) → IsOwn old class → (class ≡ item.to → ⊥) → open_at old.statuses.words (class / old.n) ≡ 1 → open_number old class ≡ place → ⊥
+    other_number : (class : ℕ) → IsOwn old class → (class ≡ item.to → ⊥) → open_at old.statuses.words (class / old.nodes) ≡ 1 → open_number old class ≡ place → ⊥
     unfolding open_number
-    other_number class own n one e = n (apart old.n old.id class item.to (own_id old class own) (open_id old item.to open_here)
-        (rank_same old.statuses.words (class / old.n) (item.to / old.n) one (is_open old item.to open_here) (e ∙ is)))
+    other_number class own n one e = n (apart old.nodes old.id class item.to (own_id old class own) (open_id old item.to open_here)
+        (rank_same old.statuses.words (class / old.nodes) (item.to / old.nodes) one (is_open old item.to open_here) (e ∙ is)))
 
-    cell_then : (class : ℕ) → cell_at new class ≡ cell_where (open_at old.statuses.words (class / old.n)) (cell_in new.slots new.pool (open_number old class))
+    cell_then : (class : ℕ) → cell_at new class ≡ cell_where (open_at old.statuses.words (class / old.nodes)) (cell_in new.slots new.pool (open_number old class))
     cell_then class = cell_form new class
         ∙ ap (λ (k : ℕ). cell_where (open_at new.statuses.words (class / k)) (cell_in new.slots new.pool (open_number new class))) n_same
-        ∙ ap (λ (s : StatusesView). cell_where (open_at s.words (class / old.n)) (cell_in new.slots new.pool (open_number new class))) same
-        ∙ ap (λ (k : ℕ). cell_where (open_at old.statuses.words (class / old.n)) (cell_in new.slots new.pool k)) (number_same old new n_same same class)
+        ∙ ap (λ (s : StatusesView). cell_where (open_at s.words (class / old.nodes)) (cell_in new.slots new.pool (open_number new class))) same
+        ∙ ap (λ (k : ℕ). cell_where (open_at old.statuses.words (class / old.nodes)) (cell_in new.slots new.pool k)) (number_same old new n_same same class)
 
     pub others_kept : ((other : ℕ) → (other ≡ place → ⊥) → SameCell (cell_in new.slots new.pool other) (cell_in old.slots old.pool other)) →
         (class : ℕ) → IsOwn old class → (class ≡ item.to → ⊥) → SameCell (cell_at new class) (cell_at old class)
     others_kept others class own n =
         subst (λ c. SameCell c (cell_at old class)) (sym (cell_then class))
-        (subst (λ c. SameCell (cell_where (open_at old.statuses.words (class / old.n)) (cell_in new.slots new.pool (open_number old class))) c) (sym (cell_form old class))
-        (where_same (open_at old.statuses.words (class / old.n)) (cell_in new.slots new.pool (open_number old class)) (cell_in old.slots old.pool (open_number old class))
-        (let low : open_at old.statuses.words (class / old.n) < 2 = omega arith in low)
+        (subst (λ c. SameCell (cell_where (open_at old.statuses.words (class / old.nodes)) (cell_in new.slots new.pool (open_number old class))) c) (sym (cell_form old class))
+        (where_same (open_at old.statuses.words (class / old.nodes)) (cell_in new.slots new.pool (open_number old class)) (cell_in old.slots old.pool (open_number old class))
+        (let low : open_at old.statuses.words (class / old.nodes) < 2 = omega arith in low)
         (λ one. others (open_number old class) (other_number class own n one))))
 
     pub value_then : (value : Value) → CellValue (cell_in new.slots new.pool place) value → HasValueNow new item.to value
@@ -228,7 +228,7 @@ module _ (old : Share) (item : Item) (place : ℕ) (open_here : IsOwnOpen old it
         (subst (λ c. CellValue c value) (cell_there new item.to place open_new place_new) has)
 
 -- what was seen of any class stays so
-pub seen_kept : (old new : Share) → new.id ≡ old.id → new.n ≡ old.n → new.statuses ≡ old.statuses →
+pub seen_kept : (old new : Share) → new.id ≡ old.id → new.nodes ≡ old.nodes → new.statuses ≡ old.statuses →
     ((other : ℕ) → start_at new.slots (length new.pool) other ≡ start_at old.slots (length old.pool) other) →
     (class : ℕ) (look : Option Seen) → IsSeen old class look → IsSeen new class look
 seen_kept old new id_same n_same same starts class None is = seen_not new class
@@ -256,9 +256,9 @@ short_where (suc (suc b)) cell low short = absurd (omega arith)
 
 pub cell_short : (share : Share) (class : ℕ) → IsOwn share class → IsShortCell (cell_at share class)
 unfolding IsOwn cell_at open_number
-cell_short share class own = short_where (open_at share.statuses.words (class / share.n))
-    (cell_in share.slots share.pool (opens_below share.statuses.words (class / share.n)))
-    (let low : open_at share.statuses.words (class / share.n) < 2 = omega arith in low)
-    (λ one. share.pooled.short (opens_below share.statuses.words (class / share.n))
-    (subst (λ (k : ℕ). opens_below share.statuses.words (class / share.n) < k) (sym share.opens)
-    (rank_less share.statuses.words (class / share.n) share.statuses.places own.1 one)))
+cell_short share class own = short_where (open_at share.statuses.words (class / share.nodes))
+    (cell_in share.slots share.pool (opens_below share.statuses.words (class / share.nodes)))
+    (let low : open_at share.statuses.words (class / share.nodes) < 2 = omega arith in low)
+    (λ one. share.pooled.short (opens_below share.statuses.words (class / share.nodes))
+    (subst (λ (k : ℕ). opens_below share.statuses.words (class / share.nodes) < k) (sym share.opens)
+    (rank_less share.statuses.words (class / share.nodes) share.statuses.places own.1 one)))

@@ -20,15 +20,15 @@ places_of share = share.statuses.places
 
 -- the class is the share's own: it has a place in it
 unfoldable pub IsOwn : Share → ℕ → Type 0
-IsOwn share class = (class % share.n ≡ share.id) × (class / share.n < share.statuses.places)
+IsOwn share class = (class % share.nodes ≡ share.id) × (class / share.nodes < share.statuses.places)
 
 -- the status of an own class
 unfoldable pub status_at : Share → ℕ → Status
-status_at share class = status_in share.statuses.words (class / share.n)
+status_at share class = status_in share.statuses.words (class / share.nodes)
 
 -- the number of the cell of an own class that is open
 unfoldable pub open_number : Share → ℕ → ℕ
-open_number share class = opens_below share.statuses.words (class / share.n)
+open_number share class = opens_below share.statuses.words (class / share.nodes)
 
 -- the cell where the class is open, else that of a class without moves
 abbrev pub cell_where : ℕ → Cell → Cell
@@ -37,7 +37,7 @@ cell_where (suc _) cell = cell
 
 -- the cell of an own class
 unfoldable pub cell_at : Share → ℕ → Cell
-cell_at share class = cell_where (open_at share.statuses.words (class / share.n)) (cell_in share.slots share.pool (open_number share class))
+cell_at share class = cell_where (open_at share.statuses.words (class / share.nodes)) (cell_in share.slots share.pool (open_number share class))
 
 -- the value of a class with that status and cell
 abbrev pub IsValue : Status → Cell → Value → Type 0
@@ -61,7 +61,7 @@ GoesTooDeep share item = IsTooDeep (changed item.was item.now (cell_at share ite
 -- the two shares own the same classes, and know the same status of each
 pub record SameClasses (old new : Share) : Type 0 where
   pub id : new.id ≡ old.id
-  pub n : new.n ≡ old.n
+  pub nodes : new.nodes ≡ old.nodes
   pub places : places_of new ≡ places_of old
   pub owned : (class : ℕ) → IsOwn old class → IsOwn new class
   pub statuses : (class : ℕ) → status_at new class ≡ status_at old class

@@ -18,6 +18,7 @@ use crate::steps::{apply_at, value_in};
 use dob_lists::Segments;
 use dob_moves::Status;
 use dob_pieces::Memory;
+use dob_safra::NodeCount;
 use dob_value::Value;
 use std::alloc::Global;
 
@@ -31,17 +32,17 @@ pub struct Seen {
     pub(crate) start: u32,
 }
 
-/// The statuses of the classes k * n + id, for k from 0 on, of one owner `id` among `n`, and the cells of those that are open, in
+/// The statuses of the classes k * nodes + id, for k from 0 on, of one owner `id` among `nodes`, and the cells of those that are open, in
 /// their order.
 #[derive(Drop)]
 pub struct Share {
     id: usize,
-    n: usize,
+    nodes: NodeCount,
     settled: u64,
     statuses: Statuses,
     slots: Segments<Slot>,
     pool: Segments<u16>,
-    ghost owners: { (id < n) × (n ≤ 16) },
+    ghost owner: { id < nodes },
     ghost opens: { length slots ≡ opens_below statuses.words statuses.places },
     ghost pooled: { ArePooled slots pool },
 }
@@ -52,7 +53,7 @@ impl Share {
     ghost use Rattle.dob_share.specs.Cells.{SameCell, changed, fresh};
     ghost use Rattle.dob_share.specs.Shares.{places_of, IsOwn, status_at, open_number, cell_at, HasValueNow, Fits, GoesTooDeep, SameClasses, IsOwnOpen, IsSeen, HasSettled};
 
-    /// The share of owner `id` among `n`, at most 16, of the classes that are listed, with what each is at the start. Only open
+    /// The share of owner `id` among `nodes`, of the classes that are listed, with what each is at the start. Only open
     /// classes have cells. It makes all the room that `apply` will need, in segments as long as those of the list.
     ///
     /// # Errors
@@ -63,28 +64,27 @@ impl Share {
         alloc: Global,
         openings: &Segments<Opening>,
         id: usize,
-        n: usize,
+        nodes: NodeCount,
     ) -> Result<Share, Memory>
-        requires owner { id < n }
-        requires owners { n ≤ 16 }
-        ensures who { IfOk result (λ share. (share.id ≡ id) × (share.n ≡ n)) }
-        ensures owned { IfOk result (λ share. (class : ℕ) → IsOwn share class ↔ ((class % n ≡ id) × (class < length openings.now))) }
+        requires { id < nodes }
+        ensures who { IfOk result (λ share. (share.id ≡ id) × (share.nodes ≡ nodes)) }
+        ensures owned { IfOk result (λ share. (class : ℕ) → IsOwn share class ↔ ((class % nodes ≡ id) × (class < length openings.now))) }
         ensures statuses { IfOk result (λ share. (class : ℕ) → IsOwn share class → status_at share class ≡ (opening_of openings.now class).status) }
         ensures cells { IfOk result (λ share. (class : ℕ) → IsOwn share class → SameCell (cell_at share class) (fresh (cell_moves (opening_of openings.now class)))) }
-        ensures settled { IfOk result (λ share. share.settled ≡ settled_among (λ place. (opening_of openings.now (class_of_place n id place)).status) (places_of share)) }
+        ensures settled { IfOk result (λ share. share.settled ≡ settled_among (λ place. (opening_of openings.now (class_of_place nodes id place)).status) (places_of share)) }
     {
         let count = openings.len();
         if count > u64::from(u32::MAX) {
             return Err(Memory);
         }
-        let places = places_among(count, id as u64, n as u64);
-        let statuses = Statuses::open(alloc, openings, places, id, n)?;
+        let places = places_among(count, id as u64, nodes);
+        let statuses = Statuses::open(alloc, openings, places, id, nodes)?;
         let segment_length = openings.segment_length();
         let mut slots = Segments::new(alloc, segment_length);
         let mut moves = 0;
         let mut settled = 0;
         for place in 0..places {
-            let opening = opening_at(openings, place * n as u64 + id as u64);
+            let opening = opening_at(openings, place * nodes.get() as u64 + id as u64);
             let entries = push_slot(&mut slots, moves, opening)?;
             moves += entries;
             settled += settlements_of(opening.status);
@@ -92,7 +92,7 @@ impl Share {
         let pool = Segments::filled(alloc, segment_length, moves, 0)?;
         Ok(Share {
             id,
-            n,
+            nodes,
             settled,
             statuses,
             slots,
@@ -132,7 +132,7 @@ impl Share {
         requires { IsOwn self.now class }
         ensures { HasValueNow self.now class result }
     {
-        let place = class / self.n as u64;
+        let place = class / self.nodes.get() as u64;
         match self.statuses.status(place) {
             Status::Caught => Value::Win(1),
             Status::Tried | Status::Stuck => Value::Loss(0),
@@ -236,11 +236,11 @@ impl Share {
     fn cell_number(&self, class: u64) -> Option<usize>
         ensures { MatchOption result (¬ IsOwnOpen self.now class) (λ number. IsOwnOpen self.now class × (number ≡ open_number self.now class)) }
     {
-        let n = self.n as u64;
-        if class % n != self.id as u64 {
+        let nodes = self.nodes.get() as u64;
+        if class % nodes != self.id as u64 {
             return None;
         }
-        let place = class / n;
+        let place = class / nodes;
         if place >= self.statuses.places() {
             return None;
         }
@@ -251,16 +251,16 @@ impl Share {
     }
 }
 
-// How many of that many classes an owner has: those with the numbers k * n + id.
+// How many of that many classes an owner has: those with the numbers k * nodes + id.
 #[tactic(auto, using(crate::proofs::OwnOpened::places_count))]
-fn places_among(count: u64, id: u64, n: u64) -> u64
-    requires { id < n }
-    ensures { (place : ℕ) → (place < result) ↔ (place * n + id < count) }
+fn places_among(count: u64, id: u64, nodes: NodeCount) -> u64
+    requires { id < nodes }
+    ensures { (place : ℕ) → (place < result) ↔ (place * nodes + id < count) }
 {
     if count <= id {
         return 0;
     }
-    (count - 1 - id) / n + 1
+    (count - 1 - id) / nodes.get() as u64 + 1
 }
 
 // How many settlements the opening of a class with that status makes.

@@ -9,6 +9,7 @@ use crate::opening::{Opening, opening_at};
 use dob_lists::Segments;
 use dob_moves::Status;
 use dob_pieces::Memory;
+use dob_safra::NodeCount;
 use std::alloc::Global;
 use std::marker::Model;
 use std::sync::Arc;
@@ -42,7 +43,7 @@ impl Model for Statuses {
 }
 
 impl Statuses {
-    /// Those that are listed of the classes of owner `id` among `n`.
+    /// Those that are listed of the classes of owner `id` among `nodes`.
     ///
     /// # Errors
     ///
@@ -52,15 +53,15 @@ impl Statuses {
         openings: &Segments<Opening>,
         places: u64,
         id: usize,
-        n: usize,
+        nodes: NodeCount,
     ) -> Result<Statuses, Memory>
         requires few { length openings.now < 2 ^ 32 }
         requires few_places { places < 2 ^ 32 }
-        requires places { (other : ℕ) → other < places → other * n + id < length openings.now }
+        requires places { (other : ℕ) → other < places → other * nodes + id < length openings.now }
         ensures places { IfOk result (λ statuses. statuses.places ≡ places) }
-        ensures statuses { IfOk result (λ statuses. (place : ℕ) → place < places → IsStatusOf (word_of statuses.words place) (place % 64) (opening_of openings.now (class_of_place n id place)).status) }
+        ensures statuses { IfOk result (λ statuses. (place : ℕ) → place < places → IsStatusOf (word_of statuses.words place) (place % 64) (opening_of openings.now (class_of_place nodes id place)).status) }
     {
-        let words = words_of(alloc, openings, places, id, n)?;
+        let words = words_of(alloc, openings, places, id, nodes)?;
         let words = Arc::new(alloc, words)?;
         Ok(Statuses { places, words })
     }
@@ -107,25 +108,25 @@ impl Statuses {
     }
 }
 
-// The words of the classes of owner `id` among `n`, and one more at least than `places` ask for.
+// The words of the classes of owner `id` among `nodes`, and one more at least than `places` ask for.
 fn words_of(
     alloc: Global,
     openings: &Segments<Opening>,
     places: u64,
     id: usize,
-    n: usize,
+    nodes: NodeCount,
 ) -> Result<Segments<StatusWord>, Memory>
     requires few { length openings.now < 2 ^ 32 }
     requires few_places { places < 2 ^ 32 }
-    requires places { (other : ℕ) → other < places → other * n + id < length openings.now }
+    requires places { (other : ℕ) → other < places → other * nodes + id < length openings.now }
     ensures within { IfOk result (λ words. places < length words * 64) }
     ensures counted { IfOk result (λ words. AreCounted words) }
-    ensures statuses { IfOk result (λ words. (place : ℕ) → place < places → IsStatusOf (word_of words place) (place % 64) (opening_of openings.now (class_of_place n id place)).status) }
+    ensures statuses { IfOk result (λ words. (place : ℕ) → place < places → IsStatusOf (word_of words place) (place % 64) (opening_of openings.now (class_of_place nodes id place)).status) }
 {
     let mut words = Segments::new(alloc, openings.segment_length());
     let mut count = 0;
     for number in 0..places / 64 + 1 {
-        let word = word_at(openings, places, id, n, number * 64, count as u32);
+        let word = word_at(openings, places, id, nodes, number * 64, count as u32);
         words.push(word)?;
         count += u64::from(word.opens.count_ones());
     }
@@ -137,22 +138,22 @@ fn word_at(
     openings: &Segments<Opening>,
     places: u64,
     id: usize,
-    n: usize,
+    nodes: NodeCount,
     first: u64,
     before: u32,
 ) -> StatusWord
     requires few { length openings.now < 2 ^ 32 }
     requires few_places { first ≤ 2 ^ 32 }
-    requires places { (other : ℕ) → other < places → other * n + id < length openings.now }
+    requires places { (other : ℕ) → other < places → other * nodes + id < length openings.now }
     ensures low { result.opens < 2 ^ 64 }
     ensures before { result.before ≡ before }
-    ensures each { (k : ℕ) → k < 64 → IsStatusOf result k (status_listed openings.now places n id (first + k)) }
+    ensures each { (k : ℕ) → k < 64 → IsStatusOf result k (status_listed openings.now places nodes id (first + k)) }
 {
     let mut opens = 0;
     let mut caught = 0;
     let mut tried = 0;
     for k in 0..64 {
-        let status = listed_status(openings, places, id, n, first + u64::from(k));
+        let status = listed_status(openings, places, id, nodes, first + u64::from(k));
         let (is_open, is_caught, is_tried) = digits_of(status);
         opens = with_digit(opens, k, is_open);
         caught = with_digit(caught, k, is_caught);
@@ -171,17 +172,17 @@ fn listed_status(
     openings: &Segments<Opening>,
     places: u64,
     id: usize,
-    n: usize,
+    nodes: NodeCount,
     place: u64,
 ) -> Status
     requires few { length openings.now < 2 ^ 32 }
-    requires places { (other : ℕ) → other < places → other * n + id < length openings.now }
-    ensures { result ≡ status_listed openings.now places n id place }
+    requires places { (other : ℕ) → other < places → other * nodes + id < length openings.now }
+    ensures { result ≡ status_listed openings.now places nodes id place }
 {
     if place >= places {
         return Status::Stuck;
     }
-    opening_at(openings, place * n as u64 + id as u64).status
+    opening_at(openings, place * nodes.get() as u64 + id as u64).status
 }
 
 // One for each of an open class, one that is caught and one that is tried, else nought.

@@ -11,6 +11,7 @@ use dob_lists::SegmentLength;
 use dob_moves::{Status, status_and_count};
 use dob_node::{Node, Opening, alone, opening};
 use dob_pieces::{Family, Hand, Hands, Kind, Piece, Position, Profile, Side};
+use dob_safra::NodeCount;
 use dob_share::{Fault, Item, Share};
 use dob_update::{Batch, BatchSize};
 use dob_value::{Value, sweep_table};
@@ -82,7 +83,7 @@ fn is_lost_at_once<A: Abort>(rt: &A, alloc: Global, position: &Position) {
     assert!(rt; status == Status::Stuck);
     assert!(rt; moves == 0);
     let list = listed(rt, alloc, &[Opening { status, moves }]);
-    let mut share = Share::open(alloc, &list, 0, 1).expect(rt, "a share");
+    let mut share = Share::open(alloc, &list, 0, NodeCount::one()).expect(rt, "a share");
     assert!(rt; share.settled() == 1);
     assert!(rt; share.value(0) == Value::Loss(0));
     let item = Item {
@@ -147,7 +148,8 @@ fn one_of_two<A: Abort>(rt: &A, alloc: Global, classes: &Classes, id: usize) -> 
     ensures n { result.n ≡ 2 }
 {
     let openings = opening(alloc, classes, SegmentLength::longest()).expect(rt, "openings");
-    Node::open(alloc, &openings, classes.family, id, 2).expect(rt, "a node")
+    let two = NodeCount::new(2).expect(rt, "two nodes");
+    Node::open(alloc, &openings, classes.family, id, two).expect(rt, "a node")
 }
 
 // What a node sends of one class's settlements: the classes listed, and how many items each batch leaves out.

@@ -1,10 +1,11 @@
 // Shares of made-up classes: cell 17 has five moves, as the class of that number of lions alone; class 0 is caught.
-ghost use Rattle.std.specs.Prelude.{◌<◌, ◌≤◌};
+ghost use Rattle.std.specs.Prelude.{◌<◌};
 
 use crate::openings::listed;
 use dob_lists::{SegmentLength, Segments};
 use dob_moves::Status;
 use dob_pieces::Memory;
+use dob_safra::NodeCount;
 use dob_share::{Fault, Item, Opening, Share, owner};
 use dob_value::Value;
 use std::alloc::Global;
@@ -38,13 +39,13 @@ fn openings(alloc: Global) -> Result<Segments<Opening>, Memory> {
     Ok(list)
 }
 
-// The share of that owner among n.
-fn share_of(rt: &impl Abort, alloc: Global, id: usize, n: usize) -> Share
-    requires owner { id < n }
-    requires owners { n ≤ 16 }
+// The share of that owner among so many nodes.
+fn share_of(rt: &impl Abort, alloc: Global, id: usize, nodes: usize) -> Share
+    requires { id < nodes }
 {
+    let nodes = NodeCount::new(nodes).expect(rt, "a number of nodes");
     let list = openings(alloc).expect(rt, "memory");
-    Share::open(alloc, &list, id, n).expect(rt, "a share")
+    Share::open(alloc, &list, id, nodes).expect(rt, "a share")
 }
 
 /// A change of what one move of a class leads to, with the share's answer: the settlement's values, or the refusal.
@@ -199,7 +200,7 @@ fn a_refused_distance_changes_nothing(rt: HostRuntime) {
 #[test]
 fn values_of_classes(rt: HostRuntime) {
     let list = listed(&rt, rt.alloc(), &[CAUGHT, STUCK, OPEN_BY_FIVE]);
-    let mut share = Share::open(rt.alloc(), &list, 0, 1).expect(&rt, "a share");
+    let mut share = Share::open(rt.alloc(), &list, 0, NodeCount::one()).expect(&rt, "a share");
     assert!(rt; share.value(0) == Value::Win(1));
     assert!(rt; share.value(1) == Value::Loss(0));
     assert!(rt; share.value(2) == Value::Draw);

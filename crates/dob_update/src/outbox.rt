@@ -20,13 +20,13 @@ use std::alloc::Global;
 use std::collections::VecDeque;
 use std::marker::Model;
 
-/// What one of `n` owners of a family's classes has still to send to another: the items of its settlements for the
+/// What one of `nodes` owners of a family's classes has still to send to another: the items of its settlements for the
 /// receiver, in order. It keeps 8 bytes an item, its class, and 32 a settlement, at most double while it grows.
 #[derive(Drop)]
 pub struct Outbox {
     alloc: Global,
     family: Family,
-    n: usize,
+    nodes: usize,
     from: usize,
     to: usize,
     parts: VecDeque<Part>,
@@ -44,20 +44,20 @@ impl Model for Outbox {
 
     ghost Value = { OutboxView };
 
-    ghost view = { λ o. record { family = o.family; n = o.n; from = o.from; to = o.to; settlements = settlements_of o.parts.items; skip = o.skip; items = items_of_parts o.parts.items o.classes.items; next = o.next } };
+    ghost view = { λ o. record { family = o.family; n = o.nodes; from = o.from; to = o.to; settlements = settlements_of o.parts.items; skip = o.skip; items = items_of_parts o.parts.items o.classes.items; next = o.next } };
 
-    ghost invariant = { λ o. AreListed o.family o.n o.to o.parts.items o.skip o.classes.items };
+    ghost invariant = { λ o. AreListed o.family o.nodes o.to o.parts.items o.skip o.classes.items };
 }
 
 impl Outbox {
-    /// An outbox with nothing to send, of one of `n` owners for another.
-    pub fn new(alloc: Global, family: Family, n: usize, from: usize, to: usize) -> Outbox
-        ensures { result ≡ empty_outbox family n from to }
+    /// An outbox with nothing to send, of one of `nodes` owners for another.
+    pub fn new(alloc: Global, family: Family, nodes: usize, from: usize, to: usize) -> Outbox
+        ensures { result ≡ empty_outbox family nodes from to }
     {
         Outbox {
             alloc,
             family,
-            n,
+            nodes,
             from,
             to,
             parts: VecDeque::new(alloc),
@@ -124,7 +124,7 @@ impl Outbox {
         self.parts.reserve(1)?;
         self.classes.reserve(targets.len())?;
         let before = self.classes.len();
-        push_owned(&mut self.classes, targets, self.n, self.to);
+        push_owned(&mut self.classes, targets, self.nodes, self.to);
         let items = self.classes.len() - before;
         if items == 0 {
             return Ok(());
@@ -164,7 +164,7 @@ impl Outbox {
         let items = front_items(self.alloc, &parts, &self.classes, taken)?;
         let batch = Batch::new(
             self.family,
-            self.n,
+            self.nodes,
             self.from,
             self.to,
             self.next,
@@ -189,14 +189,14 @@ fn push_classes(queue: &mut VecDeque<u64>, items: &[Item])
     }
 }
 
-// Appends those of the classes that are the owner's, one of `n`; there is room for all of them.
-fn push_owned(queue: &mut VecDeque<u64>, classes: &[u64], n: usize, to: usize)
-    requires owners { 0 < n }
+// Appends those of the classes that are the owner's, one of `nodes`; there is room for all of them.
+fn push_owned(queue: &mut VecDeque<u64>, classes: &[u64], nodes: usize, to: usize)
+    requires owners { 0 < nodes }
     requires room { deque_len queue.old + length classes.now ≤ deque_capacity queue.old }
-    ensures { queue.new.items ≡ queue.old.items ++ filter (λ class. owner_of n class == to) classes.now }
+    ensures { queue.new.items ≡ queue.old.items ++ filter (λ class. owner_of nodes class == to) classes.now }
 {
     for class in classes {
-        if owner(*class, n) == to {
+        if owner(*class, nodes) == to {
             queue.push_back_reserved(*class);
         }
     }

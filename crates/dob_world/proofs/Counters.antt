@@ -20,7 +20,7 @@ use Rattle.dob_safra.proofs.Counts.{flipped, row_stays, flipped_stay, row_raised
 -- ---- counters
 
 -- a counter that was read is the ring's
-pub counter_read : (d : Detector) (i : ℕ) (z : ℤ) → IsCounted d → i < d.n → z ≡ get_or d.counters.items i z → z ≡ counter d.n (ring_of d) i
+pub counter_read : (d : Detector) (i : ℕ) (z : ℤ) → IsCounted d → i < d.nodes → z ≡ get_or d.counters.items i z → z ≡ counter d.nodes (ring_of d) i
 counter_read d i z counted low is = is ∙ get_or_default d.counters.items i z (pos 0) (omega (arith, low, counted.counters)) ∙ counted.counted i low
 
 pub zero_counter : (n : ℕ) (ring : Ring) (i : ℕ) → ((j : ℕ) → j < n → ring.posted i j ≡ 0) → ((j : ℕ) → j < n → ring.taken j i ≡ 0) →

@@ -11,7 +11,7 @@ use Rattle.dob_world.proofs.Stood.{state_at, stand_after}
 
 -- The event was possible, it happened, and nodes, lanes and detector keep what each has to keep.
 pub event_done : (old new : World) (event : Event) → IsStanding old → old.steps < 2 ^ 40 → setting_of new ≡ setting_of old →
-    AreInPlace (setting_of old) new.nodes.items new.lanes.items → IsCounted new.detector × (new.detector.n ≡ old.detector.n) →
+    AreInPlace (setting_of old) new.nodes.items new.lanes.items → IsCounted new.detector × (new.detector.nodes ≡ old.detector.nodes) →
     AreCutsPosted old.node_count new.nodes.items (ring_of new.detector) → CanHappen (setting_of old) (state_of old) event →
     Happens (setting_of old) (state_of old) event (state_at (setting_of old) new.nodes.items new.lanes.items new.detector) →
     (new.failed ≡ old.failed) × (new.steps ≡ old.steps) → IsEventDone event old new

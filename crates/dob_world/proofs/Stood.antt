@@ -26,7 +26,7 @@ state_at k nodes lanes detector = record { world = world_shown k.family k.n node
 
 module _ (k : Setting) (nodes : List Node) (lanes : List Lane) (detector : Detector) (steps : ℕ) (stand : Stand k nodes lanes detector steps) where
   pub stand_after : (after : List Node) (next : List Lane) (new : Detector) (event : Event) → steps < 2 ^ 40 → AreInPlace k after next → IsCounted new →
-      new.n ≡ detector.n → AreCutsPosted k.n after (ring_of new) → CanHappen k (state_at k nodes lanes detector) event →
+      new.nodes ≡ detector.nodes → AreCutsPosted k.n after (ring_of new) → CanHappen k (state_at k nodes lanes detector) event →
       Happens k (state_at k nodes lanes detector) event (state_at k after next new) → Stand k after next new (steps + 1)
   stand_after after next new event room places counted same cuts can happens =
       let both = happening_keeps_all k (state_at k nodes lanes detector) (state_at k after next new) event stand.setting.nodes.0 stand.lawful stand.linked
@@ -51,22 +51,22 @@ module _ (k : Setting) (nodes : List Node) (lanes : List Lane) (detector : Detec
 
   -- ---- what the detector may count
 
-  pub ring_lawful : IsLawfulRing detector.n (ring_of detector)
+  pub ring_lawful : IsLawfulRing detector.nodes (ring_of detector)
   ring_lawful = subst (λ (m : ℕ). IsLawfulRing m (ring_of detector)) (sym stand.same_n) stand.matches.lawful
 
-  pub low_ring : (i : ℕ) → i < k.n → i < detector.n
+  pub low_ring : (i : ℕ) → i < k.n → i < detector.nodes
   low_ring i low = omega (arith, low, stand.same_n)
 
   pub can_count : (i j : ℕ) → i < k.n → j < k.n → CanCount detector i j
   can_count i j low_i low_j = record { counted = stand.counted; lawful = ring_lawful; from = low_ring i low_i; to = low_ring j low_j }
 
-  pub moved_here : (event : RingEvent) (new : Ring) → Moved detector.n (ring_of detector) event new → Moved k.n (ring_of detector) event new
+  pub moved_here : (event : RingEvent) (new : Ring) → Moved detector.nodes (ring_of detector) event new → Moved k.n (ring_of detector) event new
   moved_here event new moved = subst (λ (m : ℕ). Moved m (ring_of detector) event new) stand.same_n moved
 
-  pub announceable_here : IsAnnounceable detector.n (ring_of detector) true → IsAnnounceable k.n (ring_of detector) true
+  pub announceable_here : IsAnnounceable detector.nodes (ring_of detector) true → IsAnnounceable k.n (ring_of detector) true
   announceable_here may = subst (λ (m : ℕ). IsAnnounceable m (ring_of detector) true) stand.same_n may
 
-  pub announceable_there : IsAnnounceable k.n (ring_of detector) true → IsAnnounceable detector.n (ring_of detector) true
+  pub announceable_there : IsAnnounceable k.n (ring_of detector) true → IsAnnounceable detector.nodes (ring_of detector) true
   announceable_there may = subst (λ (m : ℕ). IsAnnounceable m (ring_of detector) true) (sym stand.same_n) may
 
   pub sender_black : (i j : ℕ) → i < k.n → j < k.n → i ≢ j → 0 < length ((world_shown k.family k.n nodes lanes).outbox i j) → (ring_of detector).black i ≡ true

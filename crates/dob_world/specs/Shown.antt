@@ -47,8 +47,8 @@ world_shown family n nodes lanes = record {
 -- what the detector shows
 abbrev pub ring_of : Detector → Ring
 ring_of detector = record {
-  posted = λ i j. slice_index detector.posted.items (i * detector.n + j);
-  taken = λ i j. slice_index detector.taken.items (i * detector.n + j);
+  posted = λ i j. slice_index detector.posted.items (i * detector.nodes + j);
+  taken = λ i j. slice_index detector.taken.items (i * detector.nodes + j);
   black = λ i. slice_index_or detector.black.items i false;
   token = detector.token;
   announced = detector.announced;

@@ -53,19 +53,19 @@ HasOpenings family = (openings : List Opening) × AreOpenings family openings
 
 -- A list has a place for each pair of nodes or for each node, and each node's counter is kept.
 pub record IsCounted (detector : Detector) : Type 0 where
-  pub nodes : IsSize detector.n
-  pub posted : length detector.posted.items ≡ detector.n * detector.n
-  pub taken : length detector.taken.items ≡ detector.n * detector.n
-  pub black : length detector.black.items ≡ detector.n
-  pub counters : length detector.counters.items ≡ detector.n
-  pub counted : (i : ℕ) → i < detector.n → slice_index_or detector.counters.items i (pos 0) ≡ counter detector.n (ring_of detector) i
+  pub nodes : IsSize detector.nodes
+  pub posted : length detector.posted.items ≡ detector.nodes * detector.nodes
+  pub taken : length detector.taken.items ≡ detector.nodes * detector.nodes
+  pub black : length detector.black.items ≡ detector.nodes
+  pub counters : length detector.counters.items ≡ detector.nodes
+  pub counted : (i : ℕ) → i < detector.nodes → slice_index_or detector.counters.items i (pos 0) ≡ counter detector.nodes (ring_of detector) i
 
 -- The detector is kept and lawful, and has both nodes.
 pub record CanCount (detector : Detector) (i j : ℕ) : Type 0 where
   pub counted : IsCounted detector
-  pub lawful : IsLawfulRing detector.n (ring_of detector)
-  pub from : i < detector.n
-  pub to : j < detector.n
+  pub lawful : IsLawfulRing detector.nodes (ring_of detector)
+  pub from : i < detector.nodes
+  pub to : j < detector.nodes
 
 -- no link has more posted batches than so many
 abbrev pub HasAtMost : ℕ → ℕ → Ring → Type 0
@@ -82,7 +82,7 @@ pub record Stand (k : Setting) (nodes : List Node) (lanes : List Lane) (detector
   pub openings : HasOpenings k.family
   pub places : AreInPlace k nodes lanes
   pub counted : IsCounted detector
-  pub same_n : detector.n ≡ k.n
+  pub same_n : detector.nodes ≡ k.n
   pub lawful : AreLawful k (world_shown k.family k.n nodes lanes).nodes
   pub falls : HaveFallsIn k (world_shown k.family k.n nodes lanes).nodes
   pub linked : IsLinked k (world_shown k.family k.n nodes lanes)

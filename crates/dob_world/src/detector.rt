@@ -13,7 +13,7 @@ use std::alloc::Global;
 /// whether it is black; the token; and whether the end is announced.
 #[derive(Drop)]
 pub(crate) struct Detector {
-    pub(crate) n: usize,
+    pub(crate) nodes: NodeCount,
     pub(crate) posted: Vec<u64>,
     pub(crate) taken: Vec<u64>,
     pub(crate) counters: Vec<i64>,
@@ -24,17 +24,17 @@ pub(crate) struct Detector {
 
 impl Detector {
     /// The ring of so many nodes at its start.
-    pub(crate) fn open(alloc: Global, node_count: NodeCount) -> Result<Detector, Memory>
-        ensures start { IfOk result (λ detector. IsStart node_count (ring_of detector)) }
-        ensures counted { IfOk result (λ detector. IsCounted detector × (detector.n ≡ node_count)) }
+    pub(crate) fn open(alloc: Global, nodes: NodeCount) -> Result<Detector, Memory>
+        ensures start { IfOk result (λ detector. IsStart nodes (ring_of detector)) }
+        ensures counted { IfOk result (λ detector. IsCounted detector × (detector.nodes ≡ nodes)) }
     {
-        let n = node_count.get();
-        let posted = vec![in alloc; 0; n * n]?;
-        let taken = vec![in alloc; 0; n * n]?;
-        let counters = vec![in alloc; 0; n]?;
-        let black = vec![in alloc; true; n]?;
+        let count = nodes.get();
+        let posted = vec![in alloc; 0; count * count]?;
+        let taken = vec![in alloc; 0; count * count]?;
+        let counters = vec![in alloc; 0; count]?;
+        let black = vec![in alloc; true; count]?;
         Ok(Detector {
-            n,
+            nodes,
             posted,
             taken,
             counters,
@@ -49,10 +49,10 @@ impl Detector {
         requires ready { CanCount self.old from to }
         requires black { (ring_of self.old).black from ≡ true }
         requires few { (ring_of self.old).posted from to < 2 ^ 40 }
-        ensures moved { Moved self.old.n (ring_of self.old) (Post from to) (ring_of self.new) }
-        ensures counted { IsCounted self.new × (self.new.n ≡ self.old.n) }
+        ensures moved { Moved self.old.nodes (ring_of self.old) (Post from to) (ring_of self.new) }
+        ensures counted { IsCounted self.new × (self.new.nodes ≡ self.old.nodes) }
     {
-        let place = from * self.n + to;
+        let place = from * self.nodes.get() + to;
         self.posted[place] += 1;
         self.counters[from] += 1;
     }
@@ -61,10 +61,10 @@ impl Detector {
     pub(crate) fn count_take(&mut self, from: usize, to: usize)
         requires ready { CanCount self.old from to }
         requires waiting { (ring_of self.old).taken from to < (ring_of self.old).posted from to }
-        ensures moved { Moved self.old.n (ring_of self.old) (Take from to) (ring_of self.new) }
-        ensures counted { IsCounted self.new × (self.new.n ≡ self.old.n) }
+        ensures moved { Moved self.old.nodes (ring_of self.old) (Take from to) (ring_of self.new) }
+        ensures counted { IsCounted self.new × (self.new.nodes ≡ self.old.nodes) }
     {
-        let place = from * self.n + to;
+        let place = from * self.nodes.get() + to;
         self.taken[place] += 1;
         self.counters[to] -= 1;
         self.black[to] = true;
@@ -73,19 +73,24 @@ impl Detector {
     /// The node that has the token passes it, and is white now.
     pub(crate) fn pass_token(&mut self)
         requires counted { IsCounted self.old }
-        requires lawful { IsLawfulRing self.old.n (ring_of self.old) }
-        ensures moved { Moved self.old.n (ring_of self.old) (Pass self.old.token.at) (ring_of self.new) }
-        ensures counted { IsCounted self.new × (self.new.n ≡ self.old.n) }
+        requires lawful { IsLawfulRing self.old.nodes (ring_of self.old) }
+        ensures moved { Moved self.old.nodes (ring_of self.old) (Pass self.old.token.at) (ring_of self.new) }
+        ensures counted { IsCounted self.new × (self.new.nodes ≡ self.old.nodes) }
     {
         let node = self.token.at;
-        self.token = passed(self.token, self.counters[node], self.black[node], self.n);
+        self.token = passed(
+            self.token,
+            self.counters[node],
+            self.black[node],
+            self.nodes.get(),
+        );
         self.black[node] = false;
     }
 
     /// Whether the end may be announced, where node 0 is idle.
     pub(crate) fn may_end(&self) -> bool
         requires { IsCounted self.now }
-        ensures { IsTrue result ↔ IsAnnounceable self.now.n (ring_of self.now) true }
+        ensures { IsTrue result ↔ IsAnnounceable self.now.nodes (ring_of self.now) true }
     {
         may_announce(self.token, self.counters[0], self.black[0], true)
     }
@@ -93,9 +98,9 @@ impl Detector {
     /// The end, which may be announced, is.
     pub(crate) fn announce_end(&mut self)
         requires counted { IsCounted self.old }
-        requires may { IsAnnounceable self.old.n (ring_of self.old) true }
-        ensures moved { Moved self.old.n (ring_of self.old) Announce (ring_of self.new) }
-        ensures counted { IsCounted self.new × (self.new.n ≡ self.old.n) }
+        requires may { IsAnnounceable self.old.nodes (ring_of self.old) true }
+        ensures moved { Moved self.old.nodes (ring_of self.old) Announce (ring_of self.new) }
+        ensures counted { IsCounted self.new × (self.new.nodes ≡ self.old.nodes) }
     {
         self.announced = true;
     }

@@ -7,10 +7,10 @@ ghost use Rattle.dob_world.specs.Standing.{IsStanding, StandsOrStopped};
 ghost use Rattle.dob_world.specs.Worlds.{HaveFallsIn};
 ghost use Rattle.dob_world.specs.Stops.{IsForMemory};
 ghost use Rattle.dob_world.specs.Results.{HasMadeRound, HasDriven, StopsInRounds};
-ghost use Rattle.dob_safra.specs.Tokens.{most_nodes};
 
 use crate::event::Event;
 use crate::world::World;
+use dob_safra::NodeCount;
 use dob_stops::Fault;
 
 impl World {
@@ -55,9 +55,9 @@ impl World {
         ensures kept { StandsOrStopped self.new }
     {
         let before = self.steps;
-        let n = self.node_count.get();
-        for place in 0..3 * n + 2 * (n * n) + 1 {
-            match self.step(event_at(n, place)) {
+        let nodes = self.node_count;
+        for place in 0..round_length(nodes) {
+            match self.step(event_at(nodes, place)) {
                 Ok(_) => {}
                 Err(fault) => return Err(fault),
             }
@@ -66,17 +66,24 @@ impl World {
     }
 }
 
-// The event of that number in a round of `n` nodes.
-fn event_at(n: usize, place: usize) -> Event
-    requires some { 0 < n }
-    requires few { n ≤ most_nodes }
-    requires place { place < round_length n }
-    ensures { result ≡ round_event n place }
+// How many events a round of so many nodes has.
+fn round_length(nodes: NodeCount) -> usize
+    ensures { result ≡ round_length nodes }
 {
-    let first_post = 2 * n;
-    let first_take = 2 * n + n * n;
-    let first_pass = 2 * n + 2 * (n * n);
-    let last = 3 * n + 2 * (n * n);
+    let nodes = nodes.get();
+    3 * nodes + 2 * (nodes * nodes) + 1
+}
+
+// The event of that number in a round of so many nodes.
+fn event_at(nodes: NodeCount, place: usize) -> Event
+    requires { place < round_length nodes }
+    ensures { result ≡ round_event nodes place }
+{
+    let nodes = nodes.get();
+    let first_post = 2 * nodes;
+    let first_take = 2 * nodes + nodes * nodes;
+    let first_pass = 2 * nodes + 2 * (nodes * nodes);
+    let last = 3 * nodes + 2 * (nodes * nodes);
     if place < first_post {
         if place % 2 == 0 {
             Event::Expand(place / 2)
@@ -86,14 +93,14 @@ fn event_at(n: usize, place: usize) -> Event
     } else if place < first_take {
         let pair = place - first_post;
         Event::Post {
-            from: pair / n,
-            to: pair % n,
+            from: pair / nodes,
+            to: pair % nodes,
         }
     } else if place < first_pass {
         let pair = place - first_take;
         Event::Take {
-            from: pair / n,
-            to: pair % n,
+            from: pair / nodes,
+            to: pair % nodes,
         }
     } else if place < last {
         Event::Pass(last - 1 - place)

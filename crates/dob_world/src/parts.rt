@@ -21,10 +21,10 @@ pub(crate) fn open_nodes(
     requires { AreOpenings family openings.now }
     ensures { IfOk result (λ nodes. AreOpenedNodes openings.now family node_count node_count nodes.items) }
 {
-    let n = node_count.get();
+    let count = node_count.get();
     let mut nodes = Vec::new(alloc);
-    for id in 0..n {
-        nodes.push(Node::open(alloc, openings, family, id, n)?)?;
+    for id in 0..count {
+        nodes.push(Node::open(alloc, openings, family, id, node_count)?)?;
     }
     Ok(nodes)
 }

@@ -10,6 +10,7 @@ use dob_classes::Classes;
 use dob_lists::{SegmentLength, Segments};
 use dob_node::{Node, Opening, Part, opening};
 use dob_pieces::Family;
+use dob_safra::NodeCount;
 use std::alloc::Global;
 use std::process::Abort;
 
@@ -40,10 +41,11 @@ fn open_node<A: Abort>(
     ensures id { result.id ≡ id }
     ensures n { result.n ≡ 2 }
 {
-    if let Ok(node) = Node::open(alloc, openings, family, id, 2) {
+    let two = NodeCount::new(2).expect(rt, "two nodes");
+    if let Ok(node) = Node::open(alloc, openings, family, id, two) {
         return node;
     }
-    Node::open(alloc, openings, family, id, 2).expect(rt, "a node")
+    Node::open(alloc, openings, family, id, two).expect(rt, "a node")
 }
 
 // The parts of two nodes that went on until they had nothing to do, with lists in segments of so many items.

@@ -9,6 +9,7 @@ use dob_moves::status_and_count;
 use dob_node::{Opening, opening};
 use dob_pieces::Profile;
 use dob_run::scan;
+use dob_safra::NodeCount;
 use dob_share::Share;
 use std::process::Abort;
 
@@ -67,5 +68,5 @@ fn openings_past_a_segment(rt: HostRuntime) {
     assert!(rt; are_same(&scanned, &listed));
     assert!(rt; listed.segment_length().items() == 1 << 20);
     assert!(rt; scanned.segment_length().items() == 1 << 20);
-    assert!(rt; Share::open(rt.alloc(), &listed, 0, 1).is_ok());
+    assert!(rt; Share::open(rt.alloc(), &listed, 0, NodeCount::one()).is_ok());
 }

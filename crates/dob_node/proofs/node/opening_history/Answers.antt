@@ -6,5 +6,5 @@ use Rattle.dob_node.proofs.node.opening_history.Goals as goal
 
 pub returns : goal.returns
 returns c = c.new.ensures
-    ∙ ap (λ (statuses : StatusesView). let v : HistoryView = record { id = c.args.id; n = c.args.n; settlements = starts_of c.args.n c.args.id statuses; room = 0 } in v)
+    ∙ ap (λ (statuses : StatusesView). let v : HistoryView = record { id = c.args.id; n = c.args.nodes; settlements = starts_of c.args.nodes c.args.id statuses; room = 0 } in v)
     (c.new-starts.ensures ∙ c.in_ok-statuses.ensures)

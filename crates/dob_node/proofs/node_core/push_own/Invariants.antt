@@ -9,6 +9,6 @@ use Rattle.dob_node.proofs.node_core.push_own.Given as goal
 
 abbrev pub invariant-loop-class : goal.invariant-loop-class
 invariant-loop-class l = record {
-  appended : l.queue.items ≡ l.initial.queue.items ++ map (item_for l.settlement) (filter (λ class. owner_of l.n class == l.id) (take l.class-index l.targets));
+  appended : l.queue.items ≡ l.initial.queue.items ++ map (item_for l.settlement) (filter (λ class. owner_of l.nodes class == l.id) (take l.class-index l.targets));
   room : deque_len l.queue + (length l.targets - l.class-index) ≤ deque_capacity l.queue;
 }

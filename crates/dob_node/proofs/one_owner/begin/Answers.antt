@@ -1,5 +1,7 @@
 -- No step is made yet.
-use Rattle.std.proofs.Common.{subst}
+use Rattle.std.proofs.Common.{ℕ, IfOk, subst}
+use Rattle.dob_node.specs.NodeViews.{NodeView}
+use Rattle.dob_node.specs.Nodes.{IsOpened}
 use Rattle.dob_node.specs.Openings.{AreOpenings}
 use Rattle.dob_node.proofs.AloneOpens.{made_none_ok}
 use Rattle.dob_node.proofs.one_owner.begin.Goals as goal
@@ -8,4 +10,5 @@ pub returns-clause-made : goal.returns-clause-made
 returns-clause-made c =
     made_none_ok c.args.family c.in_ok-openings.openings c.open.result
     (subst (λ family. AreOpenings family c.in_ok-openings.openings) c.requires c.in_ok-openings.ensures)
-    c.open.ensures.opened c.open.ensures.sound
+    (subst (λ (k : ℕ). IfOk c.open.result (λ (node : NodeView). IsOpened c.in_ok-openings.openings c.args.family 0 k node)) c.one.ensures c.open.ensures.opened)
+    c.open.ensures.sound

@@ -1,7 +1,8 @@
 -- One empty outbox more.
-use Rattle.std.proofs.Common.{◌≡◌, ℕ, ◌+◌, ◌++◌, ◌∷◌, [], length, ap, ◌∙◌}
+use Rattle.std.proofs.Common.{◌≡◌, ℕ, ◌+◌, ◌++◌, ◌∷◌, [], length, ap, ◌∙◌, subst}
 use Rattle.std.proofs.lemmas.List.{length-append}
-use Rattle.dob_update.specs.Batches.{OutboxView}
+use Rattle.dob_update.specs.Batches.{OutboxView, empty_outbox}
+use Rattle.dob_node.specs.Outboxes.{outbox_in}
 use Rattle.dob_node.proofs.Sends.{empties_more}
 use Rattle.dob_node.proofs.outboxes.empty_outboxes.Goals as goal
 
@@ -11,6 +12,10 @@ loop-to-preserved c =
     let is : c.push.new.self.items ≡ old ++ c.new.result ∷ [] = c.in_ok-push.ensures.items in
     record {
       whole = ap length is ∙ length-append old (c.new.result ∷ []) ∙ ap (λ (k : ℕ). k + 1) c.loop-to.invariant.whole;
-      empty = empties_more c.args.family c.args.n c.args.from c.loop-to.to old c.push.new.self.items c.loop-to.invariant.whole c.loop-to.invariant.empty
+      empty = empties_more c.args.family c.get-count.result c.args.from c.loop-to.to old c.push.new.self.items c.loop-to.invariant.whole c.loop-to.invariant.empty
           (is ∙ ap (λ (o : OutboxView). old ++ o ∷ []) c.new.ensures);
     }
+
+pub returns-clause-empty : goal.returns-clause-empty
+returns-clause-empty c = subst (λ (k : ℕ). (to : ℕ) → outbox_in c.args.family k c.args.from c.loop-to.outboxes.items to ≡ empty_outbox c.args.family k c.args.from to)
+    c.get-count.ensures.value c.loop-to.invariant.empty

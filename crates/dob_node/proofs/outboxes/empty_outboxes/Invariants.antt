@@ -7,5 +7,5 @@ use Rattle.dob_node.proofs.outboxes.empty_outboxes.Given as goal
 abbrev pub invariant-loop-to : goal.invariant-loop-to
 invariant-loop-to l = record {
   whole : length l.outboxes.items ≡ l.to;
-  empty : (k : ℕ) → outbox_in l.family l.n l.from l.outboxes.items k ≡ empty_outbox l.family l.n l.from k;
+  empty : (k : ℕ) → outbox_in l.family l.count l.from l.outboxes.items k ≡ empty_outbox l.family l.count l.from k;
 }

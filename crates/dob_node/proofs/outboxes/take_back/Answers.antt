@@ -21,20 +21,20 @@ take_back_at-requires-clause-added c = λ default.
     let before = c.requires.added.0 in
     let more = c.requires.added.1 in
     let whole = more.are_added.whole in
-    let n_is : c.len-n.result ≡ length before = c.len-n.ensures ∙ c.args.outboxes.now.ok.0 ∙ whole in
+    let nodes_is : c.len-nodes.result ≡ length before = c.len-nodes.ensures ∙ c.args.outboxes.now.ok.0 ∙ whole in
     let within : c.loop-to.to < length before = omega (arith, whole, c.requires.upto, c.args.outboxes.now.ok.0, c.loop-to-test.true) in (
       get_or before c.loop-to.to default,
       one_more c.args.targets.now c.args.from c.args.upto before c.args.outboxes.now.items more c.loop-to.to c.count_items-count.result c.loop-to.outboxes.items default
           (c.loop-to.invariant before more) c.loop-to-test.true within c.if-to-from.true
           (c.count_items-count.ensures more.settlement
-          ∙ ap (λ (m : ℕ). length (items_of (λ _. c.args.targets.now) m c.loop-to.to more.settlement)) n_is),
+          ∙ ap (λ (m : ℕ). length (items_of (λ _. c.args.targets.now) m c.loop-to.to more.settlement)) nodes_is),
     )
 
 pub loop-to-preserved : goal.loop-to-preserved
 loop-to-preserved c = λ before more. elim c.if-to-from.branch [
   | then-to-from w ↦
       let whole = more.are_added.whole in
-      let n_is : c.len-n.result ≡ length before = c.len-n.ensures ∙ c.args.outboxes.now.ok.0 ∙ whole in
+      let nodes_is : c.len-nodes.result ≡ length before = c.len-nodes.ensures ∙ c.args.outboxes.now.ok.0 ∙ whole in
       let within : c.loop-to.to < length before = omega (arith, whole, c.requires.upto, c.args.outboxes.now.ok.0, c.loop-to-test.true) in
       rw w.outboxes-is (back_one c.args.targets.now c.args.from c.args.upto before c.args.outboxes.now.items more c.loop-to.to c.loop-to.outboxes.items w.take_back_at.new.outboxes.items
       (c.loop-to.invariant before more) within
@@ -42,7 +42,7 @@ loop-to-preserved c = λ before more. elim c.if-to-from.branch [
       (one_more c.args.targets.now c.args.from c.args.upto before c.args.outboxes.now.items more c.loop-to.to w.count_items-count.result c.loop-to.outboxes.items default
       (c.loop-to.invariant before more) c.loop-to-test.true within w.if-to-from.true
       (w.count_items-count.ensures more.settlement
-      ∙ ap (λ (m : ℕ). length (items_of (λ _. c.args.targets.now) m c.loop-to.to more.settlement)) n_is))))
+      ∙ ap (λ (m : ℕ). length (items_of (λ _. c.args.targets.now) m c.loop-to.to more.settlement)) nodes_is))))
   | else-to-from w ↦
       rw w.outboxes-is (back_own c.args.targets.now c.args.from c.args.upto before c.args.outboxes.now.items more c.loop-to.to c.loop-to.outboxes.items
       (c.loop-to.invariant before more) w.if-to-from.false)

@@ -14,7 +14,7 @@ pub take_seen-requires-clause-kept : goal.take_seen-requires-clause-kept
 take_seen-requires-clause-kept c =
     let share = c.args.share.now in (
       c.requires.kept.0,
-      kept_own c.requires.kept.0 share.n share.id c.loop-item.share c.loop-item.history
+      kept_own c.requires.kept.0 share.nodes share.id c.loop-item.share c.loop-item.history
           (c.loop-item.invariant.kept c.requires.kept.0 c.requires.kept.1),
     )
 
@@ -51,7 +51,7 @@ loop-item-preserved c =
       room = omega arith;
       taken = taken_next c.args.items.now c.loop-item.item-index _ share c.loop-item.share c.take_seen.new.share history c.loop-item.history
           c.take_seen.new.self c.loop-item-test.true c.loop-item.invariant.taken out.taken;
-      kept = λ family kept. kept_back family share.n share.id c.loop-item.share c.take_seen.new.share c.loop-item.history c.take_seen.new.self
+      kept = λ family kept. kept_back family share.nodes share.id c.loop-item.share c.take_seen.new.share c.loop-item.history c.take_seen.new.self
           (c.loop-item.invariant.kept family kept) out.kept;
       seen = λ within. seen_behind c.loop-item.item-index c.loop-item.share c.take_seen.new.share c.args.items.now c.look_ahead.new.looks out.seen
           (subst (λ k. AreSeen k c.loop-item.share c.args.items.now c.look_ahead.new.looks) counted c.look_ahead.ensures) within;

@@ -10,7 +10,7 @@ invariant-loop-item l = record {
   taken : AreTaken (take l.item-index l.items) l.initial.share l.share l.initial.history l.history;
   counted : l.taken ≡ l.item-index;
   room : l.initial.history.room ≤ l.history.room + l.item-index;
-  kept : (family : Family) → AreKept family l.initial.share.n l.initial.share.id l.initial.share l.initial.history →
-      AreKept family l.initial.share.n l.initial.share.id l.share l.history;
+  kept : (family : Family) → AreKept family l.initial.share.nodes l.initial.share.id l.initial.share l.initial.history →
+      AreKept family l.initial.share.nodes l.initial.share.id l.share l.history;
   seen : 0 < l.item-index % 16 → AreSeen l.item-index l.share l.items l.looks;
 }

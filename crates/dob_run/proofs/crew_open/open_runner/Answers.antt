@@ -1,6 +1,7 @@
 -- The runner has the endpoint and a node just opened, which has made no step, and nothing has gone over its links.
-use Rattle.std.proofs.Common.{sym, subst}
+use Rattle.std.proofs.Common.{ℕ, ◌<◌, sym, subst, arith}
 use Rattle.dob_node.specs.declared.node.Node.{Node}
+use Rattle.dob_node.specs.Nodes.{IsOpened}
 use Rattle.dob_runner.specs.declared.endpoint.Endpoint.{Endpoint}
 use Rattle.dob_runner.specs.Runners.{IsNew}
 use Rattle.dob_run.proofs.crew_open.open_runner.Goals as goal
@@ -11,13 +12,23 @@ is_new c =
     let new = c.requires.new.1 in record {
       openings = c.args.openings.now;
       are_openings = c.requires.openings;
-      opened = c.in_ok-node.ensures.opened;
+      opened = subst (λ (k : ℕ). IsOpened c.args.openings.now c.args.family c.args.endpoint.seat.node k c.in_ok-node.node) c.in-Some.ensures.0 c.in_ok-node.ensures.opened;
       sound = c.in_ok-node.ensures.sound;
       black = new.black;
       running = new.running;
       unsent = λ to outlet at. (new.unsent to outlet at).0;
       untaken = new.untaken.0;
     }
+
+pub unreachable-requires : goal.unreachable-requires
+unreachable-requires c =
+    let seat = c.args.endpoint.seat in
+    c.in_default.ensures (omega (arith, seat.within), seat.size)
+
+pub open-node-requires-clause-owner : goal.open-node-requires-clause-owner
+open-node-requires-clause-owner c =
+    let seat = c.args.endpoint.seat in
+    subst (λ (k : ℕ). seat.node < k) (sym c.in-Some.ensures.0) seat.within
 
 pub new-requires : goal.new-requires
 new-requires c = is_new (goal.at.new-requires c).In_ok-node

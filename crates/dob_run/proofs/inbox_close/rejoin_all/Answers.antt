@@ -57,7 +57,7 @@ join-requires g c =
     let done = all_done n c.args.sends.items c.args.takes.items _ _ rows.items c.loop-row.invariant (search rules) c.requires.senders.count in
     let long : length rows.items ≡ n = done.0.count in
     let many : vec_len rows ≡ n = search rules in
-    let width : c.len-n.result ≡ n = search rules in
+    let width : c.len-nodes.result ≡ n = search rules in
     subst (λ (p : ℕ × ℕ). AreRows p.0 p.1 rows.items) (λ q. (sym many q, sym width q)) done.0
 
 of_ok : {X E : Type 0} (P Q : X → Type 0) (r : Result X E) → ((x : X) → P x → Q x) → IfOk r P → IfOk r Q
@@ -73,7 +73,7 @@ returns g c =
     let done = all_done n sends takes _ _ rows.items c.loop-row.invariant (search rules) c.requires.senders.count in
     let long : length rows.items ≡ n = done.0.count in
     let many : vec_len rows ≡ n = search rules in
-    let width : c.len-n.result ≡ n = search rules in
-    of_ok (λ (links : Vec Rejoined Global). AreInOrder c.len-n.result (vec_len rows) rows.items links.items) (λ links. AreJoined n sends takes links.items) c.join.result
+    let width : c.len-nodes.result ≡ n = search rules in
+    of_ok (λ (links : Vec Rejoined Global). AreInOrder c.len-nodes.result (vec_len rows) rows.items links.items) (λ links. AreJoined n sends takes links.items) c.join.result
     (λ links is. are_joined n sends takes rows.items links.items c.requires done.0 done.1
     (subst (λ (p : ℕ × ℕ). AreInOrder p.0 p.1 rows.items links.items) (λ q. (width q, many q)) is)) c.join.ensures

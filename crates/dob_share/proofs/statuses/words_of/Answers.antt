@@ -8,7 +8,7 @@ use Rattle.dob_share.proofs.statuses.words_of.Goals as goal
 pub loop-number-preserved : goal.loop-number-preserved
 loop-number-preserved c =
     let l = c.loop-number in
-    let more = words_more (λ place. status_listed c.args.openings.now c.args.places c.args.n c.args.id place) l.number l.count c.from-count.result
+    let more = words_more (λ place. status_listed c.args.openings.now c.args.places c.args.nodes c.args.id place) l.number l.count c.from-count.result
     c.word_at-word.result l.words c.push.new.self l.invariant.whole l.invariant.counted l.invariant.count c.word_at-word.ensures.before
     c.word_at-word.ensures.low c.from-count.ensures c.in_ok-push.ensures.appended c.word_at-word.ensures.each l.invariant.each in
     record {
@@ -21,5 +21,5 @@ loop-number-preserved c =
 
 pub returns-clause-statuses : goal.returns-clause-statuses
 returns-clause-statuses c = λ place low.
-    subst (λ s. IsStatusOf (word_of c.loop-number.words place) (place % 64) s) (listed_status c.args.openings.now c.args.places c.args.n c.args.id place low)
+    subst (λ s. IsStatusOf (word_of c.loop-number.words place) (place % 64) s) (listed_status c.args.openings.now c.args.places c.args.nodes c.args.id place low)
     (c.loop-number.invariant.each place (omega arith))

@@ -9,5 +9,5 @@ invariant-loop-number l = record {
   count : l.count ≡ opens_below l.words (l.number * 64);
   few : l.count ≤ l.number * 64;
   counted : AreCounted l.words;
-  each : (place : ℕ) → place < l.number * 64 → IsStatusOf (word_of l.words place) (place % 64) (status_listed l.openings l.places l.n l.id place);
+  each : (place : ℕ) → place < l.number * 64 → IsStatusOf (word_of l.words place) (place % 64) (status_listed l.openings l.places l.nodes l.id place);
 }

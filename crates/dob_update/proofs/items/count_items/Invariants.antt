@@ -7,5 +7,5 @@ use Rattle.dob_update.proofs.items.count_items.Given as goal
 abbrev pub invariant-loop-class : goal.invariant-loop-class
 invariant-loop-class l = record {
   within : l.count ≤ l.class-index;
-  counted : l.count ≡ length (filter (λ class. owner_of l.n class == l.to) (take l.class-index l.predecessors));
+  counted : l.count ≡ length (filter (λ class. owner_of l.nodes class == l.to) (take l.class-index l.predecessors));
 }

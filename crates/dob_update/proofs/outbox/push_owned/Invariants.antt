@@ -7,6 +7,6 @@ use Rattle.dob_update.proofs.outbox.push_owned.Given as goal
 
 abbrev pub invariant-loop-class : goal.invariant-loop-class
 invariant-loop-class l = record {
-  appended : l.queue.items ≡ l.initial.queue.items ++ filter (λ class. owner_of l.n class == l.to) (take l.class-index l.classes);
+  appended : l.queue.items ≡ l.initial.queue.items ++ filter (λ class. owner_of l.nodes class == l.to) (take l.class-index l.classes);
   room : deque_len l.queue + (length l.classes - l.class-index) ≤ deque_capacity l.queue;
 }

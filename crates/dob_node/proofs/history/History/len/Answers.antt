@@ -5,5 +5,5 @@ use Rattle.dob_node.proofs.history.History.len.Goals as goal
 
 pub returns-clause-count : goal.returns-clause-count
 returns-clause-count c = ap (λ (m : ℕ). m + c.self.inside.count) c.settled.ensures.count
-    ∙ count_is c.self.inside.n c.self.inside.id c.self.inside.room c.self.inside.count c.self.inside.starts c.self.inside.stored c.args.self.now
-    c.self.invariant.2 c.self.view_is
+    ∙ count_is c.self.inside.nodes c.self.inside.id c.self.inside.room c.self.inside.count c.self.inside.starts c.self.inside.stored c.args.self.now
+    c.self.invariant.1 c.self.view_is

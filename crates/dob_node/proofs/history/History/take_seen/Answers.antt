@@ -15,7 +15,7 @@ store-requires-clause-place c =
     let out = c.in_ok-given.ensures in
     let fits : Fits share item = sure_fits share item (λ no. let is = out.contradiction.1 no in cc) in
     subst (λ (v : HistoryView). c.in-Some.settlement.class / v.n < 2 ^ 32) (sym c.self.view_is)
-    (place_is c.requires.kept.0 share.n share.id share after history item c.requires.kept.1 c.requires.entries out.classes fits out.cell out.others
+    (place_is c.requires.kept.0 share.nodes share.id share after history item c.requires.kept.1 c.requires.entries out.classes fits out.cell out.others
     c.in-Some.settlement (subst (λ given. HasSettled share after item.to given) c.in-Some.is out.settled))
 
 pub store-requires-clause-was : goal.store-requires-clause-was
@@ -26,7 +26,7 @@ store-requires-clause-was c =
     let item = c.args.item in
     let out = c.in_ok-given.ensures in
     let fits : Fits share item = sure_fits share item (λ no. let is = out.contradiction.1 no in cc) in
-    was_is c.requires.kept.0 share.n share.id share after history item c.requires.kept.1 c.requires.entries out.classes fits out.cell out.others
+    was_is c.requires.kept.0 share.nodes share.id share after history item c.requires.kept.1 c.requires.entries out.classes fits out.cell out.others
     c.in-Some.settlement (subst (λ given. HasSettled share after item.to given) c.in-Some.is out.settled)
 
 pub store-requires-clause-now : goal.store-requires-clause-now
@@ -37,7 +37,7 @@ store-requires-clause-now c =
     let item = c.args.item in
     let out = c.in_ok-given.ensures in
     let fits : Fits share item = sure_fits share item (λ no. let is = out.contradiction.1 no in cc) in
-    now_is c.requires.kept.0 share.n share.id share after history item c.requires.kept.1 c.requires.entries out.classes fits out.cell out.others
+    now_is c.requires.kept.0 share.nodes share.id share after history item c.requires.kept.1 c.requires.entries out.classes fits out.cell out.others
     c.in-Some.settlement (subst (λ given. HasSettled share after item.to given) c.in-Some.is out.settled)
 
 pub returns-in-Some-clause-taken : goal.returns-in-Some-clause-taken
@@ -49,14 +49,14 @@ returns-in-Some-clause-taken c =
     let out = c.in_ok-given.ensures in
     let fits : Fits share item = sure_fits share item (λ no. let is = out.contradiction.1 no in cc) in
     let settled = subst (λ given. HasSettled share after item.to given) c.in-Some.is out.settled in
-    let own : c.in-Some.settlement.class % c.self.inside.n ≡ c.self.inside.id
+    let own : c.in-Some.settlement.class % c.self.inside.nodes ≡ c.self.inside.id
     = subst (λ (v : HistoryView). c.in-Some.settlement.class % v.n ≡ v.id) (sym c.self.view_is)
-    (own_is c.requires.kept.0 share.n share.id share after history item c.requires.kept.1 c.requires.entries out.classes fits out.cell out.others
+    (own_is c.requires.kept.0 share.nodes share.id share after history item c.requires.kept.1 c.requires.entries out.classes fits out.cell out.others
     c.in-Some.settlement settled) in
     let number : c.in-Some.settlement.number ≡ starts_count c.self.inside.starts + c.self.inside.count
     = settled.1 ∙ c.requires.kept.1.counted
-    ∙ sym (count_is c.self.inside.n c.self.inside.id c.self.inside.room c.self.inside.count c.self.inside.starts c.self.inside.stored history c.self.invariant.2 c.self.view_is) in
-    let grown = next_seen c.self.inside.n c.self.inside.id c.self.inside.room _ c.self.inside.count c.self.inside.starts c.self.inside.stored c.room_for_one.new.stored
+    ∙ sym (count_is c.self.inside.nodes c.self.inside.id c.self.inside.room c.self.inside.count c.self.inside.starts c.self.inside.stored history c.self.invariant.1 c.self.view_is) in
+    let grown = next_seen c.self.inside.nodes c.self.inside.id c.self.inside.room _ c.self.inside.count c.self.inside.starts c.self.inside.stored c.room_for_one.new.stored
     c.store.new.stored history c.in-Some.settlement c.self.view_is c.room_for_one.ensures.same own number c.store.ensures.one_more in
     record {
       fits = fits;
@@ -76,16 +76,16 @@ returns-in-Some-clause-kept c = λ family kept.
     let out = c.in_ok-given.ensures in
     let fits : Fits share item = sure_fits share item (λ no. let is = out.contradiction.1 no in cc) in
     let settled = subst (λ given. HasSettled share after item.to given) c.in-Some.is out.settled in
-    let own : c.in-Some.settlement.class % c.self.inside.n ≡ c.self.inside.id
+    let own : c.in-Some.settlement.class % c.self.inside.nodes ≡ c.self.inside.id
     = subst (λ (v : HistoryView). c.in-Some.settlement.class % v.n ≡ v.id) (sym c.self.view_is)
-    (own_is c.requires.kept.0 share.n share.id share after history item c.requires.kept.1 c.requires.entries out.classes fits out.cell out.others
+    (own_is c.requires.kept.0 share.nodes share.id share after history item c.requires.kept.1 c.requires.entries out.classes fits out.cell out.others
     c.in-Some.settlement settled) in
     let number : c.in-Some.settlement.number ≡ starts_count c.self.inside.starts + c.self.inside.count
     = settled.1 ∙ c.requires.kept.1.counted
-    ∙ sym (count_is c.self.inside.n c.self.inside.id c.self.inside.room c.self.inside.count c.self.inside.starts c.self.inside.stored history c.self.invariant.2 c.self.view_is) in
-    let grown = next_seen c.self.inside.n c.self.inside.id c.self.inside.room _ c.self.inside.count c.self.inside.starts c.self.inside.stored c.room_for_one.new.stored
+    ∙ sym (count_is c.self.inside.nodes c.self.inside.id c.self.inside.room c.self.inside.count c.self.inside.starts c.self.inside.stored history c.self.invariant.1 c.self.view_is) in
+    let grown = next_seen c.self.inside.nodes c.self.inside.id c.self.inside.room _ c.self.inside.count c.self.inside.starts c.self.inside.stored c.room_for_one.new.stored
     c.store.new.stored history c.in-Some.settlement c.self.view_is c.room_for_one.ensures.same own number c.store.ensures.one_more in
-    kept_still family share.n share.id share after history item kept c.requires.entries out.classes fits out.cell out.others
+    kept_still family share.nodes share.id share after history item kept c.requires.entries out.classes fits out.cell out.others
     (Some c.in-Some.settlement) settled _ grown
 
 pub returns-in_default-clause-taken : goal.returns-in_default-clause-taken
@@ -100,7 +100,7 @@ returns-in_default-clause-taken c =
       settled = (
         None,
         subst (λ given. HasSettled c.args.share.now c.apply_seen.new.self c.args.item.to given) c.in_default.is out.settled,
-        room_made c.self.inside.n c.self.inside.id c.self.inside.room c.self.inside.room c.self.inside.count c.self.inside.starts c.self.inside.stored c.room_for_one.new.stored c.args.self.now c.self.view_is c.room_for_one.ensures.same
+        room_made c.self.inside.nodes c.self.inside.id c.self.inside.room c.self.inside.room c.self.inside.count c.self.inside.starts c.self.inside.stored c.room_for_one.new.stored c.args.self.now c.self.view_is c.room_for_one.ensures.same
             ∙ same_history (record c.args.self.now { room = c.self.inside.room }),
       );
     }
@@ -113,7 +113,7 @@ returns-in_default-clause-kept c = λ family kept.
     let item = c.args.item in
     let out = c.in_ok-given.ensures in
     let fits : Fits share item = sure_fits share item (λ no. let is = out.contradiction.1 no in cc) in
-    kept_still family share.n share.id share after history item kept c.requires.entries out.classes fits out.cell out.others
+    kept_still family share.nodes share.id share after history item kept c.requires.entries out.classes fits out.cell out.others
     None (subst (λ given. HasSettled share after item.to given) c.in_default.is out.settled) _
-    (room_made c.self.inside.n c.self.inside.id c.self.inside.room c.self.inside.room c.self.inside.count c.self.inside.starts c.self.inside.stored c.room_for_one.new.stored history c.self.view_is c.room_for_one.ensures.same
+    (room_made c.self.inside.nodes c.self.inside.id c.self.inside.room c.self.inside.room c.self.inside.count c.self.inside.starts c.self.inside.stored c.room_for_one.new.stored history c.self.view_is c.room_for_one.ensures.same
     ∙ same_history (record history { room = c.self.inside.room }))

@@ -19,7 +19,7 @@ returns c =
       λ yes. record {
         expanded = search rules;
         applied = grind (arith, common_steps, c.if-not-is_empty.ensures);
-        sent = λ to. all_empty core.outboxes.items (subst Nothing c.deref.ensures.value (c.are_empty.ensures.0 yes)) core.family core.n core.id to;
+        sent = λ to. all_empty core.outboxes.items (subst Nothing c.deref.ensures.value (c.are_empty.ensures.0 yes)) core.family core.nodes core.id to;
       },
-      λ idle. c.are_empty.ensures.1 (subst Nothing (sym c.deref.ensures.value) (empty_all core.outboxes.items core.family core.n core.id idle.sent)),
+      λ idle. c.are_empty.ensures.1 (subst Nothing (sym c.deref.ensures.value) (empty_all core.outboxes.items core.family core.nodes core.id idle.sent)),
     )

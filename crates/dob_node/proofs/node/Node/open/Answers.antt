@@ -17,10 +17,10 @@ returns-clause-opened c =
     record {
       of = (refl, refl, refl);
       history = ap (λ (v : HistoryView). v.settlements) c.in_ok-history.ensures
-          ∙ share_opened c.in_ok-share.share c.args.openings.now c.args.n c.args.id out.who c.requires.owner out.statuses;
-      places = places_are c.in_ok-share.share c.args.openings.now c.args.n c.args.id out.who c.requires.owner out.owned;
+          ∙ share_opened c.in_ok-share.share c.args.openings.now c.args.nodes c.args.id out.who c.requires.owner out.statuses;
+      places = places_are c.in_ok-share.share c.args.openings.now c.args.nodes c.args.id out.who c.requires.owner out.owned;
       statuses = out.statuses;
-      cells = opened_cells c.args.family c.args.openings.now c.in_ok-share.share c.args.n c.args.id c.requires.openings out.owned out.cells;
+      cells = opened_cells c.args.family c.args.openings.now c.in_ok-share.share c.args.nodes c.args.id c.requires.openings out.owned out.cells;
       nothing = (refl, c.new.ensures.items);
       going = refl;
       outboxes = c.in_ok-outboxes.ensures.empty;
@@ -30,14 +30,14 @@ pub returns-clause-sound : goal.returns-clause-sound
 returns-clause-sound c =
     let out = c.in_ok-share.ensures in
     record {
-      kept = opened_kept c.args.family c.args.openings.now c.args.n c.args.id c.in_ok-share.share c.in_ok-history.history c.requires.openings c.requires.owner
+      kept = opened_kept c.args.family c.args.openings.now c.args.nodes c.args.id c.in_ok-share.share c.in_ok-history.history c.requires.openings c.requires.owner
           (few_listed c.args.family c.args.openings.now c.requires.openings) out.who out.owned
-          (opened_cells c.args.family c.args.openings.now c.in_ok-share.share c.args.n c.args.id c.requires.openings out.owned out.cells) out.settled
-          (subst (λ (xs : List Settlement). c.in_ok-history.history ≡ record { id = c.args.id; n = c.args.n; settlements = xs; room = 0 })
-          (share_opened c.in_ok-share.share c.args.openings.now c.args.n c.args.id out.who c.requires.owner out.statuses) c.in_ok-history.ensures);
+          (opened_cells c.args.family c.args.openings.now c.in_ok-share.share c.args.nodes c.args.id c.requires.openings out.owned out.cells) out.settled
+          (subst (λ (xs : List Settlement). c.in_ok-history.history ≡ record { id = c.args.id; n = c.args.nodes; settlements = xs; room = 0 })
+          (share_opened c.in_ok-share.share c.args.openings.now c.args.nodes c.args.id out.who c.requires.owner out.statuses) c.in_ok-history.ensures);
       emitted = omega arith;
       entries = subst (λ xs. All HasItemEntries xs) (sym c.new.ensures.items) (All-nil HasItemEntries);
       receivers = c.in_ok-outboxes.ensures.whole;
-      addressed = addressed_empty c.args.family c.args.n c.args.id c.in_ok-outboxes.outboxes.items c.in_ok-outboxes.ensures.empty;
+      addressed = addressed_empty c.args.family c.args.nodes c.args.id c.in_ok-outboxes.outboxes.items c.in_ok-outboxes.ensures.empty;
       nothing_to_self = ap (λ (o : OutboxView). o.items) (c.in_ok-outboxes.ensures.empty c.args.id);
     }

@@ -25,8 +25,8 @@ pub take_items-requires-clause-kept : goal.take_items-requires-clause-kept
 take_items-requires-clause-kept c =
     let node = c.args.self.now in (
       node.family,
-      kept_own node.family node.n node.id node.share c.reserve.new.self
-          (kept_with_room node.family node.n node.id node.share node.history c.reserve.new.self c.reserve.ensures.same c.requires.sound.kept),
+      kept_own node.family node.nodes node.id node.share c.reserve.new.self
+          (kept_with_room node.family node.nodes node.id node.share node.history c.reserve.new.self c.reserve.ensures.same c.requires.sound.kept),
     )
 
 pub returns-in_err-take_items-clause-step : goal.returns-in_err-take_items-clause-step
@@ -72,8 +72,8 @@ returns-in_err-take_items-clause-sound c =
     let front = all_with_room before.front node.share c.take_items.new.share node.history c.reserve.new.self c.take_items.new.history c.reserve.ensures.same
     before.taken in
     record {
-      kept = kept_back node.family node.n node.id node.share c.take_items.new.share c.reserve.new.self c.take_items.new.history
-          (kept_with_room node.family node.n node.id node.share node.history c.reserve.new.self c.reserve.ensures.same sound.kept) c.take_items.ensures.kept;
+      kept = kept_back node.family node.nodes node.id node.share c.take_items.new.share c.reserve.new.self c.take_items.new.history
+          (kept_with_room node.family node.nodes node.id node.share node.history c.reserve.new.self c.reserve.ensures.same sound.kept) c.take_items.ensures.kept;
       emitted = emitted_all before.front node.share c.take_items.new.share node.history c.take_items.new.history node.expanded front sound.emitted;
       entries = sound.entries;
       receivers = sound.receivers;
@@ -108,8 +108,8 @@ returns-clause-sound c =
     let all = all_with_room c.items-items.result.now node.share c.take_items.new.share node.history c.reserve.new.self c.take_items.new.history
     c.reserve.ensures.same out.taken in
     record {
-      kept = kept_back node.family node.n node.id node.share c.take_items.new.share c.reserve.new.self c.take_items.new.history
-          (kept_with_room node.family node.n node.id node.share node.history c.reserve.new.self c.reserve.ensures.same sound.kept) out.kept;
+      kept = kept_back node.family node.nodes node.id node.share c.take_items.new.share c.reserve.new.self c.take_items.new.history
+          (kept_with_room node.family node.nodes node.id node.share node.history c.reserve.new.self c.reserve.ensures.same sound.kept) out.kept;
       emitted = emitted_all c.items-items.result.now node.share c.take_items.new.share node.history c.take_items.new.history node.expanded all sound.emitted;
       entries = sound.entries;
       receivers = sound.receivers;

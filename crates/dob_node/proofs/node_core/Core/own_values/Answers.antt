@@ -1,6 +1,6 @@
 -- The class at a place is an own one, and its value the next.
 use Rattle.std.proofs.Common.{ℕ, ◌+◌, ◌*◌, ◌<◌, ◌^◌, subst, sym, arith}
-use Rattle.dob_share.specs.Shares.{places_of}
+use Rattle.dob_share.specs.Shares.{places_of, IsOwn, HasValueNow}
 use Rattle.dob_node.proofs.Parts.{own_at, class_at_low, AreValuesBelow, values_none, values_more}
 use Rattle.dob_node.proofs.node_core.Core.own_values.Goals as goal
 
@@ -11,24 +11,30 @@ pub overflow_mul-class : goal.overflow_mul-class
 overflow_mul-class c =
     let node = c.args.self.now in
     let within : c.loop-place.place < places_of node.share = subst (λ (k : ℕ). c.loop-place.place < k) c.places-places.ensures c.loop-place-test.true in
-    let low : c.loop-place.place * node.n + node.id < 2 ^ 32 = class_at_low node.family node.n node.id node.share node.history c.requires.kept c.loop-place.place within in
+    let low : c.loop-place.place * c.get.result + node.id < 2 ^ 32
+    = subst (λ (k : ℕ). c.loop-place.place * k + node.id < 2 ^ 32) (sym c.get.ensures.value)
+    (class_at_low node.family node.nodes node.id node.share node.history c.requires.kept c.loop-place.place within) in
     omega arith
 
 pub overflow_add-class : goal.overflow_add-class
 overflow_add-class c =
     let node = c.args.self.now in
     let within : c.loop-place.place < places_of node.share = subst (λ (k : ℕ). c.loop-place.place < k) c.places-places.ensures c.loop-place-test.true in
-    let low : c.loop-place.place * node.n + node.id < 2 ^ 32 = class_at_low node.family node.n node.id node.share node.history c.requires.kept c.loop-place.place within in
+    let low : c.loop-place.place * c.get.result + node.id < 2 ^ 32
+    = subst (λ (k : ℕ). c.loop-place.place * k + node.id < 2 ^ 32) (sym c.get.ensures.value)
+    (class_at_low node.family node.nodes node.id node.share node.history c.requires.kept c.loop-place.place within) in
     omega arith
 
 pub value-requires : goal.value-requires
 value-requires c =
     let node = c.args.self.now in
-    own_at node.family node.n node.id node.share node.history c.requires.kept c.loop-place.place
-    (subst (λ (k : ℕ). c.loop-place.place < k) c.places-places.ensures c.loop-place-test.true)
+    subst (λ (k : ℕ). IsOwn node.share (c.loop-place.place * k + node.id)) (sym c.get.ensures.value)
+    (own_at node.family node.nodes node.id node.share node.history c.requires.kept c.loop-place.place
+    (subst (λ (k : ℕ). c.loop-place.place < k) c.places-places.ensures c.loop-place-test.true))
 
 pub loop-place-preserved : goal.loop-place-preserved
 loop-place-preserved c =
     let node = c.args.self.now in
-    values_more node.family node.n node.id node.share node.history c.loop-place.place c.loop-place.values.items c.push.new.self.items c.value.result
-    c.requires.kept c.loop-place.invariant c.in_ok-push.ensures.items c.value.ensures
+    values_more node.family node.nodes node.id node.share node.history c.loop-place.place c.loop-place.values.items c.push.new.self.items c.value.result
+    c.requires.kept c.loop-place.invariant c.in_ok-push.ensures.items
+    (subst (λ (k : ℕ). HasValueNow node.share (c.loop-place.place * k + node.id) c.value.result) c.get.ensures.value c.value.ensures)

@@ -8,8 +8,8 @@ use Rattle.dob_share.proofs.share.Share.open.Given as goal
 
 abbrev pub invariant-loop-place : goal.invariant-loop-place
 invariant-loop-place l = record {
-  slots : AreSlotsBelow (arc_value l.statuses-inside.words) l.openings l.n l.id l.place l.slots l.moves;
+  slots : AreSlotsBelow (arc_value l.statuses-inside.words) l.openings l.nodes l.id l.place l.slots l.moves;
   moves : l.moves < 2 ^ 33;
-  settled : l.settled ≡ settled_among (λ place. (opening_of l.openings (class_of_place l.n l.id place)).status) l.place;
+  settled : l.settled ≡ settled_among (λ place. (opening_of l.openings (class_of_place l.nodes l.id place)).status) l.place;
   few : l.settled ≤ l.place;
 }

@@ -1,9 +1,17 @@
 -- An open class has the value of its cell.
-use Rattle.std.proofs.Common.{◌∙◌, sym}
+use Rattle.std.proofs.Common.{ℕ, ◌/◌, ◌∙◌, ap, sym, subst}
+use Rattle.dob_share.specs.Cells.{CellValue}
+use Rattle.dob_share.specs.Slots.{cell_in}
+use Rattle.dob_share.specs.Statuses.{opens_below, status_in}
 use Rattle.dob_share.specs.Shares.{status_at}
 use Rattle.dob_share.proofs.Owning.{open_has}
 use Rattle.dob_share.proofs.share.Share.value.Goals as goal
 
 pub returns-in-Open : goal.returns-in-Open
 unfolding status_at
-returns-in-Open c = open_has c.args.self.now c.args.class c.open_value.result (sym c.status.ensures ∙ c.in-Open.is) c.open_value.ensures
+returns-in-Open c =
+    let share = c.args.self.now in
+    open_has share c.args.class c.open_value.result
+    (ap (λ (k : ℕ). status_in share.statuses.words (c.args.class / k)) (sym c.get.ensures.value) ∙ sym c.status.ensures ∙ c.in-Open.is)
+    (subst (λ (k : ℕ). CellValue (cell_in share.slots share.pool (opens_below share.statuses.words (c.args.class / k))) c.open_value.result)
+    c.get.ensures.value c.open_value.ensures)

@@ -10,7 +10,7 @@ use Rattle.dob_update.proofs.PartItems.{listed_grown, view_grown}
 use Rattle.dob_update.proofs.outbox.Outbox.add.Goals as goal
 use Rattle.dob_update.proofs.outbox.Outbox.add.Goals.{After-push_back_reserved}
 
-of_settlement : (c : After-push_back_reserved) → c.args.items.now ≡ items_of (predecessors c.self.inside.family) c.self.inside.n c.self.inside.to c.args.settlement
+of_settlement : (c : After-push_back_reserved) → c.args.items.now ≡ items_of (predecessors c.self.inside.family) c.self.inside.nodes c.self.inside.to c.args.settlement
 of_settlement c = subst (λ (o : OutboxView). c.args.items.now ≡ items_of (predecessors o.family) o.n o.to c.args.settlement) (sym c.self.view_is) c.requires
 
 parts_are : (c : After-push_back_reserved) →
@@ -28,7 +28,7 @@ invariant_of-self-2 c =
     let w = (goal.at.invariant_of-self-2 c).After-push_back_reserved in
     let some : 0 < length c.args.items.now = search rules in
     let low : length c.args.items.now < 2 ^ 64 = search rules in
-    listed_grown old.family old.n old.to old.skip old.parts.items c.push_back_reserved.new.self.items old.classes.items c.push_classes.new.queue.items
+    listed_grown old.family old.nodes old.to old.skip old.parts.items c.push_back_reserved.new.self.items old.classes.items c.push_classes.new.queue.items
     c.args.settlement c.args.items.now c.self.invariant some low (of_settlement w) (parts_are w) (classes_are w)
 
 pub returns-clause-ok : goal.returns-clause-ok
@@ -42,7 +42,7 @@ returns-clause-ok c =
     let classes = c.push_classes.new.queue.items in
     let view : OutboxView = record {
       family = old.family;
-      n = old.n;
+      n = old.nodes;
       from = old.from;
       to = old.to;
       settlements = settlements_of old.parts.items;
@@ -51,5 +51,5 @@ returns-clause-ok c =
       next = old.next;
     } in
     subst (λ (o : OutboxView). (record view { settlements = settlements_of parts; items = items_of_parts parts classes }) ≡ added o s c.args.items.now) c.self.view_is
-    (view_grown old.family old.n old.to old.skip old.parts.items parts old.classes.items classes s c.args.items.now c.self.invariant some low
+    (view_grown old.family old.nodes old.to old.skip old.parts.items parts old.classes.items classes s c.args.items.now c.self.invariant some low
     (of_settlement w) (parts_are w) (classes_are w) view refl refl)

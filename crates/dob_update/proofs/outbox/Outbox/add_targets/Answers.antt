@@ -15,7 +15,7 @@ use Rattle.dob_update.proofs.outbox.Outbox.add_targets.Goals as goal
 use Rattle.dob_update.proofs.outbox.Outbox.add_targets.Goals.{After-push_back_reserved}
 
 abbrev owned : After-push_back_reserved → List ℕ
-owned c = filter (λ class. owner_of c.self.inside.n class == c.self.inside.to) c.args.targets.now
+owned c = filter (λ class. owner_of c.self.inside.nodes class == c.self.inside.to) c.args.targets.now
 
 abbrev more : After-push_back_reserved → List Item
 more c = map (item_for c.args.settlement) (owned c)
@@ -29,11 +29,11 @@ count_is c =
     let each : length (more c) ≡ length (owned c) = length-map (owned c) (item_for c.args.settlement) in
     omega (arith, after, before, both, each)
 
-of_settlement : (c : After-push_back_reserved) → more c ≡ items_of (predecessors c.self.inside.family) c.self.inside.n c.self.inside.to c.args.settlement
+of_settlement : (c : After-push_back_reserved) → more c ≡ items_of (predecessors c.self.inside.family) c.self.inside.nodes c.self.inside.to c.args.settlement
 of_settlement c =
     let targets_are : c.args.targets.now ≡ predecessors c.self.inside.family c.args.settlement.class
     = subst (λ (o : OutboxView). c.args.targets.now ≡ predecessors o.family c.args.settlement.class) (sym c.self.view_is) c.requires.targets in
-    ap (λ (classes : List ℕ). map (item_for c.args.settlement) (filter (λ class. owner_of c.self.inside.n class == c.self.inside.to) classes)) targets_are
+    ap (λ (classes : List ℕ). map (item_for c.args.settlement) (filter (λ class. owner_of c.self.inside.nodes class == c.self.inside.to) classes)) targets_are
 
 parts_are : (c : After-push_back_reserved) →
     c.push_back_reserved.new.self.items ≡ c.self.inside.parts.items ++ (record { settlement = c.args.settlement; items = length (more c) }) ∷ []
@@ -53,7 +53,7 @@ invariant_of-self-2 c =
     let w = (goal.at.invariant_of-self-2 c).After-push_back_reserved in
     let count = count_is w in
     let fits : c.len.result < 2 ^ 64 = search rules in
-    listed_grown old.family old.n old.to old.skip old.parts.items c.push_back_reserved.new.self.items old.classes.items c.push_owned.new.queue.items
+    listed_grown old.family old.nodes old.to old.skip old.parts.items c.push_back_reserved.new.self.items old.classes.items c.push_owned.new.queue.items
     c.args.settlement (more w) c.self.invariant (omega (arith, count, c.if-items-eq0.false)) (omega (arith, count, fits))
     (of_settlement w) (parts_are w) (classes_are w)
 
@@ -68,7 +68,7 @@ returns-clause-ok c =
     let classes = c.push_owned.new.queue.items in
     let view : OutboxView = record {
       family = old.family;
-      n = old.n;
+      n = old.nodes;
       from = old.from;
       to = old.to;
       settlements = settlements_of old.parts.items;
@@ -78,5 +78,5 @@ returns-clause-ok c =
     } in
     subst (λ (o : OutboxView). (record view { settlements = settlements_of parts; items = items_of_parts parts classes })
     ≡ added o s (items_of (λ _. c.args.targets.now) o.n o.to s)) c.self.view_is
-    (view_grown old.family old.n old.to old.skip old.parts.items parts old.classes.items classes s (more w) c.self.invariant
+    (view_grown old.family old.nodes old.to old.skip old.parts.items parts old.classes.items classes s (more w) c.self.invariant
     (omega (arith, count, c.if-items-eq0.false)) (omega (arith, count, fits)) (of_settlement w) (parts_are w) (classes_are w) view refl refl)

@@ -34,9 +34,9 @@ new-batch-requires c =
     let items_are : c.in_ok-items.items.items ≡ take k all
     = c.in_ok-items.ensures ∙ ap (λ (ps : List Part). items_of_parts ps old.classes.items) (c.deref.ensures.value ∙ c.in_ok-parts.ensures)
     ∙ items_of_parts-front k old.parts.items old.classes.items (omega (arith, counted)) (omega (arith, counted, within)) in
-    subst (λ (xs : List Item). IsItemRun old.family old.n old.to c.in_ok-parts.parts.items old.skip xs) (sym items_are)
-    (subst (λ (ps : List Part). IsItemRun old.family old.n old.to ps old.skip (take k all)) (sym c.in_ok-parts.ensures)
-    (run_cut old.family old.n old.to old.parts.items old.skip k all c.self.invariant.rest (omega (arith, c.if-taken-eq0.false)) (omega (arith, long, counted, within))))
+    subst (λ (xs : List Item). IsItemRun old.family old.nodes old.to c.in_ok-parts.parts.items old.skip xs) (sym items_are)
+    (subst (λ (ps : List Part). IsItemRun old.family old.nodes old.to ps old.skip (take k all)) (sym c.in_ok-parts.ensures)
+    (run_cut old.family old.nodes old.to old.parts.items old.skip k all c.self.invariant.rest (omega (arith, c.if-taken-eq0.false)) (omega (arith, long, counted, within))))
 
 pub drop_parts-self-inside-requires-clause-whole : goal.drop_parts-self-inside-requires-clause-whole
 drop_parts-self-inside-requires-clause-whole c = (_, c.self.invariant.rest.parts_fit)
@@ -53,7 +53,7 @@ invariant_of-self c =
     let old = c.self.inside in
     let within : c.min-taken.result ≤ length old.classes.items = search rules in
     rw (c.drop_parts-self-inside.ensures.parts, c.drop_parts-self-inside.ensures.skip, c.drop_classes.ensures)
-    (listed_behind old.family old.n old.to old.parts.items old.skip c.min-taken.result old.classes.items c.self.invariant within)
+    (listed_behind old.family old.nodes old.to old.parts.items old.skip c.min-taken.result old.classes.items c.self.invariant within)
 
 pub returns-clause-batch : goal.returns-clause-batch
 returns-clause-batch c =
@@ -72,7 +72,7 @@ returns-clause-batch c =
     = ap (λ (ps : List Part). items_of_parts ps classes) c.drop_parts-self-inside.ensures.parts
     ∙ ap (λ xs. items_of_parts (behind k old.parts.items) xs) c.drop_classes.ensures
     ∙ items_of_parts-behind k old.parts.items old.classes.items (omega (arith, counted)) (omega (arith, counted, within)) in
-    let view : OutboxView = record { family = old.family; n = old.n; from = old.from; to = old.to; settlements = settlements_of old.parts.items; skip = old.skip; items = all; next = old.next } in
+    let view : OutboxView = record { family = old.family; n = old.nodes; from = old.from; to = old.to; settlements = settlements_of old.parts.items; skip = old.skip; items = all; next = old.next } in
     let new : OutboxView = record view { settlements = settlements_of parts; skip = c.drop_parts-self-inside.result; items = items_of_parts parts classes; next = old.next + 1 } in
     let size_is : k ≡ min c.args.size (length old.classes.items) = search rules in
     let least : k ≡ min c.args.size (length all) = omega (arith, size_is, long, counted) in

@@ -19,7 +19,7 @@ overflow_sub-left c =
 pub invariant_of-self : goal.invariant_of-self
 invariant_of-self c =
     let old = c.self.inside in
-    let view : OutboxView = record { family = old.family; n = old.n; from = old.from; to = old.to; settlements = settlements_of old.parts.items; skip = old.skip; items = items_of_parts old.parts.items old.classes.items; next = old.next } in
+    let view : OutboxView = record { family = old.family; n = old.nodes; from = old.from; to = old.to; settlements = settlements_of old.parts.items; skip = old.skip; items = items_of_parts old.parts.items old.classes.items; next = old.next } in
     let some : 0 < c.args.count = omega (arith, c.if-count-eq0.false) in
     let more : HasOneMore c.requires.0 c.args.count view = subst (λ (o : OutboxView). HasOneMore c.requires.0 c.args.count o) (sym c.self.view_is) c.requires.1 in
     let parts_left = c.pop_back.ensures.rest ∙ ap (λ m. take (m - 1) old.parts.items) old.parts.ok.0 in
@@ -30,7 +30,7 @@ invariant_of-self c =
 pub returns : goal.returns
 returns c = λ before one_more.
     let old = c.self.inside in
-    let view : OutboxView = record { family = old.family; n = old.n; from = old.from; to = old.to; settlements = settlements_of old.parts.items; skip = old.skip; items = items_of_parts old.parts.items old.classes.items; next = old.next } in
+    let view : OutboxView = record { family = old.family; n = old.nodes; from = old.from; to = old.to; settlements = settlements_of old.parts.items; skip = old.skip; items = items_of_parts old.parts.items old.classes.items; next = old.next } in
     let some : 0 < c.args.count = omega (arith, c.if-count-eq0.false) in
     let more : HasOneMore before c.args.count view = subst (λ (o : OutboxView). HasOneMore before c.args.count o) (sym c.self.view_is) one_more in
     let parts_left = c.pop_back.ensures.rest ∙ ap (λ m. take (m - 1) old.parts.items) old.parts.ok.0 in

@@ -1,5 +1,5 @@
 -- One count is one more, one counter is one less, and the taker is black.
-use Rattle.std.proofs.Common.{◌+◌, ◌*◌, true, pos, ◌-ℤ◌, refl, ap, ◌∙◌, set}
+use Rattle.std.proofs.Common.{◌≡◌, ℕ, ◌+◌, ◌*◌, true, pos, ◌-ℤ◌, refl, ap, subst, ◌∙◌, set, get_or}
 use Rattle.std.proofs.lemmas.List.{length-set}
 use Rattle.dob_world.specs.Shown.{ring_of}
 use Rattle.dob_world.proofs.Counters.{counter_read, small_counter, fall_fits, fall_is, takes_shown, takes_counted}
@@ -10,29 +10,33 @@ overflow_sub-index_mut c =
     let d = c.args.self.now in
     let z = c.index_mut-2.result.now in
     let is = counter_read d c.args.to z c.requires.ready.counted c.requires.ready.to c.index_mut-2.ensures.value in
-    fall_fits z (rw is (small_counter d.n (ring_of d) c.args.to c.requires.ready.counted.nodes.1 c.requires.ready.to c.requires.ready.lawful))
+    fall_fits z (rw is (small_counter d.nodes (ring_of d) c.args.to c.requires.ready.counted.nodes.1 c.requires.ready.to c.requires.ready.lawful))
 
 pub returns-clause-moved : goal.returns-clause-moved
 returns-clause-moved c =
     let d = c.args.self.now in
-    takes_shown d.n d.posted.items d.taken.items d.black.items d.token d.announced c.args.from c.args.to c.index_mut.result.now (c.index_mut.result.now + 1)
-    c.requires.ready.from c.requires.ready.to c.requires.ready.counted.taken c.index_mut.ensures.value refl c.requires.ready.counted.black c.requires.waiting
+    let there = subst (λ (k : ℕ). c.index_mut.result.now ≡ get_or d.taken.items (c.args.from * k + c.args.to) c.index_mut.result.now) c.get.ensures.value
+    c.index_mut.ensures.value in
+    rw c.get.ensures.value (takes_shown d.nodes d.posted.items d.taken.items d.black.items d.token d.announced c.args.from c.args.to c.index_mut.result.now (c.index_mut.result.now + 1)
+    c.requires.ready.from c.requires.ready.to c.requires.ready.counted.taken there refl c.requires.ready.counted.black c.requires.waiting)
 
 pub returns-clause-counted : goal.returns-clause-counted
 returns-clause-counted c =
     let d = c.args.self.now in
+    let there = subst (λ (k : ℕ). c.index_mut.result.now ≡ get_or d.taken.items (c.args.from * k + c.args.to) c.index_mut.result.now) c.get.ensures.value
+    c.index_mut.ensures.value in
     let z = c.index_mut-2.result.now in
     let is = counter_read d c.args.to z c.requires.ready.counted c.requires.ready.to c.index_mut-2.ensures.value in
-    let less = fall_is z (rw is (small_counter d.n (ring_of d) c.args.to c.requires.ready.counted.nodes.1 c.requires.ready.to c.requires.ready.lawful)) in (
+    let less = fall_is z (rw is (small_counter d.nodes (ring_of d) c.args.to c.requires.ready.counted.nodes.1 c.requires.ready.to c.requires.ready.lawful)) in (
       record {
         nodes = c.requires.ready.counted.nodes;
         posted = c.requires.ready.counted.posted;
-        taken = length-set d.taken.items (c.args.from * d.n + c.args.to) (c.index_mut.result.now + 1) ∙ c.requires.ready.counted.taken;
+        taken = length-set d.taken.items (c.args.from * c.get.result + c.args.to) (c.index_mut.result.now + 1) ∙ c.requires.ready.counted.taken;
         black = length-set d.black.items c.args.to true ∙ c.requires.ready.counted.black;
         counters = length-set d.counters.items c.args.to _ ∙ c.requires.ready.counted.counters;
-        counted = takes_counted d.n d.posted.items d.taken.items d.black.items d.token d.announced c.args.from c.args.to c.index_mut.result.now
-            (c.index_mut.result.now + 1) c.requires.ready.from c.requires.ready.to c.requires.ready.counted.taken c.index_mut.ensures.value refl d.counters.items _
-            (set d.black.items c.args.to true) c.requires.ready.counted.counters (less ∙ ap (λ y. y -ℤ pos 1) is) c.requires.ready.counted.counted;
+        counted = rw c.get.ensures.value (takes_counted d.nodes d.posted.items d.taken.items d.black.items d.token d.announced c.args.from c.args.to c.index_mut.result.now
+            (c.index_mut.result.now + 1) c.requires.ready.from c.requires.ready.to c.requires.ready.counted.taken there refl d.counters.items _
+            (set d.black.items c.args.to true) c.requires.ready.counted.counters (less ∙ ap (λ y. y -ℤ pos 1) is) c.requires.ready.counted.counted);
       },
       refl,
     )

@@ -1,18 +1,20 @@
 -- Each counter is 0 at the start.
-use Rattle.std.proofs.Common.{◌*◌, pos, true, false, ap, ◌∙◌, length}
+use Rattle.std.proofs.Common.{ℕ, ◌*◌, pos, true, false, refl, ap, subst, ◌∙◌, length, replicate}
 use Rattle.std.proofs.lemmas.List.{length-replicate}
+use Rattle.dob_safra.specs.Laws.{IsSize}
 use Rattle.dob_world.proofs.Counters.{opened_counter}
 use Rattle.dob_world.proofs.detector.Detector.open.Goals as goal
 
 pub returns-clause-counted : goal.returns-clause-counted
 returns-clause-counted c =
-    let n = c.get-n.result in
-    let posted = c.in_ok-posted.ensures.items_if_clones_equal (λ a e. e) in
-    let taken = c.in_ok-taken.ensures.items_if_clones_equal (λ a e. e) in
-    let counters = c.in_ok-counters.ensures.items_if_clones_equal (λ a e. e) in
-    let black = c.in_ok-black.ensures.items_if_clones_equal (λ a e. e) in (
+    let n = c.args.nodes in
+    let count = c.get-count.ensures.value in
+    let posted = c.in_ok-posted.ensures.items_if_clones_equal (λ a e. e) ∙ ap (λ (k : ℕ). replicate (k * k) 0) count in
+    let taken = c.in_ok-taken.ensures.items_if_clones_equal (λ a e. e) ∙ ap (λ (k : ℕ). replicate (k * k) 0) count in
+    let counters = c.in_ok-counters.ensures.items_if_clones_equal (λ a e. e) ∙ ap (λ (k : ℕ). replicate k (pos 0)) count in
+    let black = c.in_ok-black.ensures.items_if_clones_equal (λ a e. e) ∙ ap (λ (k : ℕ). replicate k true) count in (
       record {
-        nodes = c.get-n.ensures.size;
+        nodes = subst (λ (k : ℕ). IsSize k) count c.get-count.ensures.size;
         posted = ap length posted ∙ length-replicate (n * n) 0;
         taken = ap length taken ∙ length-replicate (n * n) 0;
         black = ap length black ∙ length-replicate n true;
@@ -20,5 +22,5 @@ returns-clause-counted c =
         counted = opened_counter n c.in_ok-posted.posted.items c.in_ok-taken.taken.items c.in_ok-counters.counters.items c.in_ok-black.black.items
             c.first.result false posted taken counters;
       },
-      c.get-n.ensures.value,
+      refl,
     )

@@ -10,8 +10,8 @@ passed-self-requires-clause-low c = λ apart.
     let z = c.index.result.now in
     let at = c.requires.lawful.at in
     let is = counter_read d d.token.at z c.requires.counted at c.index.ensures in
-    let small = small_counter d.n (ring_of d) d.token.at c.requires.counted.nodes.1 at c.requires.lawful in
-    rw (read_back z (rw is small)) (rw is (lawful_fits d.n (ring_of d) c.requires.counted.nodes c.requires.lawful).low)
+    let small = small_counter d.nodes (ring_of d) d.token.at c.requires.counted.nodes.1 at c.requires.lawful in
+    rw (read_back z (rw is small)) (rw is (lawful_fits d.nodes (ring_of d) c.requires.counted.nodes c.requires.lawful).low)
 
 pub passed-self-requires-clause-high : goal.passed-self-requires-clause-high
 passed-self-requires-clause-high c = λ apart.
@@ -19,5 +19,5 @@ passed-self-requires-clause-high c = λ apart.
     let z = c.index.result.now in
     let at = c.requires.lawful.at in
     let is = counter_read d d.token.at z c.requires.counted at c.index.ensures in
-    let small = small_counter d.n (ring_of d) d.token.at c.requires.counted.nodes.1 at c.requires.lawful in
-    rw (read_back z (rw is small)) (rw is (lawful_fits d.n (ring_of d) c.requires.counted.nodes c.requires.lawful).high)
+    let small = small_counter d.nodes (ring_of d) d.token.at c.requires.counted.nodes.1 at c.requires.lawful in
+    rw (read_back z (rw is small)) (rw is (lawful_fits d.nodes (ring_of d) c.requires.counted.nodes c.requires.lawful).high)

@@ -13,20 +13,19 @@ use Rattle.dob_world.proofs.world.World.round.Goals as goal
 pub loop-place-preserved : goal.loop-place-preserved
 loop-place-preserved c =
     let out = c.in-Ok.ensures in
-    let event = c.event_at.ensures ∙ ap (λ (n : ℕ). round_event n c.loop-place.place) c.get-n.ensures.value in
+    let event = c.event_at.ensures in
     let step = stepped c.event_at.result c.loop-place.self c.step.new.self c.in-Ok.field-0 (λ e. out.done (ap Ok e)) (λ e. out.skipped (ap Ok e)) in
     record {
       way = one_more c.args.self.now c.loop-place.self c.step.new.self c.loop-place.place c.loop-place.invariant.way
           (subst (λ (e : Event). Stepped e c.loop-place.self c.step.new.self) event step) out.going.1 out.going.0;
       before = refl;
-      n = c.get-n.ensures.value;
+      nodes = refl;
     }
 
 pub returns-clause-made : goal.returns-clause-made
 returns-clause-made c =
-    let whole : c.loop-place.place ≡ round_length c.get-n.result = omega (arith, c.loop-place-test.false, c.loop-place.auto.place-end) in
-    round_done c.args.self.now c.loop-place.self c.loop-place.place c.loop-place.invariant.way
-    (whole ∙ ap (λ (n : ℕ). round_length n) c.get-n.ensures.value)
+    let whole : c.loop-place.place ≡ c.round_length-place-end.result = omega (arith, c.loop-place-test.false, c.loop-place.auto.place-end) in
+    round_done c.args.self.now c.loop-place.self c.loop-place.place c.loop-place.invariant.way (whole ∙ c.round_length-place-end.ensures)
 
 pub returns-in-Err-clause-memory : goal.returns-in-Err-clause-memory
 returns-in-Err-clause-memory c = λ few.
@@ -37,9 +36,8 @@ pub returns-in-Err-clause-stopped : goal.returns-in-Err-clause-stopped
 returns-in-Err-clause-stopped c =
     let mid = c.loop-place.self in
     let way = c.loop-place.invariant.way in
-    let event = c.event_at.ensures ∙ ap (λ (n : ℕ). round_event n c.loop-place.place) c.get-n.ensures.value in
-    let below : c.loop-place.place < round_length c.get-n.result = omega (arith, c.loop-place-test.true) in
-    let low = subst (λ (n : ℕ). c.loop-place.place < round_length n) c.get-n.ensures.value below in
+    let event = c.event_at.ensures in
+    let low = subst (λ (k : ℕ). c.loop-place.place < k) c.round_length-place-end.ensures c.loop-place-test.true in
     round_stops c.args.self.now mid c.step.new.self c.loop-place.place c.in-Err.fault way low
     (subst (λ (e : Event). IsStopped e c.in-Err.fault mid c.step.new.self) event (c.in-Err.ensures.named way.going)) c.in-Err.ensures.stopped.1
 

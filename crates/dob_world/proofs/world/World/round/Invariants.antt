@@ -7,5 +7,5 @@ abbrev pub invariant-loop-place : goal.invariant-loop-place
 invariant-loop-place l = record {
   way : Partway l.initial.self l.self l.place;
   before : l.before ≡ l.initial.self.steps;
-  n : l.n ≡ l.initial.self.node_count;
+  nodes : l.nodes ≡ l.initial.self.node_count;
 }
