@@ -1,5 +1,5 @@
 -- What is owed for an order is right by a value table's file, and is owed for the words that ask for it.
-use Rattle.std.proofs.Common.{◌≡◌, ◌∙◌, ℕ, Bool, List, [], ◌∷◌, Option, Some, None, ap, codes, false, inl, inr, option_map, refl, subst, sym, true, true≢false}
+use Rattle.std.proofs.Common.{◌≡◌, ◌∙◌, ℕ, List, [], ◌∷◌, Option, Some, None, ap, codes, false, inl, inr, option_map, refl, subst, sym, true, true≢false}
 use Rattle.std.specs.Borrow.{Bor}
 use Rattle.std.specs.Str.{bytes_eq}
 use Rattle.dob_pieces.specs.declared.profile.Profile.{Profile}
@@ -7,20 +7,20 @@ use Rattle.dob_words.specs.Forms.{Text}
 use Rattle.dob_words.specs.Words.{number_in, profile_named}
 use Rattle.dob_words.specs.Readings.{IsOrder, name_of_order, text_given}
 use Rattle.dob_words.specs.declared.command.Order.{Order}
-use Rattle.dob_words.specs.declared.command.Order.TheVariants.{Value, Count, Build, Probe, Each, Line, Check, Look, LookEach, Show, Moves, Best, Stats, Puzzles, Migrate}
+use Rattle.dob_words.specs.declared.command.Order.TheVariants.{Value, Build, Probe, Each, Line, Look, LookEach, Show, Moves, Best, Stats, Puzzles}
 use Rattle.dob_query.specs.declared.fault.Fault.{Fault}
 use Rattle.dob_query.specs.Each.{AnswersLines, status_of_lines}
 use Rattle.dob_query.specs.Endings.{AnswersOver, Ending}
 use Rattle.dob_query.specs.Program.{AnswersValue}
 use Rattle.dob_shelf.specs.Shelves.{ShelfChange}
-use Rattle.dob_query.specs.Tables.{AnswersProbe, AnswersProbeRight}
+use Rattle.dob_query.specs.Tables.{AnswersProbe}
 use Rattle.dob_query.proofs.ByPlace.{look_right}
 use Rattle.dob_query.proofs.EachLine.{each_right}
 use Rattle.dob_query.proofs.Placed.{look_each_right}
 use Rattle.dob_query.proofs.Rightly.{line_right, puzzles_right, show_right, stats_right}
 use Rattle.dob_query.proofs.TableFaults.{best_right, moves_right, probe_right}
 use Rattle.dob_cli.specs.Builds.{AnswersBuild}
-use Rattle.dob_cli.specs.Orders.{AllTold, AnswersOrder, AnswersRight, AreLinesFor, AreToldFor, ByValueFile, IsByLines, IsFaultFor, search_of}
+use Rattle.dob_cli.specs.Orders.{AllTold, AnswersOrder, AnswersRight, AreLinesFor, AreToldFor, IsByLines, search_of}
 
 -- ---- an order that isn't for each line of standard input
 

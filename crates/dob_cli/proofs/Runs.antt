@@ -69,7 +69,7 @@ module _ (c : ShelfChange) (words : List Text) (e : Ending) where
   ran r read does =
       record { done = inl (record { read = r; meant = read; done = does }); same_out = (read_same c r e does).0; same_err = (read_same c r e does).1 }
 
-  pub ran_order : (o : Order) → IsReadingOf (meaning_of words) (reading.Order o) → AnswersOrder c o e → KeepsFiles c o → Ran c words e
+  pub ran_order : (o : Order) → IsReadingOf (meaning_of words) (reading.Order o) → AnswersOrder c o e → KeepsFiles o c.before.has c.after.has → Ran c words e
   ran_order o read answers keeps = ran (reading.Order o) read (record { answers = answers; right = rightly c e o answers; files = keeps })
 
   pub ran_memory : TellsMemory e → SameFiles c.before.has c.after.has → FailsWhere c false → Ran c words e

@@ -57,8 +57,9 @@ IsBuildFault c profile text number file (File fault) =
 IsBuildFault c profile text number file _ = ⊥
 
 -- what a call gives that builds such a file
-abbrev pub GivesBuild : {X : Type 0} → ShelfChange → Profile → List ℕ → Option ℕ → List ℕ → Result (String X) Fault → Type 0
-GivesBuild c profile text number file = GivesLines c (AreBuildLines c profile text number file) (IsBuildFault c profile text number file)
+abbrev pub GivesBuild : {X : Type 0} → Profile → List ℕ → Option ℕ → List ℕ → Result (String X) Fault → ShelfChange → Type 0
+GivesBuild profile text number file result c =
+    GivesLines c (AreBuildLines c profile text number file) (IsBuildFault c profile text number file) result
 
 -- What the program does where it is asked for a file of the table of the piece set that a text names, by the rules of a profile, built by
 -- so many nodes where a number is given. Where standard output fails it does so in lines that are right, and so the file is whole.

@@ -6,7 +6,7 @@ use Rattle.dob_words.specs.declared.command.Order.{Order}
 use Rattle.dob_words.specs.declared.command.Order.TheVariants.{Value, Count, Build, Probe, Each, Line, Check, Look, LookEach, Show, Moves, Best, Stats, Puzzles, Migrate}
 use Rattle.dob_query.specs.declared.each.LineAnswers.{LineAnswers}
 use Rattle.dob_query.specs.Endings.{Ending, GivesLines}
-use Rattle.dob_shelf.specs.Shelves.{SameFiles, SameOthers, ShelfChange}
+use Rattle.dob_shelf.specs.Shelves.{Files, SameFiles, SameOthers, ShelfChange}
 use Rattle.dob_query.specs.Program.{IsFaultOf, IsValueLineOf}
 use Rattle.dob_query.specs.Sizes.{AreCountLinesOf, IsCountFaultOf}
 use Rattle.dob_cli.specs.Builds.{AreBuildLines, IsBuildFault}
@@ -65,11 +65,11 @@ IsFaultFor c (Puzzles file plies count from seed is_numbered) = IsPuzzlesFault (
 IsFaultFor c (Migrate file out) = IsMigrateFault c file.now out.now
 
 -- the order leaves each file what it had, but for the one that it names to be made
-abbrev pub KeepsFiles : ShelfChange → Order → Type 0
-KeepsFiles c (Build profile set nodes file is_watched) = SameOthers file.now c.before.has c.after.has
-KeepsFiles c (Migrate file out) = SameOthers out.now c.before.has c.after.has
-KeepsFiles c (Show file picture position) = KeepsButPicture (text_given picture) c.before.has c.after.has
-KeepsFiles c _ = SameFiles c.before.has c.after.has
+abbrev pub KeepsFiles : Order → Files → Files → Type 0
+KeepsFiles (Build profile set nodes file is_watched) = SameOthers file.now
+KeepsFiles (Migrate file out) = SameOthers out.now
+KeepsFiles (Show file picture position) = KeepsButPicture (text_given picture)
+KeepsFiles _ = SameFiles
 
 -- lines tell it, with status 0
 abbrev pub IsByLines : Order → Type 0
@@ -88,12 +88,12 @@ AreToldFor c (LookEach file) = ArePlaceLines (IsLookedFor (GivesWhole (c.before.
 AreToldFor c order = AllTold (AreLinesFor c order)
 
 -- what a call gives that finds the lines for the order
-abbrev pub GivesLinesFor : {X : Type 0} → ShelfChange → Order → Result (String X) Fault → Type 0
-GivesLinesFor c order = GivesLines c (AreLinesFor c order) (IsFaultFor c order)
+abbrev pub GivesLinesFor : {X : Type 0} → Order → Result (String X) Fault → ShelfChange → Type 0
+GivesLinesFor order result c = GivesLines c (AreLinesFor c order) (IsFaultFor c order) result
 
 -- the same for any order, with whether a line is refused
-abbrev pub GivesFor : ShelfChange → Order → Result LineAnswers Fault → Type 0
-GivesFor c order = GivesAnswers c (AreToldFor c order) (IsFaultFor c order)
+abbrev pub GivesFor : Order → Result LineAnswers Fault → ShelfChange → Type 0
+GivesFor order result c = GivesAnswers c (AreToldFor c order) (IsFaultFor c order) result
 
 -- what the program does with the order
 abbrev pub AnswersOrder : ShelfChange → Order → Ending → Type 0

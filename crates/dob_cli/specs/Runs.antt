@@ -15,7 +15,7 @@ use Rattle.dob_cli.specs.Orders.{AnswersOrder, AnswersRight, KeepsFiles}
 pub record DoesOrder (c : ShelfChange) (order : Order) (e : Ending) : Type 0 where
   pub answers : AnswersOrder c order e
   pub right : AnswersRight c order e
-  pub files : KeepsFiles c order
+  pub files : KeepsFiles order c.before.has c.after.has
 
 -- it does what was read of the words
 abbrev pub Does : ShelfChange → Reading → Ending → Type 0

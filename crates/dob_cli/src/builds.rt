@@ -1,6 +1,6 @@
 // Building a database file.
 ghost use Rattle.std.specs.Prelude.{◌≡◌, IfOk, IfErr, OnOk};
-ghost use Rattle.dob_shelf.specs.Shelves.{SameOthers, shelf_change};
+ghost use Rattle.dob_shelf.specs.Shelves.{Leaving, SameOthers};
 ghost use Rattle.dob_run.specs.BoundedRun.{IsUnheld};
 ghost use Rattle.dob_run.specs.Built.{IsBuilt};
 ghost use Rattle.dob_run.specs.Faults.{AreWithin, HasBuildFault};
@@ -34,8 +34,7 @@ pub(crate) fn answer_build<R: Threads + Wait + Sync + Console, S: Shelf>(
     file: &str,
     is_watched: bool,
 ) -> Lines
-    ensures answered { GivesBuild (shelf_change (S.state shelf.old) (S.state shelf.new)) profile text.now nodes file.now result }
-    ensures others { SameOthers file.now (S.state shelf.old).has (S.state shelf.new).has }
+    ensures { Leaving (SameOthers file.now) S.state shelf.old shelf.new (GivesBuild profile text.now nodes file.now result) }
 {
     let set = PieceSet::read(text)?;
     let family = Family { set, profile };

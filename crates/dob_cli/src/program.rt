@@ -6,7 +6,7 @@ ghost use Rattle.std.specs.Vec.Iter.{into_iter_items};
 ghost use Rattle.dob_dbfile.specs.Sinks.{Says, change};
 ghost use Rattle.dob_cli.specs.Runs.{Ran, RanOver, TellsNoText, contents};
 ghost use Rattle.dob_cli.specs.Orders.{AnswersOrder, GivesFor, GivesLinesFor, IsByLines, KeepsFiles, search_of};
-ghost use Rattle.dob_shelf.specs.Shelves.{SameFiles, shelf_change};
+ghost use Rattle.dob_shelf.specs.Shelves.{Changes, Leaving, SameFiles};
 ghost use Rattle.dob_query.specs.Endings.{TellsAs, TellsFaultAs, TellsMemory, TellsOneFault, ended};
 ghost use Rattle.dob_query.specs.declared.fault.Fault.TheVariants.{Memory};
 
@@ -52,8 +52,8 @@ pub fn run_words<'a, S: Shelf, O: Write, E: Write>(
     out: &mut O,
     err: &mut E,
 ) -> u8
-    ensures { RanOver (shelf_change (S.state shelf.old) (S.state shelf.new)) (map (λ w. w.now) words.now) result
-        (contents (O.contents out.old) (O.contents out.new)) (contents (E.contents err.old) (E.contents err.new)) }
+    ensures { Changes S.state shelf.old shelf.new (λ c. RanOver c (map (λ w. w.now) words.now) result
+        (contents (O.contents out.old) (O.contents out.new)) (contents (E.contents err.old) (E.contents err.new))) }
 {
     let mut told = Lent::new(out);
     let mut said = Lent::new(err);
@@ -74,8 +74,8 @@ pub fn run_over<'a, S: Shelf, O: Sink, E: Sink>(
     out: &mut O,
     err: &mut E,
 ) -> u8
-    ensures { Ran (shelf_change (S.state shelf.old) (S.state shelf.new)) (map (λ w. w.now) words.now)
-        (ended result (change (O.state out.old) (O.state out.new)) (change (E.state err.old) (E.state err.new))) }
+    ensures { Changes S.state shelf.old shelf.new (λ c. Ran c (map (λ w. w.now) words.now)
+        (ended result (change (O.state out.old) (O.state out.new)) (change (E.state err.old) (E.state err.new)))) }
 {
     match read_words(alloc, words) {
         Err(AllocError) => tell_memory(err),
@@ -98,9 +98,8 @@ fn run_order<S: Shelf, O: Sink, E: Sink>(
     out: &mut O,
     err: &mut E,
 ) -> u8
-    ensures done { AnswersOrder (shelf_change (S.state shelf.old) (S.state shelf.new)) order.entry
-        (ended result (change (O.state out.old) (O.state out.new)) (change (E.state err.old) (E.state err.new))) }
-    ensures files { KeepsFiles (shelf_change (S.state shelf.old) (S.state shelf.new)) order.entry }
+    ensures { Leaving (KeepsFiles order.entry) S.state shelf.old shelf.new (λ c. AnswersOrder c order.entry
+        (ended result (change (O.state out.old) (O.state out.new)) (change (E.state err.old) (E.state err.new)))) }
 {
     match answers_for(rt, alloc, order, shelf) {
         Ok(answers) => tell(alloc, answers.status(), answers.lines.as_str(), out, err),
@@ -115,8 +114,7 @@ fn answers_for<S: Shelf>(
     order: Order<'_>,
     shelf: &mut S,
 ) -> Result<LineAnswers, Fault>
-    ensures answered { GivesFor (shelf_change (S.state shelf.old) (S.state shelf.new)) order.entry result }
-    ensures files { KeepsFiles (shelf_change (S.state shelf.old) (S.state shelf.new)) order.entry }
+    ensures { Leaving (KeepsFiles order.entry) S.state shelf.old shelf.new (GivesFor order.entry result) }
 {
     match order {
         Order::Each(file) => answer_each(alloc, shelf, file),
@@ -139,8 +137,7 @@ fn answer<S: Shelf>(
     shelf: &mut S,
 ) -> Lines
     requires lined { IsByLines order }
-    ensures answered { GivesLinesFor (shelf_change (S.state shelf.old) (S.state shelf.new)) order.entry result }
-    ensures files { KeepsFiles (shelf_change (S.state shelf.old) (S.state shelf.new)) order.entry }
+    ensures { Leaving (KeepsFiles order.entry) S.state shelf.old shelf.new (GivesLinesFor order.entry result) }
 {
     match order {
         Order::Value { profile, position } => answer_value(alloc, profile, position),
@@ -255,8 +252,8 @@ pub fn run_given<S: Shelf, O: Sink, E: Sink>(
     out: &mut O,
     err: &mut E,
 ) -> u8
-    ensures words { IfOk given (λ args. Ran (shelf_change (S.state shelf.old) (S.state shelf.new)) (map string_bytes (drop 1 (into_iter_items args)))
-        (ended result (change (O.state out.old) (O.state out.new)) (change (E.state err.old) (E.state err.new)))) }
+    ensures words { IfOk given (λ args. Changes S.state shelf.old shelf.new (λ c. Ran c (map string_bytes (drop 1 (into_iter_items args)))
+        (ended result (change (O.state out.old) (O.state out.new)) (change (E.state err.old) (E.state err.new))))) }
     ensures memory { IfErr given (λ error. error_kind error ≡ OutOfMemory → TellsMemory
         (ended result (change (O.state out.old) (O.state out.new)) (change (E.state err.old) (E.state err.new)))) }
     ensures unread { IfErr given (λ error. error_kind error ≢ OutOfMemory → TellsNoText
@@ -284,8 +281,8 @@ fn run_args<S: Shelf, O: Sink, E: Sink>(
     out: &mut O,
     err: &mut E,
 ) -> u8
-    ensures { Ran (shelf_change (S.state shelf.old) (S.state shelf.new)) (map string_bytes (drop 1 (into_iter_items args)))
-        (ended result (change (O.state out.old) (O.state out.new)) (change (E.state err.old) (E.state err.new))) }
+    ensures { Changes S.state shelf.old shelf.new (λ c. Ran c (map string_bytes (drop 1 (into_iter_items args)))
+        (ended result (change (O.state out.old) (O.state out.new)) (change (E.state err.old) (E.state err.new)))) }
 {
     match list_of(alloc, args) {
         Ok(given) => run_texts(rt, alloc, after_first(&given), shelf, out, err),
@@ -323,8 +320,8 @@ fn run_texts<S: Shelf, O: Sink, E: Sink>(
     out: &mut O,
     err: &mut E,
 ) -> u8
-    ensures { Ran (shelf_change (S.state shelf.old) (S.state shelf.new)) (map string_bytes given.now)
-        (ended result (change (O.state out.old) (O.state out.new)) (change (E.state err.old) (E.state err.new))) }
+    ensures { Changes S.state shelf.old shelf.new (λ c. Ran c (map string_bytes given.now)
+        (ended result (change (O.state out.old) (O.state out.new)) (change (E.state err.old) (E.state err.new)))) }
 {
     match words_of(alloc, given) {
         Ok(words) => run_over(rt, alloc, &words, shelf, out, err),

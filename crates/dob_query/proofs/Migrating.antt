@@ -5,7 +5,7 @@ use Rattle.dob_value.specs.Follows.{ClassTable}
 use Rattle.dob_dbfile.specs.declared.fault.Fault.TheVariants as file_fault
 use Rattle.dob_query.specs.declared.fault.Fault.{Fault}
 use Rattle.dob_query.specs.declared.fault.Fault.TheVariants.{Text, SetText, TooDeep, Run, File, Table, PuzzlePlies, Memory, Io}
-use Rattle.dob_shelf.specs.Shelves.{SameFiles, ShelfChange, ShelfState, shelf_change}
+use Rattle.dob_shelf.specs.Shelves.{SameFiles, ShelfChange, ShelfState}
 use Rattle.dob_query.specs.Keeping.{IsKeepingFault}
 use Rattle.dob_query.specs.Migrations.{IsMigrateFault}
 use Rattle.dob_query.specs.Tables.{IsFileOf, IsOpeningFault}
@@ -30,7 +30,7 @@ module _ (c : ShelfChange) (file out : List ℕ) where
     still_tells : IsTrue c.before.tells → IsTrue mid.tells
     still_tells tells = subst (λ (b : Bool). IsTrue b) (sym told) tells
 
-    pub keeping_migrates : (fault : Fault) → IsKeepingFault (shelf_change mid c.after) out table fault → IsMigrateFault c file out fault
+    pub keeping_migrates : (fault : Fault) → IsKeepingFault (record c { before = mid }) out table fault → IsMigrateFault c file out fault
     keeping_migrates Memory holds = same_chain c.before.has mid.has c.after.has same holds
     keeping_migrates Io holds = inr (
       table,

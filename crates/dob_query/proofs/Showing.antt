@@ -9,7 +9,7 @@ use Rattle.dob_probe.specs.declared.fault.Fault.TheVariants as table_fault
 use Rattle.dob_probe.specs.Faults.{IsFaultOfLine}
 use Rattle.dob_query.specs.declared.fault.Fault.{Fault}
 use Rattle.dob_query.specs.declared.fault.Fault.TheVariants.{Text, SetText, TooDeep, Run, File, Table, PuzzlePlies, Memory, Io}
-use Rattle.dob_shelf.specs.Shelves.{Files, SameFiles, SameOthers, ShelfChange, ShelfState, shelf_change}
+use Rattle.dob_shelf.specs.Shelves.{Files, SameFiles, SameOthers, ShelfChange, ShelfState}
 use Rattle.dob_query.specs.Shows.{IsDrawingFault, IsFaultBy, IsPictureFault, IsShowFault}
 use Rattle.dob_query.specs.Tables.{IsFileOf, IsOpeningFault, IsProbingFault, IsTextOf}
 use Rattle.dob_shelf.proofs.Shelves.{others_chain, others_kept}
@@ -76,7 +76,7 @@ module _ (c : ShelfChange) (file : Option (List ℕ)) (words : List ℕ) (positi
   drawing_shows picture PuzzlePlies same holds = (position, named, holds, same)
 
   pub picture_shows : (mid : ShelfState) (name : List ℕ) (fault : Fault) → SameFiles c.before.has mid.has → mid.tells ≡ c.before.tells
-      → IsPictureFault (shelf_change mid c.after) name fault → IsShowFault c file (Some name) words fault
+      → IsPictureFault (record c { before = mid }) name fault → IsShowFault c file (Some name) words fault
   picture_shows mid name Memory same told holds = same_chain c.before.has mid.has c.after.has same holds
   picture_shows mid name Io same told holds = (
     position,

@@ -1,5 +1,5 @@
 -- The faults of a table are those of the file that it was read from, and by the file of a value table the value told is right.
-use Rattle.std.proofs.Common.{◌≡◌, ℕ, false, List, inl, inr, subst}
+use Rattle.std.proofs.Common.{◌≡◌, ◌||◌, ℕ, Bool, false, List, inl, inr, subst}
 use Rattle.std.specs.Prelude.{Err}
 use Rattle.dob_pieces.specs.declared.setup.Setup.{Setup}
 use Rattle.dob_pieces.specs.Profiles.{IsAllowed}
@@ -69,9 +69,10 @@ shelf_fault_holds Has shelf_fault.Memory found = tt
 shelf_fault_holds Has shelf_fault.Failed found = is_shut Has found
 
 -- and a call failed just where that is a device's fault
-pub shelf_fails : (c : ShelfChange) (lower : ShelfFault) → FailsWhere c (is_failed {X = Unit {0}} (Err lower)) → FailsWhere c (is_io (fault_of_shelf lower))
-shelf_fails c shelf_fault.Memory failed = failed
-shelf_fails c shelf_fault.Failed failed = failed
+pub shelf_fails : (before after : Bool) (lower : ShelfFault) → after ≡ (before || is_failed {X = Unit {0}} (Err lower))
+    → after ≡ (before || is_io (fault_of_shelf lower))
+shelf_fails before after shelf_fault.Memory failed = failed
+shelf_fails before after shelf_fault.Failed failed = failed
 
 -- a fault of opening the file is one of asking for the position of a text
 pub opening_fault_holds : (Has : List ℕ → Type 0) (words : List ℕ) (position : Setup) (fault : Fault) → IsTextOf words position

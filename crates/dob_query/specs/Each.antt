@@ -101,8 +101,8 @@ AnswersLines c AreLines Holds e =
 abbrev pub GivesAnswers : ShelfChange → (Bool → List ℕ → Type 0) → (Fault → Type 0) → Result LineAnswers Fault → Type 0
 GivesAnswers c AreLines = IsAnswered c (λ answers. AreLines answers.is_refused (string_bytes answers.lines))
 
-abbrev pub GivesEach : ShelfChange → List ℕ → Result LineAnswers Fault → Type 0
-GivesEach c file = GivesAnswers c (AreEachLines IsGivenTo c file) (IsEachFault c file)
+abbrev pub GivesEach : List ℕ → Result LineAnswers Fault → ShelfChange → Type 0
+GivesEach file result c = GivesAnswers c (AreEachLines IsGivenTo c file) (IsEachFault c file) result
 
 abbrev pub AnswersEachBy : (ClassTable → List ℕ → Value → Type 0) → ShelfChange → List ℕ → Ending → Type 0
 AnswersEachBy IsTold c file = AnswersLines c (AreEachLines IsTold c file) (IsEachFault c file)

@@ -60,6 +60,6 @@ IsKeepingFault c file table (File (file_fault.Io count)) =
 IsKeepingFault c file table _ = ⊥
 
 -- the table's file is kept, or its fault holds
-abbrev pub KeepsTable : ShelfChange → List ℕ → ClassTable → Result Unit Fault → Type 0
-KeepsTable c file table =
-    IsAnswered c (λ _. IsTrue c.before.tells → HasJust file (bytes_of table) c.after.has) (IsKeepingFault c file table)
+abbrev pub KeepsTable : List ℕ → ClassTable → Result Unit Fault → ShelfChange → Type 0
+KeepsTable file table result c =
+    IsAnswered c (λ _. IsTrue c.before.tells → HasJust file (bytes_of table) c.after.has) (IsKeepingFault c file table) result

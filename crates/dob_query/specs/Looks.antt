@@ -80,8 +80,8 @@ IsLookFault Has words Memory = Unit {0}
 IsLookFault Has words fault = (position : Setup) × IsTextOf words position × IsLookingFault Has position fault
 
 -- what the call gives
-abbrev pub GivesLook : {X : Type 0} → ShelfChange → List ℕ → List ℕ → Result (String X) Fault → Type 0
-GivesLook c file words = GivesLines c (IsLookLine (c.before.has file) words) (IsLookFault (c.before.has file) words)
+abbrev pub GivesLook : {X : Type 0} → List ℕ → List ℕ → Result (String X) Fault → ShelfChange → Type 0
+GivesLook file words result c = GivesLines c (IsLookLine (c.before.has file) words) (IsLookFault (c.before.has file) words) result
 
 -- what the program does where it is asked to look
 abbrev pub AnswersLook : ShelfChange → List ℕ → List ℕ → Ending → Type 0

@@ -104,8 +104,8 @@ EndsRecords Gives Shows known _ = ⊥
 
 -- ---- what the program does
 
-abbrev pub GivesLookEach : ShelfChange → List ℕ → Result LineAnswers Fault → Type 0
-GivesLookEach c file = GivesAnswers c (ArePlaceLines (IsLookedFor (GivesWhole (c.before.has file))) c file) (IsPlacesFault c file)
+abbrev pub GivesLookEach : List ℕ → Result LineAnswers Fault → ShelfChange → Type 0
+GivesLookEach file result c = GivesAnswers c (ArePlaceLines (IsLookedFor (GivesWhole (c.before.has file))) c file) (IsPlacesFault c file) result
 
 abbrev pub AnswersLookEach : ShelfChange → List ℕ → Ending → Type 0
 AnswersLookEach c file = AnswersLines c (ArePlaceLines (IsLookedFor (GivesWhole (c.before.has file))) c file) (IsPlacesFault c file)

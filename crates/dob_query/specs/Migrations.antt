@@ -8,7 +8,7 @@ use Rattle.dob_shelf.specs.Shelves.{HasJust, SameFiles, ShelfChange}
 use Rattle.dob_query.specs.Sizes.{count_line}
 use Rattle.dob_query.specs.Keeping.{IsKeepingFault}
 use Rattle.dob_query.specs.Tables.{IsFileOf, IsOpeningFault}
-use Rattle.dob_query.specs.Endings.{AnswersOver, Ending, GivesLines}
+use Rattle.dob_query.specs.Endings.{GivesLines}
 
 -- The line tells how many classes the table has that the file had before, and under the other name the shelf has just that table's file in
 -- the second format, where it tells its bytes. The two names may be one.
@@ -27,9 +27,5 @@ IsMigrateFault c file out fault =
     ⊎ ((table : ClassTable) × IsFileOf (c.before.has file) table × IsKeepingFault c out table fault)
 
 -- what the call gives
-abbrev pub GivesMigrate : {X : Type 0} → ShelfChange → List ℕ → List ℕ → Result (String X) Fault → Type 0
-GivesMigrate c file out = GivesLines c (AreMigrateLines c file out) (IsMigrateFault c file out)
-
--- what the program does where it is asked to keep the table of a file under another name
-abbrev pub AnswersMigrate : ShelfChange → List ℕ → List ℕ → Ending → Type 0
-AnswersMigrate c file out = AnswersOver c (AreMigrateLines c file out) (IsMigrateFault c file out)
+abbrev pub GivesMigrate : {X : Type 0} → List ℕ → List ℕ → Result (String X) Fault → ShelfChange → Type 0
+GivesMigrate file out result c = GivesLines c (AreMigrateLines c file out) (IsMigrateFault c file out) result

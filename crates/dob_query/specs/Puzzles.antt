@@ -58,8 +58,9 @@ IsPuzzlesFault Has plies Memory = Unit {0}
 IsPuzzlesFault Has plies fault = IsPuzzleLength plies × IsOpeningFault Has fault
 
 -- what the call gives
-abbrev pub GivesPuzzles : {X : Type 0} → ShelfChange → List ℕ → PuzzleSearch → Result (String X) Fault → Type 0
-GivesPuzzles c file search = GivesLines c (ArePuzzleLines (IsFileOf (c.before.has file)) search) (IsPuzzlesFault (c.before.has file) search.plies)
+abbrev pub GivesPuzzles : {X : Type 0} → List ℕ → PuzzleSearch → Result (String X) Fault → ShelfChange → Type 0
+GivesPuzzles file search result c =
+    GivesLines c (ArePuzzleLines (IsFileOf (c.before.has file)) search) (IsPuzzlesFault (c.before.has file) search.plies) result
 
 -- what the program does where it is asked for puzzles
 abbrev pub AnswersPuzzles : ShelfChange → List ℕ → PuzzleSearch → Ending → Type 0

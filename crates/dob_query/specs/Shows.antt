@@ -105,11 +105,12 @@ IsShowFault c file picture words fault = (position : Setup) × IsTextOf words po
 -- ---- what the calls give
 
 -- the picture's file is kept, or its fault holds
-abbrev pub KeepsPicture : ShelfChange → List ℕ → Setup → Result Unit Fault → Type 0
-KeepsPicture c name position = IsAnswered c (λ _. IsTrue c.before.tells → HasJust name (picture_of position) c.after.has) (IsPictureFault c name)
+abbrev pub KeepsPicture : List ℕ → Setup → Result Unit Fault → ShelfChange → Type 0
+KeepsPicture name position result c =
+    IsAnswered c (λ _. IsTrue c.before.tells → HasJust name (picture_of position) c.after.has) (IsPictureFault c name) result
 
-abbrev pub GivesShow : {X : Type 0} → ShelfChange → Option (List ℕ) → Option (List ℕ) → List ℕ → Result (String X) Fault → Type 0
-GivesShow c file picture words = GivesLines c (AreShowLines c file picture words) (IsShowFault c file picture words)
+abbrev pub GivesShow : {X : Type 0} → Option (List ℕ) → Option (List ℕ) → List ℕ → Result (String X) Fault → ShelfChange → Type 0
+GivesShow file picture words result c = GivesLines c (AreShowLines c file picture words) (IsShowFault c file picture words) result
 
 -- ---- what the program does
 

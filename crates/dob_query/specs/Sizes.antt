@@ -10,8 +10,6 @@ use Rattle.dob_query.specs.declared.counts.Counts.{Counts}
 use Rattle.dob_query.specs.declared.fault.Fault.{Fault}
 use Rattle.dob_query.specs.declared.fault.Fault.TheVariants.{SetText, Memory}
 use Rattle.dob_pieces.specs.Bytes.{line_feed}
-use Rattle.dob_query.specs.Endings.{AnswersOver, Ending}
-use Rattle.dob_shelf.specs.Shelves.{ShelfChange}
 
 -- these are the family's numbers of positions and classes
 pub record HasCounts (family : Family) (counts : Counts) : Type 0 where
@@ -39,7 +37,3 @@ abbrev pub IsCountFaultOf : List ℕ → Fault → Type 0
 IsCountFaultOf text SetText = (set : PieceSet) → text ≢ set_text set
 IsCountFaultOf text Memory = Unit {0}
 IsCountFaultOf text _ = ⊥
-
--- what the program does where it is asked for the numbers of the piece set that a text names, by the rules of a profile
-abbrev pub AnswersCount : ShelfChange → Profile → List ℕ → Ending → Type 0
-AnswersCount c profile text = AnswersOver c (AreCountLinesOf profile text) (IsCountFaultOf text)

@@ -97,8 +97,8 @@ abbrev pub IsStatsFault : (List ℕ → Type 0) → Fault → Type 0
 IsStatsFault Has fault = IsOpeningFault Has fault
 
 -- what the call gives
-abbrev pub GivesStats : {X : Type 0} → ShelfChange → List ℕ → Bool → Result (String X) Fault → Type 0
-GivesStats c file is_csv = GivesLines c (AreStatsLines (IsFileOf (c.before.has file)) is_csv) (IsStatsFault (c.before.has file))
+abbrev pub GivesStats : {X : Type 0} → List ℕ → Bool → Result (String X) Fault → ShelfChange → Type 0
+GivesStats file is_csv result c = GivesLines c (AreStatsLines (IsFileOf (c.before.has file)) is_csv) (IsStatsFault (c.before.has file)) result
 
 -- what the program does where it is asked for the statistics of a file
 abbrev pub AnswersStats : ShelfChange → List ℕ → Bool → Ending → Type 0

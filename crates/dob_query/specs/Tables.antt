@@ -169,14 +169,15 @@ IsCheckFault Has _ = ⊥
 
 -- ---- what the calls give, over a shelf that changes so
 
-abbrev pub GivesProbe : {X : Type 0} → ShelfChange → List ℕ → List ℕ → Result (String X) Fault → Type 0
-GivesProbe c file words = GivesLines c (IsProbeLine (c.before.has file) words) (IsPositionFault (c.before.has file) words)
+abbrev pub GivesProbe : {X : Type 0} → List ℕ → List ℕ → Result (String X) Fault → ShelfChange → Type 0
+GivesProbe file words result c = GivesLines c (IsProbeLine (c.before.has file) words) (IsPositionFault (c.before.has file) words) result
 
-abbrev pub GivesLine : {X : Type 0} → ShelfChange → List ℕ → Bool → List ℕ → Result (String X) Fault → Type 0
-GivesLine c file is_numbered words = GivesLines c (AreMovesLines (c.before.has file) is_numbered words) (IsPositionFault (c.before.has file) words)
+abbrev pub GivesLine : {X : Type 0} → List ℕ → Bool → List ℕ → Result (String X) Fault → ShelfChange → Type 0
+GivesLine file is_numbered words result c =
+    GivesLines c (AreMovesLines (c.before.has file) is_numbered words) (IsPositionFault (c.before.has file) words) result
 
-abbrev pub GivesCheck : {X : Type 0} → ShelfChange → List ℕ → Result (String X) Fault → Type 0
-GivesCheck c file = GivesLines c (IsCheckLine (c.before.has file)) (IsCheckFault (c.before.has file))
+abbrev pub GivesCheck : {X : Type 0} → List ℕ → Result (String X) Fault → ShelfChange → Type 0
+GivesCheck file result c = GivesLines c (IsCheckLine (c.before.has file)) (IsCheckFault (c.before.has file)) result
 
 -- ---- what the program does
 
@@ -193,6 +194,3 @@ AnswersLine c file is_numbered words = AnswersOver c (AreMovesLines (c.before.ha
 -- the same, where the lines tell the best play by definition
 abbrev pub AnswersLineRight : ShelfChange → Profile → List ℕ → Bool → List ℕ → Ending → Type 0
 AnswersLineRight c profile file is_numbered words = AnswersOver c (AreRightMovesLines profile is_numbered words) (IsPositionFault (c.before.has file) words)
-
-abbrev pub AnswersCheck : ShelfChange → List ℕ → Ending → Type 0
-AnswersCheck c file = AnswersOver c (IsCheckLine (c.before.has file)) (IsCheckFault (c.before.has file))

@@ -56,11 +56,11 @@ abbrev pub IsBestLine : (List ℕ → Type 0) → List ℕ → List ℕ → Type
 IsBestLine Has words = TellsMoves (AreMovesOf Has words) best_move_line
 
 -- what the calls give for them
-abbrev pub GivesMoves : {X : Type 0} → ShelfChange → List ℕ → List ℕ → Result (String X) Fault → Type 0
-GivesMoves c file words = GivesLines c (AreMoveLines (c.before.has file) words) (IsPositionFault (c.before.has file) words)
+abbrev pub GivesMoves : {X : Type 0} → List ℕ → List ℕ → Result (String X) Fault → ShelfChange → Type 0
+GivesMoves file words result c = GivesLines c (AreMoveLines (c.before.has file) words) (IsPositionFault (c.before.has file) words) result
 
-abbrev pub GivesBest : {X : Type 0} → ShelfChange → List ℕ → List ℕ → Result (String X) Fault → Type 0
-GivesBest c file words = GivesLines c (IsBestLine (c.before.has file) words) (IsPositionFault (c.before.has file) words)
+abbrev pub GivesBest : {X : Type 0} → List ℕ → List ℕ → Result (String X) Fault → ShelfChange → Type 0
+GivesBest file words result c = GivesLines c (IsBestLine (c.before.has file) words) (IsPositionFault (c.before.has file) words) result
 
 -- what the program does where it is asked for the moves of the position that a text names
 abbrev pub AnswersMoves : ShelfChange → List ℕ → List ℕ → Ending → Type 0

@@ -1,7 +1,7 @@
 // The answers to the lines of standard input, by the table of a database file.
 ghost use Rattle.std.specs.Prelude.{◌≡◌, ◌++◌, ◌||◌, [], false, IfOk, OnOk, is_err, string_bytes};
 ghost use Rattle.dob_query.specs.Each.{IsAnswer, IsGivenTo, TellsLinesOf, answer_line, status_of_lines, GivesEach};
-ghost use Rattle.dob_shelf.specs.Shelves.{SameFiles, shelf_change};
+ghost use Rattle.dob_shelf.specs.Shelves.{Leaving, SameFiles};
 
 use crate::fault::Fault;
 use crate::input_lines::first_line;
@@ -54,8 +54,7 @@ impl LineAnswers {
 
 /// The answers to the lines of standard input by the table of the file, which is read before them.
 pub fn answer_each<S: Shelf>(alloc: Global, shelf: &mut S, file: &str) -> Result<LineAnswers, Fault>
-    ensures answered { GivesEach (shelf_change (S.state shelf.old) (S.state shelf.new)) file.now result }
-    ensures files { SameFiles (S.state shelf.old).has (S.state shelf.new).has }
+    ensures { Leaving SameFiles S.state shelf.old shelf.new (GivesEach file.now result) }
 {
     let table = open(alloc, shelf, file)?;
     let input = shelf.input()?;

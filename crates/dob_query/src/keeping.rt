@@ -1,6 +1,6 @@
 // The lines that tell the counts of a table, and its file.
 ghost use Rattle.std.specs.Prelude.{◌≡◌, IfOk, string_bytes};
-ghost use Rattle.dob_shelf.specs.Shelves.{SameOthers, shelf_change};
+ghost use Rattle.dob_shelf.specs.Shelves.{Leaving, SameOthers};
 ghost use Rattle.dob_query.specs.Keeping.{class_lines, KeepsTable};
 
 use crate::fault::Fault;
@@ -19,8 +19,7 @@ pub fn keep_table<S: Shelf>(
     file: &str,
     table: &Table,
 ) -> Result<(), Fault>
-    ensures kept { KeepsTable (shelf_change (S.state shelf.old) (S.state shelf.new)) file.now table.now result }
-    ensures others { SameOthers file.now (S.state shelf.old).has (S.state shelf.new).has }
+    ensures { Leaving (SameOthers file.now) S.state shelf.old shelf.new (KeepsTable file.now table.now result) }
 {
     let mut sink = shelf.make(file)?;
     match write_table(alloc, table, &mut sink) {

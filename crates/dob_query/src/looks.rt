@@ -3,7 +3,7 @@ ghost use Rattle.std.specs.Prelude.{◌≡◌, false, IfOk, IfErr};
 ghost use Rattle.dob_dbfile.specs.Devices.{Stream};
 ghost use Rattle.dob_query.specs.Faults.{is_io_error};
 ghost use Rattle.dob_query.specs.Looks.{IsFaultOfLook, IsLookedUp, GivesLook};
-ghost use Rattle.dob_shelf.specs.Shelves.{SameFiles, shelf_change};
+ghost use Rattle.dob_shelf.specs.Shelves.{Leaving, SameFiles};
 
 use crate::fault::{Fault, Lines};
 use crate::positions::position_named;
@@ -17,8 +17,7 @@ use std::alloc::Global;
 
 /// The line that tells the value of the position that the text names, by the record of its class in the file.
 pub fn answer_look<S: Shelf>(alloc: Global, shelf: &mut S, file: &str, text: &str) -> Lines
-    ensures answered { GivesLook (shelf_change (S.state shelf.old) (S.state shelf.new)) file.now text.now result }
-    ensures files { SameFiles (S.state shelf.old).has (S.state shelf.new).has }
+    ensures { Leaving SameFiles S.state shelf.old shelf.new (GivesLook file.now text.now result) }
 {
     let position = position_named(text)?;
     let mut source = shelf.find(file)?;

@@ -4,7 +4,7 @@ ghost use Rattle.dob_dbfile.specs.Devices.{Stream};
 ghost use Rattle.dob_query.specs.Each.{TellsLinesOf};
 ghost use Rattle.dob_query.specs.Faults.{is_io, is_io_error};
 ghost use Rattle.dob_query.specs.LooksEach.{IsRecordAnswer, IsRecordEnd, TellsRecords, EndsRecords, GivesLookEach};
-ghost use Rattle.dob_shelf.specs.Shelves.{SameFiles, shelf_change};
+ghost use Rattle.dob_shelf.specs.Shelves.{Leaving, SameFiles};
 
 use crate::each::LineAnswers;
 use crate::fault::Fault;
@@ -24,8 +24,7 @@ pub fn answer_look_each<S: Shelf>(
     shelf: &mut S,
     file: &str,
 ) -> Result<LineAnswers, Fault>
-    ensures answered { GivesLookEach (shelf_change (S.state shelf.old) (S.state shelf.new)) file.now result }
-    ensures files { SameFiles (S.state shelf.old).has (S.state shelf.new).has }
+    ensures { Leaving SameFiles S.state shelf.old shelf.new (GivesLookEach file.now result) }
 {
     let mut source = shelf.find(file)?;
     let answers = answers_by(alloc, shelf, &mut source);

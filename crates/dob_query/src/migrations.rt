@@ -1,6 +1,6 @@
 // Writing a database file anew, in the format of today.
 ghost use Rattle.std.specs.Prelude.{◌≡◌, IfOk, codes, string_bytes};
-ghost use Rattle.dob_shelf.specs.Shelves.{SameOthers, shelf_change};
+ghost use Rattle.dob_shelf.specs.Shelves.{Leaving, SameOthers};
 ghost use Rattle.dob_query.specs.Migrations.{GivesMigrate};
 ghost use Rattle.dob_query.specs.Sizes.{count_line};
 
@@ -14,8 +14,7 @@ use std::alloc::Global;
 /// Keeps the table of the file under the other name, in the second format, and gives the line that tells how many classes it
 /// has. The second file is made when the first one is read whole and the line is there, so that both may have one name.
 pub fn answer_migrate<S: Shelf>(alloc: Global, shelf: &mut S, file: &str, out: &str) -> Lines
-    ensures answered { GivesMigrate (shelf_change (S.state shelf.old) (S.state shelf.new)) file.now out.now result }
-    ensures others { SameOthers out.now (S.state shelf.old).has (S.state shelf.new).has }
+    ensures { Leaving (SameOthers out.now) S.state shelf.old shelf.new (GivesMigrate file.now out.now result) }
 {
     let table = open(alloc, shelf, file)?;
     let line = class_line(alloc, table.class_count())?;

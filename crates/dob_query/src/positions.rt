@@ -2,7 +2,7 @@
 ghost use Rattle.std.specs.Prelude.{MatchResult};
 ghost use Rattle.dob_pieces.specs.declared.profile.Profile.TheVariants.{A};
 ghost use Rattle.dob_text.specs.Faults.{HasTextFault};
-ghost use Rattle.dob_shelf.specs.Shelves.{SameFiles, shelf_change};
+ghost use Rattle.dob_shelf.specs.Shelves.{Leaving, SameFiles};
 ghost use Rattle.dob_query.specs.Endings.{IsAnswered};
 ghost use Rattle.dob_query.specs.Tables.{AreAsked, IsPositionFault, IsTextOf};
 
@@ -21,9 +21,8 @@ pub(crate) fn file_and_position<S: Shelf>(
     file: &str,
     text: &str,
 ) -> Result<(Table, Position), Fault>
-    ensures asked { let c = shelf_change (S.state shelf.old) (S.state shelf.new) in
-        IsAnswered c (λ asked. AreAsked (c.before.has file.now) text.now asked.0 asked.1.setup) (IsPositionFault (c.before.has file.now) text.now) result }
-    ensures files { SameFiles (S.state shelf.old).has (S.state shelf.new).has }
+    ensures { Leaving SameFiles S.state shelf.old shelf.new (λ c.
+        IsAnswered c (λ asked. AreAsked (c.before.has file.now) text.now asked.0 asked.1.setup) (IsPositionFault (c.before.has file.now) text.now) result) }
 {
     let position = position_named(text)?;
     let table = open(alloc, shelf, file)?;

@@ -3,7 +3,7 @@ ghost use Rattle.std.specs.Prelude.{◌≡◌, ◌++◌, ◌∷◌, ◌<◌, ◌
 ghost use Rattle.std.specs.Fmt.{decimal};
 ghost use Rattle.dob_pieces.specs.Bytes.{line_feed};
 ghost use Rattle.dob_query.specs.Puzzles.{IsPuzzleLength, line_of_puzzle, puzzle_line, puzzle_lines, puzzle_text, GivesPuzzles};
-ghost use Rattle.dob_shelf.specs.Shelves.{SameFiles, shelf_change};
+ghost use Rattle.dob_shelf.specs.Shelves.{Leaving, SameFiles};
 
 use crate::fault::{Fault, Lines};
 use crate::tables::open;
@@ -35,8 +35,7 @@ pub fn answer_puzzles<S: Shelf>(
     file: &str,
     search: PuzzleSearch,
 ) -> Lines
-    ensures answered { GivesPuzzles (shelf_change (S.state shelf.old) (S.state shelf.new)) file.now search result }
-    ensures files { SameFiles (S.state shelf.old).has (S.state shelf.new).has }
+    ensures { Leaving SameFiles S.state shelf.old shelf.new (GivesPuzzles file.now search result) }
 {
     if !is_puzzle_length(search.plies) {
         return Err(Fault::PuzzlePlies);

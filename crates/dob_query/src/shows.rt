@@ -2,7 +2,7 @@
 ghost use Rattle.std.specs.Prelude.{◌≡◌, IfOk, string_bytes};
 ghost use Rattle.dob_query.specs.Endings.{IsAnswered};
 ghost use Rattle.dob_words.specs.Readings.{text_given};
-ghost use Rattle.dob_shelf.specs.Shelves.{SameFiles, SameOthers, shelf_change};
+ghost use Rattle.dob_shelf.specs.Shelves.{Leaving, SameFiles, SameOthers};
 ghost use Rattle.dob_query.specs.Shows.{AreDrawn, AreDrawnBy, IsDrawingFault, KeepsButPicture, played_drawing, GivesShow, KeepsPicture};
 ghost use Rattle.dob_query.specs.Tables.{IsProbingFault};
 
@@ -27,8 +27,8 @@ pub fn answer_show<S: Shelf>(
     picture: Option<&str>,
     text: &str,
 ) -> Lines
-    ensures answered { GivesShow (shelf_change (S.state shelf.old) (S.state shelf.new)) (text_given file.entry) (text_given picture.entry) text.now result }
-    ensures files { KeepsButPicture (text_given picture.entry) (S.state shelf.old).has (S.state shelf.new).has }
+    ensures { Leaving (KeepsButPicture (text_given picture.entry)) S.state shelf.old shelf.new
+        (GivesShow (text_given file.entry) (text_given picture.entry) text.now result) }
 {
     let position = position_named(text)?;
     let lines = drawn_lines(alloc, shelf, file, &position)?;
@@ -48,10 +48,9 @@ fn drawn_lines<S: Shelf>(
     file: Option<&str>,
     position: &Position,
 ) -> Lines
-    ensures answered { let c = shelf_change (S.state shelf.old) (S.state shelf.new) in
+    ensures answered { Leaving SameFiles S.state shelf.old shelf.new (λ c.
         IsAnswered c (λ lines. AreDrawn c.before.has (text_given file.entry) position.now.setup (string_bytes lines))
-        (IsDrawingFault c.before.has (text_given file.entry) position.now.setup) result }
-    ensures files { SameFiles (S.state shelf.old).has (S.state shelf.new).has }
+        (IsDrawingFault c.before.has (text_given file.entry) position.now.setup) result) }
     ensures told { (S.state shelf.new).tells ≡ (S.state shelf.old).tells }
 {
     match file {
@@ -62,10 +61,9 @@ fn drawn_lines<S: Shelf>(
 
 // The lines that draw the position and tell its value and its line by the table of the file.
 fn lines_by_table<S: Shelf>(alloc: Global, shelf: &mut S, file: &str, position: &Position) -> Lines
-    ensures answered { let c = shelf_change (S.state shelf.old) (S.state shelf.new) in
+    ensures answered { Leaving SameFiles S.state shelf.old shelf.new (λ c.
         IsAnswered c (λ lines. AreDrawnBy (c.before.has file.now) position.now.setup (string_bytes lines))
-        (IsProbingFault (c.before.has file.now) position.now.setup) result }
-    ensures files { SameFiles (S.state shelf.old).has (S.state shelf.new).has }
+        (IsProbingFault (c.before.has file.now) position.now.setup) result) }
     ensures told { (S.state shelf.new).tells ≡ (S.state shelf.old).tells }
 {
     let table = open(alloc, shelf, file)?;
@@ -98,8 +96,7 @@ fn keep_picture<S: Shelf>(
     name: &str,
     position: &Position,
 ) -> Result<(), Fault>
-    ensures kept { KeepsPicture (shelf_change (S.state shelf.old) (S.state shelf.new)) name.now position.now.setup result }
-    ensures others { SameOthers name.now (S.state shelf.old).has (S.state shelf.new).has }
+    ensures { Leaving (SameOthers name.now) S.state shelf.old shelf.new (KeepsPicture name.now position.now.setup result) }
 {
     let picture = picture_position(alloc, position)?;
     let mut sink = shelf.make(name)?;

@@ -1,7 +1,7 @@
 // How many classes of a database file's table have which value, and examples of the longest win and the longest loss.
 ghost use Rattle.std.specs.Prelude.{◌≡◌, ◌++◌, ◌<◌, IfOk, IfSome, OnOk, flat_map, length, string_bytes};
 ghost use Rattle.dob_probe.specs.Statistics.{AreGroups};
-ghost use Rattle.dob_shelf.specs.Shelves.{SameFiles, shelf_change};
+ghost use Rattle.dob_shelf.specs.Shelves.{Leaving, SameFiles};
 ghost use Rattle.dob_query.specs.Stats.{AreStatsFor, AreStatsOf, IsLongestLine, csv_lines, distance_line, group_text, longest_of, longest_text, value_row, with_group, GivesStats};
 
 use crate::fault::Lines;
@@ -32,8 +32,7 @@ pub fn answer_stats<S: Shelf>(
     file: &str,
     is_csv: bool,
 ) -> Lines
-    ensures answered { GivesStats (shelf_change (S.state shelf.old) (S.state shelf.new)) file.now is_csv result }
-    ensures files { SameFiles (S.state shelf.old).has (S.state shelf.new).has }
+    ensures { Leaving SameFiles S.state shelf.old shelf.new (GivesStats file.now is_csv result) }
 {
     let table = open(alloc, shelf, file)?;
     let groups = statistics(rt, alloc, &table)?;

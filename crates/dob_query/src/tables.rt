@@ -4,7 +4,7 @@ ghost use Rattle.dob_text.specs.MoveText.{move_text, numbered_text};
 ghost use Rattle.dob_value.specs.Follows.{IsConsistent, IsValueTable};
 ghost use Rattle.dob_probe.specs.Faults.{IsFaultOfCheck, IsFaultOfLine};
 ghost use Rattle.dob_probe.specs.Lines.{GivenBy, IsLine};
-ghost use Rattle.dob_shelf.specs.Shelves.{SameFiles, shelf_change};
+ghost use Rattle.dob_shelf.specs.Shelves.{Leaving, SameFiles};
 ghost use Rattle.dob_query.specs.Endings.{IsAnswered};
 ghost use Rattle.dob_pieces.specs.Bytes.{line_feed};
 ghost use Rattle.dob_query.specs.Tables.{IsFileOf, IsOpeningFault, GivesCheck, GivesLine, GivesProbe};
@@ -27,8 +27,7 @@ use std::thread::Threads;
 
 /// The line that tells the value of the position that the text names, by the table of the file.
 pub fn answer_probe<S: Shelf>(alloc: Global, shelf: &mut S, file: &str, text: &str) -> Lines
-    ensures answered { GivesProbe (shelf_change (S.state shelf.old) (S.state shelf.new)) file.now text.now result }
-    ensures files { SameFiles (S.state shelf.old).has (S.state shelf.new).has }
+    ensures { Leaving SameFiles S.state shelf.old shelf.new (GivesProbe file.now text.now result) }
 {
     let (table, position) = file_and_position(alloc, shelf, file, text)?;
     let value = probe(&table, &position)?;
@@ -44,8 +43,7 @@ pub fn answer_line<S: Shelf>(
     is_numbered: bool,
     text: &str,
 ) -> Lines
-    ensures answered { GivesLine (shelf_change (S.state shelf.old) (S.state shelf.new)) file.now is_numbered text.now result }
-    ensures files { SameFiles (S.state shelf.old).has (S.state shelf.new).has }
+    ensures { Leaving SameFiles S.state shelf.old shelf.new (GivesLine file.now is_numbered text.now result) }
 {
     let (table, position) = file_and_position(alloc, shelf, file, text)?;
     let (value, moves) = best_play(alloc, &table, &position)?;
@@ -61,8 +59,7 @@ pub fn answer_check<S: Shelf>(
     file: &str,
     is_watched: bool,
 ) -> Lines
-    ensures answered { GivesCheck (shelf_change (S.state shelf.old) (S.state shelf.new)) file.now result }
-    ensures files { SameFiles (S.state shelf.old).has (S.state shelf.new).has }
+    ensures { Leaving SameFiles S.state shelf.old shelf.new (GivesCheck file.now result) }
 {
     let table = open(alloc, shelf, file)?;
     check_table(rt, alloc, &table, is_watched)?;
@@ -110,9 +107,8 @@ pub(crate) fn best_play(
 
 /// The table of the file.
 pub(crate) fn open<S: Shelf>(alloc: Global, shelf: &mut S, file: &str) -> Result<Table, Fault>
-    ensures opened { let c = shelf_change (S.state shelf.old) (S.state shelf.new) in
-        IsAnswered c (IsFileOf (c.before.has file.now)) (IsOpeningFault (c.before.has file.now)) result }
-    ensures files { SameFiles (S.state shelf.old).has (S.state shelf.new).has }
+    ensures opened { Leaving SameFiles S.state shelf.old shelf.new (λ c.
+        IsAnswered c (IsFileOf (c.before.has file.now)) (IsOpeningFault (c.before.has file.now)) result) }
     ensures told { (S.state shelf.new).tells ≡ (S.state shelf.old).tells }
     ensures input { (S.state shelf.new).input ≡ (S.state shelf.old).input }
 {

@@ -1,7 +1,7 @@
 // The moves of a position with their values by the table of a database file: all of them, or the first.
 ghost use Rattle.std.specs.Prelude.{◌≡◌, ◌++◌, IfOk, OnOk, flat_map, string_bytes};
 ghost use Rattle.dob_query.specs.ValuedMoves.{AreMovesOf, best_move_line, valued_move_line, move_lines, GivesBest, GivesMoves};
-ghost use Rattle.dob_shelf.specs.Shelves.{SameFiles, shelf_change};
+ghost use Rattle.dob_shelf.specs.Shelves.{Leaving, SameFiles};
 ghost use Rattle.dob_query.specs.Endings.{IsAnswered};
 ghost use Rattle.dob_query.specs.Tables.{IsPositionFault};
 
@@ -16,8 +16,7 @@ use std::alloc::Global;
 
 /// The lines that tell the moves of the position that the text names, each with its value by the table of the file.
 pub fn answer_moves<S: Shelf>(alloc: Global, shelf: &mut S, file: &str, text: &str) -> Lines
-    ensures answered { GivesMoves (shelf_change (S.state shelf.old) (S.state shelf.new)) file.now text.now result }
-    ensures files { SameFiles (S.state shelf.old).has (S.state shelf.new).has }
+    ensures { Leaving SameFiles S.state shelf.old shelf.new (GivesMoves file.now text.now result) }
 {
     let the_moves = valued_moves_of(alloc, shelf, file, text)?;
     Ok(move_lines(alloc, &the_moves)?)
@@ -25,8 +24,7 @@ pub fn answer_moves<S: Shelf>(alloc: Global, shelf: &mut S, file: &str, text: &s
 
 /// The line that tells the first of these moves with its value: the first move of the best play.
 pub fn answer_best<S: Shelf>(alloc: Global, shelf: &mut S, file: &str, text: &str) -> Lines
-    ensures answered { GivesBest (shelf_change (S.state shelf.old) (S.state shelf.new)) file.now text.now result }
-    ensures files { SameFiles (S.state shelf.old).has (S.state shelf.new).has }
+    ensures { Leaving SameFiles S.state shelf.old shelf.new (GivesBest file.now text.now result) }
 {
     let the_moves = valued_moves_of(alloc, shelf, file, text)?;
     Ok(best_move_line(alloc, &the_moves)?)
@@ -39,10 +37,9 @@ fn valued_moves_of<S: Shelf>(
     file: &str,
     text: &str,
 ) -> Result<Vec<ValuedMove>, Fault>
-    ensures answered { let c = shelf_change (S.state shelf.old) (S.state shelf.new) in
+    ensures { Leaving SameFiles S.state shelf.old shelf.new (λ c.
         IsAnswered c (λ the_moves. AreMovesOf (c.before.has file.now) text.now the_moves.items)
-        (IsPositionFault (c.before.has file.now) text.now) result }
-    ensures files { SameFiles (S.state shelf.old).has (S.state shelf.new).has }
+        (IsPositionFault (c.before.has file.now) text.now) result) }
 {
     let (table, position) = file_and_position(alloc, shelf, file, text)?;
     Ok(valued_moves(alloc, &table, &position)?)

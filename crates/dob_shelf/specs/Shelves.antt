@@ -27,6 +27,10 @@ pub record ShelfChange : Type 1 where
 abbrev pub shelf_change : ShelfState → ShelfState → ShelfChange
 shelf_change before after = record { before = before; after = after }
 
+-- it is so of what a call does to a shelf, of which that much is known
+abbrev pub Changes : {S : Type 0} → (S → ShelfState) → S → S → (ShelfChange → Type 0) → Type 0
+Changes state old new Is = Is (shelf_change (state old) (state new))
+
 -- some call failed, just where that is true
 abbrev pub FailsWhere : ShelfChange → Bool → Type 0
 FailsWhere c failed = c.after.has_failed ≡ (c.before.has_failed || failed)
@@ -44,6 +48,10 @@ SameFiles Old New = (name bytes : List ℕ) → Old name bytes ↔ New name byte
 -- each other name has what it had
 abbrev pub SameOthers : List ℕ → Files → Files → Type 0
 SameOthers name Old New = (other bytes : List ℕ) → other ≢ name → Old other bytes ↔ New other bytes
+
+-- The same as `Changes`, and what the names had before is kept so: by `SameFiles` all of it, by `SameOthers name` that of the other names.
+abbrev pub Leaving : {S : Type 0} → (Files → Files → Type 0) → (S → ShelfState) → S → S → (ShelfChange → Type 0) → Type 0
+Leaving Keeps state old new Is = Changes state old new Is × Keeps (state old).has (state new).has
 
 -- the name has just these bytes
 abbrev pub HasJust : List ℕ → List ℕ → Files → Type 0

@@ -4,14 +4,17 @@ use Rattle.dob_query.proofs.EachLine.{each_refused, each_told}
 use Rattle.dob_cli.specs.Orders.{AreToldFor, IsFaultFor}
 use Rattle.dob_cli.proofs.program.run_order.Goals as goal
 
-pub returns-in-Ok-clause-done : goal.returns-in-Ok-clause-done
-returns-in-Ok-clause-done g c =
+pub returns-in-Ok : goal.returns-in-Ok
+returns-in-Ok g c =
     let change = shelf_change (g.S.Shelf.state c.args.shelf.now) (g.S.Shelf.state c.answers_for.new.shelf) in
-    each_told change (AreToldFor change c.args.order) (IsFaultFor change c.args.order) c.in-Ok.answers.is_refused _ _ _
-    c.in-Ok.ensures.answered.0 c.in-Ok.ensures.answered.1 c.status.ensures (rw c.as_str.ensures.value at c.tell.ensures)
+    let answered = c.in-Ok.ensures in (
+      each_told change (AreToldFor change c.args.order) (IsFaultFor change c.args.order) c.in-Ok.answers.is_refused _ _ _ answered.0.0 answered.0.1
+          c.status.ensures (rw c.as_str.ensures.value at c.tell.ensures),
+      answered.1,
+    )
 
-pub returns-in-Err-clause-done : goal.returns-in-Err-clause-done
-returns-in-Err-clause-done g c =
+pub returns-in-Err : goal.returns-in-Err
+returns-in-Err g c =
     let change = shelf_change (g.S.Shelf.state c.args.shelf.now) (g.S.Shelf.state c.answers_for.new.shelf) in
-    each_refused change (AreToldFor change c.args.order) (IsFaultFor change c.args.order) _ _ _ _
-    c.in-Err.ensures.answered.0 c.in-Err.ensures.answered.1 c.tell_fault.ensures
+    let answered = c.in-Err.ensures in
+    (each_refused change (AreToldFor change c.args.order) (IsFaultFor change c.args.order) _ _ _ _ answered.0.0 answered.0.1 c.tell_fault.ensures, answered.1)

@@ -1,6 +1,5 @@
 -- What was done with what was read is what the words ask for.
 use Rattle.std.proofs.Common.{inl, refl}
-use Rattle.dob_shelf.specs.Shelves.{shelf_change}
 use Rattle.dob_shelf.proofs.Shelves.{unchanged}
 use Rattle.dob_words.specs.declared.command.Reading.TheVariants as reading
 use Rattle.dob_cli.proofs.Runs.{none_failed, ran, ran_memory, ran_order}
@@ -9,27 +8,27 @@ use Rattle.dob_cli.proofs.program.run_over.Goals as goal
 pub returns-in-Err : goal.returns-in-Err
 returns-in-Err g c =
     let shelf = g.S.Shelf.state c.args.shelf.now in
-    ran_memory (shelf_change shelf shelf) _ _ (c.tell_memory.ensures, refl) (unchanged shelf.has) (none_failed shelf.has_failed)
+    ran_memory _ _ _ (c.tell_memory.ensures, refl) (unchanged shelf.has) (none_failed shelf.has_failed)
 
 pub returns-in-Ok-Help : goal.returns-in-Ok-Help
 returns-in-Ok-Help g c =
     let shelf = g.S.Shelf.state c.args.shelf.now in
-    ran (shelf_change shelf shelf) _ _ (reading.Help c.in-Ok-Help.text) (rw c.in-Ok-Help.field-0-is at c.in-Ok-Help.ensures.meaning)
+    ran _ _ _ (reading.Help c.in-Ok-Help.text) (rw c.in-Ok-Help.field-0-is at c.in-Ok-Help.ensures.meaning)
     (inl (_, c.tell.ensures), unchanged shelf.has)
 
 pub returns-in-Ok-Version : goal.returns-in-Ok-Version
 returns-in-Ok-Version g c =
     let shelf = g.S.Shelf.state c.args.shelf.now in
-    ran (shelf_change shelf shelf) _ _ reading.Version (rw c.in-Ok-Version.field-0-is at c.in-Ok-Version.ensures.meaning)
+    ran _ _ _ reading.Version (rw c.in-Ok-Version.field-0-is at c.in-Ok-Version.ensures.meaning)
     (inl c.tell-in-Ok-Version.ensures, unchanged shelf.has)
 
 pub returns-in-Ok-Usage : goal.returns-in-Ok-Usage
 returns-in-Ok-Usage g c =
     let shelf = g.S.Shelf.state c.args.shelf.now in
-    ran (shelf_change shelf shelf) _ _ (reading.Usage c.in-Ok-Usage.text) (rw c.in-Ok-Usage.field-0-is at c.in-Ok-Usage.ensures.meaning)
+    ran _ _ _ (reading.Usage c.in-Ok-Usage.text) (rw c.in-Ok-Usage.field-0-is at c.in-Ok-Usage.ensures.meaning)
     (inl (_, refl, c.say.ensures, refl), unchanged shelf.has)
 
 pub returns-in-Ok-Order : goal.returns-in-Ok-Order
 returns-in-Ok-Order g c =
-    ran_order (shelf_change (g.S.Shelf.state c.args.shelf.now) (g.S.Shelf.state c.run_order.new.shelf)) _ _ c.in-Ok-Order.order
-    (rw c.in-Ok-Order.field-0-is at c.in-Ok-Order.ensures.meaning) c.run_order.ensures.done c.run_order.ensures.files
+    ran_order _ _ _ c.in-Ok-Order.order
+    (rw c.in-Ok-Order.field-0-is at c.in-Ok-Order.ensures.meaning) c.run_order.ensures.0 c.run_order.ensures.1

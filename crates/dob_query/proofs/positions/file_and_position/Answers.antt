@@ -3,11 +3,15 @@ use Rattle.std.proofs.lemmas.Result.{err_from_is_err_and}
 use Rattle.dob_query.proofs.TableFaults.{opening_fault_holds}
 use Rattle.dob_query.proofs.positions.file_and_position.Goals as goal
 
-pub returns-in_err-table-clause-asked : goal.returns-in_err-table-clause-asked
-returns-in_err-table-clause-asked g c =
+pub returns-in_err-table : goal.returns-in_err-table
+returns-in_err-table g c =
     let p = err_from_is_err_and c.from_residual-in_err-table.result c.from_residual-in_err-table.ensures.1 in
+    let opened = c.in_err-table.ensures.opened in
     rw (p.1, p.2) (
-      opening_fault_holds ((g.S.Shelf.state c.args.shelf.now).has c.args.file.now) c.args.text.now c.in_ok-position.position.setup _
-          c.in_ok-position.ensures c.in_err-table.ensures.opened.0,
-      c.in_err-table.ensures.opened.1,
+      (
+        opening_fault_holds ((g.S.Shelf.state c.args.shelf.now).has c.args.file.now) c.args.text.now c.in_ok-position.position.setup _
+            c.in_ok-position.ensures opened.0.0,
+        opened.0.1,
+      ),
+      opened.1,
     )

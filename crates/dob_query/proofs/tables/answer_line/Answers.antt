@@ -5,29 +5,35 @@ use Rattle.dob_query.specs.Tables.{moves_lines}
 use Rattle.dob_query.proofs.TableFaults.{line_fault_holds}
 use Rattle.dob_query.proofs.tables.answer_line.Goals as goal
 
-pub returns-in_err-value-clause-answered : goal.returns-in_err-value-clause-answered
-returns-in_err-value-clause-answered g c =
+pub returns-in_err-value : goal.returns-in_err-value
+returns-in_err-value g c =
     let p = err_from_is_err_and c.from_residual-in_err-value.result c.from_residual-in_err-value.ensures.1 in
-    let asked = c.in_ok-table.ensures.asked in
+    let asked = c.in_ok-table.ensures in
     rw (p.1, p.2) (
-      line_fault_holds ((g.S.Shelf.state c.args.shelf.now).has c.args.file.now) c.in_ok-table.table asked.0.0 c.args.text.now
-          c.in_ok-table.position.setup c.in_err-value.field-0.0 asked.0.1 c.in_err-value.ensures.fault,
+      (
+        line_fault_holds ((g.S.Shelf.state c.args.shelf.now).has c.args.file.now) c.in_ok-table.table asked.0.0.0 c.args.text.now
+            c.in_ok-table.position.setup c.in_err-value.field-0.0 asked.0.0.1 c.in_err-value.ensures.fault,
+        asked.0.1,
+      ),
       asked.1,
     )
 
-pub returns-clause-answered : goal.returns-clause-answered
-returns-clause-answered g c =
-    let asked = c.in_ok-table.ensures.asked in (
-      record {
-        table = c.in_ok-table.table;
-        file = asked.0.0;
-        position = c.in_ok-table.position.setup;
-        named = asked.0.1;
-        value = c.in_ok-value.value;
-        given = c.in_ok-value.ensures.value;
-        moves = c.in_ok-value.moves.items;
-        best_line = c.in_ok-value.ensures.line;
-        same = c.in_ok-moves_lines.ensures ∙ ap (moves_lines c.args.is_numbered c.in_ok-value.value) c.deref.ensures.value;
-      },
+pub returns : goal.returns
+returns g c =
+    let asked = c.in_ok-table.ensures in (
+      (
+        record {
+          table = c.in_ok-table.table;
+          file = asked.0.0.0;
+          position = c.in_ok-table.position.setup;
+          named = asked.0.0.1;
+          value = c.in_ok-value.value;
+          given = c.in_ok-value.ensures.value;
+          moves = c.in_ok-value.moves.items;
+          best_line = c.in_ok-value.ensures.line;
+          same = c.in_ok-moves_lines.ensures ∙ ap (moves_lines c.args.is_numbered c.in_ok-value.value) c.deref.ensures.value;
+        },
+        asked.0.1,
+      ),
       asked.1,
     )

@@ -1,6 +1,5 @@
 -- A file that the shelf has isn't opened only for lack of memory.
 use Rattle.std.proofs.lemmas.Result.{err_from_is_err_and}
-use Rattle.dob_shelf.specs.Shelves.{shelf_change}
 use Rattle.dob_query.proofs.TableFaults.{shelf_fails, shelf_fault_holds}
 use Rattle.dob_query.proofs.tables.open.Goals as goal
 
@@ -8,6 +7,9 @@ pub returns-in_err-source-clause-opened : goal.returns-in_err-source-clause-open
 returns-in_err-source-clause-opened g c =
     let p = err_from_is_err_and c.from_residual.result c.from_residual.ensures.1 in
     rw (p.1, p.2) (
-      shelf_fault_holds ((g.S.Shelf.state c.args.shelf.now).has c.args.file.now) c.in_err-source.field-0.0 c.in_err-source.ensures.found,
-      shelf_fails (shelf_change (g.S.Shelf.state c.args.shelf.now) (g.S.Shelf.state c.find.new.self)) c.in_err-source.field-0.0 c.in_err-source.ensures.failed,
+      (
+        shelf_fault_holds ((g.S.Shelf.state c.args.shelf.now).has c.args.file.now) c.in_err-source.field-0.0 c.in_err-source.ensures.found,
+        shelf_fails _ _ c.in_err-source.field-0.0 c.in_err-source.ensures.failed,
+      ),
+      c.find.ensures.kept,
     )

@@ -3,7 +3,7 @@ use Rattle.std.proofs.Common.{◌∙◌, ap}
 use Rattle.dob_query.specs.ValuedMoves.{best_move_line}
 use Rattle.dob_query.proofs.valued_moves.answer_best.Goals as goal
 
-pub returns-clause-answered : goal.returns-clause-answered
-returns-clause-answered g c =
-    let answered = c.in_ok-the_moves.ensures.answered in
-    ((c.in_ok-the_moves.the_moves.items, answered.0, c.in_ok-best_move_line.ensures ∙ ap best_move_line c.deref.ensures.value), answered.1)
+pub returns : goal.returns
+returns g c =
+    let answered = c.in_ok-the_moves.ensures in
+    (((c.in_ok-the_moves.the_moves.items, answered.0.0, c.in_ok-best_move_line.ensures ∙ ap best_move_line c.deref.ensures.value), answered.0.1), answered.1)
