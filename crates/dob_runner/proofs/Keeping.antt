@@ -36,7 +36,7 @@ use Rattle.dob_runner.specs.declared.endpoint.Endpoint.{Endpoint}
 use Rattle.dob_runner.specs.declared.runner.Runner.{Runner}
 use Rattle.dob_runner.specs.Links.{KeepsOutlet, KeepsInlet}
 use Rattle.dob_runner.specs.LawfulRunners.{IsSpared}
-use Rattle.dob_runner.specs.Endpoints.{KeepsEach, AreOut}
+use Rattle.dob_runner.specs.Endpoints.{KeepsEach}
 use Rattle.dob_runner.specs.Keeps.{KeepsEndpoint, HasSameLinks}
 use Rattle.dob_runner.specs.Runners.{KeepsRunner, GoesOn, HasFailed, HasBroken, HasRefused, HasCutAll, IsReasonFor, IsReasoned, GateIsAsked, no_gate, StepsBy}
 use Rattle.dob_runner.specs.Turns.{HasTurned, HasSameWork}
@@ -285,14 +285,6 @@ work_same r = record { node = refl; links = record { seat = seat_same r.endpoint
 
 pub failed_after : (a b c : Runner) (why : Cause) → KeepsRunner a b → HasFailed b c why → HasFailed a c why
 failed_after a b c why kept failed = record { keeps = runner_trans a b c kept failed.keeps; cause = failed.cause; stopped = failed.stopped }
-
--- slots that were empty are
-pub out_still : (old new : Endpoint) → new.seat.nodes ≡ old.seat.nodes →
-    ((j : ℕ) (before after : Outlet) → slice_get old.outlets.items j ≡ Some before → slice_get new.outlets.items j ≡ Some after → before.slot ≡ None → after.slot ≡ None) →
-    AreOut old.outlets.items → AreOut new.outlets.items
-out_still old new nodes each out j after at =
-    let before = there_is new.outlets.items old.outlets.items j after (omega (arith, new.outlets_len, old.outlets_len, nodes)) at in
-    each j before.0 after before.1 at (out j before.0 before.1)
 
 -- a failure that is handed on
 pub broken_on : {A : Type 0} (Did : Runner → Runner → A → Type 0) (a b c : Runner) (r : Result A Cause) (why : Cause) → IsErrAnd r (λ given. given ≡ why) →

@@ -1,6 +1,6 @@
 -- Each step of a runner leaves it lawful.
 use Rattle.std.proofs.Common.{◌≡◌, ◌≢◌, ℕ, ◌-◌, ◌^◌, ◌<◌, ◌≤◌, eqb, cond, refl, sym, ap, ◌∙◌, subst, arith, append_assoc}
-use Rattle.std.proofs.Common.{List, [], ◌∷◌, ◌++◌, length, length-append, take, drop, true, false, Some, inl, inr}
+use Rattle.std.proofs.Common.{List, [], ◌∷◌, ◌++◌, length, length-append, take, drop, true, false, None, Some, inl, inr}
 use Rattle.std.specs.Prelude.{slice_get, slice_set}
 use Rattle.std.proofs.lemmas.List.{append-nil, take-append-drop, length-take}
 use Rattle.std.specs.List.{All}
@@ -26,8 +26,8 @@ use Rattle.dob_runner.specs.declared.slots.Inlet.{Inlet}
 use Rattle.dob_runner.specs.declared.endpoint.Endpoint.{Endpoint}
 use Rattle.dob_runner.specs.Knows.{KnowsRight}
 use Rattle.dob_chan.specs.Inboxes.{batches_of}
-use Rattle.dob_runner.specs.Links.{offered, KeepsOutlet}
-use Rattle.dob_runner.specs.Keeps.{HasSameLinks}
+use Rattle.dob_runner.specs.Links.{offered, IsOffered}
+use Rattle.dob_runner.specs.Keeps.{HasSameLinksAndColour}
 use Rattle.dob_runner.specs.Endpoints.{HasChangedOne, AreOut}
 use Rattle.dob_runner.specs.Runners.{IsNew}
 use Rattle.dob_runner.specs.LawfulRunners.{planned, items_worked, own_applied, applied_from, AreLast, SendsRight, IsLawfulRunner}
@@ -62,6 +62,13 @@ recoloured family size node old new law same_node same_nodes same_outlets same_w
   knows = worked_still node old new same_worked law.knows;
   white = λ is. (let rest = white is in (rest.0, subst AreOut (sym same_outlets) rest.1));
 }
+
+-- the same links and colour
+pub still_coloured : (family : Family) (size : ℕ) (node : Node) (old new : Endpoint) → IsLawfulRunner family size node old → HasSameLinksAndColour old new →
+    IsLawfulRunner family size node new
+still_coloured family size node old new law kept =
+    recoloured family size node old new law kept.links.seat.node kept.links.seat.nodes (ap (λ v. v.items) kept.links.outlets) (same_inlet old new kept.links.inlet)
+    (λ is. law.white (sym kept.colour ∙ is))
 
 -- a runner that has something to do is black
 pub busy_black : (family : Family) (size : ℕ) (node : Node) (endpoint : Endpoint) → IsLawfulRunner family size node endpoint → (IsIdle node → ⊥) → endpoint.seat.black ≡ true
@@ -102,17 +109,14 @@ unchanged_node family size old new endpoint law same sound =
 
 -- and so it is where its runner says that it failed
 pub unchanged_failed : (family : Family) (size : ℕ) (old new : Node) (endpoint now : Endpoint) → IsLawfulRunner family size old endpoint → IsUnchanged old new → IsSound new →
-    HasSameLinks endpoint now → now.seat.black ≡ endpoint.seat.black → IsLawfulRunner family size new now
-unchanged_failed family size old new endpoint now law same sound links colour =
-    let still = unchanged_node family size old new endpoint law same sound in
-    recoloured family size new endpoint now still links.seat.node links.seat.nodes (ap (λ v. v.items) links.outlets) (same_inlet endpoint now links.inlet)
-    (λ is. still.white (sym colour ∙ is))
+    HasSameLinksAndColour endpoint now → IsLawfulRunner family size new now
+unchanged_failed family size old new endpoint now law same sound kept =
+    still_coloured family size new endpoint now (unchanged_node family size old new endpoint law same sound) kept
 
 -- one outlet was offered what it was before
 pub offered_again : (family : Family) (size to : ℕ) (node : Node) (old new : Endpoint) → IsLawfulRunner family size node old → new.seat ≡ old.seat →
-    HasChangedOne (λ (before after : Outlet). KeepsOutlet before after × (offered after ≡ offered before)) to old.outlets.items new.outlets.items →
-    new.inlet ≡ old.inlet → (AreOut old.outlets.items → AreOut new.outlets.items) → IsLawfulRunner family size node new
-offered_again family size to node old new law seat one inlet slots = record {
+    HasChangedOne IsOffered to old.outlets.items new.outlets.items → new.inlet ≡ old.inlet → IsLawfulRunner family size node new
+offered_again family size to node old new law seat one inlet = record {
   of = (law.of.0, law.of.1 ∙ sym (ap (λ s. s.node) seat), law.of.2 ∙ sym (ap (λ s. s.nodes) seat));
   sound = law.sound;
   sends = λ j outlet apart at. there j outlet (subst (λ os. slice_get os j ≡ Some outlet) one.4 at) (λ e. apart (e ∙ sym (ap (λ s. s.node) seat)));
@@ -120,18 +124,25 @@ offered_again family size to node old new law seat one inlet slots = record {
       (ap (λ s. slice_get new.outlets.items s.node) (sym seat) ∙ at)) refl;
   own = law.own;
   knows = worked_still node old new (same_inlet old new inlet) law.knows;
-  white = λ is. (let rest = law.white (sym (ap (λ s. s.black) seat) ∙ is) in (rest.0, slots rest.1));
+  white = λ is. (let rest = law.white (sym (ap (λ s. s.black) seat) ∙ is) in (
+    rest.0,
+    λ j outlet at. out rest.1 j outlet (subst (λ os. slice_get os j ≡ Some outlet) one.4 at),
+  ));
 }
   where
     there : (j : ℕ) (outlet : Outlet) → slice_get (slice_set old.outlets.items to one.1) j ≡ Some outlet → j ≢ old.seat.node → SendsRight node size j (offered outlet)
     there = each_after (λ j outlet. j ≢ old.seat.node → SendsRight node size j (offered outlet)) old.outlets.items to one.1
         (λ j outlet other at apart. law.sends j outlet apart at)
-        (λ apart. subst (λ bs. SendsRight node size to bs) (sym one.3.1) (law.sends to one.0 apart one.2))
+        (λ apart. subst (λ bs. SendsRight node size to bs) (sym one.3.same) (law.sends to one.0 apart one.2))
 
     nothing : (j : ℕ) (outlet : Outlet) → slice_get (slice_set old.outlets.items to one.1) j ≡ Some outlet → j ≡ old.seat.node → offered outlet ≡ []
     nothing = each_after (λ j outlet. j ≡ old.seat.node → offered outlet ≡ []) old.outlets.items to one.1
         (λ j outlet other at own. law.unused outlet (ap (λ i. slice_get old.outlets.items i) (sym own) ∙ at))
-        (λ own. one.3.1 ∙ law.unused one.0 (ap (λ i. slice_get old.outlets.items i) (sym own) ∙ one.2))
+        (λ own. one.3.same ∙ law.unused one.0 (ap (λ i. slice_get old.outlets.items i) (sym own) ∙ one.2))
+
+    out : AreOut old.outlets.items → (j : ℕ) (outlet : Outlet) → slice_get (slice_set old.outlets.items to one.1) j ≡ Some outlet → outlet.slot ≡ None
+    out empty = each_after (λ j outlet. outlet.slot ≡ None) old.outlets.items to one.1 (λ j outlet other at. empty j outlet at)
+        (elim one.3.slot [ inl same ↦ same ∙ empty to one.0 one.2 | inr gone ↦ gone ])
 
 -- ---- the node alone changed
 

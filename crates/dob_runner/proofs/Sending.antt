@@ -1,9 +1,10 @@
 -- What sending to one node after another does.
 use Rattle.std.proofs.Common.{◌≡◌, ◌≢◌, ◌⊎◌, ℕ, ◌+◌, ◌<◌, ◌≤◌, List, ◌∷◌, [], ◌++◌, length, Bool, true, false, not, ◌||◌, Option, Some, None, Result, Ok, Err}
-use Rattle.std.proofs.Common.{refl, sym, ap, ◌∙◌, subst, inl, inr, arith, length-append}
-use Rattle.std.specs.Prelude.{slice_get}
+use Rattle.std.proofs.Common.{refl, sym, ap, ◌∙◌, subst, inl, inr, arith, length-append, get_or}
+use Rattle.std.specs.Prelude.{slice_get, vec_len, ◌^◌}
 use Rattle.std.proofs.lemmas.Bool.{cases_eq, cases_Bool, both_ways}
 use Rattle.std.proofs.lemmas.Option.{same_Some}
+use Rattle.dob_pieces.proofs.Elements.{read_there}
 use Rattle.std.proofs.lemmas.List.{append-nil, append_cancel_right}
 use Rattle.dob_update.specs.Batches.{BatchView, OutboxView}
 use Rattle.dob_chan.specs.declared.ends.SendEnd.{SendEnd}
@@ -15,10 +16,10 @@ use Rattle.dob_runner.specs.declared.endpoint.Endpoint.{Endpoint}
 use Rattle.dob_runner.specs.declared.runner.Runner.{Runner}
 use Rattle.dob_runner.specs.Slots.{in_slot}
 use Rattle.dob_runner.specs.Keeps.{KeepsEndpoint}
-use Rattle.dob_runner.specs.Links.{offered, KeepsOutlet, IsFull}
+use Rattle.dob_runner.specs.Links.{offered, IsOffered}
 use Rattle.dob_runner.specs.Endpoints.{HasChangedOne}
 use Rattle.dob_runner.specs.TurnRounds.{HasToSend, IsToFill, IsMoreOut, CutsFor, CutsLeft, FillsFor, IsSent, HasSentOne, SendsTo, SendsBelow}
-use Rattle.dob_runner.specs.Runners.{GoesOn, StepsBy}
+use Rattle.dob_runner.specs.Runners.{KeepsRunner, GoesOn, StepsBy}
 use Rattle.dob_runner.proofs.Keeping.{endpoint_same, runner_same, goes_trans, still_same}
 use Rattle.dob_runner.proofs.Taking.{changed_there, changed_at, changed_else}
 
@@ -99,6 +100,27 @@ sends_more small k a b c did one so_far next = record {
 
 -- ---- a batch for one
 
+-- a place of one, after a step
+pub low_still : (r f : Runner) (to : ℕ) → to < r.endpoint.seat.nodes → KeepsRunner r f → to < f.endpoint.seat.nodes
+low_still r f to low kept = omega (arith, low, kept.endpoint.seat.nodes)
+
+pub in_outlets : (endpoint : Endpoint) (to : ℕ) → to < endpoint.seat.nodes → to < vec_len endpoint.outlets
+in_outlets endpoint to low = omega (arith, endpoint.outlets_len, low)
+
+-- the outlet that was read stands there
+module _ (endpoint : Endpoint) (to : ℕ) (x : Outlet) (low : to < endpoint.seat.nodes) (is : x ≡ get_or endpoint.outlets.items to x) where
+  pub outlet_at : slice_get endpoint.outlets.items to ≡ Some x
+  outlet_at = read_there endpoint.outlets.items to x (omega (arith, endpoint.outlets_len, low)) is
+
+  pub few_there : length (offered x) ≤ 2 ^ 40
+  few_there = omega (arith, endpoint.posted to x outlet_at, endpoint.seat.few_posted to low)
+
+  pub slot_full : x.slot ≢ None → (outlet : Outlet) → slice_get endpoint.outlets.items to ≡ Some outlet → outlet.slot ≢ None
+  slot_full some outlet at = subst (λ (o : Outlet). o.slot ≢ None) (same_Some x outlet (sym outlet_at ∙ at)) some
+
+  pub slot_empty : x.slot ≡ None → (outlet : Outlet) → slice_get endpoint.outlets.items to ≡ Some outlet → outlet.slot ≡ None
+  slot_empty none outlet at = subst (λ (o : Outlet). o.slot ≡ None) (same_Some x outlet (sym outlet_at ∙ at)) none
+
 -- nothing is cut
 pub uncut : (to : ℕ) (r : Runner) → r.failed ≡ None → CutsFor to r r false
 uncut to r unfailed = record {
@@ -176,9 +198,6 @@ own_unsent small r to unfailed is = record {
   inlet = refl;
 }
 
-abbrev pub IsSameOut : Outlet → Outlet → Type 0
-IsSameOut before after = KeepsOutlet before after × (offered after ≡ offered before)
-
 filled_slot : (slot : Option BatchView) → slot ≢ None → (batch : BatchView) × (slot ≡ Some batch)
 filled_slot None full = absurd (full refl)
 filled_slot (Some batch) full = (batch, refl)
@@ -249,25 +268,30 @@ module _ (to : ℕ) (small : Bool) (old mid : Runner) (any : Bool) (apart : to �
 
   -- one does, and was offered to the inbox
   module _ (new : Runner) (goes : GoesOn old new) (node : new.node ≡ mid.node) (inlet : new.endpoint.inlet ≡ mid.endpoint.inlet)
-      (full : (outlet : Outlet) → slice_get mid.endpoint.outlets.items to ≡ Some outlet → outlet.slot ≢ None)
-      (offer : HasChangedOne IsSameOut to mid.endpoint.outlets.items new.endpoint.outlets.items)
-      (tried : (before after : Outlet) → slice_get mid.endpoint.outlets.items to ≡ Some before → slice_get new.endpoint.outlets.items to ≡ Some after →
-      (after.slot ≡ before.slot) ⊎ (after.slot ≡ None))
-      (was_full : (after : Outlet) → slice_get new.endpoint.outlets.items to ≡ Some after → after.slot ≢ None → IsFull after) where
+      (offer : HasChangedOne IsOffered to mid.endpoint.outlets.items new.endpoint.outlets.items) (full : offer.0.slot ≢ None) where
+    is_offered : (after : Outlet) → slice_get new.endpoint.outlets.items to ≡ Some after → IsOffered offer.0 after
+    is_offered after is = changed_at IsOffered mid.endpoint.outlets.items new.endpoint.outlets.items to offer offer.0 after offer.2 is
+
+    there : slice_get new.endpoint.outlets.items to ≡ Some offer.1
+    there = changed_there IsOffered mid.endpoint.outlets.items new.endpoint.outlets.items to offer
+
+    in_slot_of : (after : Outlet) → slice_get new.endpoint.outlets.items to ≡ Some after → after.slot ≡ offer.1.slot
+    in_slot_of after is = ap (λ (o : Outlet). o.slot) (same_Some after offer.1 (sym is ∙ there))
+
     same_offer : (after : Outlet) → slice_get new.endpoint.outlets.items to ≡ Some after → offered after ≡ offered offer.0
-    same_offer after is = (changed_at IsSameOut mid.endpoint.outlets.items new.endpoint.outlets.items to offer offer.0 after offer.2 is).1
+    same_offer after is = (is_offered after is).same
 
     few_offered : (before after : Outlet) → slice_get old.endpoint.outlets.items to ≡ Some before → slice_get new.endpoint.outlets.items to ≡ Some after →
         length (offered after) ≤ length (offered before) + 1
     few_offered before after was is = omega (arith, (few_filled before offer.0 was offer.2).1, ap length (same_offer after is))
 
     else_where : (j : ℕ) → j ≢ to → slice_get new.endpoint.outlets.items j ≡ slice_get old.endpoint.outlets.items j
-    else_where j other = changed_else IsSameOut mid.endpoint.outlets.items new.endpoint.outlets.items to j offer other ∙ others j other
+    else_where j other = changed_else IsOffered mid.endpoint.outlets.items new.endpoint.outlets.items to j offer other ∙ others j other
 
     took_it : (before after : Outlet) → slice_get old.endpoint.outlets.items to ≡ Some before → slice_get new.endpoint.outlets.items to ≡ Some after → after.slot ≡ None →
         (batch : BatchView) × (sent_by after.end ≡ sent_by before.end ++ batch ∷ []) × (after.slot ≡ None)
     took_it before after was is out =
-        let held = filled_slot offer.0.slot (full offer.0 offer.2) in (
+        let held = filled_slot offer.0.slot full in (
           held.0,
           sym (append-nil (sent_by after.end)) ∙ sym (ap (λ (h : Option BatchView). sent_by after.end ++ in_slot h) out) ∙ same_offer after is
               ∙ ap (λ (h : Option BatchView). sent_by offer.0.end ++ in_slot h) held.1
@@ -277,7 +301,7 @@ module _ (to : ℕ) (small : Bool) (old mid : Runner) (any : Bool) (apart : to �
 
     left_it : (before after : Outlet) → slice_get old.endpoint.outlets.items to ≡ Some before → slice_get new.endpoint.outlets.items to ≡ Some after → after.slot ≢ None →
         sent_by after.end ≡ sent_by before.end
-    left_it before after was is unsent = elim (tried offer.0 after offer.2 is) [
+    left_it before after was is unsent = elim (is_offered after is).slot [
       | inl same ↦
           append_cancel_right (sent_by after.end) (sent_by offer.0.end) (in_slot offer.0.slot)
           (ap (λ (h : Option BatchView). sent_by after.end ++ in_slot h) (sym same) ∙ same_offer after is)
@@ -297,17 +321,16 @@ module _ (to : ℕ) (small : Bool) (old mid : Runner) (any : Bool) (apart : to �
         (was_there.0, after, was_there.1, is, omega (arith, ap length took.1, length-append (sent_by was_there.0.end) (took.0 ∷ [])))
 
     -- it still lies there, or not
-    pub sends_offered : (still : Bool) → (still ≡ true → (outlet : Outlet) → slice_get new.endpoint.outlets.items to ≡ Some outlet → outlet.slot ≢ None) →
-        (still ≡ false → (outlet : Outlet) → slice_get new.endpoint.outlets.items to ≡ Some outlet → outlet.slot ≡ None) → SendsTo to small old new (not still)
+    pub sends_offered : (still : Bool) → (still ≡ true → offer.1.slot ≢ None) → (still ≡ false → offer.1.slot ≡ None) → SendsTo to small old new (not still)
     sends_offered true unsent out = record {
       goes = goes;
       itself = λ is. absurd (apart is);
       sent = λ _ before after was is. record {
         few = few_offered before after was is;
         one = λ never. absurd (cc);
-        none = λ left. left_it before after was is (unsent refl after is);
-        spent = λ left empty has. unsent refl after is empty;
-        full = λ left stuck. was_full after is stuck;
+        none = λ left. left_it before after was is (λ none. unsent refl (sym (in_slot_of after is) ∙ none));
+        spent = λ left empty has. unsent refl (sym (in_slot_of after is) ∙ empty);
+        full = λ left stuck. (is_offered after is).full stuck;
       };
       some = λ never. absurd (cc);
       own = ap (λ n. n.own) node ∙ fills.0.own;
@@ -320,12 +343,12 @@ module _ (to : ℕ) (small : Bool) (old mid : Runner) (any : Bool) (apart : to �
       itself = λ is. absurd (apart is);
       sent = λ _ before after was is. record {
         few = few_offered before after was is;
-        one = λ sent. took_it before after was is (out refl after is);
+        one = λ sent. took_it before after was is (in_slot_of after is ∙ out refl);
         none = λ never. absurd (cc);
         spent = λ never. absurd (cc);
         full = λ never. absurd (cc);
       };
-      some = λ sent. (let there = changed_there IsSameOut mid.endpoint.outlets.items new.endpoint.outlets.items to offer in one_more offer.1 there (out refl offer.1 there));
+      some = λ sent. one_more offer.1 there (out refl);
       own = ap (λ n. n.own) node ∙ fills.0.own;
       outboxes = λ j other. ap (λ n. outbox_to n j) node ∙ fills.0.others j other;
       others = else_where;

@@ -11,7 +11,6 @@ use Rattle.dob_node.specs.Nodes.{IsUnchanged}
 use Rattle.dob_runner.specs.declared.slots.Inlet.{Inlet}
 use Rattle.dob_chan.specs.declared.ends.TakeEnd.{TakeEnd}
 use Rattle.dob_chan.specs.Ends.{taken_by}
-use Rattle.dob_runner.specs.declared.endpoint.Endpoint.{Endpoint}
 use Rattle.dob_runner.specs.declared.runner.Runner.{Runner}
 use Rattle.dob_runner.specs.Batches.{IsBatchFor}
 use Rattle.dob_runner.specs.Links.{worked, HoldsFor}
@@ -55,10 +54,10 @@ unchanged_same node = record { same = (refl, refl, refl, refl); kept = (refl, re
 
 -- ---- taking
 
-module _ (old new : Runner) (mid : Endpoint) (goes : GoesOn old new) (received : worked mid.inlet ≡ worked old.endpoint.inlet)
-    (asked : IsReceived old.endpoint.inlet mid.inlet) (outlets : new.endpoint.outlets.items ≡ old.endpoint.outlets.items) where
+module _ (old new : Runner) (mid : Inlet) (goes : GoesOn old new) (received : worked mid ≡ worked old.endpoint.inlet)
+    (asked : IsReceived old.endpoint.inlet mid) (outlets : new.endpoint.outlets.items ≡ old.endpoint.outlets.items) where
   -- none came, or it isn't worked in
-  pub takes_none : new.endpoint.inlet ≡ mid.inlet → IsUnchanged old.node new.node → IsUnwanted old new → RunnerTakesBatch old new false
+  pub takes_none : new.endpoint.inlet ≡ mid → IsUnchanged old.node new.node → IsUnwanted old new → RunnerTakesBatch old new false
   takes_none same unchanged unwanted = record {
     goes = goes;
     taken = subst (λ i. IsWorkedIn false old.endpoint.inlet i) (sym same) (record {
@@ -73,7 +72,7 @@ module _ (old new : Runner) (mid : Endpoint) (goes : GoesOn old new) (received :
   }
 
   -- one is
-  pub takes_one : (batch : BatchView) → new.endpoint.inlet.end ≡ mid.inlet.end → worked new.endpoint.inlet ≡ worked mid.inlet ++ batch ∷ [] → RunnerTakesBatch old new true
+  pub takes_one : (batch : BatchView) → new.endpoint.inlet.end ≡ mid.end → worked new.endpoint.inlet ≡ worked mid ++ batch ∷ [] → RunnerTakesBatch old new true
   takes_one batch end more = record {
     goes = goes;
     taken = record {

@@ -16,3 +16,8 @@ pub record HasSameLinks (old new : Endpoint) : Type 0 where
   pub seat : IsSameSeat old.seat new.seat
   pub outlets : new.outlets ≡ old.outlets
   pub inlet : new.inlet ≡ old.inlet
+
+-- and its node is of the same colour
+pub record HasSameLinksAndColour (old new : Endpoint) : Type 0 where
+  pub links : HasSameLinks old new
+  pub colour : new.seat.black ≡ old.seat.black

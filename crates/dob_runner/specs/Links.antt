@@ -1,5 +1,5 @@
 -- The batches of a runner's links, and what a link keeps.
-use Rattle.std.specs.Prelude.{◌≡◌, ◌≢◌, ℕ, List, ◌++◌, Some}
+use Rattle.std.specs.Prelude.{◌≡◌, ◌≢◌, ◌⊎◌, ℕ, List, ◌++◌, Some, None}
 use Rattle.dob_pieces.specs.declared.profile.Family.{Family}
 use Rattle.dob_pieces.specs.Lists.{IsBeginning}
 use Rattle.dob_update.specs.Batches.{BatchView}
@@ -40,3 +40,10 @@ KeepsOutlet old new = SendsToSame old.end new.end × IsBeginning (sent_by old.en
 -- the inlet takes from the same inbox, of which it got the same batches and maybe more
 abbrev pub KeepsInlet : Inlet → Inlet → Type 0
 KeepsInlet old new = TakesFromSame old.end new.end × IsBeginning (taken_by old.end) (taken_by new.end)
+
+-- What lies in the slot was offered to the inbox: it lies there still, which is only where the inbox was full, or the inbox took it.
+pub record IsOffered (old new : Outlet) : Type 0 where
+  pub keeps : KeepsOutlet old new
+  pub same : offered new ≡ offered old
+  pub slot : (new.slot ≡ old.slot) ⊎ (new.slot ≡ None)
+  pub full : new.slot ≢ None → IsFull new

@@ -17,7 +17,7 @@ use Rattle.dob_runner.specs.Links.{offered, worked}
 use Rattle.dob_runner.specs.LawfulRunners.{items_worked}
 use Rattle.dob_runner.specs.declared.runner.Runner.{Runner}
 use Rattle.dob_runner.specs.Endpoints.{AreOut}
-use Rattle.dob_runner.specs.Keeps.{KeepsEndpoint, HasSameLinks}
+use Rattle.dob_runner.specs.Keeps.{KeepsEndpoint, HasSameLinksAndColour}
 
 -- The runner keeps its place in its crew, and nothing that went over its links is taken back.
 pub record KeepsRunner (old new : Runner) : Type 0 where
@@ -96,8 +96,7 @@ pub record HasBroken (old new : Runner) (why : Cause) : Type 0 where
 -- it was held back: its node, its links and its colour are as they were
 pub record IsHeldBack (old new : Runner) : Type 0 where
   pub node : new.node ≡ old.node
-  pub links : HasSameLinks old.endpoint new.endpoint
-  pub colour : new.endpoint.seat.black ≡ old.endpoint.seat.black
+  pub endpoint : HasSameLinksAndColour old.endpoint new.endpoint
 
 -- a step of a runner: it has done that and answers so, or its node has failed
 abbrev pub StepsBy : {A : Type 0} → (Runner → Runner → A → Type 0) → Runner → Runner → Result A Cause → Type 0

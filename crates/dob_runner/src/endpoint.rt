@@ -1,20 +1,18 @@
 // What a runner has besides its node: its seat on the board and its ends of the inboxes.
-ghost use Rattle.std.specs.Prelude.{◌≡◌, ◌≢◌, ◌⊎◌, ℕ, ◌^◌, ◌<◌, true, false, Some, None, ◌∷◌, [], ◌++◌, slice_get};
-ghost use Rattle.std.specs.Prelude.{slice_index, length, vec_len, slice_set, IfSome, IfNone, MatchOption};
+ghost use Rattle.std.specs.Prelude.{◌≡◌, ◌≢◌, ℕ, ◌^◌, ◌<◌, true, Some, None, ◌∷◌, [], ◌++◌, slice_get};
+ghost use Rattle.std.specs.Prelude.{slice_index, vec_len, IfSome, IfNone};
 ghost use Rattle.dob_safra.specs.declared.event.RingEvent.TheVariants.{Post};
 ghost use Rattle.dob_board.specs.Views.{posts_more};
 ghost use Rattle.dob_board.specs.Histories.{MakesEvent};
-ghost use Rattle.dob_board.specs.Seats.{IsSameSeat, TakesOne, TakesNone, MovesNothing, stand_of, witnessed_by};
+ghost use Rattle.dob_board.specs.Seats.{TakesOne, TakesNone, MovesNothing, stand_of, witnessed_by};
 ghost use Rattle.dob_chan.specs.Ends.{senders_of};
 ghost use Rattle.dob_update.specs.Batches.{BatchView};
-ghost use Rattle.dob_runner.specs.Links.{offered, worked, HoldsFor, IsFull, KeepsOutlet, KeepsInlet};
+ghost use Rattle.dob_runner.specs.Links.{offered, worked};
 ghost use Rattle.dob_runner.specs.Endpoints.{AreCounts, AreBatchesTaken, AreOwn, HasChangedOne};
 
 use crate::slots::{Inlet, Outlet};
 use dob_board::NodeSeat;
-use dob_pieces::Family;
 use dob_update::Batch;
-use std::sync::Wait;
 
 /// A runner's seat, an outlet to each node's inbox, its own included, and the inlet of its own inbox. The seat counts the
 /// batches that went into the outlets, and those of each sender that the node got from the inlet.
@@ -32,7 +30,6 @@ pub struct Endpoint {
 
 impl Endpoint {
     ghost use Rattle.dob_runner.specs.Keeps.{KeepsEndpoint};
-    ghost use Rattle.dob_runner.specs.TurnRounds.{IsReceived};
 
     /// The endpoint of that seat, with its outlet to each node's inbox and the inlet of its own, of which the seat has counted the
     /// batches.
@@ -63,7 +60,6 @@ impl Endpoint {
         requires own { batch.from ≡ self.old.seat.node }
         requires empty { (outlet : Outlet) → slice_get self.old.outlets.items to ≡ Some outlet → outlet.slot ≡ None }
         ensures counted { stand_of self.new.seat ≡ posts_more (stand_of self.old.seat) to }
-        ensures same { IsSameSeat self.old.seat self.new.seat }
         ensures event { MakesEvent self.old.seat.nodes self.old.seat.node (Post self.old.seat.node to)
             (stand_of self.old.seat) (stand_of self.new.seat) (witnessed_by self.old.seat) (witnessed_by self.new.seat) }
         ensures offered { HasChangedOne (λ old new. (new.end ≡ old.end) × (offered new ≡ offered old ++ batch ∷ [])) to self.old.outlets.items self.new.outlets.items }
@@ -74,60 +70,6 @@ impl Endpoint {
         self.outlets[to].hold(batch);
     }
 
-    /// Whether a batch lies in the slot for the node `to`.
-    pub(crate) fn is_full(&self, to: usize) -> bool
-        requires { to < self.now.seat.nodes }
-        ensures full { result ≡ true → (outlet : Outlet) → slice_get self.now.outlets.items to ≡ Some outlet → outlet.slot ≢ None }
-        ensures empty { result ≡ false → (outlet : Outlet) → slice_get self.now.outlets.items to ≡ Some outlet → outlet.slot ≡ None }
-    {
-        self.outlets[to].is_full()
-    }
-
-    /// Offers the batch in the slot for the node `to` to its inbox; tries once. Its promises hold if it returns.
-    pub(crate) fn offer<R: Wait>(&mut self, rt: &R, to: usize)
-        requires { to < self.old.seat.nodes }
-        ensures seat { self.new.seat ≡ self.old.seat }
-        ensures offered { HasChangedOne (λ old new. KeepsOutlet old new × (offered new ≡ offered old)) to self.old.outlets.items self.new.outlets.items }
-        ensures inlet { self.new.inlet ≡ self.old.inlet }
-        ensures slots { (j : ℕ) (before after : Outlet) → slice_get self.old.outlets.items j ≡ Some before →
-            slice_get self.new.outlets.items j ≡ Some after → before.slot ≡ None → after.slot ≡ None }
-        ensures tried { (before after : Outlet) → slice_get self.old.outlets.items to ≡ Some before → slice_get self.new.outlets.items to ≡ Some after →
-            (after.slot ≡ before.slot) ⊎ (after.slot ≡ None) }
-        ensures full { (after : Outlet) → slice_get self.new.outlets.items to ≡ Some after → after.slot ≢ None → IsFull after }
-        ensures keeps { KeepsEndpoint self.old self.new }
-    {
-        self.outlets[to].offer(rt);
-    }
-
-    /// Takes the next batch of the inbox into the slot, if that is empty; tries once. The slot is empty afterwards only where the
-    /// inbox was. Its promises hold if it returns.
-    pub(crate) fn receive<R: Wait>(&mut self, rt: &R)
-        ensures seat { self.new.seat ≡ self.old.seat }
-        ensures worked { worked self.new.inlet ≡ worked self.old.inlet }
-        ensures asked { IsReceived self.old.inlet self.new.inlet }
-        ensures outlets { self.new.outlets ≡ self.old.outlets }
-        ensures keeps { KeepsEndpoint self.old self.new }
-    {
-        self.inlet.receive(rt);
-    }
-
-    /// How many items the batch in the taking slot has, 0 where it is empty.
-    pub(crate) fn held_items(&self) -> usize
-        ensures { (batch : BatchView) → self.now.inlet.slot ≡ Some batch → result ≡ length batch.items }
-    {
-        self.inlet.held_items()
-    }
-
-    /// The sender of the batch in the taking slot, if that is one of the family from another node to this one. Any other
-    /// batch is none of the node's.
-    pub(crate) fn sender(&self, family: Family) -> Option<usize>
-        ensures { MatchOption result ((from : ℕ) → ¬ HoldsFor family self.now.seat.nodes from self.now.seat.node self.now.inlet)
-            (λ from. HoldsFor family self.now.seat.nodes from self.now.seat.node self.now.inlet) }
-    {
-        self.inlet
-            .sender_for(family, self.seat.nodes, self.seat.node)
-    }
-
     /// The batch in the taking slot, which is one of the node `from`, another one, if the board says that it was posted: it is
     /// counted on the board, which blackens the node, and now it is the node's to work in. Otherwise it stays in the slot,
     /// uncounted.
@@ -136,7 +78,6 @@ impl Endpoint {
         requires held { (batch : BatchView) × (self.old.inlet.slot ≡ Some batch) × (batch.from ≡ from) }
         ensures held { IfSome result (λ batch. self.old.inlet.slot ≡ Some batch) }
         ensures within { IfSome result (λ batch. batch.from < self.old.seat.nodes) }
-        ensures same { IsSameSeat self.old.seat self.new.seat }
         ensures outlets { self.new.outlets ≡ self.old.outlets }
         ensures taken { IfSome result (λ batch. TakesOne self.old.seat self.new.seat batch.from) }
         ensures worked { IfSome result (λ batch. (self.new.inlet.end ≡ self.old.inlet.end) × (worked self.new.inlet ≡ worked self.old.inlet ++ batch ∷ [])) }

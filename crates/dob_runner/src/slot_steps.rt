@@ -1,10 +1,10 @@
 // What a runner does with its slots: it holds and offers batches, and receives and releases them.
-ghost use Rattle.std.specs.Prelude.{◌≡◌, ◌≢◌, ◌≤◌, ◌⊎◌, ℕ, true, false, None, Some, ◌∷◌, [], ◌++◌, length, MatchOption};
+ghost use Rattle.std.specs.Prelude.{◌≡◌, ◌≢◌, ◌≤◌, ℕ, true, false, None, Some, ◌∷◌, [], ◌++◌, length, MatchOption};
 ghost use Rattle.dob_chan.specs.Inboxes.{most_batches};
 ghost use Rattle.dob_update.specs.Batches.{BatchView};
 ghost use Rattle.dob_chan.specs.Ends.{place_of};
 ghost use Rattle.dob_runner.specs.Slots.{in_slot};
-ghost use Rattle.dob_runner.specs.Links.{offered, worked, HoldsFor, IsFull, KeepsOutlet, KeepsInlet};
+ghost use Rattle.dob_runner.specs.Links.{offered, worked, HoldsFor, IsOffered, KeepsInlet};
 
 use crate::batches::is_for;
 use crate::slots::{Inlet, Outlet};
@@ -44,10 +44,7 @@ impl Outlet {
     /// the inbox was full. Its promises hold if it returns.
     pub(crate) fn offer<R: Wait>(&mut self, rt: &R)
         requires { length (offered self.old) ≤ most_batches }
-        ensures offered { offered self.new ≡ offered self.old }
-        ensures keeps { KeepsOutlet self.old self.new }
-        ensures slot { (self.new.slot ≡ self.old.slot) ⊎ (self.new.slot ≡ None) }
-        ensures full { self.new.slot ≢ None → IsFull self.new }
+        ensures { IsOffered self.old self.new }
     {
         let Some(batch) = self.slot.take() else {
             return;

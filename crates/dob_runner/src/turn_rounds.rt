@@ -79,7 +79,7 @@ impl Runner {
         requires node { to < self.now.endpoint.seat.nodes }
         ensures { IsTrue result ↔ HoldsUp self.now to }
     {
-        if !self.endpoint.is_full(to) {
+        if !self.endpoint.outlets[to].is_full() {
             return false;
         }
         self.node.left_for(to) >= self.batch_size.get()

@@ -1,4 +1,6 @@
 // What a runner does for its node: it takes batches, expands settlements, applies items and sends batches.
+//
+// A link is asked and moved here. The endpoint is borrowed before a link of it changes, so that what its type says of the counts is asked of it alone.
 ghost use Rattle.std.specs.Prelude.{◌≡◌, ◌≢◌, ◌↔◌, ◌<◌, IsTrue, Err, None};
 ghost use Rattle.dob_stops.specs.declared.cause.Cause.TheVariants.{Memory};
 ghost use Rattle.dob_runner.specs.Runners.{StepsBy};
@@ -23,11 +25,15 @@ impl Runner {
         ensures step { StepsBy RunnerTakesBatch self.old self.new result }
         ensures refused { result ≡ Err Memory → LeavesBatch self.old self.new }
     {
-        self.endpoint.receive(rt);
-        let Some(from) = self.endpoint.sender(self.family) else {
+        let endpoint = &mut self.endpoint;
+        endpoint.inlet.receive(rt);
+        let endpoint = &self.endpoint;
+        let seat = &endpoint.seat;
+        let inlet = &endpoint.inlet;
+        let Some(from) = inlet.sender_for(self.family, seat.nodes, seat.node) else {
             return Ok(false);
         };
-        match self.node.reserve(self.endpoint.held_items()) {
+        match self.node.reserve(inlet.held_items()) {
             Ok(()) => {}
             Err(refused) => {
                 self.failed = Some(refused);
@@ -103,7 +109,7 @@ impl Runner {
         requires other { to ≢ self.old.endpoint.seat.node }
         ensures { StepsBy (FillsFor to small) self.old self.new result }
     {
-        if self.endpoint.is_full(to) {
+        if self.endpoint.outlets[to].is_full() {
             return Ok(false);
         }
         if !self.has_to_send(to, small) {
@@ -135,10 +141,12 @@ impl Runner {
             return Ok(false);
         }
         self.cut_for(to, small)?;
-        if !self.endpoint.is_full(to) {
+        if !self.endpoint.outlets[to].is_full() {
             return Ok(false);
         }
-        self.endpoint.offer(rt, to);
-        Ok(!self.endpoint.is_full(to))
+        let endpoint = &mut self.endpoint;
+        let outlet = &mut endpoint.outlets[to];
+        outlet.offer(rt);
+        Ok(!outlet.is_full())
     }
 }

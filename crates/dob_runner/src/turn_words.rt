@@ -3,7 +3,7 @@ ghost use Rattle.std.specs.Prelude.{◌≡◌, ◌≢◌, ◌↔◌, IsTrue, Non
 ghost use Rattle.dob_board.specs.declared.halt.Halt.TheVariants.{Running, Ended};
 ghost use Rattle.dob_board.specs.Seats.{KnewOwnFailure, ObservesHalt, TellsHalt, MovesNothing};
 ghost use Rattle.dob_runner.specs.Endpoints.{AreOut};
-ghost use Rattle.dob_runner.specs.Keeps.{HasSameLinks};
+ghost use Rattle.dob_runner.specs.Keeps.{HasSameLinks, HasSameLinksAndColour};
 ghost use Rattle.dob_runner.specs.TurnToken.{HasLooked, MovesToken};
 
 use crate::endpoint::Endpoint;
@@ -15,8 +15,7 @@ impl Endpoint {
     fn finds_token(&mut self) -> bool
         ensures found { IsTrue result ↔ (self.new.seat.token ≢ None) }
         ensures looked { HasLooked self.old.seat self.new.seat }
-        ensures links { HasSameLinks self.old self.new }
-        ensures colour { self.new.seat.black ≡ self.old.seat.black }
+        ensures keeps { HasSameLinksAndColour self.old self.new }
         ensures halt { self.new.seat.halt ≡ self.old.seat.halt }
     {
         let token = self.seat.token();
@@ -45,8 +44,7 @@ impl Endpoint {
     /// if it knew one; and `Ended` only where the node is white.
     pub(crate) fn fail(&mut self)
         ensures still { MovesNothing self.old.seat self.new.seat }
-        ensures links { HasSameLinks self.old self.new }
-        ensures colour { self.new.seat.black ≡ self.old.seat.black }
+        ensures keeps { HasSameLinksAndColour self.old self.new }
         ensures stopped { self.new.seat.halt ≢ Running }
         ensures stays { self.old.seat.halt ≢ Running → self.new.seat.halt ≡ self.old.seat.halt }
         ensures black { self.old.seat.black ≡ true → self.new.seat.halt ≢ Ended }
@@ -58,8 +56,7 @@ impl Endpoint {
     /// the node itself failed only where the seat knew that.
     pub(crate) fn halted(&mut self) -> Halt
         ensures halt { result ≡ self.new.seat.halt }
-        ensures links { HasSameLinks self.old self.new }
-        ensures colour { self.new.seat.black ≡ self.old.seat.black }
+        ensures keeps { HasSameLinksAndColour self.old self.new }
         ensures stays { self.old.seat.halt ≢ Running → self.new.seat.halt ≡ self.old.seat.halt }
         ensures own { KnewOwnFailure self.old.seat self.new.seat.halt }
         ensures observed { ObservesHalt self.old.seat self.new.seat self.new.seat.halt }

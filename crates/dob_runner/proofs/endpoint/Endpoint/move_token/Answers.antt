@@ -42,11 +42,11 @@ returns-then-may_announce-clause-moves c =
 
 pub returns-then-may_announce-clause-links : goal.returns-then-may_announce-clause-links
 returns-then-may_announce-clause-links c =
-    links_trans c.args.self.now c.finds_token.new.self _ c.finds_token.ensures.links (record { seat = c.announce.ensures.same; outlets = refl; inlet = refl })
+    links_trans c.args.self.now c.finds_token.new.self _ c.finds_token.ensures.keeps.links (record { seat = c.announce.ensures.same; outlets = refl; inlet = refl })
 
 pub returns-then-may_announce-clause-own : goal.returns-then-may_announce-clause-own
 returns-then-may_announce-clause-own c =
-    own_looked c.args.self.now.seat c.finds_token.new.self.seat c.announce.new.self.halt c.finds_token.ensures.halt c.finds_token.ensures.links.seat.node
+    own_looked c.args.self.now.seat c.finds_token.new.self.seat c.announce.new.self.halt c.finds_token.ensures.halt c.finds_token.ensures.keeps.links.seat.node
     (subst (λ (h : Halt). KnewOwnFailure c.finds_token.new.self.seat h) (sym c.announce.ensures.found.halt_is) c.announce.ensures.own)
 
 pub returns-else-may_announce-clause-moves : goal.returns-else-may_announce-clause-moves
@@ -57,4 +57,4 @@ returns-else-may_announce-clause-moves c =
 
 pub returns-else-may_announce-clause-links : goal.returns-else-may_announce-clause-links
 returns-else-may_announce-clause-links c =
-    links_trans c.args.self.now c.finds_token.new.self _ c.finds_token.ensures.links (record { seat = c.pass.ensures.same; outlets = refl; inlet = refl })
+    links_trans c.args.self.now c.finds_token.new.self _ c.finds_token.ensures.keeps.links (record { seat = c.pass.ensures.same; outlets = refl; inlet = refl })

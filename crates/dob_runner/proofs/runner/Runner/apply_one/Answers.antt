@@ -19,7 +19,7 @@ invariant_of-self-in-Err c =
       own = λ _ none. some_cause c.in-Err.why none;
       agrees = agrees_failed c.apply_own.new.self.failed c.in-Err.why c.in-Err.ensures.keeps.failed;
       lawful = λ _. unchanged_failed r.family r.batch_size r.node c.apply_own.new.self r.endpoint c.fail.new.self (r.lawful (inl c.requires))
-          c.in-Err.ensures.step.unchanged c.in-Err.ensures.keeps.sound c.fail.ensures.links c.fail.ensures.colour;
+          c.in-Err.ensures.step.unchanged c.in-Err.ensures.keeps.sound c.fail.ensures.keeps;
     }
 
 pub invariant_of-self : goal.invariant_of-self
@@ -38,7 +38,7 @@ invariant_of-self c =
 pub returns-in-Err : goal.returns-in-Err
 returns-in-Err c = record {
   failed = record {
-    keeps = record { endpoint = links_kept c.args.self.now.endpoint c.fail.new.self c.fail.ensures.links; family = refl; batch_size = refl };
+    keeps = record { endpoint = links_kept c.args.self.now.endpoint c.fail.new.self c.fail.ensures.keeps.links; family = refl; batch_size = refl };
     cause = refl;
     stopped = c.fail.ensures.stopped;
   };

@@ -10,7 +10,7 @@ use Rattle.dob_stops.specs.declared.cause.Cause.{Cause}
 use Rattle.dob_node.specs.Nodes.{outbox_to, HasCut}
 use Rattle.dob_runner.proofs.Keeping.{own_still, links_kept, cut_reason, outbox_still, some_cause, node_goes, agrees_going, agrees_failed}
 use Rattle.dob_runner.proofs.Lawfuls.{cut_one, few_cut, unchanged_failed}
-use Rattle.dob_runner.proofs.Sending.{uncut, fills_of, cut_nothing, cut_more}
+use Rattle.dob_runner.proofs.Sending.{outlet_at, slot_empty, uncut, fills_of, cut_nothing, cut_more}
 use Rattle.dob_runner.proofs.runner.Runner.cut_for.Goals as goal
 
 cut_none : (cut : Option BatchView) (batch : BatchView) → cut ≡ Some batch → (let given : Result (Option BatchView) Cause = Ok cut in given ≡ Ok None) → ⊥
@@ -33,13 +33,13 @@ invariant_of-self c =
       own = λ _ none. some_cause c.in-Err.why none;
       agrees = agrees_failed c.cut_for.new.self.failed c.in-Err.why c.in-Err.ensures.keeps.failed;
       lawful = λ _. unchanged_failed r.family r.batch_size r.node c.cut_for.new.self r.endpoint c.fail.new.self (r.lawful (inl c.requires.unfailed))
-          c.in-Err.ensures.step.unchanged c.in-Err.ensures.keeps.sound c.fail.ensures.links c.fail.ensures.colour;
+          c.in-Err.ensures.step.unchanged c.in-Err.ensures.keeps.sound c.fail.ensures.keeps;
     }
 
 pub returns-in-Err : goal.returns-in-Err
-returns-in-Err c = fills_of c.args.to c.args.small c.args.self.now _ (Err c.in-Err.why) (c.has_to_send.ensures.0 c.if-not-has_to_send.false, c.is_full.ensures.empty c.if-is_full.false) (record {
+returns-in-Err c = fills_of c.args.to c.args.small c.args.self.now _ (Err c.in-Err.why) (c.has_to_send.ensures.0 c.if-not-has_to_send.false, slot_empty c.args.self.now.endpoint c.args.to c.index.result.now c.requires.node c.index.ensures (c.is_full.ensures.empty c.if-is_full.false)) (record {
   failed = record {
-    keeps = record { endpoint = links_kept c.args.self.now.endpoint c.fail.new.self c.fail.ensures.links; family = refl; batch_size = refl };
+    keeps = record { endpoint = links_kept c.args.self.now.endpoint c.fail.new.self c.fail.ensures.keeps.links; family = refl; batch_size = refl };
     cause = refl;
     stopped = c.fail.ensures.stopped;
   };
@@ -49,7 +49,7 @@ returns-in-Err c = fills_of c.args.to c.args.small c.args.self.now _ (Err c.in-E
       let full = c.in-Err.ensures.step.counts.0 (ap (λ (w : Cause). err_of w) counts) in
       record {
         to = c.args.to;
-        other = λ same. c.requires.other (same ∙ c.fail.ensures.links.seat.node);
+        other = λ same. c.requires.other (same ∙ c.fail.ensures.keeps.links.seat.node);
         left = λ none. full.0 (ap (λ (o : OutboxView). o.items) (sym still) ∙ none);
         many = subst (λ (o : OutboxView). 2 ^ 40 ≤ o.next) (sym still) full.1;
       }))
@@ -85,15 +85,15 @@ invariant_of-self-2 c =
     record {
       going = λ _. c.requires.unfailed;
       own = λ found. r.own (own_still r.endpoint.seat c.post.new.self.seat
-          (same_halt c.post.new.self.seat.halt r.endpoint.seat.halt (ap (λ (s : Stand). s.halt) c.post.ensures.counted)) c.post.ensures.same.node found);
+          (same_halt c.post.new.self.seat.halt r.endpoint.seat.halt (ap (λ (s : Stand). s.halt) c.post.ensures.counted)) c.post.ensures.keeps.seat.node found);
       agrees = agrees_going c.cut_for.new.self.failed _ c.in-Ok.ensures.keeps.going;
       lawful = λ _. cut_one r.family r.batch_size c.args.to c.in-Some.batch r.node c.cut_for.new.self r.endpoint c.post.new.self law c.requires.other cut c.in-Ok.ensures.keeps.sound
-          c.post.ensures.same.node c.post.ensures.same.nodes (ap (λ (s : Stand). s.black) c.post.ensures.counted ∙ was_black) c.post.ensures.offered
+          c.post.ensures.keeps.seat.node c.post.ensures.keeps.seat.nodes (ap (λ (s : Stand). s.black) c.post.ensures.counted ∙ was_black) c.post.ensures.offered
           c.post.ensures.inlet;
     }
 
 pub returns-in_default : goal.returns-in_default
-returns-in_default c = fills_of c.args.to c.args.small c.args.self.now _ (Ok false) (c.has_to_send.ensures.0 c.if-not-has_to_send.false, c.is_full.ensures.empty c.if-is_full.false)
+returns-in_default c = fills_of c.args.to c.args.small c.args.self.now _ (Ok false) (c.has_to_send.ensures.0 c.if-not-has_to_send.false, slot_empty c.args.self.now.endpoint c.args.to c.index.result.now c.requires.node c.index.ensures (c.is_full.ensures.empty c.if-is_full.false))
     (cut_nothing c.args.to c.args.self.now _ c.requires.unfailed c.requires.unfailed
     (c.in-Ok.ensures.step.nothing (ap Ok c.in_default.is)) refl refl refl (c.in-Ok.ensures.step.none.0 (ap Ok c.in_default.is)))
 
@@ -102,7 +102,7 @@ returns c =
     let r = c.args.self.now in
     let cut : HasCut c.args.to r.batch_size c.in-Some.batch r.node c.cut_for.new.self =
     subst (λ given. IfSome given (λ (b : BatchView). HasCut c.args.to r.batch_size b r.node c.cut_for.new.self)) c.in-Some.is c.in-Ok.ensures.step.cut in
-    fills_of c.args.to c.args.small r _ (Ok true) (c.has_to_send.ensures.0 c.if-not-has_to_send.false, c.is_full.ensures.empty c.if-is_full.false)
+    fills_of c.args.to c.args.small r _ (Ok true) (c.has_to_send.ensures.0 c.if-not-has_to_send.false, slot_empty c.args.self.now.endpoint c.args.to c.index.result.now c.requires.node c.index.ensures (c.is_full.ensures.empty c.if-is_full.false))
     (cut_more c.args.to r.batch_size c.in-Some.batch r _
     (record {
       keeps = record { endpoint = c.post.ensures.keeps; family = refl; batch_size = refl };
@@ -114,12 +114,14 @@ returns c =
     (λ empty. cut_none c.in-Ok.cut c.in-Some.batch c.in-Some.is (c.in-Ok.ensures.step.none.1 empty)))
 
 pub returns-then-is_full : goal.returns-then-is_full
-returns-then-is_full c =
-    let r = c.args.self.now in
-    let spot = some_at r.endpoint.outlets.items c.args.to (omega (arith, r.endpoint.outlets_len, c.requires.node)) in (
-      uncut c.args.to r c.requires.unfailed,
-      (λ never. absurd (cc), λ fill. absurd (c.is_full.ensures.full c.if-is_full.true spot.0 spot.1 (fill.1 spot.0 spot.1))),
-    )
+returns-then-is_full c = (
+  uncut c.args.to c.args.self.now c.requires.unfailed,
+  (
+    λ never. absurd (cc),
+    λ fill. absurd (c.is_full.ensures.full c.if-is_full.true
+        (fill.1 c.index.result.now (outlet_at c.args.self.now.endpoint c.args.to c.index.result.now c.requires.node c.index.ensures))),
+  ),
+)
 
 pub returns-then-not-has_to_send : goal.returns-then-not-has_to_send
 returns-then-not-has_to_send c = (

@@ -1,7 +1,7 @@
 -- A runner that looks for the halt stays lawful, and its seat finds its own failure only where it knew of it.
-use Rattle.std.proofs.Common.{refl, sym, ap, ◌∙◌, inl}
+use Rattle.std.proofs.Common.{refl, inl}
 use Rattle.dob_runner.proofs.Keeping.{own_before}
-use Rattle.dob_runner.proofs.Lawfuls.{recoloured, same_inlet}
+use Rattle.dob_runner.proofs.Lawfuls.{still_coloured}
 use Rattle.dob_runner.proofs.runner.Runner.looks.Goals as goal
 
 pub invariant_of-self : goal.invariant_of-self
@@ -9,17 +9,14 @@ invariant_of-self c =
     let r = c.args.self.now in
     record {
       going = λ _. c.requires;
-      own = λ found. r.own (own_before r.endpoint.seat c.halted.new.self.seat c.halted.ensures.own c.halted.ensures.links.seat.node found);
+      own = λ found. r.own (own_before r.endpoint.seat c.halted.new.self.seat c.halted.ensures.own c.halted.ensures.keeps.links.seat.node found);
       agrees = r.agrees;
-      lawful = λ _. recoloured r.family r.batch_size r.node r.endpoint c.halted.new.self (r.lawful (inl c.requires))
-          c.halted.ensures.links.seat.node c.halted.ensures.links.seat.nodes (ap (λ v. v.items) c.halted.ensures.links.outlets)
-          (same_inlet r.endpoint c.halted.new.self c.halted.ensures.links.inlet)
-          (λ is. (r.lawful (inl c.requires)).white (sym c.halted.ensures.colour ∙ is));
+      lawful = λ _. still_coloured r.family r.batch_size r.node r.endpoint c.halted.new.self (r.lawful (inl c.requires)) c.halted.ensures.keeps;
     }
 
 pub returns-clause-seen : goal.returns-clause-seen
 returns-clause-seen c = record {
-  same = record { node = refl; links = c.halted.ensures.links };
+  same = record { node = refl; links = c.halted.ensures.keeps.links };
   observed = c.halted.ensures.observed;
   told = c.halted.ensures.told;
   still = c.halted.ensures.observed.alone;

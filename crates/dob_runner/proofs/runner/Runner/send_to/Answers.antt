@@ -1,22 +1,55 @@
--- The slot's filling and the offer of its batch make one step, and the offer leaves the runner lawful, sent or not.
-use Rattle.std.proofs.Common.{refl, ap, ◌∙◌, inl}
+-- The slot's filling and the offer of its batch make one step. The offer leaves the counts and the offered batches, at most 2^40, as they were, and so the
+-- runner lawful, sent or not.
+use Rattle.std.proofs.Common.{length, refl, ap, inl}
+use Rattle.dob_runner.specs.Links.{offered, KeepsOutlet}
 use Rattle.dob_runner.specs.TurnRounds.{SendsTo}
 use Rattle.dob_runner.specs.Runners.{GoesOn}
-use Rattle.dob_runner.proofs.Keeping.{runner_same, broken_on, endpoint_trans, own_still, out_still, still_same, still_trans}
+use Rattle.dob_runner.proofs.Counted.{counts_stay, own_set}
+use Rattle.dob_runner.proofs.Keeping.{runner_same, broken_on, endpoint_trans, outlet_same, inlet_same, one_kept, seat_same}
 use Rattle.dob_runner.proofs.Lawfuls.{offered_again}
-use Rattle.dob_runner.proofs.Sending.{own_unsent, sends_none, sends_offered}
+use Rattle.dob_runner.proofs.Sending.{low_still, in_outlets, outlet_at, slot_empty, slot_full, few_there, own_unsent, sends_none, sends_offered}
 use Rattle.dob_runner.proofs.runner.Runner.send_to.Goals as goal
+
+pub index-requires : goal.index-requires
+index-requires g c =
+    let f = c.cut_for.new.self in
+    in_outlets f.endpoint c.args.to (low_still c.args.self.now f c.args.to c.requires.node c.in_ok-cut_for.ensures.0.goes.keeps)
+
+pub index_mut-outlet-requires : goal.index_mut-outlet-requires
+index_mut-outlet-requires g c =
+    let f = c.cut_for.new.self in
+    in_outlets f.endpoint c.args.to (low_still c.args.self.now f c.args.to c.requires.node c.in_ok-cut_for.ensures.0.goes.keeps)
+
+pub offer-requires : goal.offer-requires
+offer-requires g c =
+    let f = c.cut_for.new.self in
+    few_there f.endpoint c.args.to c.index_mut-outlet.result.now (low_still c.args.self.now f c.args.to c.requires.node c.in_ok-cut_for.ensures.0.goes.keeps)
+    c.index_mut-outlet.ensures.value
+
+pub invariant_of-endpoint : goal.invariant_of-endpoint
+invariant_of-endpoint g c =
+    let f = c.cut_for.new.self in
+    let old = c.index_mut-outlet.result.now in
+    let at = outlet_at f.endpoint c.args.to old (low_still c.args.self.now f c.args.to c.requires.node c.in_ok-cut_for.ensures.0.goes.keeps) c.index_mut-outlet.ensures.value in
+    record {
+      outlets_len = f.endpoint.outlets_len;
+      senders = f.endpoint.senders;
+      own = own_set f.endpoint.seat.node f.endpoint.outlets.items c.args.to old c.offer.new.self f.endpoint.own at c.offer.ensures.keeps.0.1;
+      posted = counts_stay offered f.endpoint.seat.posted.items f.endpoint.outlets.items c.args.to old c.offer.new.self f.endpoint.posted at (ap length c.offer.ensures.same);
+      taken = f.endpoint.taken;
+    }
 
 pub invariant_of-self : goal.invariant_of-self
 invariant_of-self g c =
     let f = c.cut_for.new.self in
     let went : GoesOn c.args.self.now f = c.in_ok-cut_for.ensures.0.goes in
+    let old = c.index_mut-outlet.result.now in
+    let at = outlet_at f.endpoint c.args.to old (low_still c.args.self.now f c.args.to c.requires.node went.keeps) c.index_mut-outlet.ensures.value in
     record {
       going = λ _. went.unfailed;
-      own = λ found. f.own (own_still f.endpoint.seat c.offer.new.self.seat (ap (λ s. s.halt) c.offer.ensures.seat) (ap (λ s. s.node) c.offer.ensures.seat) found);
+      own = f.own;
       agrees = f.agrees;
-      lawful = λ _. offered_again f.family f.batch_size c.args.to f.node f.endpoint c.offer.new.self (f.lawful (inl went.unfailed)) c.offer.ensures.seat c.offer.ensures.offered c.offer.ensures.inlet
-          (out_still f.endpoint c.offer.new.self (ap (λ s. s.nodes) c.offer.ensures.seat) c.offer.ensures.slots);
+      lawful = λ _. offered_again f.family f.batch_size c.args.to f.node f.endpoint _ (f.lawful (inl went.unfailed)) refl (old, c.offer.new.self, at, c.offer.ensures, refl) refl;
     }
 
 pub returns-in_err-cut_for : goal.returns-in_err-cut_for
@@ -28,25 +61,33 @@ returns-then-to-self g c = own_unsent c.args.small c.args.self.now c.args.to c.r
 
 pub returns-then-not-is_full : goal.returns-then-not-is_full
 returns-then-not-is_full g c =
-    sends_none c.args.to c.args.small c.args.self.now c.cut_for.new.self c.in_ok-cut_for.field-0 c.if-to-self.false c.in_ok-cut_for.ensures
-    (c.is_full.ensures.empty c.if-not-is_full.true)
+    let f = c.cut_for.new.self in
+    sends_none c.args.to c.args.small c.args.self.now f c.in_ok-cut_for.field-0 c.if-to-self.false c.in_ok-cut_for.ensures
+    (slot_empty f.endpoint c.args.to c.index.result.now (low_still c.args.self.now f c.args.to c.requires.node c.in_ok-cut_for.ensures.0.goes.keeps) c.index.ensures
+    (c.is_full.ensures.empty c.if-not-is_full.true))
 
 pub returns : goal.returns
 returns g c =
     let r = c.args.self.now in
     let f = c.cut_for.new.self in
     let fills = c.in_ok-cut_for.ensures in
+    let low = low_still r f c.args.to c.requires.node fills.0.goes.keeps in
+    let old = c.index_mut-outlet.result.now in
+    let at = outlet_at f.endpoint c.args.to old low c.index_mut-outlet.ensures.value in
+    let full = slot_full f.endpoint c.args.to c.index.result.now low c.index.ensures (c.is_full.ensures.full c.if-not-is_full.false) old at in
     sends_offered c.args.to c.args.small r f c.in_ok-cut_for.field-0 c.if-to-self.false fills _
     (record {
       keeps = record {
-        endpoint = endpoint_trans r.endpoint f.endpoint c.offer.new.self fills.0.goes.keeps.endpoint c.offer.ensures.keeps;
+        endpoint = endpoint_trans r.endpoint f.endpoint _ fills.0.goes.keeps.endpoint (record {
+          seat = seat_same f.endpoint.seat;
+          outlets = one_kept KeepsOutlet outlet_same f.endpoint.outlets.items c.args.to old c.offer.new.self at c.offer.ensures.keeps;
+          inlet = inlet_same f.endpoint.inlet;
+        });
         family = fills.0.goes.keeps.family;
         batch_size = fills.0.goes.keeps.batch_size;
       };
       unfailed = fills.0.goes.unfailed;
-      halt = ap (λ s. s.halt) c.offer.ensures.seat ∙ fills.0.goes.halt;
-      still = still_trans r.endpoint.seat f.endpoint.seat c.offer.new.self.seat fills.0.goes.keeps.endpoint.seat.node fills.0.goes.still
-          (still_same f.endpoint.seat c.offer.new.self.seat c.offer.ensures.seat);
+      halt = fills.0.goes.halt;
+      still = fills.0.goes.still;
     })
-    refl c.offer.ensures.inlet (c.is_full.ensures.full c.if-not-is_full.false) c.offer.ensures.offered c.offer.ensures.tried c.offer.ensures.full
-    c.is_full-2.result c.is_full-2.ensures.full c.is_full-2.ensures.empty
+    refl refl (old, c.offer.new.self, at, c.offer.ensures, refl) full c.is_full-2.result c.is_full-2.ensures.full c.is_full-2.ensures.empty

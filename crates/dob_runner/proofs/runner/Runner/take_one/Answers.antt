@@ -1,30 +1,46 @@
 -- The runner is lawful whether no batch came or one was applied; a refused one blackened its seat before any end, and one for which
 -- there is no memory lies in the slot.
-use Rattle.std.proofs.Common.{◌≡◌, ◌≢◌, None, Err, refl, sym, ap, subst, arith, ◌∙◌, ◌++◌, ℕ, inl, inr}
+use Rattle.std.proofs.Common.{◌≡◌, None, Err, refl, sym, ap, subst, arith, ◌∙◌, ◌++◌, inl, inr}
 use Rattle.dob_board.specs.declared.view.Stand.{Stand}
-use Rattle.dob_board.specs.Seats.{TakesOne, TakesNone}
+use Rattle.dob_board.specs.Seats.{TakesOne, IsSameSeat}
 use Rattle.dob_board.specs.declared.seat.NodeSeat.{NodeSeat}
 use Rattle.dob_stops.specs.declared.cause.Cause.TheVariants.{Memory}
+use Rattle.dob_node.specs.declared.node.Node.{Node}
+use Rattle.dob_node.specs.Nodes.{IsSound, IsUnchanged}
 use Rattle.dob_runner.specs.declared.slots.Inlet.{Inlet}
 use Rattle.dob_runner.specs.declared.endpoint.Endpoint.{Endpoint}
 use Rattle.dob_runner.specs.declared.runner.Runner.{Runner}
 use Rattle.dob_runner.specs.LawfulRunners.{IsLawfulRunner}
 use Rattle.dob_runner.specs.Batches.{IsBatchFor}
-use Rattle.dob_runner.specs.Links.{worked, HoldsFor}
+use Rattle.dob_runner.specs.Keeps.{KeepsEndpoint}
+use Rattle.dob_runner.specs.Links.{worked, HoldsFor, KeepsOutlet, KeepsInlet}
 use Rattle.dob_runner.specs.Runners.{no_gate}
-use Rattle.dob_runner.proofs.Keeping.{endpoint_trans, links_kept, own_still, some_cause, failed_first, refused_reason, node_goes, agrees_going, agrees_failed, unspared_reason, memory_reason, still_same, still_trans}
+use Rattle.dob_runner.proofs.Senders.{taken_still}
+use Rattle.dob_runner.proofs.Keeping.{endpoint_trans, links_kept, own_still, some_cause, failed_first, refused_reason, node_goes, agrees_going, agrees_failed, unspared_reason, memory_reason, still_trans, seat_same, each_same, outlet_same}
 use Rattle.dob_node.proofs.TakenLists.{before_since}
 use Rattle.dob_runner.proofs.Applied.{worked_again, worked_else, worked_more}
-use Rattle.dob_runner.proofs.Lawfuls.{recoloured, same_inlet, applied_batch, unchanged_node, unchanged_failed}
+use Rattle.dob_runner.proofs.Lawfuls.{recoloured, same_inlet, applied_batch, unchanged_node}
 use Rattle.dob_runner.proofs.Taking.{takes_none, takes_one, of_other, fits_node, unchanged_same}
 use Rattle.dob_runner.proofs.runner.Runner.take_one.Goals as goal
 
--- the runner is lawful with what came into the slot
-received : (r : Runner) (mid : Endpoint) → r.failed ≡ None → mid.seat ≡ r.endpoint.seat → mid.outlets ≡ r.endpoint.outlets → worked mid.inlet ≡ worked r.endpoint.inlet →
-    IsLawfulRunner r.family r.batch_size r.node mid
-received r mid going seat outlets again = (let law = r.lawful (inl going) in
-    recoloured r.family r.batch_size r.node r.endpoint mid law (ap (λ (s : NodeSeat). s.node) seat) (ap (λ (s : NodeSeat). s.nodes) seat) (ap (λ v. v.items) outlets)
-    (worked_again r.endpoint.inlet mid.inlet again) (λ is. law.white (sym (ap (λ (s : NodeSeat). s.black) seat) ∙ is)))
+-- what came into the slot isn't worked yet: the runner stays lawful, and nothing is taken back
+still_lawful : (r : Runner) (node : Node) (new : Endpoint) → r.failed ≡ None → IsUnchanged r.node node → IsSound node → new.seat.node ≡ r.endpoint.seat.node →
+    new.seat.nodes ≡ r.endpoint.seat.nodes → new.outlets ≡ r.endpoint.outlets → worked new.inlet ≡ worked r.endpoint.inlet → new.seat.black ≡ r.endpoint.seat.black →
+    IsLawfulRunner r.family r.batch_size node new
+still_lawful r node new going same sound same_node same_nodes outlets again colour =
+    let law = unchanged_node r.family r.batch_size r.node node r.endpoint (r.lawful (inl going)) same sound in
+    recoloured r.family r.batch_size node r.endpoint new law same_node same_nodes (ap (λ v. v.items) outlets) (worked_again r.endpoint.inlet new.inlet again)
+    (λ is. law.white (sym colour ∙ is))
+
+kept_by : (old mid : Endpoint) → mid.seat ≡ old.seat → mid.outlets ≡ old.outlets → KeepsInlet old.inlet mid.inlet → KeepsEndpoint old mid
+kept_by old mid seat outlets inlet = record {
+  seat = subst (λ (s : NodeSeat). IsSameSeat old.seat s) (sym seat) (seat_same old.seat);
+  outlets = each_same KeepsOutlet outlet_same old.outlets.items mid.outlets.items (ap (λ v. v.items) outlets);
+  inlet = inlet;
+}
+
+kept_after : (old mid new : Endpoint) → KeepsEndpoint mid new → mid.seat ≡ old.seat → mid.outlets ≡ old.outlets → KeepsInlet old.inlet mid.inlet → KeepsEndpoint old new
+kept_after old mid new kept seat outlets inlet = endpoint_trans old mid new (kept_by old mid seat outlets inlet) kept
 
 pub reserve-requires-clause-going : goal.reserve-requires-clause-going
 reserve-requires-clause-going g c = (let r = c.args.self.now in node_goes r.node.failed r.failed r.agrees c.requires)
@@ -32,50 +48,53 @@ reserve-requires-clause-going g c = (let r = c.args.self.now in node_goes r.node
 pub accept-requires-clause-held : goal.accept-requires-clause-held
 accept-requires-clause-held g c = (let tested = c.in-Some.ensures in (tested.batch, tested.held, tested.sender))
 
-pub invariant_of-self : goal.invariant_of-self
-invariant_of-self g c =
-    let r = c.args.self.now in
+pub invariant_of-endpoint : goal.invariant_of-endpoint
+invariant_of-endpoint g c =
+    let endpoint = c.args.self.now.endpoint in
     record {
-      going = λ _. c.requires;
-      own = λ found. r.own (own_still r.endpoint.seat c.receive.new.self.seat (ap (λ (s : NodeSeat). s.halt) c.receive.ensures.seat)
-          (ap (λ (s : NodeSeat). s.node) c.receive.ensures.seat) found);
-      agrees = r.agrees;
-      lawful = λ _. received r c.receive.new.self c.requires c.receive.ensures.seat c.receive.ensures.outlets c.receive.ensures.worked;
+      outlets_len = endpoint.outlets_len;
+      senders = c.receive.ensures.keeps.0.1 ∙ endpoint.senders;
+      own = endpoint.own;
+      posted = endpoint.posted;
+      taken = taken_still endpoint.seat.nodes endpoint.seat.taken.items endpoint.inlet c.receive.new.self endpoint.taken c.receive.ensures.worked;
     }
+
+pub invariant_of-self : goal.invariant_of-self
+invariant_of-self g c = (let r = c.args.self.now in record {
+  going = λ _. c.requires;
+  own = r.own;
+  agrees = r.agrees;
+  lawful = λ _. still_lawful r r.node _ c.requires (unchanged_same r.node) (r.lawful (inl c.requires)).sound refl refl refl c.receive.ensures.worked refl;
+})
 
 pub invariant_of-self-in-Err : goal.invariant_of-self-in-Err
 invariant_of-self-in-Err g c =
     let r = c.args.self.now in
+    let kept = c.fail.ensures.keeps in
     record {
       going = λ running. absurd (c.fail.ensures.stopped running);
       own = λ _ none. some_cause c.in-Err.refused none;
       agrees = agrees_failed c.reserve.new.self.failed c.in-Err.refused c.in-Err.ensures.keeps.failed;
-      lawful = λ _. unchanged_failed r.family r.batch_size r.node c.reserve.new.self c.receive.new.self c.fail.new.self
-          (received r c.receive.new.self c.requires c.receive.ensures.seat c.receive.ensures.outlets c.receive.ensures.worked)
-          c.reserve.ensures.step.unchanged c.reserve.ensures.keeps.sound c.fail.ensures.links c.fail.ensures.colour;
+      lawful = λ _. still_lawful r c.reserve.new.self c.fail.new.self c.requires c.reserve.ensures.step.unchanged c.reserve.ensures.keeps.sound kept.links.seat.node
+          kept.links.seat.nodes kept.links.outlets (ap (λ (i : Inlet). worked i) kept.links.inlet ∙ c.receive.ensures.worked) kept.colour;
     }
 
 pub invariant_of-self-in_default-accept : goal.invariant_of-self-in_default-accept
 invariant_of-self-in_default-accept g c =
     let r = c.args.self.now in
     let n = c.reserve.new.self in
-    let mid = c.receive.new.self in
-    let law = unchanged_node r.family r.batch_size r.node n mid (received r mid c.requires c.receive.ensures.seat c.receive.ensures.outlets c.receive.ensures.worked)
-    c.reserve.ensures.step.unchanged c.reserve.ensures.keeps.sound in
     record {
       going = λ _. c.requires;
-      own = λ found. r.own (own_still r.endpoint.seat c.accept.new.self.seat (c.accept.ensures.halt ∙ ap (λ s. s.halt) c.receive.ensures.seat)
-          (c.accept.ensures.same.node ∙ ap (λ s. s.node) c.receive.ensures.seat) found);
+      own = λ found. r.own (own_still r.endpoint.seat c.accept.new.self.seat c.accept.ensures.halt c.accept.ensures.keeps.seat.node found);
       agrees = agrees_going n.failed _ c.in-Ok.ensures.keeps.going;
-      lawful = λ _. recoloured r.family r.batch_size n mid c.accept.new.self law c.accept.ensures.same.node c.accept.ensures.same.nodes
-          (ap (λ v. v.items) c.accept.ensures.outlets) (same_inlet mid c.accept.new.self c.in_default-accept.ensures.kept)
-          (λ is. law.white (sym c.in_default-accept.ensures.uncounted.1 ∙ is));
+      lawful = λ _. still_lawful r n c.accept.new.self c.requires c.reserve.ensures.step.unchanged c.reserve.ensures.keeps.sound c.accept.ensures.keeps.seat.node
+          c.accept.ensures.keeps.seat.nodes c.accept.ensures.outlets (ap (λ (i : Inlet). worked i) c.in_default-accept.ensures.kept ∙ c.receive.ensures.worked)
+          c.in_default-accept.ensures.uncounted.1;
     }
 
 pub invariant_of-self-in-Err-apply_batch : goal.invariant_of-self-in-Err-apply_batch
 invariant_of-self-in-Err-apply_batch g c =
-    let r = c.args.self.now in
-    let taken : TakesOne c.receive.new.self.seat c.accept.new.self.seat c.in-Some-accept.batch.from = c.in-Some-accept.ensures.taken in
+    let taken : TakesOne c.args.self.now.endpoint.seat c.accept.new.self.seat c.in-Some-accept.batch.from = c.in-Some-accept.ensures.taken in
     record {
       going = λ running. absurd (c.fail-in-Err-apply_batch.ensures.stopped running);
       own = λ _ none. some_cause c.in-Err-apply_batch.why none;
@@ -90,24 +109,23 @@ pub invariant_of-self-in-Ok-apply_batch : goal.invariant_of-self-in-Ok-apply_bat
 invariant_of-self-in-Ok-apply_batch g c =
     let r = c.args.self.now in
     let n = c.reserve.new.self in
-    let mid = c.receive.new.self in
+    let inlet = c.receive.new.self in
     let batch = c.in-Some-accept.batch in
-    let law = unchanged_node r.family r.batch_size r.node n mid (received r mid c.requires c.receive.ensures.seat c.receive.ensures.outlets c.receive.ensures.worked)
-    c.reserve.ensures.step.unchanged c.reserve.ensures.keeps.sound in
-    let taken : TakesOne mid.seat c.accept.new.self.seat batch.from = c.in-Some-accept.ensures.taken in
+    let law = unchanged_node r.family r.batch_size r.node n r.endpoint (r.lawful (inl c.requires)) c.reserve.ensures.step.unchanged c.reserve.ensures.keeps.sound in
+    let taken : TakesOne r.endpoint.seat c.accept.new.self.seat batch.from = c.in-Some-accept.ensures.taken in
     let more = c.in-Some-accept.ensures.worked.1 in
-    let fits : IsBatchFor r.family mid.seat.nodes batch.from mid.seat.node batch =
-    fits_node r.family mid.seat.nodes c.in-Some.from mid.seat.node mid.inlet batch c.in-Some.ensures c.in-Some-accept.ensures.held in
+    let fits : IsBatchFor r.family r.endpoint.seat.nodes batch.from r.endpoint.seat.node batch =
+    fits_node r.family r.endpoint.seat.nodes c.in-Some.from r.endpoint.seat.node inlet batch c.in-Some.ensures c.in-Some-accept.ensures.held in
     record {
       going = λ _. c.requires;
-      own = λ found. r.own (own_still r.endpoint.seat c.accept.new.self.seat (c.accept.ensures.halt ∙ ap (λ s. s.halt) c.receive.ensures.seat)
-          (c.accept.ensures.same.node ∙ ap (λ s. s.node) c.receive.ensures.seat) found);
+      own = λ found. r.own (own_still r.endpoint.seat c.accept.new.self.seat c.accept.ensures.halt c.accept.ensures.keeps.seat.node found);
       agrees = agrees_going c.apply_batch.new.self.failed _ c.in-Ok-apply_batch.ensures.keeps.going;
-      lawful = λ _. applied_batch r.family r.batch_size batch.from batch n c.apply_batch.new.self mid c.accept.new.self law c.in-Some-accept.ensures.within
-          (of_other r.family mid.seat.nodes c.in-Some.from mid.seat.node mid.inlet batch c.in-Some.ensures c.in-Some-accept.ensures.held)
-          fits.entries c.in-Ok-apply_batch.ensures.step.taken c.in-Ok-apply_batch.ensures.keeps.sound c.accept.ensures.same.node c.accept.ensures.same.nodes
+      lawful = λ _. applied_batch r.family r.batch_size batch.from batch n c.apply_batch.new.self r.endpoint c.accept.new.self law c.in-Some-accept.ensures.within
+          (of_other r.family r.endpoint.seat.nodes c.in-Some.from r.endpoint.seat.node inlet batch c.in-Some.ensures c.in-Some-accept.ensures.held)
+          fits.entries c.in-Ok-apply_batch.ensures.step.taken c.in-Ok-apply_batch.ensures.keeps.sound c.accept.ensures.keeps.seat.node c.accept.ensures.keeps.seat.nodes
           (ap (λ (s : Stand). s.black) taken.counted) (ap (λ v. v.items) c.accept.ensures.outlets)
-          (λ k other. worked_else mid.inlet c.accept.new.self.inlet batch more k other) (worked_more mid.inlet c.accept.new.self.inlet batch more);
+          (λ k other. worked_else inlet c.accept.new.self.inlet batch more k other ∙ worked_again r.endpoint.inlet inlet c.receive.ensures.worked k)
+          (worked_more inlet c.accept.new.self.inlet batch more ∙ ap (λ xs. xs ++ batch.items) (worked_again r.endpoint.inlet inlet c.receive.ensures.worked batch.from));
     }
 
 pub returns-in_default-clause-step : goal.returns-in_default-clause-step
@@ -115,42 +133,35 @@ returns-in_default-clause-step g c =
     let r = c.args.self.now in
     takes_none r _ c.receive.new.self
     (record {
-      keeps = record { endpoint = c.receive.ensures.keeps; family = refl; batch_size = refl };
+      keeps = record { endpoint = kept_by r.endpoint _ refl refl c.receive.ensures.keeps; family = refl; batch_size = refl };
       unfailed = c.requires;
-      halt = ap (λ (s : NodeSeat). s.halt) c.receive.ensures.seat;
-      still = still_same r.endpoint.seat c.receive.new.self.seat c.receive.ensures.seat;
+      halt = refl;
+      still = refl;
     })
-    c.receive.ensures.worked c.receive.ensures.asked (ap (λ v. v.items) c.receive.ensures.outlets) refl (unchanged_same r.node)
-    (inl (subst (λ (s : NodeSeat). (from : ℕ) → ¬ HoldsFor r.family s.nodes from s.node c.receive.new.self.inlet) c.receive.ensures.seat c.in_default.ensures))
+    c.receive.ensures.worked c.receive.ensures.asked refl refl (unchanged_same r.node) (inl c.in_default.ensures)
 
 pub returns-in-Err-clause-step : goal.returns-in-Err-clause-step
-returns-in-Err-clause-step g c = record {
-  failed = record {
-    keeps = record {
-      endpoint = endpoint_trans c.args.self.now.endpoint c.receive.new.self c.fail.new.self c.receive.ensures.keeps
-          (links_kept c.receive.new.self c.fail.new.self c.fail.ensures.links);
-      family = refl;
-      batch_size = refl;
-    };
-    cause = refl;
-    stopped = c.fail.ensures.stopped;
-  };
-  still = still_trans c.args.self.now.endpoint.seat c.receive.new.self.seat c.fail.new.self.seat (ap (λ (s : NodeSeat). s.node) c.receive.ensures.seat)
-      (still_same c.args.self.now.endpoint.seat c.receive.new.self.seat c.receive.ensures.seat) c.fail.ensures.still;
-  reason = memory_reason no_gate _ c.in-Err.refused c.in-Err.ensures.step.memory;
-}
+returns-in-Err-clause-step g c =
+    let kept = links_kept _ c.fail.new.self c.fail.ensures.keeps.links in
+    record {
+      failed = record {
+        keeps = record { endpoint = kept_after c.args.self.now.endpoint _ c.fail.new.self kept refl refl c.receive.ensures.keeps; family = refl; batch_size = refl };
+        cause = refl;
+        stopped = c.fail.ensures.stopped;
+      };
+      still = c.fail.ensures.still;
+      reason = memory_reason no_gate _ c.in-Err.refused c.in-Err.ensures.step.memory;
+    }
 
 pub returns-in-Err-clause-refused : goal.returns-in-Err-clause-refused
 returns-in-Err-clause-refused g c =
     let r = c.args.self.now in
-    let mid = c.receive.new.self in
-    let links = c.fail.ensures.links in
+    let links = c.fail.ensures.keeps.links in
     λ _. record {
       from = c.in-Some.from;
-      holds = subst (λ (s : NodeSeat). HoldsFor r.family s.nodes c.in-Some.from s.node c.fail.new.self.inlet) c.receive.ensures.seat
-          (subst (λ (i : Inlet). HoldsFor r.family mid.seat.nodes c.in-Some.from mid.seat.node i) (sym links.inlet) c.in-Some.ensures);
+      holds = subst (λ (i : Inlet). HoldsFor r.family r.endpoint.seat.nodes c.in-Some.from r.endpoint.seat.node i) (sym links.inlet) c.in-Some.ensures;
       uncounted = ap (λ (i : Inlet). worked i) links.inlet ∙ c.receive.ensures.worked;
-      outlets = ap (λ v. v.items) (links.outlets ∙ c.receive.ensures.outlets);
+      outlets = ap (λ v. v.items) links.outlets;
       node = c.reserve.ensures.step.unchanged;
     }
 
@@ -159,21 +170,18 @@ returns-in_default-accept-clause-step g c =
     let r = c.args.self.now in
     takes_none r _ c.receive.new.self
     (record {
-      keeps = record { endpoint = endpoint_trans r.endpoint c.receive.new.self c.accept.new.self c.receive.ensures.keeps c.accept.ensures.keeps; family = refl; batch_size = refl };
+      keeps = record { endpoint = kept_after r.endpoint _ c.accept.new.self c.accept.ensures.keeps refl refl c.receive.ensures.keeps; family = refl; batch_size = refl };
       unfailed = c.requires;
-      halt = c.accept.ensures.halt ∙ ap (λ s. s.halt) c.receive.ensures.seat;
-      still = still_trans r.endpoint.seat c.receive.new.self.seat c.accept.new.self.seat (ap (λ (s : NodeSeat). s.node) c.receive.ensures.seat)
-          (still_same r.endpoint.seat c.receive.new.self.seat c.receive.ensures.seat) c.accept.ensures.still;
+      halt = c.accept.ensures.halt;
+      still = c.accept.ensures.still;
     })
-    c.receive.ensures.worked c.receive.ensures.asked (ap (λ v. v.items) (c.accept.ensures.outlets ∙ c.receive.ensures.outlets))
+    c.receive.ensures.worked c.receive.ensures.asked (ap (λ v. v.items) c.accept.ensures.outlets)
     c.in_default-accept.ensures.kept c.reserve.ensures.step.unchanged
     (let refused = c.in_default-accept.ensures.refused in inr (
       c.in-Some.from,
       refused.0,
-      subst (λ (s : NodeSeat). HoldsFor r.family s.nodes c.in-Some.from s.node c.accept.new.self.inlet) c.receive.ensures.seat
-          (subst (λ (i : Inlet). HoldsFor r.family c.receive.new.self.seat.nodes c.in-Some.from c.receive.new.self.seat.node i) (sym c.in_default-accept.ensures.kept)
-          c.in-Some.ensures),
-      subst (λ (s : NodeSeat). TakesNone s c.accept.new.self.seat c.in-Some.from refused.0) c.receive.ensures.seat refused.1,
+      subst (λ (i : Inlet). HoldsFor r.family r.endpoint.seat.nodes c.in-Some.from r.endpoint.seat.node i) (sym c.in_default-accept.ensures.kept) c.in-Some.ensures,
+      refused.1,
     ))
 
 pub returns-in-Ok-apply_batch-clause-step : goal.returns-in-Ok-apply_batch-clause-step
@@ -181,46 +189,41 @@ returns-in-Ok-apply_batch-clause-step g c =
     let r = c.args.self.now in
     takes_one r _ c.receive.new.self
     (record {
-      keeps = record { endpoint = endpoint_trans r.endpoint c.receive.new.self c.accept.new.self c.receive.ensures.keeps c.accept.ensures.keeps; family = refl; batch_size = refl };
+      keeps = record { endpoint = kept_after r.endpoint _ c.accept.new.self c.accept.ensures.keeps refl refl c.receive.ensures.keeps; family = refl; batch_size = refl };
       unfailed = c.requires;
-      halt = c.accept.ensures.halt ∙ ap (λ s. s.halt) c.receive.ensures.seat;
-      still = still_trans r.endpoint.seat c.receive.new.self.seat c.accept.new.self.seat (ap (λ (s : NodeSeat). s.node) c.receive.ensures.seat)
-          (still_same r.endpoint.seat c.receive.new.self.seat c.receive.ensures.seat) c.accept.ensures.still;
+      halt = c.accept.ensures.halt;
+      still = c.accept.ensures.still;
     })
-    c.receive.ensures.worked c.receive.ensures.asked (ap (λ v. v.items) (c.accept.ensures.outlets ∙ c.receive.ensures.outlets))
+    c.receive.ensures.worked c.receive.ensures.asked (ap (λ v. v.items) c.accept.ensures.outlets)
     c.in-Some-accept.batch c.in-Some-accept.ensures.worked.0 c.in-Some-accept.ensures.worked.1
 
 pub returns-clause-step : goal.returns-clause-step
 returns-clause-step g c =
     let r = c.args.self.now in
-    let mid = c.receive.new.self in
+    let inlet = c.receive.new.self in
     let batch = c.in-Some-accept.batch in
-    let kept = endpoint_trans r.endpoint c.accept.new.self c.fail-in-Err-apply_batch.new.self (endpoint_trans r.endpoint mid c.accept.new.self c.receive.ensures.keeps c.accept.ensures.keeps)
-    (links_kept c.accept.new.self c.fail-in-Err-apply_batch.new.self c.fail-in-Err-apply_batch.ensures.links) in
+    let kept = endpoint_trans r.endpoint c.accept.new.self c.fail-in-Err-apply_batch.new.self
+    (kept_after r.endpoint _ c.accept.new.self c.accept.ensures.keeps refl refl c.receive.ensures.keeps)
+    (links_kept c.accept.new.self c.fail-in-Err-apply_batch.new.self c.fail-in-Err-apply_batch.ensures.keeps.links) in
     record {
       failed = record {
         keeps = record { endpoint = kept; family = refl; batch_size = refl };
         cause = refl;
         stopped = c.fail-in-Err-apply_batch.ensures.stopped;
       };
-      still = still_trans r.endpoint.seat c.accept.new.self.seat c.fail-in-Err-apply_batch.new.self.seat
-          (c.accept.ensures.same.node ∙ ap (λ (s : NodeSeat). s.node) c.receive.ensures.seat)
-          (still_trans r.endpoint.seat mid.seat c.accept.new.self.seat (ap (λ (s : NodeSeat). s.node) c.receive.ensures.seat)
-          (still_same r.endpoint.seat mid.seat c.receive.ensures.seat) c.accept.ensures.still)
-          c.fail-in-Err-apply_batch.ensures.still;
+      still = still_trans r.endpoint.seat c.accept.new.self.seat c.fail-in-Err-apply_batch.new.self.seat c.accept.ensures.keeps.seat.node
+          c.accept.ensures.still c.fail-in-Err-apply_batch.ensures.still;
       reason = refused_reason _ c.in-Err-apply_batch.why (record {
         was = r;
         going = c.requires;
         kept = record { endpoint = kept; family = refl; batch_size = refl };
         from = batch.from;
-        other = subst (λ (s : NodeSeat). batch.from ≢ s.node) c.receive.ensures.seat
-            (of_other r.family mid.seat.nodes c.in-Some.from mid.seat.node mid.inlet batch c.in-Some.ensures c.in-Some-accept.ensures.held);
+        other = of_other r.family r.endpoint.seat.nodes c.in-Some.from r.endpoint.seat.node inlet batch c.in-Some.ensures c.in-Some-accept.ensures.held;
         batch = batch;
-        fits = subst (λ (s : NodeSeat). IsBatchFor r.family s.nodes batch.from s.node batch) c.receive.ensures.seat
-            (fits_node r.family mid.seat.nodes c.in-Some.from mid.seat.node mid.inlet batch c.in-Some.ensures c.in-Some-accept.ensures.held);
-        came = same_inlet c.accept.new.self c.fail-in-Err-apply_batch.new.self c.fail-in-Err-apply_batch.ensures.links.inlet batch.from
-            ∙ worked_more mid.inlet c.accept.new.self.inlet batch c.in-Some-accept.ensures.worked.1
-            ∙ ap (λ xs. xs ++ batch.items) (worked_again r.endpoint.inlet mid.inlet c.receive.ensures.worked batch.from);
+        fits = fits_node r.family r.endpoint.seat.nodes c.in-Some.from r.endpoint.seat.node inlet batch c.in-Some.ensures c.in-Some-accept.ensures.held;
+        came = same_inlet c.accept.new.self c.fail-in-Err-apply_batch.new.self c.fail-in-Err-apply_batch.ensures.keeps.links.inlet batch.from
+            ∙ worked_more inlet c.accept.new.self.inlet batch c.in-Some-accept.ensures.worked.1
+            ∙ ap (λ xs. xs ++ batch.items) (worked_again r.endpoint.inlet inlet c.receive.ensures.worked batch.from);
         before = before_since batch.items r.node c.reserve.new.self c.apply_batch.new.self c.in-Err-apply_batch.why c.reserve.ensures.step.unchanged c.in-Err-apply_batch.ensures.step.before;
       });
     }
