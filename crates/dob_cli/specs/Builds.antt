@@ -34,7 +34,7 @@ pub record IsTableFor (profile : Profile) (text : List ℕ) (number : Option ℕ
   pub same : built.table ≡ table
   pub ran : IsBuilt table.family nodes 256 built
 
--- The lines tell of the value table of the text's piece set, and under the name the shelf has just its file, where it tells
+-- The lines are those of the value table of the text's piece set, and under the name the shelf has just its file, where it tells
 -- its bytes.
 pub record AreBuildLines (c : ShelfChange) (profile : Profile) (text : List ℕ) (number : Option ℕ) (file lines : List ℕ) : Type 0 where
   pub table : ClassTable

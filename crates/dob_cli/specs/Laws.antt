@@ -15,7 +15,7 @@ pub record AnswersWords (c : ShelfChange) (words : List Text) (e : Ending) : Typ
   pub build : (rules : Option Text) (set : Text) (nodes : Option Text) (file : Text) (progress : Option Text)
       → meaning_of words ≡ build rules set nodes file progress
       → AnswersBuild c (profile_named rules) set (option_map number_in nodes) file e
-  -- by the file of a value table the value told is right, by its rules
+  -- by the file of a value table the value printed is right, by its rules
   pub probe_right : (file position : Text) → meaning_of words ≡ probe file position
       → ByValueFile c file (λ profile. AnswersProbeRight c profile file position e)
   pub probe : (file position : Text) → meaning_of words ≡ probe file position → AnswersProbe c file position e
@@ -24,7 +24,7 @@ pub record AnswersWords (c : ShelfChange) (words : List Text) (e : Ending) : Typ
 abbrev pub WordsAreAnswered : ShelfState → ShelfState → Type 0
 WordsAreAnswered before after = (words : List Text) (e : Ending) → Ran (shelf_change before after) words e → AnswersWords (shelf_change before after) words e
 
--- Where the words of a build were done, over a shelf that tells its bytes, words that probe its file tell the value that the
+-- Where the words of a build were done, over a shelf that tells its bytes, words that probe its file give the value that the
 -- position has by definition, by the rules of the build.
 abbrev pub BuildThenProbe : ShelfState → ShelfState → ShelfState → Type 0
 BuildThenProbe before built probed =

@@ -71,7 +71,7 @@ KeepsFiles (Migrate file out) = SameOthers out.now
 KeepsFiles (Show file picture position) = KeepsButPicture (text_given picture)
 KeepsFiles _ = SameFiles
 
--- lines tell it, with status 0
+-- lines answer it, with status 0
 abbrev pub IsByLines : Order → Type 0
 IsByLines (Each file) = ⊥
 IsByLines (LookEach file) = ⊥

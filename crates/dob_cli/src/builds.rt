@@ -19,7 +19,7 @@ use std::thread::{Threads, available_parallelism};
 const MOST_NODES: usize = 16;
 
 /// Builds the table of the piece set that the text names, by the rules of the profile and by so many nodes, or by `usual_nodes`, and
-/// keeps it under the name. The lines that tell how many classes have which value. Its promises hold if it returns.
+/// keeps it under the name. The lines that say how many classes have which value. Its promises hold if it returns.
 ///
 /// The file is made when the table is there, and the lines too, and kept when it is whole. A fault before it is made leaves all
 /// files as they were. After that the disk's file is as it was until it is kept; in memory it is empty. Where it is watched,
@@ -65,7 +65,7 @@ fn usual_nodes(rt: &impl Threads) -> usize
     }
 }
 
-// Builds the family's table by so many nodes. Where it is watched, the console is told of it.
+// Builds the family's table by so many nodes. Where it is watched, the console reports it.
 fn run_watched<R: Threads + Wait + Sync + Console>(
     rt: &R,
     alloc: Global,
@@ -84,7 +84,7 @@ fn run_watched<R: Threads + Wait + Sync + Console>(
     built
 }
 
-// The progress of a build, which its gate is told.
+// The progress of a build, which its gate receives.
 #[derive(Drop)]
 struct Steps<'a, C>(Progress<'a, C>);
 
@@ -104,7 +104,7 @@ impl<C: Console> Gate for Steps<'_, C> {
     }
 }
 
-// The progress of a build of the family. Where it is watched, the console is told what memory that takes.
+// The progress of a build of the family. Where it is watched, the console says what memory that takes.
 fn progress_of<C: Console>(console: &C, family: Family, is_watched: bool) -> Progress<'_, C> {
     if !is_watched {
         return Progress::new(console, false, 0);

@@ -8,7 +8,7 @@ pub fn words_are_answered<S: Shelf>(before: &S, after: &S)
     ensures { WordsAreAnswered (S.state before.now) (S.state after.now) }
 {}
 
-/// After a build that was done, over a shelf that tells its bytes, `probe` of its file tells the value that the position has
+/// After a build that was done, over a shelf that tells its bytes, `probe` of its file gives the value that the position has
 /// by definition.
 pub fn build_then_probe<S: Shelf>(before: &S, built: &S, probed: &S)
     ensures { BuildThenProbe (S.state before.now) (S.state built.now) (S.state probed.now) }

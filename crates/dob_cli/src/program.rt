@@ -35,7 +35,7 @@ const VERSION: &str = "dobutsu 0.1.0\n";
 const NO_TEXT: &[u8] = b"error: an argument is not UTF-8\n\nFor more information, try '--help'.\n";
 
 /// Runs the program by its words, those after the program's name. Database files come from the shelf, and the one of a
-/// build goes there; its promises hold if it returns, since the threads of a build may wait. What it tells goes
+/// build goes there; its promises hold if it returns, since the threads of a build may wait. What it prints goes
 /// to the writer `out`, a fault's line and a word on wrong usage to `err`. The answer is the exit status.
 ///
 /// With the word `--progress` a build and a check also say how far they are, on the console of `rt` and not on `err`: of that nothing
@@ -107,7 +107,7 @@ fn run_order<S: Shelf, O: Sink, E: Sink>(
     }
 }
 
-// What is told of what is ordered: a line for each of standard input, or lines of which none is refused.
+// What answers what is ordered: a line for each of standard input, or lines of which none is refused.
 fn answers_for<S: Shelf>(
     rt: &(impl Threads + Wait + Sync + Console),
     alloc: Global,
@@ -129,7 +129,7 @@ fn answers_for<S: Shelf>(
     }
 }
 
-// The lines that tell what is ordered.
+// The lines that answer what is ordered.
 fn answer<S: Shelf>(
     rt: &(impl Threads + Wait + Sync + Console),
     alloc: Global,
@@ -200,7 +200,7 @@ fn search_of(
     }
 }
 
-// Tells a line, or a few, on standard output. The answer is that status where it is told.
+// Prints a line, or a few, on standard output. The answer is that status where that works.
 fn tell<O: Sink, E: Sink>(alloc: Global, status: u8, line: &str, out: &mut O, err: &mut E) -> u8
     ensures { TellsAs status line.now (ended result (change (O.state out.old) (O.state out.new)) (change (E.state err.old) (E.state err.new))) }
 {
@@ -217,7 +217,7 @@ fn say<E: Sink>(err: &mut E, bytes: &[u8])
     let _written = write_all(err, bytes);
 }
 
-// Tells a fault on standard error, or that no memory was left to tell it.
+// Prints a fault on standard error, or that no memory was left for it.
 fn tell_fault<E: Sink>(alloc: Global, fault: Fault, err: &mut E) -> u8
     ensures { TellsOneFault fault result (change (E.state err.old) (E.state err.new)) }
 {

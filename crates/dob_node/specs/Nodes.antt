@@ -81,7 +81,7 @@ pub record HasTaken (items : List Item) (old new : NodeView) : Type 0 where
   pub own : new.own ≡ old.own
   pub outboxes : new.outboxes ≡ old.outboxes
 
--- Those of the items before one that can't be are applied, in order, as many as the node tells, and nothing else has changed.
+-- Those of the items before one that can't be are applied, in order, as many as the node says, and nothing else has changed.
 pub record HasTakenBefore (items : List Item) (old new : NodeView) (why : Cause) : Type 0 where
   pub front : List Item
   pub item : Item

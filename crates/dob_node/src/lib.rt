@@ -1,4 +1,4 @@
-// One node of a build: the history of the classes that it owns, and what it has to tell and to apply.
+// One node of a build: the history of the classes that it owns, and what it has to send and to apply.
 #![tactic(auto)]
 
 mod entries;

@@ -130,7 +130,7 @@ impl Node {
     /// # Errors
     ///
     /// By which the node fails: `Memory`, which leaves it as it was, and never comes where there is room for as many items
-    /// (`reserve`); after the others just the items before one are applied, as many as `taken` tells: `Contradiction` where it
+    /// (`reserve`); after the others just the items before one are applied, as many as `taken` says: `Contradiction` where it
     /// doesn't fit its class's cell then; `TooDeep` where it fits and its class's value would be too deep.
     pub fn apply_batch(&mut self, batch: &Batch) -> Result<(), Cause>
         requires sound { IsSound self.old }

@@ -13,7 +13,7 @@ use dob_stops::Cause;
 /// How many items' classes are looked at before the first of the items is applied, so that the memory of all is read at once.
 const AHEAD: usize = 16;
 
-/// Applies the items in order, as `History::take_seen` does each, and tells how many.
+/// Applies the items in order, as `History::take_seen` does each, and says how many.
 ///
 /// # Errors
 ///

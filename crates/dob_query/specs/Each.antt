@@ -44,14 +44,14 @@ AreAnswers Is [] [] = Unit {0}
 AreAnswers Is (line ∷ more) (answer ∷ answers) = Is line answer × AreAnswers Is more answers
 AreAnswers Is _ _ = ⊥
 
--- ---- what is told of it
+-- ---- what is printed
 
--- the line of a value as `probe` tells it, or of a fault without `dobutsu: `
+-- the line of a value as `probe` prints it, or of a fault without `dobutsu: `
 abbrev pub answer_line : Result Value Fault → List ℕ
 answer_line (Ok value) = value_line value
 answer_line (Err fault) = fault_text fault ++ line_feed ∷ []
 
--- The text tells what the lines of the input come to, a line for each, and whether one was refused. The lines of bytes are std's `lines`: they
+-- The text gives what the lines of the input come to, a line for each, and whether one was refused. The lines of bytes are std's `lines`: they
 -- end at line feeds, a carriage return before one is dropped, and an empty rest after the last is no line.
 pub record TellsLinesOf (Is : List ℕ → Result Value Fault → Type 0) (input : List ℕ) (is_refused : Bool) (text : List ℕ) : Type 0 where
   pub answers : List (Result Value Fault)
@@ -59,7 +59,7 @@ pub record TellsLinesOf (Is : List ℕ → Result Value Fault → Type 0) (input
   pub same : text ≡ flat_map answer_line answers
   pub refused : is_refused ≡ list_any is_err answers
 
--- it tells so by the table of the file, of standard input's bytes, where these are known
+-- it answers so by the table of the file, of standard input's bytes, where these are known
 pub record AreEachLines (IsTold : ClassTable → List ℕ → Value → Type 0) (c : ShelfChange) (file : List ℕ) (is_refused : Bool) (text : List ℕ) : Type 0 where
   pub table : ClassTable
   pub whole : IsFileOf (c.before.has file) table
@@ -77,11 +77,11 @@ IsEachFault c file _ = ⊥
 
 -- ---- what the program does
 
--- 1 where a line was refused, and 0 where all were told
+-- 1 where a line was refused, and 0 where all were answered
 abbrev pub status_of_lines : Bool → ℕ
 status_of_lines is_refused = if is_refused then 1 else 0
 
--- it told such lines: the status that goes with them, the lines on standard output and nothing else
+-- it printed such lines: the status that goes with them, the lines on standard output and nothing else
 pub record TellsEach (AreLines : Bool → List ℕ → Type 0) (e : Ending) : Type 0 where
   pub is_refused : Bool
   pub lines : List ℕ
@@ -90,7 +90,7 @@ pub record TellsEach (AreLines : Bool → List ℕ → Type 0) (e : Ending) : Ty
   pub told : Puts e.out lines
   pub silent : IsUntouched e.err
 
--- it told such lines, or a fault that ends all, or failed to tell such lines; calls of the shelf failed as `AnswersOver` says
+-- it printed such lines, or a fault that ends all, or failed to print such lines; calls of the shelf failed as `AnswersOver` says
 abbrev pub AnswersLines : ShelfChange → (Bool → List ℕ → Type 0) → (Fault → Type 0) → Ending → Type 0
 AnswersLines c AreLines Holds e =
     TellsEach (λ is_refused lines. AreLines is_refused lines × FailsWhere c false) e
@@ -111,6 +111,6 @@ AnswersEachBy IsTold c file = AnswersLines c (AreEachLines IsTold c file) (IsEac
 abbrev pub AnswersEach : ShelfChange → List ℕ → Ending → Type 0
 AnswersEach = AnswersEachBy IsGivenTo
 
--- the same, where a value told is the one that the line's position has by definition, by the rules of the profile
+-- the same, where a value printed is the one that the line's position has by definition, by the rules of the profile
 abbrev pub AnswersEachRight : ShelfChange → Profile → List ℕ → Ending → Type 0
 AnswersEachRight c profile = AnswersEachBy (λ table. IsValueOf profile) c

@@ -24,7 +24,7 @@ TellsFaultAs fault status err = (status ≡ status_of fault) × Says err (fault_
 abbrev pub TellsOneFault : Fault → ℕ → Change → Type 0
 TellsOneFault fault status err = TellsFaultAs fault status err ⊎ TellsFaultAs Memory status err
 
--- it told such lines: status 0, the lines on standard output and nothing else
+-- it printed such lines: status 0, the lines on standard output and nothing else
 pub record TellsLines (AreLines : List ℕ → Type 0) (e : Ending) : Type 0 where
   pub lines : List ℕ
   pub right : AreLines lines
@@ -32,14 +32,14 @@ pub record TellsLines (AreLines : List ℕ → Type 0) (e : Ending) : Type 0 whe
   pub told : Puts e.out lines
   pub silent : IsUntouched e.err
 
--- it told a fault that holds, or that no memory was left for telling it, and nothing on standard output
+-- it printed a fault that holds, or that no memory was left for it, and nothing on standard output
 pub record TellsFault (Holds : Fault → Type 0) (e : Ending) : Type 0 where
   pub fault : Fault
   pub holds : Holds fault
   pub told : TellsOneFault fault e.status e.err
   pub silent : IsUntouched e.out
 
--- standard output failed in such lines, after a beginning of them; it told that fault
+-- standard output failed in such lines, after a beginning of them; it printed that fault
 pub record FailsToTell (AreLines : List ℕ → Type 0) (e : Ending) : Type 0 where
   pub lines : List ℕ
   pub right : AreLines lines

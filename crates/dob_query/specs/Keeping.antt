@@ -1,4 +1,4 @@
--- The lines that tell the counts of a table, and the faults of keeping its file.
+-- The lines that give the counts of a table, and the faults of keeping its file.
 use Rattle.std.specs.Prelude.{◌≡◌, ◌<◌, ◌≤◌, ◌^◌, ℕ, Bool, true, false, IsTrue, List, [], ◌∷◌, ◌++◌, ◌⊎◌, Some, codes, length, slice_get, Result}
 use Rattle.std.specs.List.{count_by}
 use Rattle.dob_value.specs.declared.value.Value.{Value}
@@ -39,7 +39,7 @@ abbrev pub AreAddedUp : Tally → Tally → Tally → Type 0
 AreAddedUp left right both =
     (values more : List Value) → length (values ++ more) < 2 ^ 64 → IsTally values left → IsTally more right → IsTally (values ++ more) both
 
--- the four lines that tell how many classes there are, and how many of them have which value
+-- the four lines that say how many classes there are, and how many of them have which value
 abbrev pub class_lines : List Value → List ℕ
 class_lines values =
     count_line (codes "classes ") (length values)

@@ -87,6 +87,6 @@ GivesLook file words result c = GivesLines c (IsLookLine (c.before.has file) wor
 abbrev pub AnswersLook : ShelfChange → List ℕ → List ℕ → Ending → Type 0
 AnswersLook c file words = AnswersOver c (IsLookLine (c.before.has file) words) (IsLookFault (c.before.has file) words)
 
--- the same, where the line tells the value that the text's position has by definition, by the rules of the profile
+-- the same, where the line gives the value that the text's position has by definition, by the rules of the profile
 abbrev pub AnswersLookRight : ShelfChange → Profile → List ℕ → List ℕ → Ending → Type 0
 AnswersLookRight c profile file words = AnswersOver c (IsValueLineOf profile words) (IsLookFault (c.before.has file) words)

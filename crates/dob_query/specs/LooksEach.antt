@@ -44,7 +44,7 @@ abbrev pub IsPlaceAnswer : (List ℕ → Value → Type 0) → (Stream → Type 
 IsPlaceAnswer IsTold Gives line (Ok value) = IsTold line value
 IsPlaceAnswer IsTold Gives line (Err fault) = IsPlaceFault Gives line fault
 
--- the text tells what the lines of standard input's bytes come to, where these are known
+-- the text gives what the lines of standard input's bytes come to, where these are known
 pub record ArePlaceLines (IsTold : List ℕ → Value → Type 0) (c : ShelfChange) (file : List ℕ) (is_refused : Bool) (text : List ℕ) : Type 0 where
   pub input : List ℕ
   pub read : (known : List ℕ) → c.before.input ≡ Some known → input ≡ known
@@ -84,7 +84,7 @@ IsRecordEnd Shows Memory = Unit {0}
 IsRecordEnd Shows (File (file_fault.Io bytes)) = (stream : Stream) → Shows stream → stream.fails ≡ true
 IsRecordEnd Shows _ = ⊥
 
--- By a source that may give and show these streams: the text tells what the lines of standard input's bytes come to, by the family that the
+-- By a source that may give and show these streams: the text gives what the lines of standard input's bytes come to, by the family that the
 -- header names.
 pub record TellsRecords (Gives Shows : Stream → Type 0) (known : Option (List ℕ)) (is_refused : Bool) (text : List ℕ) : Type 0 where
   pub format : Format
@@ -110,6 +110,6 @@ GivesLookEach file result c = GivesAnswers c (ArePlaceLines (IsLookedFor (GivesW
 abbrev pub AnswersLookEach : ShelfChange → List ℕ → Ending → Type 0
 AnswersLookEach c file = AnswersLines c (ArePlaceLines (IsLookedFor (GivesWhole (c.before.has file))) c file) (IsPlacesFault c file)
 
--- the same, where a value told is the one that the line's position has by definition, by the rules of the profile
+-- the same, where a value printed is the one that the line's position has by definition, by the rules of the profile
 abbrev pub AnswersLookEachRight : ShelfChange → Profile → List ℕ → Ending → Type 0
 AnswersLookEachRight c profile file = AnswersLines c (ArePlaceLines (IsValueOf profile) c file) (IsPlacesFault c file)

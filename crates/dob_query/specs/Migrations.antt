@@ -10,7 +10,7 @@ use Rattle.dob_query.specs.Keeping.{IsKeepingFault}
 use Rattle.dob_query.specs.Tables.{IsFileOf, IsOpeningFault}
 use Rattle.dob_query.specs.Endings.{GivesLines}
 
--- The line tells how many classes the table has that the file had before, and under the other name the shelf has just that table's file in
+-- The line says how many classes the table has that the file had before, and under the other name the shelf has just that table's file in
 -- the second format, where it tells its bytes. The two names may be one.
 pub record AreMigrateLines (c : ShelfChange) (file out lines : List ℕ) : Type 0 where
   pub table : ClassTable

@@ -17,7 +17,7 @@ use Rattle.dob_pieces.specs.Bytes.{line_feed}
 use Rattle.dob_query.specs.Endings.{AnswersOver, Ending}
 use Rattle.dob_shelf.specs.Shelves.{ShelfChange}
 
--- the line that tells a value, with its line feed
+-- the line that gives a value, with its line feed
 abbrev pub value_line : Value → List ℕ
 value_line (Win plies) = codes "win " ++ decimal plies ++ line_feed ∷ []
 value_line (Loss plies) = codes "loss " ++ decimal plies ++ line_feed ∷ []

@@ -1,4 +1,4 @@
--- How far some work is, and how that is told.
+-- How far some work is, and how a line says that.
 use Rattle.std.specs.Prelude.{◌==◌, ◌+◌, ◌-◌, ◌*◌, ◌/◌, ℕ, List, [], ◌++◌, Option, None, Some, codes, if◌then◌else◌, max, min}
 use Rattle.std.specs.Fmt.{decimal}
 use Rattle.dob_query.specs.declared.progress.Line.{Line}

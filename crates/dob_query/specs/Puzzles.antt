@@ -41,7 +41,7 @@ abbrev pub puzzle_lines : Family → Bool → List Puzzle → List ℕ
 puzzle_lines family is_numbered [] = codes "none" ++ line_feed ∷ []
 puzzle_lines family is_numbered puzzles = flat_map (line_of_puzzle family is_numbered) puzzles
 
--- the lines tell the first puzzles of the walk over such a table, at most so many
+-- the lines give the first puzzles of the walk over such a table, at most so many
 pub record ArePuzzleLines (Is : ClassTable → Type 0) (search : PuzzleSearch) (lines : List ℕ) : Type 0 where
   pub proper : IsPuzzleLength search.plies
   pub table : ClassTable
@@ -50,7 +50,7 @@ pub record ArePuzzleLines (Is : ClassTable → Type 0) (search : PuzzleSearch) (
   pub first : ArePuzzles table search.walk search.plies search.count puzzles
   pub same : lines ≡ puzzle_lines table.family search.is_numbered puzzles
 
--- A fault of asking for puzzles: no puzzle has so many plies, which is told before the file is looked for; or one of opening the file, or
+-- A fault of asking for puzzles: no puzzle has so many plies, which comes before the file is looked for; or one of opening the file, or
 -- memory failed.
 abbrev pub IsPuzzlesFault : (List ℕ → Type 0) → ℕ → Fault → Type 0
 IsPuzzlesFault Has plies PuzzlePlies = ¬ IsPuzzleLength plies

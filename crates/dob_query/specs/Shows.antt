@@ -26,7 +26,7 @@ use Rattle.dob_query.specs.Tables.{IsFileOf, IsProbingFault, IsTextOf}
 abbrev pub played_drawing : Setup → Value → List Move → List ℕ
 played_drawing position value moves = drawing_of position ++ (line_feed ∷ [] ++ (value_line value ++ numbered_text moves))
 
--- the lines draw the position, and tell its value and its line by the file's table
+-- the lines draw the position, and give its value and its line by the file's table
 pub record AreDrawnBy (Has : List ℕ → Type 0) (position : Setup) (lines : List ℕ) : Type 0 where
   pub table : ClassTable
   pub file : IsFileOf Has table
@@ -36,7 +36,7 @@ pub record AreDrawnBy (Has : List ℕ → Type 0) (position : Setup) (lines : Li
   pub best_line : IsLine table.family.profile (GivenBy table) position moves
   pub same : lines ≡ played_drawing position value moves
 
--- the lines draw the position, and tell its value and its best play by definition and the rules of the profile
+-- the lines draw the position, and give its value and its best play by definition and the rules of the profile
 pub record AreDrawnRight (profile : Profile) (position : Setup) (lines : List ℕ) : Type 0 where
   pub value : Value
   pub right : HasValue profile position value
@@ -61,7 +61,7 @@ pub record AreShowLines (c : ShelfChange) (file picture : Option (List ℕ)) (wo
   pub drawn : AreDrawn c.before.has file position lines
   pub kept : IsKept c picture (picture_of position)
 
--- the same, where the lines tell what is right by definition
+-- the same, where the lines say what is right by definition
 pub record AreRightShowLines (c : ShelfChange) (profile : Profile) (picture : Option (List ℕ)) (words lines : List ℕ) : Type 0 where
   pub position : Setup
   pub named : IsTextOf words position

@@ -24,7 +24,7 @@ AreCountsOf profile text counts = (set : PieceSet) × (text ≡ set_text set) ×
 abbrev pub count_line : List ℕ → ℕ → List ℕ
 count_line name number = name ++ decimal number ++ line_feed ∷ []
 
--- the two lines that tell the numbers
+-- the two lines that give the numbers
 abbrev pub count_lines : Counts → List ℕ
 count_lines counts = count_line (codes "positions ") counts.positions ++ count_line (codes "classes ") counts.classes
 

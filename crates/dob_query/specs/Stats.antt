@@ -24,7 +24,7 @@ value_row between (Win plies) classes = codes "win " ++ (decimal plies ++ (betwe
 value_row between (Loss plies) classes = codes "loss " ++ (decimal plies ++ (between ++ (decimal classes ++ line_feed ∷ [])))
 value_row between Draw classes = codes "draw" ++ (between ++ (decimal classes ++ line_feed ∷ []))
 
--- how many classes have a distance, as `win 3 12`; the draws are told before
+-- how many classes have a distance, as `win 3 12`; the draws come before
 abbrev pub distance_line : Value → ℕ → List ℕ
 distance_line Draw classes = []
 distance_line distance classes = value_row (codes " ") distance classes
@@ -79,12 +79,12 @@ pub record AreStatsOf (table : ClassTable) (groups : List Group) (lines : List �
   pub longest_loss : IsLongestLine table (longest_of groups).loss loss
   pub same : lines ≡ class_lines table.values ++ (flat_map group_line groups ++ (win ++ loss))
 
--- what is told of the table by its groups, in one of the two ways
+-- what is printed of the table by its groups, in one of the two ways
 abbrev pub AreStatsFor : Bool → ClassTable → List Group → List ℕ → Type 0
 AreStatsFor true table groups lines = lines ≡ csv_lines groups
 AreStatsFor false table groups lines = AreStatsOf table groups lines
 
--- the lines tell of such a table, by the groups of its classes of one value
+-- the lines give the numbers of such a table, by the groups of its classes of one value
 pub record AreStatsLines (Is : ClassTable → Type 0) (is_csv : Bool) (lines : List ℕ) : Type 0 where
   pub table : ClassTable
   pub is : Is table

@@ -84,17 +84,17 @@ abbrev pub moves_text : Bool → List Move → List ℕ
 moves_text second [] = []
 moves_text second (move ∷ moves) = move_text move second ++ space_before moves ++ moves_text (not second) moves
 
--- what is told where there are no moves, by the position's value
+-- what is printed where there are no moves, by the position's value
 abbrev pub end_text : Value → List ℕ
 end_text Draw = codes "draw"
 end_text _ = codes "end"
 
--- the lines that tell moves, of a position of that value: all on one, or each on its own with its number
+-- the lines that give moves, of a position of that value: all on one, or each on its own with its number
 abbrev pub moves_lines : Bool → Value → List Move → List ℕ
 moves_lines is_numbered value [] = end_text value ++ line_feed ∷ []
 moves_lines is_numbered value moves = if is_numbered then numbered_text moves else moves_text false moves ++ line_feed ∷ []
 
--- the lines tell the line of the text's position by the file's table, numbered where that is asked for
+-- the lines give the line of the text's position by the file's table, numbered where that is asked for
 pub record AreMovesLines (Has : List ℕ → Type 0) (is_numbered : Bool) (words lines : List ℕ) : Type 0 where
   pub table : ClassTable
   pub file : IsFileOf Has table
@@ -106,7 +106,7 @@ pub record AreMovesLines (Has : List ℕ → Type 0) (is_numbered : Bool) (words
   pub best_line : IsLine table.family.profile (GivenBy table) position moves
   pub same : lines ≡ moves_lines is_numbered value moves
 
--- the lines tell the best play from the text's position: the line by the values that positions have by definition and the rules of the profile
+-- the lines give the best play from the text's position: the line by the values that positions have by definition and the rules of the profile
 pub record AreRightMovesLines (profile : Profile) (is_numbered : Bool) (words lines : List ℕ) : Type 0 where
   pub position : Setup
   pub named : IsTextOf words position
@@ -116,7 +116,7 @@ pub record AreRightMovesLines (profile : Profile) (is_numbered : Bool) (words li
   pub best_line : IsLine profile (HasValue profile) position moves
   pub same : lines ≡ moves_lines is_numbered value moves
 
--- the line that tells that a table is consistent
+-- the line that says that a table is consistent
 abbrev pub consistent_line : List ℕ
 consistent_line = codes "consistent" ++ line_feed ∷ []
 
@@ -184,13 +184,13 @@ GivesCheck file result c = GivesLines c (IsCheckLine (c.before.has file)) (IsChe
 abbrev pub AnswersProbe : ShelfChange → List ℕ → List ℕ → Ending → Type 0
 AnswersProbe c file words = AnswersOver c (IsProbeLine (c.before.has file) words) (IsPositionFault (c.before.has file) words)
 
--- the same, where the lines tell the value that the text's position has by definition, by the rules of the profile
+-- the same, where the lines give the value that the text's position has by definition, by the rules of the profile
 abbrev pub AnswersProbeRight : ShelfChange → Profile → List ℕ → List ℕ → Ending → Type 0
 AnswersProbeRight c profile file words = AnswersOver c (IsValueLineOf profile words) (IsPositionFault (c.before.has file) words)
 
 abbrev pub AnswersLine : ShelfChange → List ℕ → Bool → List ℕ → Ending → Type 0
 AnswersLine c file is_numbered words = AnswersOver c (AreMovesLines (c.before.has file) is_numbered words) (IsPositionFault (c.before.has file) words)
 
--- the same, where the lines tell the best play by definition
+-- the same, where the lines give the best play by definition
 abbrev pub AnswersLineRight : ShelfChange → Profile → List ℕ → Bool → List ℕ → Ending → Type 0
 AnswersLineRight c profile file is_numbered words = AnswersOver c (AreRightMovesLines profile is_numbered words) (IsPositionFault (c.before.has file) words)

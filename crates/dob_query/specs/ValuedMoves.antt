@@ -45,7 +45,7 @@ pub record AreRightMovesOf (profile : Profile) (words : List ℕ) (the_moves : L
   pub named : IsTextOf words position
   pub valued : AreValuedMoves profile (HasValue profile) position the_moves
 
--- the lines tell such moves so
+-- the lines give such moves so
 abbrev pub TellsMoves : (List ValuedMove → Type 0) → (List ValuedMove → List ℕ) → List ℕ → Type 0
 TellsMoves Are tell lines = (the_moves : List ValuedMove) × Are the_moves × (lines ≡ tell the_moves)
 
@@ -66,7 +66,7 @@ GivesBest file words result c = GivesLines c (IsBestLine (c.before.has file) wor
 abbrev pub AnswersMoves : ShelfChange → List ℕ → List ℕ → Ending → Type 0
 AnswersMoves c file words = AnswersOver c (AreMoveLines (c.before.has file) words) (IsPositionFault (c.before.has file) words)
 
--- the same, where the lines tell the values that the moves have by definition
+-- the same, where the lines give the values that the moves have by definition
 abbrev pub AnswersMovesRight : ShelfChange → Profile → List ℕ → List ℕ → Ending → Type 0
 AnswersMovesRight c profile file words =
     AnswersOver c (TellsMoves (AreRightMovesOf profile words) move_lines) (IsPositionFault (c.before.has file) words)

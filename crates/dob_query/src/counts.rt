@@ -15,7 +15,7 @@ pub(crate) struct Counts {
     pub(crate) classes: u64,
 }
 
-/// The lines that tell the numbers of positions and of classes of the piece set that the text names, by the rules of the profile.
+/// The lines that give the numbers of positions and of classes of the piece set that the text names, by the rules of the profile.
 pub fn answer_count(alloc: Global, profile: Profile, text: &str) -> Lines
     ensures ok { IfOk result (λ lines. AreCountLinesOf profile text.now (string_bytes lines)) }
     ensures err { IfErr result (IsCountFaultOf text.now) }
@@ -25,7 +25,7 @@ pub fn answer_count(alloc: Global, profile: Profile, text: &str) -> Lines
     Ok(lines_with(alloc, counts)?)
 }
 
-// The lines that tell the numbers.
+// The lines that give the numbers.
 fn lines_with(alloc: Global, counts: Counts) -> Result<String, Memory>
     ensures { IfOk result (λ lines. string_bytes lines ≡ count_lines counts) }
 {

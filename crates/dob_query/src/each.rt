@@ -82,7 +82,7 @@ fn answer_to(table: &Table, line: &[u8]) -> Result<Value, Fault>
     Ok(probe(table, &position)?)
 }
 
-// The line that tells an answer.
+// The line of an answer.
 fn answer_line(alloc: Global, answer: Result<Value, Fault>) -> Result<String, Memory>
     ensures { IfOk result (λ line. string_bytes line ≡ answer_line answer) }
 {

@@ -1,4 +1,4 @@
-// The lines that tell the counts of a table, and its file.
+// The lines that give the counts of a table, and its file.
 ghost use Rattle.std.specs.Prelude.{◌≡◌, IfOk, string_bytes};
 ghost use Rattle.dob_shelf.specs.Shelves.{Leaving, SameOthers};
 ghost use Rattle.dob_query.specs.Keeping.{class_lines, KeepsTable};
@@ -35,7 +35,7 @@ pub fn keep_table<S: Shelf>(
     }
 }
 
-/// The lines that tell how many classes the table has, and how many of them have which value.
+/// The lines that say how many classes the table has, and how many of them have which value.
 pub fn lines_of(rt: &(impl Threads + Sync), alloc: Global, table: &Table) -> Result<String, Memory>
     ensures { IfOk result (λ lines. string_bytes lines ≡ class_lines table.now.values) }
 {

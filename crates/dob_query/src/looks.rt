@@ -15,7 +15,7 @@ use dob_shelf::Shelf;
 use dob_value::Value;
 use std::alloc::Global;
 
-/// The line that tells the value of the position that the text names, by the record of its class in the file.
+/// The line that gives the value of the position that the text names, by the record of its class in the file.
 pub fn answer_look<S: Shelf>(alloc: Global, shelf: &mut S, file: &str, text: &str) -> Lines
     ensures { Leaving SameFiles S.state shelf.old shelf.new (GivesLook file.now text.now result) }
 {

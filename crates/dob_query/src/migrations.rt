@@ -11,7 +11,7 @@ use dob_pieces::Memory;
 use dob_shelf::Shelf;
 use std::alloc::Global;
 
-/// Keeps the table of the file under the other name, in the second format, and gives the line that tells how many classes it
+/// Keeps the table of the file under the other name, in the second format, and gives the line that says how many classes it
 /// has. The second file is made when the first one is read whole and the line is there, so that both may have one name.
 pub fn answer_migrate<S: Shelf>(alloc: Global, shelf: &mut S, file: &str, out: &str) -> Lines
     ensures { Leaving (SameOthers out.now) S.state shelf.old shelf.new (GivesMigrate file.now out.now result) }
@@ -22,7 +22,7 @@ pub fn answer_migrate<S: Shelf>(alloc: Global, shelf: &mut S, file: &str, out: &
     Ok(line)
 }
 
-// The line that tells how many classes there are.
+// The line that says how many classes there are.
 fn class_line(alloc: Global, classes: u64) -> Result<String, Memory>
     ensures { IfOk result (λ line. string_bytes line ≡ count_line (codes "classes ") classes) }
 {

@@ -1,4 +1,4 @@
-// How far a build or a check is, told on the process's standard error. Nothing is promised of what comes there.
+// How far a build or a check is, by lines on the process's standard error. Nothing is promised of what comes there.
 ghost use Rattle.std.specs.Prelude.{◌≡◌, ◌<◌, ◌^◌, Some};
 ghost use Rattle.dob_query.specs.Progress.{line_at, megabytes, percent, seconds_left};
 
@@ -21,12 +21,12 @@ impl Console for HostRuntime {
     }
 }
 
-/// How far some work is. Whoever works tells it what is done, as a build's gate and as a check's watch, from any thread; it writes a
+/// How far some work is. Whoever works reports to it what is done, as to a build's gate and a check's watch, from any thread; it writes a
 /// line a second at most on the console's standard error.
 #[derive(Drop)]
 pub struct Progress<'a, C> {
     console: &'a C,
-    // When the work began; none where nothing is told.
+    // When the work began; none where nothing is reported.
     start: Option<Instant>,
     all: u64,
     done: AtomicU64,
@@ -35,7 +35,7 @@ pub struct Progress<'a, C> {
 }
 
 impl<'a, C: Console> Progress<'a, C> {
-    /// Of work with so many parts that begins now. Nothing is told where it isn't to be watched, or where no clock can be read.
+    /// Of work with so many parts that begins now. Nothing is reported where it isn't to be watched, or where no clock can be read.
     pub fn new(console: &'a C, is_watched: bool, all: u64) -> Progress<'a, C> {
         Progress {
             console,
@@ -46,14 +46,14 @@ impl<'a, C: Console> Progress<'a, C> {
         }
     }
 
-    /// Clears the line of a terminal, once nothing more is told.
+    /// Clears the line of a terminal, once nothing more is reported.
     pub fn end(&self) {
         if self.last.load(Ordering::SeqCst) > 0 && self.console.is_terminal() {
             let _ = eprint!(self.console; "\r\x1b[K");
         }
     }
 
-    /// So many more parts are done. A line tells it, where none was written in this second.
+    /// So many more parts are done. A line says so, where none was written in this second.
     pub fn add(&self, parts: u64) {
         let Some(start) = self.start else {
             return;
@@ -106,7 +106,7 @@ fn start_of<C: Console>(console: &C, is_watched: bool) -> Option<Instant> {
     }
 }
 
-// What a line tells.
+// What a line says.
 #[derive(Clone, Copy)]
 struct Line {
     seconds: u64,

@@ -15,7 +15,7 @@ use dob_text::{write_move, write_position};
 use dob_value::Table;
 use std::alloc::Global;
 
-/// Which puzzles are looked for, and how they are told.
+/// Which puzzles are looked for, and how they are printed.
 #[derive(Clone, Copy)]
 pub struct PuzzleSearch {
     /// In how many plies they are won.
@@ -28,7 +28,7 @@ pub struct PuzzleSearch {
     pub is_numbered: bool,
 }
 
-/// The lines that tell the first puzzles of the file's table that are looked for.
+/// The lines that give the first puzzles of the file's table that are looked for.
 pub fn answer_puzzles<S: Shelf>(
     alloc: Global,
     shelf: &mut S,

@@ -18,7 +18,7 @@ use dob_text::{draw_position, picture_position, write_line};
 use dob_value::Value;
 use std::alloc::Global;
 
-/// The lines that draw the position that the text names. Where a database file is named they tell its value and its line too,
+/// The lines that draw the position that the text names. Where a database file is named they give its value and its line too,
 /// and where a file is named for the picture, it has it afterwards: it is made when the lines are there, and kept when it is whole.
 pub fn answer_show<S: Shelf>(
     alloc: Global,
@@ -59,7 +59,7 @@ fn drawn_lines<S: Shelf>(
     }
 }
 
-// The lines that draw the position and tell its value and its line by the table of the file.
+// The lines that draw the position and give its value and its line by the table of the file.
 fn lines_by_table<S: Shelf>(alloc: Global, shelf: &mut S, file: &str, position: &Position) -> Lines
     ensures answered { Leaving SameFiles S.state shelf.old shelf.new (λ c.
         IsAnswered c (λ lines. AreDrawnBy (c.before.has file.now) position.now.setup (string_bytes lines))

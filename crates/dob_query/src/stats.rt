@@ -23,7 +23,7 @@ pub(crate) struct Longest {
     pub(crate) loss: Option<Group>,
 }
 
-/// The lines that tell how many classes of the file's table have which value, and the longest win and loss with an example each; or,
+/// The lines that say how many classes of the file's table have which value, and the longest win and loss with an example each; or,
 /// for scripts, a line of two fields for each value that occurs, below their names.
 pub fn answer_stats<S: Shelf>(
     rt: &(impl Threads + Sync),
@@ -39,7 +39,7 @@ pub fn answer_stats<S: Shelf>(
     Ok(told_lines(rt, alloc, &table, &groups, is_csv)?)
 }
 
-// The lines that tell of the table, by its groups, in one of the two ways.
+// The lines about the table, by its groups, in one of the two ways.
 fn told_lines(
     rt: &(impl Threads + Sync),
     alloc: Global,
@@ -66,7 +66,7 @@ fn csv_lines(alloc: Global, groups: &[Group]) -> Result<String, Memory>
     Ok(lines)
 }
 
-// The lines that tell of the table, by its groups.
+// The lines about the table, by its groups.
 fn stats_lines(
     rt: &(impl Threads + Sync),
     alloc: Global,
@@ -121,7 +121,7 @@ fn group_text(alloc: Global, is_csv: bool, group: Group) -> Result<String, Memor
     }
 }
 
-// How many classes have a distance; the draws are told before.
+// How many classes have a distance; the draws come before.
 fn distance_line(alloc: Global, value: Value, classes: u64) -> Result<String, Memory>
     ensures { IfOk result (λ line. string_bytes line ≡ distance_line value classes) }
 {

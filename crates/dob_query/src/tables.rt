@@ -25,7 +25,7 @@ use dob_value::{Table, Value};
 use std::alloc::Global;
 use std::thread::Threads;
 
-/// The line that tells the value of the position that the text names, by the table of the file.
+/// The line that gives the value of the position that the text names, by the table of the file.
 pub fn answer_probe<S: Shelf>(alloc: Global, shelf: &mut S, file: &str, text: &str) -> Lines
     ensures { Leaving SameFiles S.state shelf.old shelf.new (GivesProbe file.now text.now result) }
 {
@@ -34,7 +34,7 @@ pub fn answer_probe<S: Shelf>(alloc: Global, shelf: &mut S, file: &str, text: &s
     Ok(line_of(alloc, value)?)
 }
 
-/// The lines that tell the moves from the position that the text names, by the table of the file: one of all moves, or one for
+/// The lines that give the moves from the position that the text names, by the table of the file: one of all moves, or one for
 /// each with its number.
 pub fn answer_line<S: Shelf>(
     alloc: Global,
@@ -50,7 +50,7 @@ pub fn answer_line<S: Shelf>(
     Ok(moves_lines(alloc, is_numbered, value, &moves)?)
 }
 
-/// The line that tells that the table of the file is consistent, and so the value table. Where it is watched, lines on the console
+/// The line that says that the table of the file is consistent, and so the value table. Where it is watched, lines on the console
 /// say how far it is.
 pub fn answer_check<S: Shelf>(
     rt: &(impl Threads + Sync + Console),
@@ -66,14 +66,14 @@ pub fn answer_check<S: Shelf>(
     Ok(consistent_line(alloc)?)
 }
 
-// The line that tells that a table is consistent.
+// The line that says that a table is consistent.
 fn consistent_line(alloc: Global) -> Result<String, Memory>
     ensures { IfOk result (λ line. string_bytes line ≡ consistent_line) }
 {
     Ok("consistent\n".to_string(alloc)?)
 }
 
-// Whether the table is consistent. Where it is watched, the console is told how far that is.
+// Whether the table is consistent. Where it is watched, the console says how far that is.
 fn check_table(
     rt: &(impl Threads + Sync + Console),
     alloc: Global,
@@ -118,7 +118,7 @@ pub(crate) fn open<S: Shelf>(alloc: Global, shelf: &mut S, file: &str) -> Result
     Ok(read?)
 }
 
-// The lines that tell the moves of a position of that value.
+// The lines that give the moves of a position of that value.
 fn moves_lines(
     alloc: Global,
     is_numbered: bool,

@@ -14,7 +14,7 @@ use dob_shelf::Shelf;
 use dob_text::write_move;
 use std::alloc::Global;
 
-/// The lines that tell the moves of the position that the text names, each with its value by the table of the file.
+/// The lines that give the moves of the position that the text names, each with its value by the table of the file.
 pub fn answer_moves<S: Shelf>(alloc: Global, shelf: &mut S, file: &str, text: &str) -> Lines
     ensures { Leaving SameFiles S.state shelf.old shelf.new (GivesMoves file.now text.now result) }
 {
@@ -22,7 +22,7 @@ pub fn answer_moves<S: Shelf>(alloc: Global, shelf: &mut S, file: &str, text: &s
     Ok(move_lines(alloc, &the_moves)?)
 }
 
-/// The line that tells the first of these moves with its value: the first move of the best play.
+/// The line that gives the first of these moves with its value: the first move of the best play.
 pub fn answer_best<S: Shelf>(alloc: Global, shelf: &mut S, file: &str, text: &str) -> Lines
     ensures { Leaving SameFiles S.state shelf.old shelf.new (GivesBest file.now text.now result) }
 {

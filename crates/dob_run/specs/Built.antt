@@ -13,17 +13,17 @@ use Rattle.dob_board.specs.Words.{posted_word, taken_word, word_count}
 use Rattle.dob_chan.specs.declared.ends.Rejoined.{Rejoined}
 use Rattle.dob_run.specs.declared.build_end.Built.{Built}
 
--- how many items tell node j of the value of a class: one for each move into it from a class of node j
+-- how many items give node j the value of a class: one for each move into it from a class of node j
 abbrev pub edges_to : Family → ℕ → ℕ → ℕ → ℕ
 edges_to family n j class = count_by (λ from. owner_of n from == j) (predecessors family class)
 
--- how many items node i has to tell node j at least: those of its classes that aren't a draw
+-- how many items node i has to send node j at least: those of its classes that aren't a draw
 abbrev pub needed : Family → ℕ → List Value → ℕ → ℕ → ℕ
 needed family n values i j = sum_by (λ class. cond (owner_of n class == i) (cond (is_draw (slice_index_or values class Draw)) 0 (edges_to family n j class)) 0)
     (range_with_len 0 (classes_of family))
 
 -- The link from node i to node j is done: the batches posted, taken, sent and received are one number, nothing waits, and in
--- so many batches of that size there was room for all that i had to tell j.
+-- so many batches of that size there was room for all that i had to send j.
 pub record IsLinkDone (family : Family) (n size : ℕ) (words : List ℕ) (values : List Value) (i j : ℕ) (link : Rejoined) : Type 0 where
   pub posted : slice_index words (posted_word n i j) ≡ link.sent
   pub taken : slice_index words (taken_word n i j) ≡ link.sent

@@ -1,6 +1,6 @@
 // Who lets runners go on.
 
-/// Each node's runner asks it at the start of each turn whether it may go on, and tells it after the turn's work what that
+/// Each node's runner asks it at the start of each turn whether it may go on, and reports to it after the turn's work what that
 /// has done. A runner that may not go on fails.
 pub trait Gate {
     ghost use Rattle.std.specs.Prelude.{ℕ, Bool};

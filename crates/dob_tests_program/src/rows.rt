@@ -93,7 +93,7 @@ const STATS_OF_000: &str =
     "classes 54\nwin 38\nloss 12\ndraw 4\nloss 0 7\nwin 1 29\nloss 2 2\nwin 3 3\nloss 4 1\nwin 5 3\nloss 6 2\nwin 7 3
 longest win 7 l../.../.../L.. - -\nlongest loss 6 .../l../.../L.. - -\n";
 
-/// What a build of them tells.
+/// What a build of them prints.
 pub(crate) const LINES_OF_000: &str = "classes 54\nwin 38\nloss 12\ndraw 4\n";
 
 const VALUES_OF_000: &str =
@@ -177,7 +177,7 @@ const UNCHECKED: &[(&str, u8, &str)] = &[
     ("none.db", 3, "E24 Io"),
 ];
 
-// Sets, numbers of nodes and files of builds that are told, ..
+// Sets, numbers of nodes and files of builds that are asked, ..
 const BUILDS: &[(&str, &str, &str)] = &[("000", "1", "built.db"), ("000", "3", "cut.db")];
 
 // .. and of builds that are refused, which make no file.
@@ -381,7 +381,7 @@ fn tells_files(
     }
 }
 
-// What builds tell, and what is asked of their files.
+// What builds print, and what is asked of their files.
 fn tells_builds(
     rt: &(impl Abort + Threads + Wait + Sync + Console),
     alloc: Global,
