@@ -1,5 +1,5 @@
 -- The runner has the endpoint and a node just opened, which has made no step, and nothing has gone over its links.
-use Rattle.std.proofs.Common.{ℕ, ◌<◌, sym, subst, arith}
+use Rattle.std.proofs.Common.{ℕ, sym, subst, arith}
 use Rattle.dob_node.specs.declared.node.Node.{Node}
 use Rattle.dob_node.specs.Nodes.{IsOpened}
 use Rattle.dob_runner.specs.declared.endpoint.Endpoint.{Endpoint}
@@ -12,7 +12,8 @@ is_new c =
     let new = c.requires.new.1 in record {
       openings = c.args.openings.now;
       are_openings = c.requires.openings;
-      opened = subst (λ (k : ℕ). IsOpened c.args.openings.now c.args.family c.args.endpoint.seat.node k c.in_ok-node.node) c.in-Some.ensures.0 c.in_ok-node.ensures.opened;
+      opened = subst (λ (k : ℕ). IsOpened c.args.openings.now c.args.family c.args.endpoint.seat.node k c.in_ok-node.node) c.in-Some.ensures.0
+          c.in_ok-node.ensures.opened;
       sound = c.in_ok-node.ensures.sound;
       black = new.black;
       running = new.running;
@@ -25,17 +26,12 @@ unreachable-requires c =
     let seat = c.args.endpoint.seat in
     c.in_default.ensures (omega (arith, seat.within), seat.size)
 
-pub open-node-requires-clause-owner : goal.open-node-requires-clause-owner
-open-node-requires-clause-owner c =
-    let seat = c.args.endpoint.seat in
-    subst (λ (k : ℕ). seat.node < k) (sym c.in-Some.ensures.0) seat.within
-
-pub new-requires : goal.new-requires
-new-requires c = is_new (goal.at.new-requires c).In_ok-node
+pub new-requires-2 : goal.new-requires-2
+new-requires-2 c = is_new (goal.at.new-requires-2 c).In_ok-node
 
 pub returns : goal.returns
 returns c =
-    let made = c.new.ensures in (
+    let made = c.new-2.ensures in (
       made.endpoint,
       record { family_is = made.family; size_is = made.batch_size; unfailed = made.unfailed },
       subst (λ (p : Node × Endpoint). IsNew c.args.family p.0 p.1) (λ i. ((sym made.node) i, (sym made.endpoint) i)) (is_new (goal.at.returns c).In_ok-node),
