@@ -3,7 +3,6 @@ use Rattle.std.proofs.Common.{rules}
 use Rattle.dob_query.proofs.Endings.{answered_by}
 use Rattle.dob_shelf.specs.Shelves.{shelf_change}
 use Rattle.dob_shelf.proofs.Shelves.{unchanged}
-use Rattle.dob_cli.specs.Orders.{AreLinesFor, IsFaultFor}
 use Rattle.dob_cli.proofs.program.answer.Goals as goal
 
 pub returns-in-Value : goal.returns-in-Value

@@ -1,5 +1,4 @@
 -- An order is one for each line of standard input, or one that lines tell.
-use Rattle.std.proofs.lemmas.Result.{err_from_is_err_and}
 use Rattle.dob_shelf.specs.Shelves.{shelf_change}
 use Rattle.dob_cli.proofs.Orders.{all_told, is_by_lines}
 use Rattle.dob_cli.proofs.program.answers_for.Goals as goal
