@@ -98,6 +98,12 @@ pub record IsHeldBack (old new : Runner) : Type 0 where
   pub node : new.node ≡ old.node
   pub endpoint : HasSameLinksAndColour old.endpoint new.endpoint
 
+-- the gate said no: the runner gave up for that, and moved no token
+pub record IsTurnedAway (old new : Runner) : Type 0 where
+  pub failed : HasFailed old new Held
+  pub still : MovesNothing old.endpoint.seat new.endpoint.seat
+  pub same : IsHeldBack old new
+
 -- a step of a runner: it has done that and answers so, or its node has failed
 abbrev pub StepsBy : {A : Type 0} → (Runner → Runner → A → Type 0) → Runner → Runner → Result A Cause → Type 0
 StepsBy {A} Did old new result = MatchResult result (λ answer. Did old new answer) (λ why. HasBroken old new why)

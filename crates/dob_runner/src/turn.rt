@@ -1,9 +1,9 @@
 // A turn of a runner.
-ghost use Rattle.std.specs.Prelude.{◌≡◌, ◌≢◌, ◌↔◌, ◌-◌, IsTrue, Err, None, IfErr, MatchResult, length, false};
+ghost use Rattle.std.specs.Prelude.{◌≡◌, ◌≢◌, ◌↔◌, ◌-◌, IsTrue, Err, None, IfErr, MatchResult, length, true, false};
 ghost use Rattle.dob_board.specs.declared.halt.Halt.TheVariants.{Running};
 ghost use Rattle.dob_board.specs.Seats.{MovesNothing};
 ghost use Rattle.dob_stops.specs.declared.cause.Cause.TheVariants.{Held};
-ghost use Rattle.dob_runner.specs.Runners.{StepsBy, GoesRound, HasFailed, IsHeldBack, IsNew, GateIsAsked, IsReasonFor, says_no};
+ghost use Rattle.dob_runner.specs.Runners.{StepsBy, GoesRound, HasFailed, IsHeldBack, IsTurnedAway, IsNew, GateIsAsked, IsReasonFor, says_no};
 ghost use Rattle.dob_runner.specs.TurnRounds.{Works};
 ghost use Rattle.dob_runner.specs.Turns.{HasTurned, HasSeen, EndsTurn, GateIsTold};
 
@@ -88,8 +88,7 @@ impl Runner {
         ensures still { IfErr result (λ _. MovesNothing self.old.endpoint.seat self.new.endpoint.seat) }
         ensures told { GateIsTold (G.told gate.now) self.old self.new }
     {
-        if !gate.enter(self.endpoint.seat.node) {
-            self.abandon(Cause::Held);
+        if !self.enters(gate) {
             return Err(Cause::Held);
         }
         let halt = self.looks();
@@ -99,6 +98,20 @@ impl Runner {
         let did = self.work_and_tell(rt, classes, gate)?;
         self.ends_turn(did);
         Ok(self.endpoint.seat.halt)
+    }
+
+    /// Asks the gate whether the runner may go on. One that may not gives up, and has done nothing else.
+    pub(crate) fn enters<G: Gate>(&mut self, gate: &G) -> bool
+        requires { self.old.failed ≡ None }
+        ensures asked { G.says gate.now self.old.endpoint.seat.node result }
+        ensures on { result ≡ true → self.new ≡ self.old }
+        ensures away { result ≡ false → IsTurnedAway self.old self.new }
+    {
+        let may = gate.enter(self.endpoint.seat.node);
+        if !may {
+            self.abandon(Cause::Held);
+        }
+        may
     }
 
     // Looks whether the run goes on.

@@ -87,8 +87,7 @@ impl Runner {
         ensures still { IfErr result (λ _. MovesNothing self.old.endpoint.seat self.new.endpoint.seat) }
         ensures told { GateIsTold (G.told gate.now) self.old self.new }
     {
-        if !gate.enter(self.endpoint.seat.node) {
-            self.abandon(Cause::Held);
+        if !self.enters(gate) {
             return Err(Cause::Held);
         }
         self.work_and_tell(rt, classes, gate)
