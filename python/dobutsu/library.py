@@ -15,7 +15,7 @@ NAMES = {
 KINDS = "CEGHL"
 VALUES = "draw", "win", "loss"
 FROM_HAND = 12
-MOST_MOVES = 64
+MOST_MOVES = 64  # room for a first try: no position was seen to have more than 38
 
 
 class CValue(ctypes.Structure):
@@ -77,18 +77,21 @@ class Library:
 
     def version(self) -> str:
         """The library's version."""
-        told = self.calls.dobutsu_version()
-        return f"{told.major}.{told.minor}.{told.patch}"
+        found = self.calls.dobutsu_version()
+        return f"{found.major}.{found.minor}.{found.patch}"
 
     def value(self, text: str) -> Value:
-        words, answer = told_bytes(text), CValue()
+        words, answer = text_bytes(text), CValue()
         refuse(self.calls.dobutsu_probe_by(*self.asked(words), answer))
         return answer.value()
 
     def moves(self, text: str) -> list[Move]:
-        words, found, count = told_bytes(text), (CMove * MOST_MOVES)(), ctypes.c_uint64()
-        refuse(self.calls.dobutsu_moves_by(*self.asked(words), found, MOST_MOVES, count))
-        return [each.move() for each in found[: count.value]]
+        words, count = text_bytes(text), ctypes.c_uint64(MOST_MOVES)
+        while True:
+            found = (CMove * count.value)()
+            refuse(self.calls.dobutsu_moves_by(*self.asked(words), found, len(found), count))
+            if count.value <= len(found):
+                return [each.move() for each in found[: count.value]]
 
     def asked(self, words: bytes) -> tuple[object, ...]:
         return self.held, len(self.data), self.index, len(self.index), words, len(words)
@@ -97,7 +100,7 @@ class Library:
         del self.held
 
 
-def told_bytes(text: str) -> bytes:
+def text_bytes(text: str) -> bytes:
     return text.encode("utf-8", "surrogateescape")
 
 
