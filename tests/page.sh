@@ -8,14 +8,6 @@ leave_out() {
     echo "page: $1 left out: $2"
 }
 
-# Chromium, where it is or can be installed.
-has_chromium() {
-    command -v chromium >/dev/null && return 0
-    [ "$(id -u)" = 0 ] && command -v apt-get >/dev/null || return 1
-    { apt-get install -y --no-install-recommends chromium || { apt-get update && apt-get install -y --no-install-recommends chromium; }; } >"$work/apt" 2>&1
-    command -v chromium >/dev/null
-}
-
 # Adds the counts of a test that prints `N passed, M failed` as its last line, and its failures.
 add_counts() {
     local printed counts
@@ -50,7 +42,7 @@ else
 fi
 
 # The page with the proved engine, where `tools/page` makes its module, and with the plain one.
-if has_chromium; then
+if tools/have chromium chromium 2>"$work/apt"; then
     add_counts python3 page/test/page_test.py "$work/dobutsu.html" "$program"
     add_counts python3 page/test/planted.py "$program"
     if [ -x tools/page ]; then
