@@ -17,6 +17,7 @@ import hashlib
 import itertools
 import math
 import mmap
+import struct
 import sys
 
 PROFILES = "AB"
@@ -439,11 +440,11 @@ class Db:
         for start in range(0, self.count, 1 << 16):
             many = min(1 << 16, self.count - start)
             place = self.start + 2 * start
-            records = memoryview(self.data[place : place + 2 * many]).cast("H")
+            records = struct.unpack(f"<{many}H", self.data[place : place + 2 * many])
             for record, number in collections.Counter(records).items():
                 counts[record] += number
                 if record not in first:
-                    first[record] = start + records.tolist().index(record)
+                    first[record] = start + records.index(record)
         told = {"classes": self.count, "draw": counts[0], "win": {}, "loss": {}, "longest": {}}
         for record in sorted(counts):
             if record:
