@@ -67,6 +67,27 @@ PYTHON
 done
 note "the package answers what the program does, by the library and without it: $(tail -1 "$work/said")" "$same"
 
+# The position of each class in the order of the file, with its value, and the next position of each of its moves.
+cat >"$work/walk.py" <<'PYTHON'
+import sys
+from dobutsu import Table, after_move
+with Table(sys.argv[1]) as table:
+    for text, value in table.positions():
+        print(text, value, sep=" = ")
+        for move in table.moves(text):
+            after = after_move(table.rules, text, move.text)
+            assert after is None or table[after].plies + (table[after].kind != "draw") == move.value.plies, (text, move)
+PYTHON
+same=yes
+for name in lions_alone_2 one_chick_2; do
+    PYTHONPATH=python python3 "$work/walk.py" "testdata/$name.db" >"$work/said" 2>&1 || same=no
+    sed 's/ = .*//' "$work/said" >"$work/asked"
+    "$program" probe --db "testdata/$name.db" --each <"$work/asked" | paste -d= "$work/asked" - | sed 's/=/ = /' >"$work/printed"
+    [ -s "$work/said" ] && cmp -s "$work/printed" "$work/said" || same=no
+    [ "$(wc -l <"$work/said")" = "$(sed -n 's/^classes //p' <("$program" stats --db "testdata/$name.db"))" ] || same=no
+done
+note "the package lists all positions as probe has them: $(tail -1 "$work/said")" "$same"
+
 # The wheel of the archive, in an environment where nothing else is, with no network.
 same=yes
 python3 -m venv "$work/new" >"$work/out" 2>&1 || same=no

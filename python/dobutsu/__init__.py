@@ -6,11 +6,13 @@
     table.moves("gle/.c./.C./ELG - -")      # each move with its value, best first
     table.line("gle/.c./.C./ELG - -")       # best play to the end
     table.stats().longest_win               # (Value('win', 173), 'lgc/e../.../Lgc E -')
+    for text, value in table.positions():   # each class, in the order of the file
+        ...
 
 Positions are read by the proved library where it is found, else by plain Python: `table.engine` says which.
 """
-from .table import Table
+from .table import Table, after_move
 from .value import Fault, Move, Stats, Value
 
-__all__ = ["Fault", "Move", "Stats", "Table", "Value"]
+__all__ = ["Fault", "Move", "Stats", "Table", "Value", "after_move"]
 __version__ = "0.1.0"

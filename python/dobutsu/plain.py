@@ -417,8 +417,16 @@ class Db:
             raise Wrong("E26 FarChick")
         if set_of(position) != self.pieces:
             raise Wrong("E7 OtherSet")
-        place = self.start + 2 * class_number(self.profile, position)
+        return self.record_at(class_number(self.profile, position))
+
+    def record_at(self, number):
+        place = self.start + 2 * number
         return int.from_bytes(self.data[place : place + 2], "little")
+
+    def positions(self):
+        """The position of each class, with its value, both as texts, in the order of the file."""
+        for number in range(self.count):
+            yield write_position(position_at(self.profile, self.pieces, number)), value_text(self.record_at(number))
 
     def value(self, text):
         """The value of the position of that text: `win D`, `loss D` or `draw`."""

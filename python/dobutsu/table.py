@@ -3,6 +3,7 @@ from __future__ import annotations
 
 import mmap
 import os
+from collections.abc import Iterator
 from types import TracebackType
 
 from . import plain
@@ -105,6 +106,11 @@ class Table:
                 break
             text = after
         return played
+
+    def positions(self) -> Iterator[tuple[str, Value]]:
+        """The position of each class with its value, in the order of the file: some thousands a second, by plain Python."""
+        for text, value in self._db.positions():
+            yield text, Value.read(value)
 
     def stats(self) -> Stats:
         """How many classes have which value. It looks at each record: a second for some ten million."""
