@@ -423,9 +423,9 @@ class Db:
         place = self.start + 2 * number
         return int.from_bytes(self.data[place : place + 2], "little")
 
-    def positions(self):
-        """The position of each class, with its value, both as texts, in the order of the file."""
-        for number in range(self.count):
+    def positions(self, first=0, end=None):
+        """The position of each class from the first number to the one before the end, with its value, both as texts."""
+        for number in range(first, self.count if end is None else min(end, self.count)):
             yield write_position(position_at(self.profile, self.pieces, number)), value_text(self.record_at(number))
 
     def value(self, text):

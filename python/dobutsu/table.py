@@ -107,9 +107,15 @@ class Table:
             text = after
         return played
 
-    def positions(self) -> Iterator[tuple[str, Value]]:
-        """The position of each class with its value, in the order of the file: some thousands a second, by plain Python."""
-        for text, value in self._db.positions():
+    def positions(self, first: int = 0, end: int | None = None) -> Iterator[tuple[str, Value]]:
+        """The position of each class with its value, in the order of the file, from the class of the first number to that before the end.
+
+        It goes by plain Python, some thousands a second, so split a large table among processes.
+
+        >>> [f"{text} = {value}" for text, value in Table("testdata/lions_alone_2.db").positions(2, 4)]
+        ['.../.../l../L.. - - = win 1', '.../.../.l./L.. - - = win 1']
+        """
+        for text, value in self._db.positions(first, end):
             yield text, Value.read(value)
 
     def stats(self) -> Stats:
