@@ -29,6 +29,14 @@ impl From<AllocError> for ShelfFault {
 }
 
 impl From<io::Error> for ShelfFault {
+    ghost use Rattle.std.specs.Prelude.{◌≢◌};
+    ghost use Rattle.std.specs.IoError.{error_kind};
+    ghost use Rattle.std.specs.declared.io.ErrorKind.TheVariants.{OutOfMemory};
+    ghost use Rattle.dob_shelf.specs.declared.shelf.ShelfFault.TheVariants as shelf_fault;
+
+    ghost from_gives = { λ error result. (error_kind error ≡ OutOfMemory → result ≡ shelf_fault.Memory)
+        × (error_kind error ≢ OutOfMemory → result ≡ shelf_fault.Failed) };
+
     fn from(error: io::Error) -> ShelfFault {
         match error.kind() {
             io::ErrorKind::OutOfMemory => ShelfFault::Memory,
