@@ -91,9 +91,10 @@ static void ask_by_others(const uint8_t *bytes, size_t length, const char *text)
         }
     {
         uint64_t *far = numbers(index_len);
+        uint32_t without = dobutsu_probe(bytes, length, words, strlen(text), &value);
         for (n = 0; n < index_len; n++)
             far[n] = n < 3 ? index_words[n] : (uint64_t)1 << 41;
-        if (ask_by(bytes, length, far, index_len, words, strlen(text), &value) != DOBUTSU_INDEX)
+        if (ask_by(bytes, length, far, index_len, words, strlen(text), &value) != (without == DOBUTSU_OK ? DOBUTSU_INDEX : without))
             exit(17);
         free(far);
     }
