@@ -25,15 +25,27 @@ static uint64_t *numbers(size_t len)
     return held;
 }
 
-/* Asks by these numbers. What was there must stay where a fault is answered, and the value and the moves have one fault. */
+/* How many moves the position has by the file without an index; none where that answers a fault. */
+static uint64_t moves_without(const uint8_t *held, size_t length, const uint8_t *text, size_t text_len, uint64_t none)
+{
+    DobutsuMove first;
+    uint64_t count = none;
+    dobutsu_moves(held, length, text, text_len, &first, 1, &count);
+    return count;
+}
+
+/* Asks by these numbers. What was there must stay where a fault is answered, and the value and the moves have one fault. Where none is, there are a value and as
+   many moves as without the numbers. */
 static uint32_t ask_by(const uint8_t *held, size_t length, const uint64_t *words, size_t len, const uint8_t *text, size_t text_len, DobutsuValue *value)
 {
     static const size_t rooms[] = {0, 1, DOBUTSU_MOST_MOVES};
-    DobutsuValue before = *value;
-    uint64_t class_number = 77;
-    uint32_t fault = dobutsu_probe_by(held, length, words, len, text, text_len, value), named;
+    static const DobutsuValue before = {77, 77};
+    uint64_t class_number = 77, wanted = moves_without(held, length, text, text_len, 77);
+    uint32_t fault, named;
     size_t n;
-    if (fault >= 32 || (fault != DOBUTSU_OK && memcmp(value, &before, sizeof before) != 0))
+    *value = before;
+    fault = dobutsu_probe_by(held, length, words, len, text, text_len, value);
+    if (fault >= 32 || (fault != DOBUTSU_OK ? memcmp(value, &before, sizeof before) != 0 : value->kind > DOBUTSU_LOSS))
         exit(9);
     for (n = 0; n < 3; n++) {
         DobutsuMove *moves = malloc(rooms[n] == 0 ? 1 : rooms[n] * sizeof *moves);
@@ -42,7 +54,7 @@ static uint32_t ask_by(const uint8_t *held, size_t length, const uint64_t *words
         if (moves == NULL)
             exit(3);
         moved = dobutsu_moves_by(held, length, words, len, text, text_len, moves, rooms[n], &count);
-        if (moved >= 32 || (moved != DOBUTSU_OK ? count != 77 : count > DOBUTSU_MOST_MOVES) ||
+        if (moved >= 32 || (moved != DOBUTSU_OK ? count != 77 : wanted == 77 ? count > DOBUTSU_MOST_MOVES : count != wanted) ||
             (moved != fault && fault != DOBUTSU_INDEX && moved != DOBUTSU_INDEX))
             exit(10);
         free(moves);
@@ -54,7 +66,7 @@ static uint32_t ask_by(const uint8_t *held, size_t length, const uint64_t *words
     return fault;
 }
 
-/* Asks the whole file by spoilt numbers: the first n, all with one changed, and the index of each other family. */
+/* Asks the whole file by spoilt numbers: the first n, all with one changed, all that lead far outside, and the index of each other family. */
 static void ask_by_others(const uint8_t *bytes, size_t length, const char *text)
 {
     static const uint64_t changes[] = {1, (uint64_t)1 << 20, (uint64_t)1 << 41, UINT64_MAX};
@@ -72,10 +84,20 @@ static void ask_by_others(const uint8_t *bytes, size_t length, const char *text)
     for (n = 0; n < index_len; n++)
         for (k = 0; k < sizeof changes / sizeof *changes; k++) {
             index_words[n] ^= changes[k];
-            if (ask_by(bytes, length, index_words, index_len, words, strlen(text), &value) != DOBUTSU_INDEX && n == 0)
+            /* the first three are the mark, the classes and how many numbers there are */
+            if (ask_by(bytes, length, index_words, index_len, words, strlen(text), &value) != DOBUTSU_INDEX && n < 3)
                 exit(13);
             index_words[n] ^= changes[k];
         }
+    {
+        uint64_t *far = numbers(index_len);
+        uint32_t without = dobutsu_probe(bytes, length, words, strlen(text), &value);
+        for (n = 0; n < index_len; n++)
+            far[n] = n < 3 ? index_words[n] : (uint64_t)1 << 41;
+        if (ask_by(bytes, length, far, index_len, words, strlen(text), &value) != (without == DOBUTSU_OK ? DOBUTSU_INDEX : without))
+            exit(17);
+        free(far);
+    }
     for (family = 0; family < 16; family++) {
         uint32_t c = family / 4 % 2, e = family / 2 % 2, g = family % 2, profile = family / 8;
         size_t len = dobutsu_index_words(c, e, g, profile);

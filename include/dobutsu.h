@@ -17,7 +17,7 @@
 extern "C" {
 #endif
 
-/* Faults, by the numbers that the program prints behind an E. A call that answers one has written nothing. */
+/* Faults, by the numbers that the program prints behind an E. A call that answers one has written nothing; only dobutsu_check writes at 21, a class. */
 enum {
     DOBUTSU_OK = 0,
     DOBUTSU_SHAPE = 1,        /* the text isn't a board, a space, a hand, a space and a hand */
@@ -104,9 +104,9 @@ uint64_t dobutsu_index_words(uint32_t chicks, uint32_t elephants, uint32_t giraf
 uint32_t dobutsu_index(uint32_t chicks, uint32_t elephants, uint32_t giraffes, uint32_t profile, uint64_t *words, size_t words_len);
 
 /* What dobutsu_probe and dobutsu_moves give, by an index. With the index of the file's family as dobutsu_index wrote it the answers are just theirs, and right
-   where the file is the family's table. With any other numbers a call still returns, reads nothing outside of them, and answers some value, a fault that
-   dobutsu_probe may answer, or 29: where the first number isn't that of an index of the file's family, where there are fewer numbers than it has, or where
-   they lead outside of the file. */
+   where the file is the family's table. With any other numbers a call still returns and reads nothing outside of them. It answers the value of some record of the
+   file, or all moves by the values of such records; or a fault that dobutsu_probe may answer, or 29: where the first number isn't that of an index of the
+   file's family, where the third or how many there are isn't what it has, or where they lead outside of the file. */
 uint32_t dobutsu_probe_by(const uint8_t *file, size_t file_len, const uint64_t *words, size_t words_len, const uint8_t *text, size_t text_len,
                           DobutsuValue *answer);
 uint32_t dobutsu_moves_by(const uint8_t *file, size_t file_len, const uint64_t *words, size_t words_len, const uint8_t *text, size_t text_len,

@@ -37,6 +37,26 @@ rm -f "$work/alone.db"
 expect 0 'consistent' '' check --progress --db "$built"
 expect 1 '' 'dobutsu: E25 SetText' build --set 003 --nodes 2 --out "$other" --progress
 expect 3 '' 'dobutsu: E24 Io' check --progress --db "$work/none.db"
+# Without --nodes a build takes a node a processor, 16 at most: of its threads, counted over and over, there are mostly one a node and the main one.
+for processors in 0 0,1 ''; do
+    run=()
+    [ -z "$processors" ] || run=(taskset -c "$processors")
+    if ! wanted="$("${run[@]}" nproc 2>"$work/err")"; then
+        note "a node a processor: not looked at, since there is no taskset or no second processor" yes
+        continue
+    fi
+    [ "$wanted" -le 16 ] || wanted=16
+    "${run[@]}" "$top/crates/dobutsu/out/dobutsu" build --set 111 --out "$other" >"$work/out" 2>"$work/err" &
+    building=$!
+    while readlink -q "/proc/$building/exe" >"$work/exe"; do
+        find "/proc/$building/task" -mindepth 1 -maxdepth 1 2>"$work/err" | wc -l
+        sleep 0.02
+    done >"$work/looks"
+    wait "$building"
+    mostly="$(sort "$work/looks" | uniq -c | sort -rn | awk 'NR == 1 { print $2 }')"
+    if [ "$mostly" = "$((wanted + 1))" ]; then good=yes; else good=no; fi
+    note "a build without --nodes has mostly $mostly threads, by $wanted processors" "$good"
+done
 # by rules B: of lions alone the files differ in byte 12 and the digest alone; with a chick fewer classes, and E26 before E7
 ruled="$work/ruled.db"
 expect 0 "$of_lions" '' build --set 000 --rules B --nodes 2 --out "$ruled"

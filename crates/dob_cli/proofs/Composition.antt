@@ -77,7 +77,7 @@ file_kept c profile set nodes file e tells (inr (inr t)) done = absurd (no_fault
 memory_answered : (c : ShelfChange) (AreLines : List ℕ → Type 0) (Holds : Fault → Type 0) (e : Ending) → Holds Memory → LacksMemory c e
     → AnswersOver c AreLines Holds e
 memory_answered c AreLines Holds e holds lacks =
-    inr (inl (record { fault = Memory; holds = (holds, lacks.2); told = inl lacks.0.0; silent = lacks.0.1 }))
+    inr (inl (record { fault = Memory; holds = (holds, lacks.1.1); told = inl lacks.0.0; silent = lacks.0.1 }))
 
 -- the order that the words ask for is done, or no memory was left for them
 order_done : (c : ShelfChange) (words : List Text) (e : Ending) (name : Text) (texts : List (Option Text)) (P : Type 0) → meaning_of words ≡ asks name texts
@@ -101,7 +101,7 @@ words_answered before after words e ran =
           (memory_answered c _ _ e tt) ran;
       build = λ rules set nodes file progress asked.
           order_done c words e _ _ (AnswersBuild c (profile_named rules) set (option_map number_in nodes) file e) asked
-          (λ o is answers right. done_build c e rules set nodes file progress o is answers) (λ lacks. memory_answered c _ _ e lacks.1 lacks) ran;
+          (λ o is answers right. done_build c e rules set nodes file progress o is answers) (λ lacks. memory_answered c _ _ e lacks.1.0 lacks) ran;
       probe_right = λ file text asked profile.
           order_done c words e _ _ (HasValueFile (c.before.has file) profile → AnswersProbeRight c profile file text e) asked
           (done_probe c e (λ x t. HasValueFile (c.before.has x) profile → AnswersProbeRight c profile x t e) file text (λ f t answers right. right profile))

@@ -11,9 +11,10 @@ use Rattle.dob_words.specs.Words.{meaning_of}
 use Rattle.dob_words.specs.Readings.{IsReadingOf}
 use Rattle.dob_query.specs.Each.{AnswersLines}
 use Rattle.dob_query.specs.Endings.{AnswersHelp, AnswersUsage, AnswersVersion, Ending, Tells, TellsMemory, TellsOneFault, version_line}
-use Rattle.dob_shelf.specs.Shelves.{FailsWhere, SameFiles, ShelfChange}
+use Rattle.dob_shelf.specs.Shelves.{ShelfChange, ShelfState, shelf_change}
+use Rattle.dob_shelf.proofs.Shelves.{unchanged}
 use Rattle.dob_cli.specs.Orders.{AnswersOrder, AreToldFor, IsFaultFor, KeepsFiles}
-use Rattle.dob_cli.specs.Runs.{Does, Ran}
+use Rattle.dob_cli.specs.Runs.{Does, LeavesShelf, Ran}
 use Rattle.dob_cli.proofs.Orders.{rightly}
 
 -- ---- the streams are those that they were
@@ -72,9 +73,9 @@ module _ (c : ShelfChange) (words : List Text) (e : Ending) where
   pub ran_order : (o : Order) → IsReadingOf (meaning_of words) (reading.Order o) → AnswersOrder c o e → KeepsFiles o c.before.has c.after.has → Ran c words e
   ran_order o read answers keeps = ran (reading.Order o) read (record { answers = answers; right = rightly c e o answers; files = keeps })
 
-  pub ran_memory : TellsMemory e → SameFiles c.before.has c.after.has → FailsWhere c false → Ran c words e
-  ran_memory told same works =
-      record { done = inr (told, same, works); same_out = (memory_same e told).0; same_err = (memory_same e told).1 }
+  pub ran_memory : TellsMemory e → LeavesShelf c → Ran c words e
+  ran_memory told leaves =
+      record { done = inr (told, leaves); same_out = (memory_same e told).0; same_err = (memory_same e told).1 }
 
 -- these are the words
 pub ran_on : (c : ShelfChange) (given words : List Text) (e : Ending) → given ≡ words → Ran c given e → Ran c words e
@@ -84,3 +85,7 @@ ran_on c given words e same done = subst (λ ws. Ran c ws e) same done
 pub none_failed : (failed : Bool) → failed ≡ (failed || false)
 none_failed true = refl
 none_failed false = refl
+
+-- nor is anything else done with the shelf
+pub leaves : (shelf : ShelfState) → LeavesShelf (shelf_change shelf shelf)
+leaves shelf = (unchanged shelf.has, none_failed shelf.has_failed, refl)

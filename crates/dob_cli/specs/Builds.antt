@@ -1,14 +1,20 @@
 -- What the program owes where it is asked to build a database file.
-use Rattle.std.specs.Prelude.{◌≡◌, ◌≢◌, ℕ, IsTrue, List, None, Option, Result, Some, String}
+use Rattle.std.specs.Prelude.{◌≡◌, ◌≢◌, ℕ, Bool, true, IsTrue, List, None, Option, Result, Some, String}
 use Rattle.dob_pieces.specs.declared.piece_set.PieceSet.{PieceSet}
 use Rattle.dob_pieces.specs.Sets.{set_text}
+use Rattle.dob_pieces.specs.declared.profile.Family.{Family}
 use Rattle.dob_pieces.specs.declared.profile.Profile.{Profile}
+use Rattle.dob_rank.specs.Families.{family_of}
 use Rattle.dob_safra.specs.Laws.{IsSize}
 use Rattle.dob_value.specs.Follows.{ClassTable, IsValueTable}
 use Rattle.dob_run.specs.declared.build_end.Built.{Built}
 use Rattle.dob_run.specs.Built.{IsBuilt}
 use Rattle.dob_run.specs.Faults.{HasBuildFault}
-use Rattle.dob_run.specs.BoundedRun.{IsUnheld}
+use Rattle.dob_run.specs.BuildEnd.{IsFailureOf}
+use Rattle.dob_run.specs.BoundedRun.{StopsSo, IsUnheld}
+use Rattle.dob_runner.specs.Runners.{says_no}
+use Rattle.dob_runner.specs.TurnLoop.{until_halted}
+use Rattle.dob_stops.specs.declared.fault.Fault.{Fault as RunFault}
 use Rattle.dob_dbfile.specs.Format.{bytes_of}
 use Rattle.dob_query.specs.declared.fault.Fault.{Fault}
 use Rattle.dob_query.specs.declared.fault.Fault.TheVariants.{SetText, Run, File, Memory, Io}
@@ -42,13 +48,21 @@ pub record AreBuildLines (c : ShelfChange) (profile : Profile) (text : List ℕ)
   pub kept : IsTrue c.before.tells → HasJust file (bytes_of table) c.after.has
   pub same : lines ≡ class_lines table.values
 
--- The fault of building, by its moment. While each file has what it had: no set has the text; or the run by so many nodes,
--- with batches of 256 and inboxes of 64, was refused or stopped, no node of it held back by a gate; or memory was refused,
--- for the words, for the lines or for making the file. Then the table is there, and keeping its file failed.
+-- a gate that lets each node go on whenever it is asked
+abbrev pub always_yes : ℕ → Bool → Type 0
+always_yes node answer = answer ≡ true
+
+-- why the run of the family by so many nodes, with batches of 256 and inboxes of 64, left no table: it was refused, or a crew of these that asked such a gate
+-- stopped, and the node that is named is the one that failed, for that cause
+abbrev pub IsRunFault : Family → ℕ → RunFault → Type 0
+IsRunFault family nodes fault = HasBuildFault nodes 256 64 fault × IsUnheld fault × StopsSo IsFailureOf (says_no always_yes) until_halted family nodes 256 64 fault
+
+-- The fault of building, by its moment. While each file has what it had: no set has the text; or the run by so many nodes was refused or
+-- stopped; or memory was refused, for the words, for the lines or for making the file. Then the table is there, and keeping its file failed.
 abbrev pub IsBuildFault : ShelfChange → Profile → List ℕ → Option ℕ → List ℕ → Fault → Type 0
 IsBuildFault c profile text number file SetText = ((set : PieceSet) → text ≢ set_text set) × SameFiles c.before.has c.after.has
 IsBuildFault c profile text number file (Run fault) =
-    (set : PieceSet) × (text ≡ set_text set) × (nodes : ℕ) × AreNodes number nodes × HasBuildFault nodes 256 64 fault × IsUnheld fault
+    (set : PieceSet) × (text ≡ set_text set) × (nodes : ℕ) × AreNodes number nodes × IsRunFault (family_of set profile) nodes fault
     × SameFiles c.before.has c.after.has
 IsBuildFault c profile text number file Memory = SameFiles c.before.has c.after.has
 IsBuildFault c profile text number file Io = (table : ClassTable) × IsTableFor profile text number table × IsKeepingFault c file table Io

@@ -17,12 +17,16 @@ pub record DoesOrder (c : ShelfChange) (order : Order) (e : Ending) : Type 0 whe
   pub right : AnswersRight c order e
   pub files : KeepsFiles order c.before.has c.after.has
 
+-- nothing was done with the shelf: each file has what it had, no call of it failed, and standard input wasn't read
+abbrev pub LeavesShelf : ShelfChange → Type 0
+LeavesShelf c = SameFiles c.before.has c.after.has × FailsWhere c false × (c.after.input ≡ c.before.input)
+
 -- it does what was read of the words
 abbrev pub Does : ShelfChange → Reading → Ending → Type 0
 Does c (reading.Order order) e = DoesOrder c order e
-Does c (reading.Help _) e = AnswersHelp e × SameFiles c.before.has c.after.has
-Does c reading.Version e = AnswersVersion e × SameFiles c.before.has c.after.has
-Does c (reading.Usage _) e = AnswersUsage e × SameFiles c.before.has c.after.has
+Does c (reading.Help _) e = AnswersHelp e × LeavesShelf c
+Does c reading.Version e = AnswersVersion e × LeavesShelf c
+Does c (reading.Usage _) e = AnswersUsage e × LeavesShelf c
 
 -- it reads the words as what they ask for, and does that
 pub record DoesAsked (c : ShelfChange) (words : List Text) (e : Ending) : Type 0 where
@@ -32,7 +36,7 @@ pub record DoesAsked (c : ShelfChange) (words : List Text) (e : Ending) : Type 0
 
 -- no memory was left for the words: it says so, and does nothing else
 abbrev pub LacksMemory : ShelfChange → Ending → Type 0
-LacksMemory c e = TellsMemory e × SameFiles c.before.has c.after.has × FailsWhere c false
+LacksMemory c e = TellsMemory e × LeavesShelf c
 
 -- It does what these words ask for, over a shelf that changes so, or says that no memory was left for them. Its streams are those that they were.
 pub record Ran (c : ShelfChange) (words : List Text) (e : Ending) : Type 0 where

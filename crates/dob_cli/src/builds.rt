@@ -1,11 +1,10 @@
 // Building a database file.
 ghost use Rattle.std.specs.Prelude.{◌≡◌, IfOk, IfErr, OnOk};
 ghost use Rattle.dob_shelf.specs.Shelves.{Leaving, SameOthers};
-ghost use Rattle.dob_run.specs.BoundedRun.{IsUnheld};
 ghost use Rattle.dob_run.specs.Built.{IsBuilt};
-ghost use Rattle.dob_run.specs.Faults.{AreWithin, HasBuildFault};
+ghost use Rattle.dob_run.specs.Faults.{AreWithin};
 ghost use Rattle.dob_safra.specs.Laws.{IsSize};
-ghost use Rattle.dob_cli.specs.Builds.{AreNodes, GivesBuild};
+ghost use Rattle.dob_cli.specs.Builds.{AreNodes, GivesBuild, IsRunFault};
 
 use dob_classes::count_classes;
 use dob_pieces::{Family, PieceSet, Profile};
@@ -75,8 +74,7 @@ fn run_watched<R: Threads + Wait + Sync + Console>(
 ) -> Result<Built, dob_run::Fault>
     ensures built { IfOk result (IsBuilt family nodes 256) }
     ensures within { OnOk result (AreWithin nodes 256 64) }
-    ensures fault { IfErr result (HasBuildFault nodes 256 64) }
-    ensures unheld { IfErr result IsUnheld }
+    ensures fault { IfErr result (IsRunFault family nodes) }
 {
     let steps = Steps(progress_of(rt, family, is_watched));
     let built = run_nodes(rt, alloc, family, nodes, BATCH, CAPACITY, &steps);

@@ -4,9 +4,9 @@ ghost use Rattle.std.specs.IoError.{error_kind};
 ghost use Rattle.std.specs.declared.io.ErrorKind.TheVariants.{OutOfMemory};
 ghost use Rattle.std.specs.Vec.Iter.{into_iter_items};
 ghost use Rattle.dob_dbfile.specs.Sinks.{Says, change};
-ghost use Rattle.dob_cli.specs.Runs.{Ran, RanOver, TellsNoText, contents};
+ghost use Rattle.dob_cli.specs.Runs.{LeavesShelf, Ran, RanOver, TellsNoText, contents};
 ghost use Rattle.dob_cli.specs.Orders.{AnswersOrder, GivesFor, GivesLinesFor, IsByLines, KeepsFiles, search_of};
-ghost use Rattle.dob_shelf.specs.Shelves.{Changes, Leaving, SameFiles};
+ghost use Rattle.dob_shelf.specs.Shelves.{Changes, Leaving};
 ghost use Rattle.dob_query.specs.Endings.{TellsAs, TellsFaultAs, TellsMemory, TellsOneFault, ended};
 ghost use Rattle.dob_query.specs.declared.fault.Fault.TheVariants.{Memory};
 
@@ -258,7 +258,7 @@ pub fn run_given<S: Shelf, O: Sink, E: Sink>(
         (ended result (change (O.state out.old) (O.state out.new)) (change (E.state err.old) (E.state err.new)))) }
     ensures unread { IfErr given (λ error. error_kind error ≢ OutOfMemory → TellsNoText
         (ended result (change (O.state out.old) (O.state out.new)) (change (E.state err.old) (E.state err.new)))) }
-    ensures files { IfErr given (λ _. SameFiles (S.state shelf.old).has (S.state shelf.new).has) }
+    ensures shelf { IfErr given (λ _. Changes S.state shelf.old shelf.new LeavesShelf) }
 {
     match given {
         Ok(args) => run_args(rt, alloc, args, shelf, out, err),

@@ -15,6 +15,13 @@ use Rattle.dob_index.specs.Layout.{row_at, entries_in, where_mixed, run_words, e
 abbrev block_words : PieceSet → ℕ → ℕ
 block_words set block = sum_below (run_words set block) lion_pairs
 
+-- nine runs of a block have entries, each as many
+nine_times : (entries : ℕ) → sum_below (λ lions. where_mixed (run_kind lions) entries) lion_pairs ≡ 9 * entries
+nine_times entries = omega arith
+
+pub nine_mixed : (set : PieceSet) (block : ℕ) → sum_below (run_words set block) lion_pairs ≡ 9 * entries_in set block
+nine_mixed set block = nine_times (entries_in set block)
+
 -- ---- one run and one block more
 
 pub run_more : (set : PieceSet) (block lions : ℕ) → entries_at set block (lions + 1) ≡ entries_at set block lions + run_words set block lions

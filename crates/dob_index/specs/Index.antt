@@ -6,13 +6,13 @@ use Rattle.dob_rank.specs.Marks.{marks_below}
 use Rattle.dob_rank.specs.Numbers.{product, block_bases, start_of}
 use Rattle.dob_rank.specs.Runs.{run_size, run_start, run_kind, lion_pairs}
 use Rattle.dob_rank.specs.declared.runs.RunKind.TheVariants.{Mixed}
-use Rattle.dob_index.specs.Layout.{mark_of, row_at, entry_places, entries_in}
+use Rattle.dob_index.specs.Layout.{mark_of, row_at, entry_places, entries_in, words_of}
 
--- the numbers are marked as those of an index of the family, and there are as many as they say
+-- the numbers are marked as those of an index of the family, say that they are as many as it has, and are no fewer
 pub record IsMarked (family : Family) (words : List ℕ) : Type 0 where
-  pub room : 3 ≤ length words
   pub mark_is : get_or words 0 0 ≡ mark_of family
-  pub whole : get_or words 2 0 ≤ length words
+  pub length_is : get_or words 2 0 ≡ words_of family.set
+  pub whole : words_of family.set ≤ length words
 
 -- before the block of that number
 pub record IsBlockRow (family : Family) (block : ℕ) (words : List ℕ) : Type 0 where

@@ -16,6 +16,9 @@ pub(crate) const BEFORE: u64 = 100;
 
 pub(crate) const ENTRIES: u64 = 101;
 
+/// How many pairs of squares the lions have where both stand on column b: three of the own lion, and then three of the enemy's.
+const MIXED_RUNS: u64 = 9;
+
 /// The greatest number that is taken from an index as it stands: none that an index has is above it.
 const MOST: u64 = 1 << 42;
 
@@ -32,17 +35,12 @@ pub fn index_words(set: PieceSet) -> u64
     count
 }
 
-// How many entries the runs of a block have.
+// How many entries the runs of a block have: the same number in each of its first hand's runs whose lions both stand on column b.
 fn block_words(set: PieceSet, block: u64) -> u64
     requires { block < product (block_bases set) }
     ensures { result ≡ sum_below (run_words set block) lion_pairs }
 {
-    let entries = entries_in(set, block);
-    let mut count = 0;
-    for lions in 0..LIONS {
-        count += run_words(lions, entries);
-    }
-    count
+    MIXED_RUNS * entries_in(set, block)
 }
 
 // How many entries the run of those lions has, where it has any so many.
@@ -88,12 +86,15 @@ pub(crate) fn mark_of(family: Family) -> u64
         + u64::from(set.giraffes)
 }
 
-/// Whether the numbers are marked as those of an index of the family, and are as many as they say.
+/// Whether the numbers are marked as those of an index of the family, say that they are as many as it has, and are no fewer.
 pub fn is_index_of(family: Family, words: &[u64]) -> bool
     ensures { IsTrue result ↔ IsMarked family words.now }
 {
     match *words {
-        [mark, _, len, ..] => mark == mark_of(family) && len <= words.len() as u64,
+        [mark, _, len, ..] => {
+            let count = index_words(family.set);
+            mark == mark_of(family) && len == count && count <= words.len() as u64
+        }
         _ => false,
     }
 }

@@ -4,13 +4,15 @@ use crate::lions::file;
 use crate::program::run_on;
 use crate::shelves::{has, put, removes};
 use crate::typed::Typed;
-use dob_cli::DiskShelf;
+use dob_cli::{Console, DiskShelf};
 use std::alloc::{Allocator, Global};
 use std::cell::RefCell;
 use std::fs::{self, Metadata, OpenFile, OpenOptions};
 use std::io::{self, ErrorKind, Read, Seek, SeekFrom, Write};
 use std::process::Abort;
 use std::rt::Files;
+use std::sync::Wait;
+use std::thread::Threads;
 
 const NAME: &str = "ordered_by_a_test.db";
 
@@ -21,6 +23,15 @@ const LINK: &str = "link_of_a_test.db";
 const TARGET: &str = "linked_by_a_test.db";
 
 const ASKED: &str = "asked_by_a_test.db";
+
+// A file in a folder of another folder.
+const DEEP: &str = "outer_of_a_test/inner_of_a_test/kept.db";
+
+const DEEP_PART: &str = "outer_of_a_test/inner_of_a_test/kept.db.part";
+
+const INNER: &str = "outer_of_a_test/inner_of_a_test";
+
+const OUTER: &str = "outer_of_a_test";
 
 // How a file is made: its bytes are on the disk before the name is theirs.
 const MADE: &str = "look at name
@@ -104,11 +115,11 @@ impl Log {
 // What the list says for a path.
 fn called(path: &str) -> &'static str {
     match path {
-        NAME => "name",
-        PART => "part",
+        NAME | DEEP => "name",
+        PART | DEEP_PART => "part",
         LINK => "link",
         ASKED => "asked",
-        "." => "folder",
+        "." | INNER => "folder",
         _ => "another",
     }
 }
@@ -274,6 +285,15 @@ fn bytes_before_the_name(rt: HostRuntime) {
     removes(&rt, NAME);
 }
 
+// The folder that is put on the disk is the one in which the name stands.
+#[test]
+fn the_folder_of_the_name(rt: HostRuntime) {
+    assert!(rt; fs::create_dir_all(&rt, INNER).is_ok());
+    assert!(rt; puts(&rt, DEEP, b"deep", "", &[MADE, NAMED]) && stands(&rt, DEEP, b"deep"));
+    removes(&rt, DEEP);
+    assert!(rt; fs::remove_dir(&rt, INNER).is_ok() && fs::remove_dir(&rt, OUTER).is_ok());
+}
+
 #[test]
 fn a_link_stays(rt: HostRuntime) {
     let _ = fs::remove_file(&rt, LINK);
@@ -285,16 +305,25 @@ fn a_link_stays(rt: HostRuntime) {
     removes(&rt, TARGET);
 }
 
+// The word answers two lines, and the file is opened once for both.
+fn opens_once<R: Abort + Files + AllocGlobal + Threads + Wait + Sync + Console>(
+    rt: &R,
+    word: &str,
+) {
+    let log = Log::new(rt.alloc(), "");
+    let files = Listed { rt, log: &log };
+    let typed = Typed::whole(b"..l/.../L../... - -\n.../.../..l/L.. - -\n");
+    let mut shelf = DiskShelf::new(&files, rt.alloc(), typed);
+    let words = [word, "--db", ASKED, "--each"];
+    let told = run_on(rt, rt.alloc(), &mut shelf, &words);
+    assert!(rt; told.is(0, b"win 3\nloss 2\n", b"") && log.says(&["open asked\n"]));
+}
+
 #[test]
 fn one_reading_for_each_line(rt: HostRuntime) {
     let mut shelf = DiskShelf::new(&rt, rt.alloc(), Typed::whole(b""));
     assert!(rt; put(&mut shelf, ASKED, file(&rt).as_slice()));
-    let log = Log::new(rt.alloc(), "");
-    let files = Listed { rt: &rt, log: &log };
-    let typed = Typed::whole(b"..l/.../L../... - -\n.../.../..l/L.. - -\n");
-    let mut shelf = DiskShelf::new(&files, rt.alloc(), typed);
-    let words = ["probe", "--db", ASKED, "--each"];
-    let told = run_on(&rt, rt.alloc(), &mut shelf, &words);
-    assert!(rt; told.is(0, b"win 3\nloss 2\n", b"") && log.says(&["open asked\n"]));
+    opens_once(&rt, "probe");
+    opens_once(&rt, "look");
     removes(&rt, ASKED);
 }

@@ -175,3 +175,42 @@ fn input_in_pieces(rt: HostRuntime) {
     let told = told_of_pieces(&rt, first, Some(ErrorKind::Other));
     assert!(rt; told.is(3, b"", b"dobutsu: E24 Io\n"));
 }
+
+const LINE: &[u8] = b"..l/.../L../... - -\n";
+
+// The words end by that fault of the file, and standard input still has its bytes.
+fn leaves_input<R: Abort + AllocGlobal + Threads + Wait + Sync + Console>(
+    rt: &R,
+    words: &[&str; 4],
+    mut shelf: MemShelf,
+    status: u8,
+    said: &[u8],
+) {
+    let told = told_of(rt, rt.alloc(), &mut shelf, words, LINE);
+    assert!(rt; told.is(status, b"", said));
+    let left = shelf.input().ok().expect(rt, "standard input");
+    assert!(rt; left.as_slice() == LINE);
+}
+
+// A shelf whose file has no bytes.
+fn empty_file(rt: &(impl Abort + AllocGlobal)) -> MemShelf {
+    let mut shelf = MemShelf::new(rt.alloc());
+    assert!(rt; put(&mut shelf, FILE, b""));
+    shelf
+}
+
+// A file that isn't there, or is none, is reported before a line is read.
+#[test]
+fn the_file_before_the_input(rt: HostRuntime) {
+    for words in [&WORDS, &LOOK] {
+        let none = MemShelf::new(rt.alloc());
+        leaves_input(&rt, words, none, 3, b"dobutsu: E24 Io\n");
+        leaves_input(
+            &rt,
+            words,
+            empty_file(&rt),
+            1,
+            b"dobutsu: E15 Truncated\n",
+        );
+    }
+}

@@ -3,8 +3,9 @@
 use crate::lions::file;
 use crate::program::{FILE, run_on};
 use crate::shelves::put;
-use dob_check::Watch;
+use dob_check::{Watch, check_watched};
 use dob_cli::{Console, MemShelf, Progress};
+use dob_dbfile::{HeldSource, read_table};
 use std::alloc::Global;
 use std::cell::RefCell;
 use std::fmt::Display;
@@ -128,14 +129,16 @@ fn unwatched_work_is_silent(rt: HostRuntime) {
 #[derive(Drop)]
 struct Moving<'a, R> {
     rt: &'a R,
+    is_terminal: bool,
     seconds: AtomicU64,
     text: Mutex<String>,
 }
 
 impl<'a, R: Wait + AllocGlobal> Moving<'a, R> {
-    fn new(rt: &'a R) -> Moving<'a, R> {
+    fn new(rt: &'a R, is_terminal: bool) -> Moving<'a, R> {
         Moving {
             rt,
+            is_terminal,
             seconds: AtomicU64::new(0),
             text: Mutex::new(String::new(rt.alloc())),
         }
@@ -171,13 +174,17 @@ impl<R: Wait> Eprint for Moving<'_, R> {
 
 impl<R: Wait> Console for Moving<'_, R> {
     fn is_terminal(&self) -> bool {
-        false
+        self.is_terminal
     }
 }
 
 // What the words have written on the console, where a file of lions alone is there; they are done, and print nothing else on standard error.
-fn written<R: Abort + Threads + Wait + Sync + AllocGlobal>(rt: &R, words: &[&str]) -> String {
-    let moving = Moving::new(rt);
+fn written<R: Abort + Threads + Wait + Sync + AllocGlobal>(
+    rt: &R,
+    is_terminal: bool,
+    words: &[&str],
+) -> String {
+    let moving = Moving::new(rt, is_terminal);
     let mut shelf = MemShelf::new(rt.alloc());
     assert!(rt; put(&mut shelf, FILE, file(rt).as_slice()));
     let told = run_on(&moving, rt.alloc(), &mut shelf, words);
@@ -199,10 +206,15 @@ const BUILT: &str = "some 1 MB of memory for 54 classes
 8 s, 92 %, 0 s left
 ";
 
+// The first of these lines on a terminal.
+const SHOWN: &str = "some 1 MB of memory for 54 classes
+\r1 s, 61 %, 0 s left\x1b[K\r2 s, 66 %, 1 s left\x1b[K";
+
 #[test]
 fn builds_tell_how_far_they_are(rt: HostRuntime) {
     let words = ["build", "--set", "000", "--nodes", "1", "--out", "built.db"];
-    assert!(rt; written(&rt, &words).is_empty());
+    assert!(rt; written(&rt, false, &words).is_empty());
+    assert!(rt; written(&rt, true, &words).is_empty());
     let words = [
         "build",
         "--set",
@@ -213,14 +225,44 @@ fn builds_tell_how_far_they_are(rt: HostRuntime) {
         "built.db",
         "--progress",
     ];
-    let text = written(&rt, &words);
+    let text = written(&rt, false, &words);
     assert!(rt; text.starts_with(BUILT) && text.ends_with(" s, 92 %, 0 s left\n"));
+    // on a terminal each line takes the place of the one before, and the last one goes at the end
+    let text = written(&rt, true, &words);
+    assert!(rt; text.starts_with(SHOWN) && text.ends_with(" s, 92 %, 0 s left\x1b[K\r\x1b[K"));
 }
 
 #[test]
 fn checks_tell_how_far_they_are(rt: HostRuntime) {
-    let silent = written(&rt, &["check", "--db", FILE]);
-    assert!(rt; silent.is_empty());
-    let text = written(&rt, &["check", "--db", FILE, "--progress"]);
+    for is_terminal in [false, true] {
+        let silent = written(&rt, is_terminal, &["check", "--db", FILE]);
+        assert!(rt; silent.is_empty());
+    }
+    let words = ["check", "--db", FILE, "--progress"];
+    let text = written(&rt, false, &words);
     assert!(rt; text.as_str() == "1 s, 99 %, 0 s left\n");
+    let text = written(&rt, true, &words);
+    assert!(rt; text.as_str() == "\r1 s, 99 %, 0 s left\x1b[K\r\x1b[K");
+}
+
+/// Adds up what a check reports.
+#[derive(Drop)]
+struct Sum(AtomicU64);
+
+impl Watch for Sum {
+    ghost told = { λ _ _. Unit {0} };
+
+    fn passed(&self, classes: u64) {
+        self.0.fetch_add(classes, Ordering::SeqCst);
+    }
+}
+
+#[test]
+fn each_class_is_reported_once(rt: HostRuntime) {
+    let bytes = file(&rt);
+    let table = read_table(rt.alloc(), &mut HeldSource::new(&bytes)).ok();
+    let table = table.expect(&rt, "a table");
+    let sum = Sum(AtomicU64::new(0));
+    let checked = check_watched(&rt, rt.alloc(), &table, &sum);
+    assert!(rt; checked.is_ok() && sum.0.load(Ordering::SeqCst) == 54);
 }

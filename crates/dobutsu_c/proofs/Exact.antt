@@ -30,10 +30,10 @@ use Rattle.dobutsu_c.specs.Probes.{IsTextOf, AreRead, IsAsked, IsGiven, IsTold, 
 
 -- ---- one position, one format, one family
 
-no_text_fault : (text : List ℕ) (setup : Setup) (fault : TextFault) → IsTextOf text setup → HasTextFault A text fault → ⊥
+pub no_text_fault : (text : List ℕ) (setup : Setup) (fault : TextFault) → IsTextOf text setup → HasTextFault A text fault → ⊥
 no_text_fault text setup fault is wrong = texts.no_fault A text setup fault is.0 refl is.1 wrong
 
-no_file_fault : (file : List ℕ) (format : Format) (family : Family) (fault : FileFault) → IsNoLonger format family (whole file)
+pub no_file_fault : (file : List ℕ) (format : Format) (family : Family) (fault : FileFault) → IsNoLonger format family (whole file)
     → HasReadFault (whole file) fault → fault ≢ file_fault.Digest → ⊥
 no_file_fault file format family fault is wrong known = known (files.only_digest (whole file) fault format family (is, refl) wrong)
 

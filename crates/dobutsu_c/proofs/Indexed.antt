@@ -1,5 +1,5 @@
 -- What is held and asked by an index of the file's family is what is held and asked without it.
-use Rattle.std.proofs.Common.{◌≡◌, ◌∙◌, ◌≤◌, ◌+◌, ◌*◌, ◌^◌, ℕ, List, Option, Some, None, refl, sym, subst, ap, arith, length, take, drop, get_or}
+use Rattle.std.proofs.Common.{◌≡◌, ◌∙◌, ◌≤◌, ◌+◌, ◌*◌, ◌^◌, ℕ, List, Option, Some, None, refl, sym, inl, inr, subst, ap, arith, length, take, drop, get_or}
 use Rattle.dob_pieces.specs.declared.profile.Family.{Family}
 use Rattle.dob_pieces.specs.declared.profile.Profile.{Profile}
 use Rattle.dob_pieces.specs.declared.profile.Profile.TheVariants.{A, B}
@@ -8,6 +8,7 @@ use Rattle.dob_pieces.specs.declared.setup.Setup.{Setup}
 use Rattle.dob_rank.specs.Families.{family_of, classes_of}
 use Rattle.dob_rank.proofs.OfFamilies.ClassBounds.{classes_of-below}
 use Rattle.dob_rank.proofs.Positions.Sets.{same_numbers}
+use Rattle.dob_value.specs.declared.value.Value.{Value}
 use Rattle.dob_index.specs.Index.{IsIndex, IsMarked}
 use Rattle.dob_dbfile.specs.declared.header.Format.{Format}
 use Rattle.dob_dbfile.specs.Devices.{whole}
@@ -21,9 +22,9 @@ use Rattle.dob_numbers.specs.Profiles.{profile_number}
 use Rattle.dobutsu_c.specs.Counts.{IsFamily}
 use Rattle.dobutsu_c.specs.declared.fault.Fault.{Fault}
 use Rattle.dobutsu_c.specs.Faults.{fault_number}
-use Rattle.dobutsu_c.specs.Probes.{IsTextOf, AreRead, IsAsked, HasProbeFault}
-use Rattle.dobutsu_c.specs.ByIndex.{IsIndexFor, IsHeldBy, IsAskedBy, HasByFault, IsFileFault, number_by}
-use Rattle.dobutsu_c.proofs.Exact.{no_fault, one_fault}
+use Rattle.dobutsu_c.specs.Probes.{IsTextOf, AreRead, IsAsked, IsGiven, HasProbeFault}
+use Rattle.dobutsu_c.specs.ByIndex.{IsIndexFor, IsHeldBy, IsAskedBy, IsGivenBy, AreNoIndex, HasByFault, HasHeldFault, number_by}
+use Rattle.dobutsu_c.proofs.Exact.{no_text_fault, no_file_fault, no_fault, one_fault}
 
 -- ---- one family has those numbers
 
@@ -62,12 +63,13 @@ both found x none some = (let e : (let o : Option _ = None in o) ≡ Some x = sy
 
 -- ---- what is asked
 
-pub by_file : (file text : List ℕ) (setup : Setup) (fault : ByFault) → IsTextOf text setup → IsFileFault file fault → HasByFault file text fault
-by_file file text setup (Asked (File fault)) named is = (setup, named, is.0, is.1)
-by_file file text setup (Asked (Text fault)) named is = absurd is
-by_file file text setup (Asked FarChick) named is = absurd is
-by_file file text setup (Asked OtherSet) named is = absurd is
-by_file file text setup Index named is = absurd is
+pub by_file : (file text index : List ℕ) (setup : Setup) (fault : ByFault) → IsTextOf text setup → HasHeldFault file index fault
+    → HasByFault file text index fault
+by_file file text index setup (Asked (File fault)) named is = (setup, named, is.0, is.1)
+by_file file text index setup (Asked (Text fault)) named is = absurd is
+by_file file text index setup (Asked FarChick) named is = absurd is
+by_file file text index setup (Asked OtherSet) named is = absurd is
+by_file file text index setup Index named is = (is.0, is.1, setup, named, (is.3, inl is.2))
 
 pub read_by : (file text index : List ℕ) (format : Format) (family : Family) (classes : ℕ) (setup : Setup) → IsIndexFor file index → IsTextOf text setup
     → IsHeldBy file index format family classes → AreRead file text format family setup
@@ -77,25 +79,60 @@ pub asked_by : (file text index : List ℕ) (format : Format) (family : Family) 
     → IsAskedBy file text index format family classes setup → IsAsked file text format family setup
 asked_by file text index format family classes setup for is = (read_by file text index format family classes setup for is.named is.held, is.member)
 
--- the numbers are marked as an index of the family that the file names
-pub marked_by : (file text index : List ℕ) (format f : Format) (family g : Family) (classes : ℕ) (setup : Setup)
-    → IsAskedBy file text index format family classes setup → NamesFamily f g file → (IsMarked g index → ⊥) → ⊥
-marked_by file text index format f family g classes setup is names wrong =
-    wrong (subst (λ (p : Family). IsMarked p index) (same_head format f family g file is.held.named names).1 is.held.marked)
+pub given_by : (file index : List ℕ) (format : Format) (family : Family) (classes : ℕ) (setup : Setup) (value : Value) → IsIndex family index
+    → IsGivenBy file index format family classes setup value → IsGiven file format family setup value
+given_by file index format family classes setup value index_is given = (given.class, given.right index_is, given.read)
 
 -- ---- faults
 
-pub no_fault_by : (file text : List ℕ) (format : Format) (family : Family) (setup : Setup) (fault : ByFault) → IsAsked file text format family setup
-    → HasByFault file text fault → ⊥
-no_fault_by file text format family setup (Asked fault) asked wrong = no_fault file text format family setup fault asked wrong
-no_fault_by file text format family setup Index asked wrong = absurd wrong
+-- the numbers are no index of the family that the file names
+no_index : (file index : List ℕ) (format : Format) (family : Family) (setup : Setup) → IsIndexFor file index → AreNoIndex file index format family setup → ⊥
+no_index file index format family setup for wrong = wrong.0 (elim wrong.1 [
+  | inl read ↦ for format family read.0.0.0
+  | inr fits ↦ for format family fits.1.named
+])
 
-pub some_fault_by : (file text : List ℕ) (given : ByFault) → HasByFault file text given
+pub some_fault_by : (file text index : List ℕ) (given : ByFault) → IsIndexFor file index → HasByFault file text index given
     → (fault : Fault) × HasProbeFault file text fault × (number_by given ≡ fault_number fault)
-some_fault_by file text (Asked fault) holds = (fault, holds, refl)
-some_fault_by file text Index holds = absurd holds
+some_fault_by file text index (Asked (Text fault)) for is = (Text fault, is, refl)
+some_fault_by file text index (Asked (File fault)) for is = (File fault, is, refl)
+some_fault_by file text index (Asked FarChick) for is =
+    (FarChick, (is.0, is.1, is.3, read_by file text index is.0 is.1 is.2 is.3 for is.4.0 is.4.1, is.5), refl)
+some_fault_by file text index (Asked OtherSet) for is =
+    (OtherSet, (is.0, is.1, is.3, read_by file text index is.0 is.1 is.2 is.3 for is.4.0 is.4.1, is.5, is.6), refl)
+some_fault_by file text index Index for is = absurd (no_index file index is.0 is.1 is.2 for is.4)
 
-pub one_fault_by : (file text : List ℕ) (given : ByFault) (fault : Fault) → HasByFault file text given → HasProbeFault file text fault
-    → number_by given ≡ fault_number fault
-one_fault_by file text (Asked found) fault is holds = ap fault_number (one_fault file text found fault is holds)
-one_fault_by file text Index fault is holds = absurd is
+pub no_fault_by : (file text index : List ℕ) (format : Format) (family : Family) (setup : Setup) (given : ByFault) → IsIndexFor file index
+    → IsAsked file text format family setup → HasByFault file text index given → ⊥
+no_fault_by file text index format family setup given for asked wrong =
+    let some = some_fault_by file text index given for wrong in
+    no_fault file text format family setup some.0 asked some.1
+
+pub one_fault_by : (file text index : List ℕ) (given : ByFault) (fault : Fault) → IsIndexFor file index → HasByFault file text index given
+    → HasProbeFault file text fault → number_by given ≡ fault_number fault
+one_fault_by file text index given fault for is holds =
+    let some = some_fault_by file text index given for is in
+    some.2 ∙ ap fault_number (one_fault file text some.0 fault some.1 holds)
+
+-- ---- numbers that aren't marked as an index of the file's family
+
+-- the family that a file names is the one that it is held by
+marked_by : (file index : List ℕ) (format f : Format) (family g : Family) (classes : ℕ) → IsHeldBy file index format family classes → NamesFamily f g file
+    → (IsMarked g index → ⊥) → ⊥
+marked_by file index format f family g classes held names wrong =
+    wrong (subst (λ (p : Family). IsMarked p index) (same_head format f family g file held.named names).1 held.marked)
+
+pub not_unmarked : (file text index : List ℕ) (format f : Format) (family g : Family) (classes : ℕ) (setup s : Setup)
+    → IsAskedBy file text index format family classes setup → AreRead file text f g s → (IsMarked g index → ⊥) → ⊥
+not_unmarked file text index format f family g classes setup s is read wrong =
+    marked_by file index format f family g classes is.held read.1.0.0.0 wrong
+
+pub unmarked_fault : (file text index : List ℕ) (format : Format) (family : Family) (setup : Setup) (given : ByFault)
+    → AreRead file text format family setup → (IsMarked family index → ⊥) → HasByFault file text index given → number_by given ≡ 29
+unmarked_fault file text index format family setup (Asked (Text fault)) read wrong is = absurd (no_text_fault text setup fault read.0 is)
+unmarked_fault file text index format family setup (Asked (File fault)) read wrong is = absurd (no_file_fault file format family fault read.1 is.2 is.3)
+unmarked_fault file text index format family setup (Asked FarChick) read wrong is =
+    absurd (marked_by file index is.0 format is.1 family is.2 is.4.1 read.1.0.0.0 wrong)
+unmarked_fault file text index format family setup (Asked OtherSet) read wrong is =
+    absurd (marked_by file index is.0 format is.1 family is.2 is.4.1 read.1.0.0.0 wrong)
+unmarked_fault file text index format family setup Index read wrong is = refl

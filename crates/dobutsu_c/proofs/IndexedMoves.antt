@@ -1,12 +1,28 @@
 -- The moves that are listed by an index stand in the move order, whatever their values.
-use Rattle.std.proofs.Common.{◌≡◌, ℕ, ◌+◌, ◌<◌, ◌⊎◌, ◌↔◌, sym, subst, ap, ◌∙◌, inl, inr, arith, List, length, get_or, Option, None, Some, MatchOption, Contains, slice_get}
+use Rattle.std.proofs.Common.{◌≡◌, ℕ, ◌+◌, ◌≤◌, ◌<◌, ◌⊎◌, ◌↔◌, refl, sym, subst, ap, ◌∙◌, inl, inr, arith, List, [], length, get_or}
+use Rattle.std.proofs.Common.{Option, None, Some, MatchOption, AllPairs, Contains, slice_get}
+use Rattle.std.proofs.lemmas.Bool.{cases_lt}
 use Rattle.std.proofs.lemmas.Option.{slice_get-get_or, same_Some}
+use Rattle.dob_pieces.specs.declared.profile.Family.{Family}
 use Rattle.dob_pieces.specs.declared.profile.Profile.{Profile}
 use Rattle.dob_pieces.specs.declared.setup.Setup.{Setup}
 use Rattle.dob_moves.specs.declared.game_move.Move.{Move}
-use Rattle.dob_moves.specs.Moves.{place}
-use Rattle.dob_moves.specs.Statuses.{AreMoves}
+use Rattle.dob_moves.specs.declared.position_status.Status.TheVariants.{Open}
+use Rattle.dob_moves.specs.Moves.{Goes, CanGo, place}
+use Rattle.dob_moves.specs.Statuses.{AreMoves, CanCatch, HasStatus}
+use Rattle.dob_moves.proofs.ByProfile.{goes}
+use Rattle.dob_moves.proofs.Outcomes.{HasOutcome-is}
+use Rattle.dob_rank.specs.Families.{IsPositionOf}
+use Rattle.dob_value.specs.declared.value.Value.{Value}
+use Rattle.dob_index.specs.Index.{IsIndex}
+use Rattle.dob_dbfile.specs.declared.header.Format.{Format}
 use Rattle.dob_probe.specs.declared.by_value.ValuedMove.{ValuedMove}
+use Rattle.dob_probe.specs.ValuedMoves.{AreValuedMoves, ComesBefore, HasMoveValue, seen_from_before}
+use Rattle.dobutsu_c.specs.ByIndex.{IsGivenBy}
+use Rattle.dobutsu_c.specs.Moves.{AreMovesBy}
+use Rattle.dobutsu_c.specs.Probes.{IsGiven}
+use Rattle.dobutsu_c.proofs.Exact.{one_given}
+use Rattle.dobutsu_c.proofs.Indexed.{given_by}
 
 -- each listed move is one of the first the_moves
 abbrev pub AreOfFirst : List Move → ℕ → List ValuedMove → Type 0
@@ -36,6 +52,131 @@ one_more the_moves upto list new more here has first valued there = elim ((has v
   | inr same ↦ (upto, omega arith, subst (λ (x : ValuedMove). slice_get the_moves upto ≡ Some x.the_move) (sym same) here)
 ]
 
+-- before the first there are none
+pub none_first : (the_moves : List Move) → AreOfFirst the_moves 0 []
+none_first the_moves valued there = absurd (omega (arith, there.1))
+
+pub none_ordered : AllPairs ComesBefore []
+none_ordered i j d lt within = absurd (omega (arith, within))
+
+-- ---- the moves of the first the_moves, with their values
+
+pub record AreListedBy (profile : Profile) (Has : Setup → Value → Type 0) (p : Setup) (the_moves : List Move) (upto : ℕ) (list : List ValuedMove) : Type 0 where
+  pub sound : (valued : ValuedMove) → Contains list valued → HasMoveValue profile Has p valued
+  pub whole : (index : ℕ) (the_move : Move) → index < upto → slice_get the_moves index ≡ Some the_move
+      → (valued : ValuedMove) × Contains list valued × (valued.the_move ≡ the_move)
+  pub once : (a b : ValuedMove) → Contains list a → Contains list b → a.the_move ≡ b.the_move → a ≡ b
+
+pub none_listed : (profile : Profile) (Has : Setup → Value → Type 0) (p : Setup) (the_moves : List Move) → AreListedBy profile Has p the_moves 0 []
+none_listed profile Has p the_moves = record {
+  sound = λ valued there. absurd (omega (arith, there.1));
+  whole = λ index the_move below there. absurd (omega (arith, below));
+  once = λ a b there also same. absurd (omega (arith, there.1));
+}
+
+pub more_listed : (profile : Profile) (Has : Setup → Value → Type 0) (p : Setup) (the_moves : List Move) (upto : ℕ) (list new : List ValuedMove) (more : ValuedMove)
+    (value : Value) → slice_get the_moves upto ≡ Some more.the_move → HasStatus profile p Open → CanGo profile p more.the_move
+    → ((q : Setup) → Goes profile p more.the_move q → Has q value) → more.value ≡ seen_from_before value
+    → ((x : ValuedMove) → Contains new x ↔ (Contains list x ⊎ (x ≡ more)))
+    → ((valued : ValuedMove) → Contains list valued → place valued.the_move < place more.the_move)
+    → AreListedBy profile Has p the_moves upto list → AreListedBy profile Has p the_moves (upto + 1) new
+more_listed profile Has p the_moves upto list new more value here goes_on can_go given seen has later before = record {
+  sound = λ valued there. elim ((has valued).0 there) [
+    | inl earlier ↦ before.sound valued earlier
+    | inr same ↦ subst (λ (x : ValuedMove). HasMoveValue profile Has p x) (sym same) (record {
+      goes_on = goes_on;
+      outcome = can_go.0;
+      goes = can_go.1;
+      value = value;
+      has = given can_go.0 can_go.1;
+      seen = seen;
+    })
+  ];
+  whole = λ index the_move below there. elim (cases_lt index upto) [
+    | inl earlier ↦ let known = before.whole index the_move earlier there in (known.0, (has known.0).1 (inl known.1), known.2)
+    | inr from ↦
+        let same : upto ≡ index = omega (arith, from, below) in
+        let also : slice_get the_moves index ≡ Some more.the_move = subst (λ (k : ℕ). slice_get the_moves k ≡ Some more.the_move) same here in
+        (more, (has more).1 (inr refl), same_Some more.the_move the_move (sym also ∙ there))
+  ];
+  once = λ a b there also same. elim ((has a).0 there) [
+    | inl early ↦ elim ((has b).0 also) [
+      | inl early_too ↦ before.once a b early early_too same
+      | inr last ↦ absurd (apart a b early last same)
+    ]
+    | inr last ↦ elim ((has b).0 also) [
+      | inl early ↦ absurd (apart b a early last (sym same))
+      | inr last_too ↦ last ∙ sym last_too
+    ]
+  ];
+}
+  where
+    apart : (a b : ValuedMove) → Contains list a → b ≡ more → a.the_move ≡ b.the_move → ⊥
+    apart a b early last same =
+        let rising = later a early in
+        let one : place a.the_move ≡ place more.the_move = ap place (same ∙ ap (λ (x : ValuedMove). x.the_move) last) in
+        omega (arith, rising, one)
+
+module _ (file index : List ℕ) (format : Format) (family : Family) (classes : ℕ) (setup : Setup) where
+  pub all_listed : (the_moves : List Move) (upto : ℕ) (list : List ValuedMove) → (CanCatch setup → ⊥) → AreMoves family.profile setup the_moves
+      → length the_moves ≤ upto → AreListedBy family.profile (IsGivenBy file index format family classes) setup the_moves upto list → AllPairs ComesBefore list
+      → AreMovesBy file index format family classes setup list
+  all_listed the_moves upto list free are all listed ordered = record {
+    sound = λ valued there. inr (listed.sound valued there);
+    caught = λ catch. absurd (free catch);
+    whole = λ the_move goes_on can_go.
+        let there = are.whole the_move goes_on can_go in
+        let read : slice_get the_moves there.0 ≡ Some the_move = slice_get-get_or the_moves there.0 the_move there.1
+        ∙ ap (λ (m : Move). let o : Option Move = Some m in o) there.2 in
+        let within : there.0 < length the_moves = there.1 in
+        listed.whole there.0 the_move (omega (arith, within, all)) read;
+    once = listed.once;
+    ordered = ordered;
+  }
+
+  -- by the index of the family they are the moves by what the file gives
+  pub right_moves : IsIndex family index → IsPositionOf family setup → (list : List ValuedMove) → AreMovesBy file index format family classes setup list
+      → AreValuedMoves family.profile (IsGiven file format family) setup list
+  right_moves index_is member list are = record {
+    sound = λ valued there. elim (are.sound valued there) [
+      | inl catch ↦ inl catch
+      | inr has ↦ inr (by_file valued has)
+    ];
+    caught = are.caught;
+    whole = λ valued has.
+        let known = are.whole valued.the_move has.goes_on (has.outcome, has.goes) in
+        elim (are.sound known.0 known.1) [
+          | inl catch ↦ absurd (has.goes_on.0 (known.0.the_move, catch.catch.catches))
+          | inr found ↦
+              let goes : Goes family.profile setup valued.the_move found.outcome =
+              subst (λ (m : Move). Goes family.profile setup m found.outcome) known.2 found.goes in
+              let outcome : found.outcome ≡ has.outcome = one_outcome valued.the_move found.outcome has.outcome goes has.goes in
+              let given = given_by file index format family classes found.outcome found.value index_is found.has in
+              let value : found.value ≡ has.value = one_given file format family has.outcome found.value has.value
+              (subst (λ (q : Setup). IsGiven file format family q found.value) outcome given) has.has in
+              let same : known.0 ≡ valued = same_valued known.0 valued known.2 (found.seen ∙ ap seen_from_before value ∙ sym has.seen) in
+              subst (Contains list) same known.1
+        ];
+    ordered = are.ordered;
+  }
+    where
+      by_file : (valued : ValuedMove) → HasMoveValue family.profile (IsGivenBy file index format family classes) setup valued
+          → HasMoveValue family.profile (IsGiven file format family) setup valued
+      by_file valued has = record {
+        goes_on = has.goes_on;
+        outcome = has.outcome;
+        goes = has.goes;
+        value = has.value;
+        has = given_by file index format family classes has.outcome has.value index_is has.has;
+        seen = has.seen;
+      }
+
+      one_outcome : (m : Move) (q r : Setup) → Goes family.profile setup m q → Goes family.profile setup m r → q ≡ r
+      one_outcome m q r to_q to_r = HasOutcome-is setup m q (goes family.profile setup m q to_q) ∙ sym (HasOutcome-is setup m r (goes family.profile setup m r to_r))
+
+      same_valued : (a b : ValuedMove) → a.the_move ≡ b.the_move → a.value ≡ b.value → a ≡ b
+      same_valued a b the_move value = λ i. record { the_move = the_move i; value = value i }
+
 -- what follows of what is there
 pub onward : {X : Type 0} (found : Option X) (N : Type 0) (P Q : X → Type 0) → ((x : X) → P x → Q x) → MatchOption found N P → MatchOption found N Q
 onward None N P Q follows is = is
@@ -43,3 +184,6 @@ onward (Some x) N P Q follows is = follows x is
 
 pub told_of : {X : Type 0} (found : Option X) (x : X) (N : Type 0) (P : X → Type 0) → found ≡ Some x → MatchOption found N P → P x
 told_of {X = X} found x N P same is = subst (λ (f : Option X). MatchOption f N P) same is
+
+pub none_of : {X : Type 0} (found : Option X) (N : Type 0) (P : X → Type 0) → found ≡ None → MatchOption found N P → N
+none_of {X = X} found N P same is = subst (λ (f : Option X). MatchOption f N P) same is

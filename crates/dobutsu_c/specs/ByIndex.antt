@@ -1,5 +1,5 @@
 -- What is asked of a file by an index of its family.
-use Rattle.std.specs.Prelude.{◌≡◌, ◌≢◌, ◌⊎◌, ℕ, ◌+◌, ◌*◌, List, length}
+use Rattle.std.specs.Prelude.{◌≡◌, ◌≢◌, ◌⊎◌, ℕ, ◌+◌, ◌*◌, ◌<◌, List, length}
 use Rattle.dob_pieces.specs.declared.profile.Family.{Family}
 use Rattle.dob_pieces.specs.declared.profile.Profile.TheVariants.{A}
 use Rattle.dob_pieces.specs.declared.setup.Setup.{Setup}
@@ -7,19 +7,21 @@ use Rattle.dob_pieces.specs.Profiles.{IsAllowed}
 use Rattle.dob_text.specs.declared.fault.TextFault.{TextFault}
 use Rattle.dob_text.specs.Faults.{HasTextFault}
 use Rattle.dob_rank.specs.Order.{IsPositionOfSet}
-use Rattle.dob_rank.specs.Families.{IsPositionOf, classes_of}
+use Rattle.dob_rank.specs.Families.{IsPositionOf, IsInClass, classes_of}
+use Rattle.dob_value.specs.declared.value.Value.{Value}
 use Rattle.dob_index.specs.Index.{IsIndex, IsMarked}
 use Rattle.dob_dbfile.specs.declared.header.Format.{Format}
 use Rattle.dob_dbfile.specs.Devices.{whole}
 use Rattle.dob_dbfile.specs.declared.fault.Fault.TheVariants as file_fault
 use Rattle.dob_dbfile.specs.Faults.{NamesFamily, HasReadFault, IsNoLonger, header_len}
-use Rattle.dobutsu_c.specs.declared.fault.Fault.TheVariants.{File}
+use Rattle.dob_dbfile.specs.Looking.{HasRecord}
+use Rattle.dobutsu_c.specs.declared.fault.Fault.TheVariants.{Text, File, FarChick, OtherSet}
 use Rattle.dobutsu_c.specs.declared.by_index.ByFault.{ByFault}
 use Rattle.dobutsu_c.specs.declared.by_index.ByFault.TheVariants.{Asked, Index}
 use Rattle.dobutsu_c.specs.Counts.{IsFamily, count_fault}
 use Rattle.dob_numbers.specs.Faults.{text_number}
 use Rattle.dobutsu_c.specs.Faults.{fault_number}
-use Rattle.dobutsu_c.specs.Probes.{IsTextOf, HasProbeFault}
+use Rattle.dobutsu_c.specs.Probes.{IsTextOf}
 
 -- the numbers are the index of the family that the file names
 abbrev pub IsIndexFor : List ℕ → List ℕ → Type 0
@@ -38,19 +40,46 @@ pub record IsAskedBy (file text index : List ℕ) (format : Format) (family : Fa
   pub held : IsHeldBy file index format family classes
   pub member : IsPositionOf family setup
 
--- by the right index there are no faults but those of the text, of the file and of the position in it
-abbrev pub HasByFault : List ℕ → List ℕ → ByFault → Type 0
-HasByFault file text (Asked fault) = HasProbeFault file text fault
-HasByFault file text Index = ⊥
+-- the value is that of a record of the file: by the index of its family, of the position's own class
+pub record IsGivenBy (file index : List ℕ) (format : Format) (family : Family) (classes : ℕ) (setup : Setup) (value : Value) : Type 0 where
+  pub class : ℕ
+  pub below : class < classes
+  pub read : HasRecord (whole file) format class value
+  pub right : IsIndex family index → IsInClass family setup class
+
+-- what the file gives the position that is asked for
+abbrev pub IsToldBy : List ℕ → List ℕ → List ℕ → Value → Type 0
+IsToldBy file text index value = (format : Format) × (family : Family) × (classes : ℕ) × (setup : Setup)
+    × IsAskedBy file text index format family classes setup × IsGivenBy file index format family classes setup value
+
+-- the position's text and a file that the numbers fit
+abbrev pub AreReadBy : List ℕ → List ℕ → List ℕ → Format → Family → ℕ → Setup → Type 0
+AreReadBy file text index format family classes setup = IsTextOf text setup × IsHeldBy file index format family classes
+
+-- they are no index of the file's family: the file has no fault that is looked for; or they fit it, and lead outside of it
+abbrev pub AreNoIndex : List ℕ → List ℕ → Format → Family → Setup → Type 0
+AreNoIndex file index format family setup =
+    (¬ IsIndex family index) × (IsNoLonger format family (whole file) ⊎ ((classes : ℕ) × IsHeldBy file index format family classes × IsPositionOf family setup))
+
+-- the first fault, whatever the numbers are
+abbrev pub HasByFault : List ℕ → List ℕ → List ℕ → ByFault → Type 0
+HasByFault file text index (Asked (Text fault)) = HasTextFault A text fault
+HasByFault file text index (Asked (File fault)) = (setup : Setup) × IsTextOf text setup × HasReadFault (whole file) fault × (fault ≢ file_fault.Digest)
+HasByFault file text index (Asked FarChick) = (format : Format) × (family : Family) × (classes : ℕ) × (setup : Setup)
+    × AreReadBy file text index format family classes setup × ¬ IsAllowed family.profile setup
+HasByFault file text index (Asked OtherSet) = (format : Format) × (family : Family) × (classes : ℕ) × (setup : Setup)
+    × AreReadBy file text index format family classes setup × IsAllowed family.profile setup × ¬ IsPositionOfSet family.set setup
+HasByFault file text index Index = (format : Format) × (family : Family) × (setup : Setup) × IsTextOf text setup × AreNoIndex file index format family setup
 
 abbrev pub number_by : ByFault → ℕ
 number_by (Asked fault) = fault_number fault
 number_by Index = 29
 
--- a fault of the file
-abbrev pub IsFileFault : List ℕ → ByFault → Type 0
-IsFileFault file (Asked (File fault)) = HasReadFault (whole file) fault × (fault ≢ file_fault.Digest)
-IsFileFault file _ = ⊥
+-- a fault of the file, or of the numbers where it has none
+abbrev pub HasHeldFault : List ℕ → List ℕ → ByFault → Type 0
+HasHeldFault file index (Asked (File fault)) = HasReadFault (whole file) fault × (fault ≢ file_fault.Digest)
+HasHeldFault file index Index = (format : Format) × (family : Family) × IsNoLonger format family (whole file) × ¬ IsIndex family index
+HasHeldFault file index _ = ⊥
 
 -- Why the number of a position's class isn't answered by an index, as a fault's number: the numbers aren't marked as an index of the family; or they are, and its
 -- profile doesn't allow the position; or it does, and the pieces aren't those of its set.

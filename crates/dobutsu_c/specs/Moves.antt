@@ -1,16 +1,20 @@
 -- The moves of a position with their values, as other languages see them.
-use Rattle.std.specs.Prelude.{◌≡◌, ℕ, ◌<◌, ◌≤◌, List, length, get_or}
+use Rattle.std.specs.Prelude.{◌≡◌, ◌⊎◌, ℕ, ◌<◌, ◌≤◌, List, length, get_or, Contains, AllPairs}
 use Rattle.dob_pieces.specs.declared.profile.Family.{Family}
 use Rattle.dob_pieces.specs.declared.setup.Setup.{Setup}
 use Rattle.dob_moves.specs.declared.game_move.Move.{Move}
+use Rattle.dob_moves.specs.declared.position_status.Status.TheVariants.{Open}
+use Rattle.dob_moves.specs.Moves.{CanGo}
+use Rattle.dob_moves.specs.Statuses.{CanCatch, HasStatus}
 use Rattle.dob_value.specs.declared.value.Value.{Value}
 use Rattle.dob_dbfile.specs.declared.header.Format.{Format}
 use Rattle.dob_numbers.specs.declared.moves.MoveNumbers.{MoveNumbers}
 use Rattle.dob_numbers.specs.Moves.{move_numbers}
 use Rattle.dob_probe.specs.declared.by_value.ValuedMove.{ValuedMove}
-use Rattle.dob_probe.specs.ValuedMoves.{AreValuedMoves}
+use Rattle.dob_probe.specs.ValuedMoves.{AreValuedMoves, ComesBefore, HasMoveValue, IsWinningCatch}
 use Rattle.dobutsu_c.specs.declared.moves.DobutsuMove.{DobutsuMove}
 use Rattle.dobutsu_c.specs.declared.value.DobutsuValue.{DobutsuValue}
+use Rattle.dobutsu_c.specs.ByIndex.{IsAskedBy, IsGivenBy}
 use Rattle.dobutsu_c.specs.Probes.{IsAsked, IsGiven, shown}
 
 -- the numbers of a move and a value as one
@@ -33,3 +37,18 @@ pub record AreWritten (list : List ValuedMove) (old new : List DobutsuMove) : Ty
 abbrev pub AreToldMoves : List ℕ → List ℕ → List ValuedMove → Type 0
 AreToldMoves file text list = (format : Format) × (family : Family) × (setup : Setup) × IsAsked file text format family setup
     × AreValuedMoves family.profile (IsGiven file format family) setup list
+
+-- What any numbers give of a position's moves: of an open position each move once, with a value that a record of the file gives what it leads to, best first and
+-- equal ones in the move order; where the lion can be caught its first catch alone; else none.
+pub record AreMovesBy (file index : List ℕ) (format : Format) (family : Family) (classes : ℕ) (setup : Setup) (list : List ValuedMove) : Type 0 where
+  pub sound : (valued : ValuedMove) → Contains list valued
+      → IsWinningCatch setup valued ⊎ HasMoveValue family.profile (IsGivenBy file index format family classes) setup valued
+  pub caught : CanCatch setup → length list ≡ 1
+  pub whole : (move : Move) → HasStatus family.profile setup Open → CanGo family.profile setup move
+      → (valued : ValuedMove) × Contains list valued × (valued.the_move ≡ move)
+  pub once : (a b : ValuedMove) → Contains list a → Contains list b → a.the_move ≡ b.the_move → a ≡ b
+  pub ordered : AllPairs ComesBefore list
+
+abbrev pub AreToldMovesBy : List ℕ → List ℕ → List ℕ → List ValuedMove → Type 0
+AreToldMovesBy file text index list = (format : Format) × (family : Family) × (classes : ℕ) × (setup : Setup)
+    × IsAskedBy file text index format family classes setup × AreMovesBy file index format family classes setup list

@@ -1,5 +1,5 @@
 // What is asked of a file whose bytes are held, by the numbers of an index: a position of its family. Where they are the index of that family, the answer is
-// that without one. By any other numbers it is some value, or the fault that they are no index.
+// that without one. By any other numbers it is the value of some record of the file, or a fault: one that an index has too, or that they are none.
 ghost use Rattle.std.specs.Prelude.{◌≡◌, ◌≢◌, None, IfSome, MatchOption, MatchResult};
 ghost use Rattle.dob_pieces.specs.declared.profile.Family.{Family as AnyFamily};
 ghost use Rattle.dob_dbfile.specs.declared.header.Format.{Format as AnyFormat};
@@ -8,8 +8,7 @@ ghost use Rattle.dob_dbfile.specs.Faults.{IsNoLonger};
 ghost use Rattle.dob_rank.specs.Families.{IsPositionOf};
 ghost use Rattle.dob_value.specs.Follows.{IsEntry};
 ghost use Rattle.dob_index.specs.Index.{IsIndex};
-ghost use Rattle.dobutsu_c.specs.ByIndex.{IsIndexFor, IsHeldBy, IsAskedBy, HasByFault, IsFileFault};
-ghost use Rattle.dobutsu_c.specs.Probes.{IsGiven};
+ghost use Rattle.dobutsu_c.specs.ByIndex.{IsHeldBy, IsAskedBy, IsGivenBy, HasByFault, HasHeldFault};
 
 use crate::asked::is_of_set;
 use crate::fault::Fault;
@@ -61,7 +60,7 @@ pub(crate) struct AskedBy {
 pub(crate) fn ask_by(file: &[u8], index: &[u64], text: &[u8]) -> Result<AskedBy, ByFault>
     ensures { MatchResult result
         (λ asked. IsAskedBy file.now text.now index.now asked.held.format asked.held.family asked.held.classes asked.position.setup)
-        (λ fault. IsIndexFor file.now index.now → HasByFault file.now text.now fault) }
+        (HasByFault file.now text.now index.now) }
 {
     let position = match read_position_bytes(Profile::A, text) {
         Ok(position) => position,
@@ -84,7 +83,7 @@ pub(crate) fn ask_by(file: &[u8], index: &[u64], text: &[u8]) -> Result<AskedBy,
 fn held_by(file: &[u8], index: &[u64]) -> Result<HeldBy, ByFault>
     ensures { MatchResult result
         (λ held. IsHeldBy file.now index.now held.format held.family held.classes)
-        (λ fault. IsIndexFor file.now index.now → IsFileFault file.now fault) }
+        (HasHeldFault file.now index.now) }
 {
     if let Some(held) = held_with(file, index) {
         return Ok(held);
@@ -124,7 +123,7 @@ pub(crate) fn value_by(
     requires held { IsHeldBy file.now index.now held.format held.family held.classes }
     requires member { IsPositionOf held.family position.now.setup }
     ensures { MatchOption result (¬ IsIndex held.family index.now)
-        (λ value. IsEntry value × (IsIndex held.family index.now → IsGiven file.now held.format held.family position.now.setup value)) }
+        (λ value. IsEntry value × IsGivenBy file.now index.now held.format held.family held.classes position.now.setup value) }
 {
     let class = class_by(held.family, index, position);
     if class < held.classes {

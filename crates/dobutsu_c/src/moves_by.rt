@@ -10,15 +10,15 @@ ghost use Rattle.dob_value.specs.Follows.{ClassTable, IsEntry, IsValueTable};
 ghost use Rattle.dob_value.specs.Values.{HasValue};
 ghost use Rattle.dob_index.specs.Index.{IsIndex, IsMarked};
 ghost use Rattle.dob_dbfile.specs.declared.header.Format.{Format as AnyFormat};
-ghost use Rattle.dob_dbfile.specs.Faults.{NamesFamily};
 ghost use Rattle.dob_dbfile.specs.Format.{IsFile};
 ghost use Rattle.dob_probe.specs.declared.by_value.ValuedMove.{ValuedMove as Valued};
 ghost use Rattle.dob_probe.specs.ValuedMoves.{AreValuedMoves};
+ghost use Rattle.dobutsu_c.specs.declared.by_index.ByFault.{ByFault as AnyByFault};
 ghost use Rattle.dobutsu_c.specs.declared.fault.Fault.{Fault as AnyFault};
-ghost use Rattle.dobutsu_c.specs.ByIndex.{IsIndexFor, IsHeldBy};
+ghost use Rattle.dobutsu_c.specs.ByIndex.{IsIndexFor, IsHeldBy, IsGivenBy, HasByFault, number_by};
 ghost use Rattle.dobutsu_c.specs.Faults.{fault_number};
-ghost use Rattle.dobutsu_c.specs.Moves.{AreToldMoves, AreWritten};
-ghost use Rattle.dobutsu_c.specs.Probes.{HasProbeFault, IsGiven, IsTextOf};
+ghost use Rattle.dobutsu_c.specs.Moves.{AreMovesBy, AreToldMoves, AreToldMovesBy, AreWritten};
+ghost use Rattle.dobutsu_c.specs.Probes.{AreRead, HasProbeFault, IsTextOf};
 
 use crate::by_index::{AskedBy, ask_by, value_by};
 use crate::moves::{DobutsuMove, write_moves};
@@ -30,8 +30,9 @@ use dob_value::Value;
 use std::alloc::Global;
 
 /// What `dobutsu_moves` gives of the position, by the index of the file's family as `dobutsu_index` wrote it: the same moves with the same values, by a file of
-/// the value table their own, or the same fault. By any other numbers it answers 0 and writes the moves in the order of some values, or a fault and writes nothing: 29 as `dobutsu_probe_by` does, or
-/// 23 where memory runs out, of which it takes some thousand bytes and gives all back. Nothing is read outside of the numbers.
+/// the value table their own, or the same fault. By any other numbers it answers 0 and writes all moves of the position by the values of some records of the
+/// file, or a fault and writes nothing: as `dobutsu_probe_by` does, or 23 where memory runs out, of which it takes some thousand bytes and gives all back. Nothing
+/// is read outside of the numbers.
 #[unsafe(no_mangle)]
 pub extern "C" fn dobutsu_moves_by(
     alloc: Global,
@@ -49,7 +50,12 @@ pub extern "C" fn dobutsu_moves_by(
     ensures refused { IsIndexFor file.now index.now → result ≢ 0
         → (result ≡ 23) ⊎ ((fault : AnyFault) × HasProbeFault file.now text.now fault × (result ≡ fault_number fault)) }
     ensures fault { IsIndexFor file.now index.now → (fault : AnyFault) → HasProbeFault file.now text.now fault → result ≡ fault_number fault }
-    ensures other { (format : AnyFormat) (family : AnyFamily) → NamesFamily format family file.now → ¬ IsMarked family index.now → result ≢ 0 }
+    ensures told_by { result ≡ 0 → (list : List Valued) × AreToldMovesBy file.now text.now index.now list
+        × AreWritten list moves.old moves.new × (count.new ≡ length list) }
+    ensures refused_by { result ≢ 0
+        → (result ≡ 23) ⊎ ((fault : AnyByFault) × HasByFault file.now text.now index.now fault × (result ≡ number_by fault)) }
+    ensures unmarked { (format : AnyFormat) (family : AnyFamily) (setup : Setup) → AreRead file.now text.now format family setup → ¬ IsMarked family index.now
+        → result ≡ 29 }
     ensures unchanged { result ≢ 0 → (moves.new ≡ moves.old) × (count.new ≡ count.old) }
 {
     let asked = match ask_by(file, index, text) {
@@ -78,8 +84,8 @@ fn valued_moves_by(
 ) -> Result<Option<Vec<ValuedMove>>, Memory>
     requires held { IsHeldBy file.now index.now asked.held.format asked.held.family asked.held.classes }
     requires member { IsPositionOf asked.held.family asked.position.setup }
-    ensures { IfOk result (λ found. MatchOption found (¬ IsIndex asked.held.family index.now) (λ list. IsIndex asked.held.family index.now
-        → AreValuedMoves asked.held.family.profile (IsGiven file.now asked.held.format asked.held.family) asked.position.setup list.items)) }
+    ensures { IfOk result (λ found. MatchOption found (¬ IsIndex asked.held.family index.now)
+        (λ list. AreMovesBy file.now index.now asked.held.format asked.held.family asked.held.classes asked.position.setup list.items)) }
 {
     if let Some(the_move) = first_catch(&asked.position) {
         let mut list = Vec::new(alloc);
@@ -105,8 +111,8 @@ fn moves_in_order(
     requires member { IsPositionOf asked.held.family asked.position.setup }
     requires the_moves { AreMoves asked.held.family.profile asked.position.setup the_moves.now }
     requires free { ¬ CanCatch asked.position.setup }
-    ensures { IfOk result (λ found. MatchOption found (¬ IsIndex asked.held.family index.now) (λ list. IsIndex asked.held.family index.now
-        → AreValuedMoves asked.held.family.profile (IsGiven file.now asked.held.format asked.held.family) asked.position.setup list.items)) }
+    ensures { IfOk result (λ found. MatchOption found (¬ IsIndex asked.held.family index.now)
+        (λ list. AreMovesBy file.now index.now asked.held.format asked.held.family asked.held.classes asked.position.setup list.items)) }
 {
     let mut list = Vec::new(alloc);
     for the_move in the_moves {
@@ -128,9 +134,9 @@ fn value_after(file: &[u8], index: &[u64], asked: &AskedBy, the_move: Move) -> O
     requires member { IsPositionOf asked.now.held.family asked.now.position.setup }
     requires open { HasStatus asked.now.held.family.profile asked.now.position.setup Open }
     requires can_go { CanGo asked.now.held.family.profile asked.now.position.setup the_move }
-    ensures { MatchOption result (¬ IsIndex asked.now.held.family index.now) (λ value. IsEntry value × (IsIndex asked.now.held.family index.now
-        → (q : Setup) → Goes asked.now.held.family.profile asked.now.position.setup the_move q
-        → IsGiven file.now asked.now.held.format asked.now.held.family q value)) }
+    ensures { MatchOption result (¬ IsIndex asked.now.held.family index.now) (λ value. IsEntry value
+        × ((q : Setup) → Goes asked.now.held.family.profile asked.now.position.setup the_move q
+        → IsGivenBy file.now index.now asked.now.held.format asked.now.held.family asked.now.held.classes q value)) }
 {
     let after = apply(&asked.position, the_move);
     value_by(file, index, asked.held, &after)

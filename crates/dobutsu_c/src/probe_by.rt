@@ -7,20 +7,20 @@ ghost use Rattle.dob_value.specs.Follows.{ClassTable, IsValueTable};
 ghost use Rattle.dob_value.specs.Values.{HasValue};
 ghost use Rattle.dob_index.specs.Index.{IsMarked};
 ghost use Rattle.dob_dbfile.specs.declared.header.Format.{Format as AnyFormat};
-ghost use Rattle.dob_dbfile.specs.Faults.{NamesFamily};
 ghost use Rattle.dob_dbfile.specs.Format.{IsFile};
+ghost use Rattle.dobutsu_c.specs.declared.by_index.ByFault.{ByFault as AnyByFault};
 ghost use Rattle.dobutsu_c.specs.declared.fault.Fault.{Fault as AnyFault};
 ghost use Rattle.dobutsu_c.specs.Faults.{fault_number};
-ghost use Rattle.dobutsu_c.specs.Probes.{IsTextOf, IsTold, HasProbeFault, shown};
-ghost use Rattle.dobutsu_c.specs.ByIndex.{IsIndexFor};
+ghost use Rattle.dobutsu_c.specs.Probes.{IsTextOf, AreRead, IsTold, HasProbeFault, shown};
+ghost use Rattle.dobutsu_c.specs.ByIndex.{IsIndexFor, IsToldBy, HasByFault, number_by};
 
 use crate::by_index::{ask_by, value_by};
 use crate::numbers::INDEX;
 use crate::value::{DobutsuValue, shown};
 
 /// What `dobutsu_probe` answers of the position, by the index of the file's family as `dobutsu_index` wrote it: the same value, or the same fault. By any other
-/// numbers it answers 0 and writes some value, or a fault and writes nothing: 29 where they aren't marked as an index of the file's family, are too few, or lead
-/// outside of the file. Nothing is read outside of them. It takes no memory.
+/// numbers it answers 0 and writes the value of some record of the file, or a fault and writes nothing: one that `dobutsu_probe` may answer, or 29 where they
+/// aren't marked as an index of the file's family, are fewer than it has, or lead outside of the file. Nothing is read outside of them. It takes no memory.
 #[unsafe(no_mangle)]
 pub extern "C" fn dobutsu_probe_by(
     file: &[u8],
@@ -34,7 +34,10 @@ pub extern "C" fn dobutsu_probe_by(
         → IsTextOf text.now setup → result ≡ 0 → (value : AnyValue) × HasValue table.family.profile setup value × (answer.new ≡ shown value) }
     ensures refused { IsIndexFor file.now index.now → result ≢ 0 → (fault : AnyFault) × HasProbeFault file.now text.now fault × (result ≡ fault_number fault) }
     ensures fault { IsIndexFor file.now index.now → (fault : AnyFault) → HasProbeFault file.now text.now fault → result ≡ fault_number fault }
-    ensures other { (format : AnyFormat) (family : AnyFamily) → NamesFamily format family file.now → ¬ IsMarked family index.now → result ≢ 0 }
+    ensures told_by { result ≡ 0 → (value : AnyValue) × IsToldBy file.now text.now index.now value × (answer.new ≡ shown value) }
+    ensures refused_by { result ≢ 0 → (fault : AnyByFault) × HasByFault file.now text.now index.now fault × (result ≡ number_by fault) }
+    ensures unmarked { (format : AnyFormat) (family : AnyFamily) (setup : AnySetup) → AreRead file.now text.now format family setup → ¬ IsMarked family index.now
+        → result ≡ 29 }
     ensures unchanged { result ≢ 0 → answer.new ≡ answer.old }
 {
     let asked = match ask_by(file, index, text) {

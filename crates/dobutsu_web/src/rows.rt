@@ -5,7 +5,7 @@ ghost use Rattle.dob_pieces.specs.declared.setup.Setup.{Setup as AnySetup};
 ghost use Rattle.dob_classes.specs.BlockRows.{IsRow};
 ghost use Rattle.dob_rank.specs.Families.{IsPositionOf};
 ghost use Rattle.dobutsu_web.specs.Asked.{IsTextAsked, IsRefused, IsBlockOf};
-ghost use Rattle.dobutsu_web.specs.Rows.{IsClassBy, IsRightRow, IsToldClass};
+ghost use Rattle.dobutsu_web.specs.Rows.{IsClassBy, HasNoRow, IsRightRow, IsToldClass};
 
 use crate::asked::ask;
 use crate::numbers::NO_ROW;
@@ -36,6 +36,7 @@ pub extern "C" fn dobutsu_block(text: &[u8], profile: u32, block: &mut u64) -> u
 #[unsafe(no_mangle)]
 pub extern "C" fn dobutsu_row(text: &[u8], profile: u32, block: u64, row: &mut [u64]) -> u32
     ensures told { result ≡ 0 → (family : AnyFamily) × (setup : AnySetup) × IsTextAsked text.now profile family setup × IsRow family block row.new }
+    ensures room { result ≡ 29 → (family : AnyFamily) × (setup : AnySetup) × IsTextAsked text.now profile family setup × HasNoRow family block row.old }
     ensures refused { result ≢ 0 → result ≢ 29 → IsRefused text.now profile result }
     ensures unchanged { result ≢ 0 → row.new ≡ row.old }
 {

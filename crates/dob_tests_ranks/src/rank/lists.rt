@@ -59,10 +59,14 @@ fn has_changed_tens<A: Abort>(rt: &A, list: &Segments<u64>)
     assert!(rt; walked.next().is_none());
 }
 
+// How many items are asked for in a segment, and how many it has: the greatest power of 2 up to that.
+const ASKED: [(u32, u32); 5] = [(1, 1), (2, 2), (3, 2), (7, 4), (8, 8)];
+
 #[test]
 fn lists_in_short_segments(rt: HostRuntime) {
-    for items in [1, 2, 3, 7, 8] {
+    for (items, kept) in ASKED {
         let mut list = tens(&rt, rt.alloc(), items, 20);
+        assert!(rt; list.segment_length().items() == kept);
         has_tens(&rt, &list);
         list[7] = 1;
         list[19] = 2;
@@ -92,14 +96,16 @@ fn has_fives<A: Abort>(rt: &A, list: &Segments<u64>, count: u64) {
 
 #[test]
 fn lists_of_one_item(rt: HostRuntime) {
-    for items in [1, 2, 3, 7, 8] {
+    for (items, kept) in ASKED {
         let length = length_of(&rt, items);
         for count in [0, 1, 7, 8, 9] {
             let mut found = Segments::filled(rt.alloc(), length, count, 5);
             if found.is_err() {
                 found = Segments::filled(rt.alloc(), length, count, 5);
             }
-            has_fives(&rt, &found.expect(&rt, "a list"), count);
+            let list = found.expect(&rt, "a list");
+            assert!(rt; list.segment_length().items() == kept);
+            has_fives(&rt, &list, count);
         }
     }
 }

@@ -11,7 +11,9 @@ use dob_pieces::Profile;
 use dob_run::scan;
 use dob_safra::NodeCount;
 use dob_share::Share;
+use std::alloc::Global;
 use std::process::Abort;
+use std::thread::Threads;
 
 // The classes of two elephants and two giraffes, as testdata/counts.txt has them: with no chick both profiles are one.
 const CLASSES: u64 = 1_707_030;
@@ -33,13 +35,28 @@ fn are_same(scanned: &Segments<Opening>, listed: &Segments<Opening>) -> bool {
     true
 }
 
+// Both find the openings in segments of that length, of so many items.
+fn finds_in_segments(
+    rt: &(impl Abort + Threads + Sync),
+    alloc: Global,
+    classes: &Classes,
+    length: SegmentLength,
+    items: u32,
+) {
+    let scanned = scan(rt, alloc, classes, length).expect(rt, "openings");
+    let listed = opening(alloc, classes, length).expect(rt, "openings");
+    assert!(rt; scanned.len() == 1116 && are_same(&scanned, &listed));
+    assert!(rt; scanned.segment_length().items() == items);
+    assert!(rt; listed.segment_length().items() == items);
+}
+
 #[test]
 fn many_threads_find_what_one_does(rt: HostRuntime) {
     let classes = classes_of(&rt, rt.alloc(), "001");
-    let length = SegmentLength::longest();
-    let scanned = scan(&rt, rt.alloc(), &classes, length).expect(&rt, "openings");
-    let listed = opening(rt.alloc(), &classes, length).expect(&rt, "openings");
-    assert!(rt; scanned.len() == 1116 && are_same(&scanned, &listed));
+    for (asked, items) in [(1, 1), (7, 4), (1 << 20, 1 << 20)] {
+        let length = SegmentLength::of(asked).expect(&rt, "a length");
+        finds_in_segments(&rt, rt.alloc(), &classes, length, items);
+    }
 }
 
 // What is known of a class before anything is settled, by the rules alone.

@@ -18,7 +18,6 @@ returns-in_err-built g c =
           c.nodes_for-count.result,
           c.nodes_for-count.ensures,
           c.in_err-built.ensures.fault,
-          c.in_err-built.ensures.unheld,
           unchanged shelf.has,
         ),
         none_failed shelf.has_failed,

@@ -1,6 +1,6 @@
--- Where there are no arguments, nothing but the one text is told, and the files are as they were.
+-- Where there are no arguments, nothing but the one text is told, and nothing is done with the shelf.
 use Rattle.std.proofs.Common.{refl}
-use Rattle.dob_shelf.proofs.Shelves.{unchanged}
+use Rattle.dob_cli.proofs.Runs.{leaves}
 use Rattle.dob_cli.proofs.program.run_given.Goals as goal
 
 pub returns-in-Ok-clause-words : goal.returns-in-Ok-clause-words
@@ -12,8 +12,8 @@ returns-in-Ok-clause-memory g c = rw c.in-Ok.is tt
 pub returns-in-Ok-clause-unread : goal.returns-in-Ok-clause-unread
 returns-in-Ok-clause-unread g c = rw c.in-Ok.is tt
 
-pub returns-in-Ok-clause-files : goal.returns-in-Ok-clause-files
-returns-in-Ok-clause-files g c = rw c.in-Ok.is tt
+pub returns-in-Ok-clause-shelf : goal.returns-in-Ok-clause-shelf
+returns-in-Ok-clause-shelf g c = rw c.in-Ok.is tt
 
 pub returns-in-OutOfMemory-clause-words : goal.returns-in-OutOfMemory-clause-words
 returns-in-OutOfMemory-clause-words g c = rw c.in-Err.is tt
@@ -21,8 +21,8 @@ returns-in-OutOfMemory-clause-words g c = rw c.in-Err.is tt
 pub returns-in-OutOfMemory-clause-memory : goal.returns-in-OutOfMemory-clause-memory
 returns-in-OutOfMemory-clause-memory g c = rw c.in-Err.is (λ _. (c.tell_memory.ensures, refl))
 
-pub returns-in-OutOfMemory-clause-files : goal.returns-in-OutOfMemory-clause-files
-returns-in-OutOfMemory-clause-files g c = rw c.in-Err.is (unchanged (g.S.Shelf.state c.args.shelf.now).has)
+pub returns-in-OutOfMemory-clause-shelf : goal.returns-in-OutOfMemory-clause-shelf
+returns-in-OutOfMemory-clause-shelf g c = rw c.in-Err.is (leaves (g.S.Shelf.state c.args.shelf.now))
 
 pub returns-in_default-clause-words : goal.returns-in_default-clause-words
 returns-in_default-clause-words g c = rw c.in-Err.is tt
@@ -30,5 +30,5 @@ returns-in_default-clause-words g c = rw c.in-Err.is tt
 pub returns-in_default-clause-unread : goal.returns-in_default-clause-unread
 returns-in_default-clause-unread g c = rw c.in-Err.is (λ _. (refl, c.say.ensures, refl))
 
-pub returns-in_default-clause-files : goal.returns-in_default-clause-files
-returns-in_default-clause-files g c = rw c.in-Err.is (unchanged (g.S.Shelf.state c.args.shelf.now).has)
+pub returns-in_default-clause-shelf : goal.returns-in_default-clause-shelf
+returns-in_default-clause-shelf g c = rw c.in-Err.is (leaves (g.S.Shelf.state c.args.shelf.now))

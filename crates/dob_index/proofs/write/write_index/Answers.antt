@@ -75,9 +75,9 @@ returns-clause-index c =
     (λ i from upto. head.others i (omega (arith, from))) (c.loop-block.invariant.blocks_are b (omega (arith, low, all))) in
     record {
       marked = record {
-        room = (let long = head.size in omega (arith, long, rows, size));
         mark_is = head.first_is ∙ c.mark_of.ensures;
-        whole = (let third = head.third_is in let long = head.size in omega (arith, third, long, end, size));
+        length_is = head.third_is ∙ end;
+        whole = (let long = head.size in omega (arith, long, size));
       };
       count_is = head.second_is ∙ classes_all family c.loop-block.block c.loop-block.before all c.loop-block.invariant.before;
       rows = λ block low. (kept block low).row;

@@ -7,12 +7,13 @@ use Rattle.dobutsu_c.proofs.by_index.value_by.Goals as goal
 pub returns-then-class-held : goal.returns-then-class-held
 returns-then-class-held c = (
   c.held_value.ensures.entry,
-  λ is. (
-    c.class_by-class.result,
-    subst (IsInClass c.args.held.family c.args.position.now.setup) (sym (c.class_by-class.ensures is))
-        (IsInClass-class_number c.args.held.family c.args.position.now.setup c.requires.member),
-    c.held_value.ensures.read,
-  ),
+  record {
+    class = c.class_by-class.result;
+    below = c.if-class-held.true;
+    read = c.held_value.ensures.read;
+    right = λ is. subst (IsInClass c.args.held.family c.args.position.now.setup) (sym (c.class_by-class.ensures is))
+        (IsInClass-class_number c.args.held.family c.args.position.now.setup c.requires.member);
+  },
 )
 
 pub returns-else-class-held : goal.returns-else-class-held

@@ -22,6 +22,21 @@ returns-clause-class c = λ family setup is index named member.
       subst (λ (f : Family). IsInClass f setup c.class_by.result) (sym same) (subst (λ (s : Setup). IsInClass found s c.class_by.result) (sym read) in_class),
     )
 
+pub returns-then-not-is_index_of-clause-class : goal.returns-then-not-is_index_of-clause-class
+returns-then-not-is_index_of-clause-class c = λ family setup is index named member.
+    let found = c.in-Ok-family_of.family in
+    let same = one_family c.args.chicks c.args.elephants c.args.giraffes c.args.profile family found is c.in-Ok-family_of.ensures.0 in
+    let there : IsIndex found c.args.index.now = subst (λ (f : Family). IsIndex f c.args.index.now) same index in
+    absurd (both_ways _ c.if-not-is_index_of.true (c.is_index_of.ensures.1 there.marked))
+
+pub returns-then-not-is_of_set-clause-class : goal.returns-then-not-is_of_set-clause-class
+returns-then-not-is_of_set-clause-class c = λ family setup is index named member.
+    let found = c.in-Ok-family_of.family in
+    let same = one_family c.args.chicks c.args.elephants c.args.giraffes c.args.profile family found is c.in-Ok-family_of.ensures.0 in
+    let read = same_spelled c.args.text.now setup c.in-Ok.position.setup named.1 c.in-Ok.ensures.read.2 in
+    let there : IsPositionOf found c.in-Ok.position.setup = subst (IsPositionOf found) read (subst (λ (f : Family). IsPositionOf f setup) same member) in
+    absurd (both_ways _ c.if-not-is_of_set.true (c.is_of_set.ensures.1 there.of_set))
+
 pub returns-clause-told : goal.returns-clause-told
 returns-clause-told c = λ none. (
   c.in-Ok-family_of.family,

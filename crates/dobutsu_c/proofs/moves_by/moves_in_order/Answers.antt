@@ -1,15 +1,11 @@
--- Each move is later than those listed, and by the right index its value is that of the position that it leads to.
-use Rattle.std.proofs.Common.{refl}
+-- Each move is later than those listed, and its value is given to the position that it leads to.
+use Rattle.std.proofs.Common.{AllPairs, refl, sym, subst, List}
 use Rattle.std.proofs.lemmas.Option.{slice_get_read}
-use Rattle.dob_pieces.specs.declared.setup.Setup.{Setup}
-use Rattle.dob_rank.specs.Families.{IsPositionOf}
-use Rattle.dob_value.specs.declared.value.Value.{Value}
 use Rattle.dob_value.proofs.Successors.{move_goes}
 use Rattle.dob_probe.specs.declared.by_value.ValuedMove.{ValuedMove}
-use Rattle.dob_probe.proofs.ByValue.{listed_more, listed_all}
-use Rattle.dobutsu_c.specs.Probes.{IsGiven}
-use Rattle.dobutsu_c.proofs.Exact.{one_given}
-use Rattle.dobutsu_c.proofs.IndexedMoves.{before_next, one_more}
+use Rattle.dob_probe.specs.ValuedMoves.{ComesBefore}
+use Rattle.dobutsu_c.specs.ByIndex.{IsGivenBy}
+use Rattle.dobutsu_c.proofs.IndexedMoves.{AreListedBy, AreOfFirst, all_listed, before_next, more_listed, none_first, none_listed, none_ordered, one_more}
 use Rattle.dobutsu_c.proofs.moves_by.moves_in_order.Goals as goal
 
 pub value_after-requires-clause-open : goal.value_after-requires-clause-open
@@ -28,10 +24,20 @@ insert_by_value-requires-clause-later c =
     before_next c.args.asked.held.family.profile c.args.asked.position.setup c.args.the_moves.now c.loop-the_move.the_move-index c.loop-the_move.list.items
     c.the_move-item.result c.requires.the_moves c.loop-the_move-test.true here c.loop-the_move.invariant.first
 
+pub loop-the_move-init : goal.loop-the_move-init
+loop-the_move-init c =
+    let held = c.args.asked.held in
+    let Has = IsGivenBy c.args.file.now c.args.index.now held.format held.family held.classes in
+    record {
+      ordered = subst (AllPairs ComesBefore) (sym c.new-list.ensures.items) none_ordered;
+      first = subst (AreOfFirst c.args.the_moves.now 0) (sym c.new-list.ensures.items) (none_first c.args.the_moves.now);
+      listed = subst (λ (xs : List ValuedMove). AreListedBy held.family.profile Has c.args.asked.position.setup c.args.the_moves.now 0 xs)
+          (sym c.new-list.ensures.items) (none_listed held.family.profile Has c.args.asked.position.setup c.args.the_moves.now);
+    }
+
 pub loop-the_move-preserved : goal.loop-the_move-preserved
 loop-the_move-preserved c =
     let held = c.args.asked.held in
-    let file = c.args.file.now in
     let setup = c.args.asked.position.setup in
     let the_moves = c.args.the_moves.now in
     let index = c.loop-the_move.the_move-index in
@@ -43,16 +49,17 @@ loop-the_move-preserved c =
       ordered = c.in_ok-insert_by_value.ensures.ordered;
       first = one_more the_moves index c.loop-the_move.list.items c.insert_by_value.new.list.items more here c.in_ok-insert_by_value.ensures.items
           c.loop-the_move.invariant.first;
-      listed = λ right.
-          listed_more held.family (IsGiven file held.format held.family)
-          (λ (q : Setup) (v w : Value) (is : IsPositionOf held.family q) at_v at_w. one_given file held.format held.family q v w at_v at_w)
-          setup c.requires.member the_moves index c.loop-the_move.list.items c.insert_by_value.new.list.items more
-          c.in-Some.value here goes.0 goes.1 (c.in-Some.ensures.1 right) c.value_seen.ensures c.in_ok-insert_by_value.ensures.items
-          c.in_ok-insert_by_value.ensures.ordered (c.loop-the_move.invariant.listed right);
+      listed = more_listed held.family.profile (IsGivenBy c.args.file.now c.args.index.now held.format held.family held.classes) setup the_moves index
+          c.loop-the_move.list.items c.insert_by_value.new.list.items more c.in-Some.value here goes.0 goes.1 c.in-Some.ensures.1 c.value_seen.ensures
+          c.in_ok-insert_by_value.ensures.items
+          (before_next held.family.profile setup the_moves index c.loop-the_move.list.items the_move c.requires.the_moves c.loop-the_move-test.true here
+          c.loop-the_move.invariant.first)
+          c.loop-the_move.invariant.listed;
     }
 
 pub returns : goal.returns
-returns c = λ right.
+returns c =
     let held = c.args.asked.held in
-    listed_all held.family.profile (IsGiven c.args.file.now held.format held.family) c.args.asked.position.setup c.args.the_moves.now c.loop-the_move.the_move-index
-    c.loop-the_move.list.items c.requires.free c.requires.the_moves c.loop-the_move-test.false (c.loop-the_move.invariant.listed right)
+    all_listed c.args.file.now c.args.index.now held.format held.family held.classes c.args.asked.position.setup c.args.the_moves.now
+    c.loop-the_move.the_move-index c.loop-the_move.list.items c.requires.free c.requires.the_moves c.loop-the_move-test.false
+    c.loop-the_move.invariant.listed c.loop-the_move.invariant.ordered

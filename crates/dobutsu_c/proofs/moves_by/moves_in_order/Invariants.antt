@@ -1,16 +1,14 @@
--- The moves so far are listed, with their values where the index is right.
+-- The moves so far are listed, each with a value that the file gives.
 use Rattle.std.proofs.Common.{AllPairs}
-use Rattle.dob_index.specs.Index.{IsIndex}
 use Rattle.dob_probe.specs.ValuedMoves.{ComesBefore}
-use Rattle.dob_probe.proofs.ByValue.{AreListed}
-use Rattle.dobutsu_c.specs.Probes.{IsGiven}
-use Rattle.dobutsu_c.proofs.IndexedMoves.{AreOfFirst}
+use Rattle.dobutsu_c.specs.ByIndex.{IsGivenBy}
+use Rattle.dobutsu_c.proofs.IndexedMoves.{AreListedBy, AreOfFirst}
 use Rattle.dobutsu_c.proofs.moves_by.moves_in_order.Given as goal
 
 abbrev pub invariant-loop-the_move : goal.invariant-loop-the_move
 invariant-loop-the_move l = record {
   ordered : AllPairs ComesBefore l.list.items;
   first : AreOfFirst l.the_moves l.the_move-index l.list.items;
-  listed : IsIndex l.asked.held.family l.index
-      → AreListed l.asked.held.family.profile (IsGiven l.file l.asked.held.format l.asked.held.family) l.asked.position.setup l.the_moves l.the_move-index l.list.items;
+  listed : AreListedBy l.asked.held.family.profile (IsGivenBy l.file l.index l.asked.held.format l.asked.held.family l.asked.held.classes)
+      l.asked.position.setup l.the_moves l.the_move-index l.list.items;
 }

@@ -10,7 +10,7 @@ use Rattle.dob_moves.specs.Moves.{Goes}
 use Rattle.dob_index.specs.Index.{IsIndex}
 use Rattle.dob_value.specs.Follows.{IsEntry}
 use Rattle.dob_value.specs.declared.value.Value.{Value}
-use Rattle.dobutsu_c.specs.Probes.{IsGiven}
+use Rattle.dobutsu_c.specs.ByIndex.{IsGivenBy}
 use Rattle.dobutsu_c.proofs.IndexedMoves.{onward}
 use Rattle.dobutsu_c.proofs.moves_by.value_after.Goals as goal
 
@@ -33,15 +33,15 @@ value_by-requires-clause-member c =
 pub returns : goal.returns
 returns c =
     let asked = c.args.asked.now in
-    let Given = IsGiven c.args.file.now asked.held.format asked.held.family in
+    let Given = IsGivenBy c.args.file.now c.args.index.now asked.held.format asked.held.family asked.held.classes in
     onward c.value_by.result (IsIndex asked.held.family c.args.index.now → ⊥)
-    (λ (v : Value). IsEntry v × (IsIndex asked.held.family c.args.index.now → Given c.apply-after.result.setup v))
-    (λ (v : Value). IsEntry v × (IsIndex asked.held.family c.args.index.now → (q : Setup) → Goes asked.held.family.profile asked.position.setup c.args.the_move q → Given q v))
+    (λ (v : Value). IsEntry v × Given c.apply-after.result.setup v)
+    (λ (v : Value). IsEntry v × ((q : Setup) → Goes asked.held.family.profile asked.position.setup c.args.the_move q → Given q v))
     (λ v is. (
       is.0,
-      λ index q by.
+      λ q by.
           let same = HasOutcome-is asked.position.setup c.args.the_move c.apply-after.result.setup c.apply-after.ensures
           ∙ sym (HasOutcome-is asked.position.setup c.args.the_move q (goes asked.held.family.profile asked.position.setup c.args.the_move q by)) in
-          subst (λ (s : Setup). Given s v) same (is.1 index),
+          subst (λ (s : Setup). Given s v) same is.1,
     ))
     c.value_by.ensures
