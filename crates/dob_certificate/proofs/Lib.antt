@@ -1,0 +1,1 @@
+-- The lemmas, in the order in which they are read.

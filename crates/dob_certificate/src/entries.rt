@@ -1,0 +1,83 @@
+// Entries by ascending class, so that each class has one at most.
+ghost use Rattle.std.specs.Prelude.{◌≡◌, ◌≢◌, [], Contains, IfSome, IfNone, IsSome, ◌↔◌};
+ghost use Rattle.dob_certificate.specs.Ascending.{AreAscending};
+
+use crate::entry::Entry;
+use std::alloc::Global;
+use std::marker::Model;
+
+/// Entries whose classes ascend. Contracts see the list of the entries.
+#[derive(Debug, Drop)]
+pub struct Entries {
+    entries: Vec<Entry>,
+}
+
+impl Model for Entries {
+    ghost use Rattle.std.specs.Prelude.{List};
+    ghost use Rattle.dob_certificate.specs.declared.entry.Entry.{Entry};
+
+    ghost Value = { List Entry };
+
+    ghost use Rattle.dob_certificate.specs.Ascending.{AreAscending};
+
+    ghost view = { λ list. list.entries.items };
+
+    ghost invariant = { λ list. AreAscending list.entries.items };
+}
+
+impl Entries {
+    /// No entries.
+    pub fn new(alloc: Global) -> Entries
+        ensures { result ≡ [] }
+    {
+        Entries {
+            entries: Vec::new(alloc),
+        }
+    }
+
+    /// The entries, or None where they don't ascend: where a class isn't above the one before it.
+    pub fn from_vec(entries: Vec<Entry>) -> Option<Entries>
+        ensures some { IfSome result (λ list. list ≡ entries.items) }
+        ensures ascending { IsSome result ↔ AreAscending entries.items }
+    {
+        if are_ascending(&entries) {
+            Some(Entries { entries })
+        } else {
+            None
+        }
+    }
+
+    /// The entries in the order of their classes.
+    pub fn as_slice(&self) -> &[Entry]
+        ensures entries { result.now ≡ self.now }
+        ensures ascending { AreAscending self.now }
+    {
+        &self.entries
+    }
+
+    /// The entry of that class, or None where it has none. A binary search.
+    pub fn find(&self, class: u64) -> Option<Entry>
+        ensures some { IfSome result (λ entry. Contains self.now entry × (entry.class ≡ class)) }
+        ensures none { IfNone result ((entry : Entry) → Contains self.now entry → entry.class ≢ class) }
+    {
+        match self
+            .entries
+            .binary_search_by_key(&class, |entry: &Entry| entry.class as u64)
+        {
+            Ok(place) => Some(self.entries[place]),
+            Err(_) => None,
+        }
+    }
+}
+
+// Whether each class is above the one before it.
+fn are_ascending(entries: &[Entry]) -> bool
+    ensures { IsTrue result ↔ AreAscending entries.now }
+{
+    for place in 1..entries.len() {
+        if entries[place].class <= entries[place - 1].class {
+            return false;
+        }
+    }
+    true
+}

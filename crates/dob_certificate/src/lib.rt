@@ -1,0 +1,24 @@
+// Certificates: lists of classes that prove a position's value without a table.
+#![tactic(auto)]
+
+mod certificate;
+mod claim;
+mod entries;
+mod entry;
+mod held;
+mod lists;
+mod lookup;
+mod lost;
+mod refusal;
+mod room;
+mod verifying;
+
+pub use certificate::Certificate;
+pub use claim::{Claim, is_shown};
+pub use entries::Entries;
+pub use entry::{EVER, Entry};
+pub use lists::{check_held_entry, check_lost_entry};
+pub use lookup::entry_for;
+pub use refusal::Refusal;
+pub use room::Room;
+pub use verifying::{is_lost_within, is_won_within, verify};

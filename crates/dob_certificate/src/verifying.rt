@@ -1,0 +1,115 @@
+// Whether a certificate proves what is claimed of a position.
+ghost use Rattle.std.specs.Prelude.{◌≡◌, ◌↔◌, IfOk, IfErr, IsTrue};
+ghost use Rattle.dob_rank.specs.Families.{IsPositionOf};
+ghost use Rattle.dob_value.specs.Values.{Lost, Won};
+ghost use Rattle.dob_certificate.specs.Lost.{IsSaidLost, SupportsAllLost};
+ghost use Rattle.dob_certificate.specs.Claims.{Holds, Prove, ShowsWon};
+ghost use Rattle.dob_certificate.specs.Refusals.{IsRefusal};
+
+use crate::certificate::Certificate;
+use crate::claim::{Claim, is_shown, shows_won};
+use crate::entries::Entries;
+use crate::lists::{check_held, check_lost};
+use crate::lost::is_said_lost;
+use crate::refusal::Refusal;
+use crate::room::Room;
+use dob_classes::Classes;
+use dob_pieces::{Memory, Position};
+use std::alloc::Global;
+
+/// Passes the certificate just where its lists prove the claim, so only where the claim holds. It reads no table.
+///
+/// # Errors
+///
+/// `Unsupported` with the class of the first entry, of the lost list and then of the held one, that its list doesn't support; `Claim`
+/// where all are supported, and the lists don't show the claim; `Memory`.
+pub fn verify(
+    alloc: Global,
+    classes: &Classes,
+    certificate: &Certificate,
+    position: &Position,
+    claim: Claim,
+) -> Result<(), Refusal>
+    requires { IsPositionOf classes.now.family position.now.setup }
+    ensures holds { IfOk result (λ _. Holds classes.now.family.profile position.now.setup claim) }
+    ensures proof { IfOk result (λ _. Prove classes.now.family certificate.now.lost certificate.now.held position.now.setup claim) }
+    ensures refusal { IfErr result (IsRefusal classes.now.family certificate.now.lost certificate.now.held position.now.setup claim) }
+{
+    let mut room = Room::new(alloc);
+    check_lost(&mut room, classes, &certificate.lost)?;
+    check_held(&mut room, classes, &certificate.held)?;
+    if is_shown(&mut room, classes, certificate, position, claim)? {
+        Ok(())
+    } else {
+        Err(Refusal::Claim)
+    }
+}
+
+/// Whether the certificate proves that the side to move can't keep from losing within so many plies: its lost list supports its
+/// entries, and says so. It reads that list alone.
+///
+/// # Errors
+///
+/// `Memory`.
+pub fn is_lost_within(
+    alloc: Global,
+    classes: &Classes,
+    certificate: &Certificate,
+    position: &Position,
+    plies: u16,
+) -> Result<bool, Memory>
+    requires { IsPositionOf classes.now.family position.now.setup }
+    ensures lost { IfOk result (λ yes. IsTrue yes → Lost classes.now.family.profile plies position.now.setup) }
+    ensures proof { IfOk result (λ yes. IsTrue yes ↔
+        (SupportsAllLost classes.now.family certificate.now.lost × IsSaidLost classes.now.family certificate.now.lost plies position.now.setup)) }
+{
+    let mut room = Room::new(alloc);
+    let supported = supports_all_lost(&mut room, classes, &certificate.lost)?;
+    Ok(supported && is_said_lost(classes, &certificate.lost, plies, position))
+}
+
+/// Whether the certificate proves that the side to move can force a win within so many plies: its lost list supports its entries, and
+/// the side to move catches the lion, or some move leads to what that list says to be lost in time. It reads that list alone.
+///
+/// # Errors
+///
+/// `Memory`.
+pub fn is_won_within(
+    alloc: Global,
+    classes: &Classes,
+    certificate: &Certificate,
+    position: &Position,
+    plies: u16,
+) -> Result<bool, Memory>
+    requires { IsPositionOf classes.now.family position.now.setup }
+    ensures won { IfOk result (λ yes. IsTrue yes → Won classes.now.family.profile plies position.now.setup) }
+    ensures proof { IfOk result (λ yes. IsTrue yes ↔
+        (SupportsAllLost classes.now.family certificate.now.lost × ShowsWon classes.now.family certificate.now.lost position.now.setup plies)) }
+{
+    let mut room = Room::new(alloc);
+    let supported = supports_all_lost(&mut room, classes, &certificate.lost)?;
+    if supported {
+        shows_won(
+            &mut room.replies,
+            classes,
+            &certificate.lost,
+            position,
+            plies,
+        )
+    } else {
+        Ok(false)
+    }
+}
+
+// Whether the list supports each of its entries.
+//
+// Error: `Memory`.
+fn supports_all_lost(room: &mut Room, classes: &Classes, lost: &Entries) -> Result<bool, Memory>
+    ensures { IfOk result (λ yes. IsTrue yes ↔ SupportsAllLost classes.now.family lost.now) }
+{
+    match check_lost(room, classes, lost) {
+        Ok(()) => Ok(true),
+        Err(Refusal::Memory) => Err(Memory),
+        Err(Refusal::Unsupported(_) | Refusal::Claim) => Ok(false),
+    }
+}
