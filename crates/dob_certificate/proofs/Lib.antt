@@ -1,1 +1,7 @@
 -- The lemmas, in the order in which they are read.
+pub mod Orders  -- entries by ascending class
+pub mod Replies  -- what holds of each move of a list, and of each entry
+pub mod Firsts  -- the first entry that is not supported
+pub mod Bounds  -- what supported lists say of positions is so
+pub mod Cases  -- what lists say, by the position's status
+pub mod Exact  -- a claim that is proved holds

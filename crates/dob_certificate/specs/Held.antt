@@ -27,7 +27,7 @@ AreAllHeld family held n q = HasStatus family.profile q Open → (reply : Move) 
 -- and the lion can't be caught
 pub record IsSafe (family : Family) (held : List Entry) (n : ℕ) (q : Setup) : Type 0 where
   pub free : ¬ HasStatus family.profile q Caught
-  pub held : AreAllHeld family held n q
+  pub all_held : AreAllHeld family held n q
 
 -- some move leads to a safe position
 pub record HasEscape (family : Family) (held : List Entry) (n : ℕ) (p : Setup) : Type 0 where

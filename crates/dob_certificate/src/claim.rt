@@ -90,12 +90,12 @@ fn shows_draw(
     }
 }
 
-/// Whether the lists show the claim of the position. It proves the claim only where each list supports its entries.
+/// Whether the lists show the claim of the position. That proves it only where each list supports its entries.
 ///
 /// # Errors
 ///
 /// `Memory`.
-pub fn is_shown(
+pub(crate) fn is_shown(
     room: &mut Room,
     classes: &Classes,
     certificate: &Certificate,

@@ -1,5 +1,5 @@
 // Entries by ascending class, so that each class has one at most.
-ghost use Rattle.std.specs.Prelude.{◌≡◌, ◌≢◌, [], Contains, IfSome, IfNone, IsSome, ◌↔◌};
+ghost use Rattle.std.specs.Prelude.{◌≡◌, ◌≢◌, [], Contains, IfSome, IfNone, IsSome, IsTrue, ◌↔◌};
 ghost use Rattle.dob_certificate.specs.Ascending.{AreAscending};
 
 use crate::entry::Entry;
@@ -60,13 +60,19 @@ impl Entries {
         ensures some { IfSome result (λ entry. Contains self.now entry × (entry.class ≡ class)) }
         ensures none { IfNone result ((entry : Entry) → Contains self.now entry → entry.class ≢ class) }
     {
-        match self
-            .entries
-            .binary_search_by_key(&class, |entry: &Entry| entry.class as u64)
-        {
-            Ok(place) => Some(self.entries[place]),
-            Err(_) => None,
-        }
+        find_in(self.as_slice(), class)
+    }
+}
+
+// The entry of that class.
+fn find_in(entries: &[Entry], class: u64) -> Option<Entry>
+    requires { AreAscending entries.now }
+    ensures some { IfSome result (λ entry. Contains entries.now entry × (entry.class ≡ class)) }
+    ensures none { IfNone result ((entry : Entry) → Contains entries.now entry → entry.class ≢ class) }
+{
+    match entries.binary_search_by_key(&class, |entry: &Entry| entry.class as u64) {
+        Ok(place) => Some(entries[place]),
+        Err(_) => None,
     }
 }
 

@@ -14,11 +14,11 @@ mod room;
 mod verifying;
 
 pub use certificate::Certificate;
-pub use claim::{Claim, is_shown};
+pub use claim::Claim;
 pub use entries::Entries;
 pub use entry::{EVER, Entry};
 pub use lists::{check_held_entry, check_lost_entry};
 pub use lookup::entry_for;
 pub use refusal::Refusal;
 pub use room::Room;
-pub use verifying::{is_lost_within, is_won_within, verify};
+pub use verifying::{check_claim, is_lost_within, is_won_within, verify};

@@ -3,6 +3,7 @@ ghost use Rattle.std.specs.Prelude.{◌≡◌, ◌↔◌, IfOk, IfErr, IsTrue};
 ghost use Rattle.dob_rank.specs.Families.{IsPositionOf};
 ghost use Rattle.dob_value.specs.Values.{Lost, Won};
 ghost use Rattle.dob_certificate.specs.Lost.{IsSaidLost, SupportsAllLost};
+ghost use Rattle.dob_certificate.specs.Held.{SupportsAllHeld};
 ghost use Rattle.dob_certificate.specs.Claims.{Holds, Prove, ShowsWon};
 ghost use Rattle.dob_certificate.specs.Refusals.{IsRefusal};
 
@@ -38,7 +39,30 @@ pub fn verify(
     let mut room = Room::new(alloc);
     check_lost(&mut room, classes, &certificate.lost)?;
     check_held(&mut room, classes, &certificate.held)?;
-    if is_shown(&mut room, classes, certificate, position, claim)? {
+    check_claim(&mut room, classes, certificate, position, claim)
+}
+
+/// Passes the claim just where the lists show it, once each is known to support its entries: what is left of [`verify`] for who has
+/// looked at the entries by [`check_lost_entry`](crate::check_lost_entry) and [`check_held_entry`](crate::check_held_entry).
+///
+/// # Errors
+///
+/// `Claim` where the lists don't show the claim; `Memory`.
+pub fn check_claim(
+    room: &mut Room,
+    classes: &Classes,
+    certificate: &Certificate,
+    position: &Position,
+    claim: Claim,
+) -> Result<(), Refusal>
+    requires member { IsPositionOf classes.now.family position.now.setup }
+    requires lost { SupportsAllLost classes.now.family certificate.now.lost }
+    requires held { SupportsAllHeld classes.now.family certificate.now.held }
+    ensures holds { IfOk result (λ _. Holds classes.now.family.profile position.now.setup claim) }
+    ensures proof { IfOk result (λ _. Prove classes.now.family certificate.now.lost certificate.now.held position.now.setup claim) }
+    ensures refusal { IfErr result (IsRefusal classes.now.family certificate.now.lost certificate.now.held position.now.setup claim) }
+{
+    if is_shown(room, classes, certificate, position, claim)? {
         Ok(())
     } else {
         Err(Refusal::Claim)

@@ -1,0 +1,135 @@
+-- What lists say of a position, by its status.
+use Rattle.std.proofs.Common.{◌≡◌, ℕ, ◌-◌, ◌≤◌, ◌<◌, ◌⊎◌, ◌↔◌, inl, inr, subst, arith, List, Bool, IsTrue}
+use Rattle.dob_pieces.specs.declared.profile.Family.{Family}
+use Rattle.dob_pieces.specs.declared.profile.Profile.{Profile}
+use Rattle.dob_pieces.specs.declared.setup.Setup.{Setup}
+use Rattle.dob_moves.specs.declared.position_status.Status.{Status}
+use Rattle.dob_moves.specs.declared.position_status.Status.TheVariants.{Caught, Tried, Stuck, Open}
+use Rattle.dob_moves.specs.Statuses.{HasStatus}
+use Rattle.dob_value.specs.Values.{HasLost}
+use Rattle.dob_value.proofs.Depths.{lost_not_caught, lost_not_open}
+use Rattle.dob_certificate.specs.declared.entry.Entry.{Entry}
+use Rattle.dob_certificate.specs.Lost.{IsListedWithin, IsSaidLost, HasReply, IsAnswered, AreAllAnswered, IsLossSupported}
+use Rattle.dob_certificate.specs.Held.{IsListedBeyond, IsSaidHeld, AreAllHeld, IsSafe, HasEscape, plies_asked, IsHoldSupported}
+
+-- ---- statuses
+
+-- a status of a match's arm is the position's
+pub of_status : (profile : Profile) (p : Setup) (s t : Status) → s ≡ t → HasStatus profile p s → HasStatus profile p t
+of_status profile p s t is has = subst (HasStatus profile p) is has
+
+-- tried or stuck, it has lost
+pub over_by : (profile : Profile) (p : Setup) (s : Status) → (s ≡ Tried) ⊎ (s ≡ Stuck) → HasStatus profile p s → HasLost profile p
+over_by profile p s is has = elim is [
+  | inl tried ↦ inl (subst (HasStatus profile p) tried has)
+  | inr stuck ↦ inr (subst (HasStatus profile p) stuck has)
+]
+
+not_both : (profile : Profile) (p : Setup) → HasStatus profile p Caught → ¬ HasStatus profile p Open
+not_both profile p caught goes_on = goes_on.0 caught
+
+-- ---- classes that are lost
+module _ (family : Family) (lost : List Entry) (n : ℕ) (p : Setup) where
+  pub said_lost_caught : HasStatus family.profile p Caught → ¬ IsSaidLost family lost n p
+  said_lost_caught caught said = elim said [
+    | inl over ↦ lost_not_caught family.profile p over caught
+    | inr listed ↦ not_both family.profile p caught listed.0
+  ]
+
+  pub said_lost_open : (yes : Bool) → HasStatus family.profile p Open → IsTrue yes ↔ IsListedWithin family lost n p → IsTrue yes ↔ IsSaidLost family lost n p
+  said_lost_open yes goes_on listed = (
+    λ shown. inr (goes_on, listed.0 shown),
+    λ said. elim said [
+      | inl over ↦ absurd (lost_not_open family.profile p over goes_on)
+      | inr is ↦ listed.1 is.1
+    ],
+  )
+
+  pub answered_over : HasLost family.profile p → ¬ IsAnswered family lost n p
+  answered_over over answered = elim answered [
+    | inl caught ↦ lost_not_caught family.profile p over caught
+    | inr reply ↦ lost_not_open family.profile p over reply.goes_on
+  ]
+
+  pub answered_open : (yes : Bool) → HasStatus family.profile p Open → IsTrue yes ↔ HasReply family lost n p → IsTrue yes ↔ IsAnswered family lost n p
+  answered_open yes goes_on has = (
+    λ shown. inr (has.0 shown),
+    λ answered. elim answered [
+      | inl caught ↦ absurd (not_both family.profile p caught goes_on)
+      | inr reply ↦ has.1 reply
+    ],
+  )
+
+  pub loss_caught : HasStatus family.profile p Caught → ¬ IsLossSupported family lost n p
+  loss_caught caught supported = elim supported [
+    | inl over ↦ lost_not_caught family.profile p over caught
+    | inr more ↦ not_both family.profile p caught more.1.goes_on
+  ]
+
+  pub loss_soon : HasStatus family.profile p Open → n < 2 → ¬ IsLossSupported family lost n p
+  loss_soon goes_on few supported = elim supported [
+    | inl over ↦ lost_not_open family.profile p over goes_on
+    | inr more ↦ let many : 2 ≤ n = more.0 in absurd (omega (arith, few, many))
+  ]
+
+  pub loss_open : (yes : Bool) → HasStatus family.profile p Open → 2 ≤ n → IsTrue yes ↔ AreAllAnswered family lost (n - 2) p →
+      IsTrue yes ↔ IsLossSupported family lost n p
+  loss_open yes goes_on many all = (
+    λ shown. inr (many, all.0 shown),
+    λ supported. elim supported [
+      | inl over ↦ absurd (lost_not_open family.profile p over goes_on)
+      | inr more ↦ all.1 more.1
+    ],
+  )
+
+-- ---- classes that aren't lost
+module _ (family : Family) (held : List Entry) (n : ℕ) (p : Setup) where
+  pub said_held_over : HasLost family.profile p → ¬ IsSaidHeld family held n p
+  said_held_over over said = elim said [
+    | inl caught ↦ lost_not_caught family.profile p over caught
+    | inr other ↦ lost_not_open family.profile p over other.0
+  ]
+
+  pub said_held_open : (yes : Bool) → HasStatus family.profile p Open → IsTrue yes ↔ ((n ≤ 1) ⊎ IsListedBeyond family held n p) → IsTrue yes ↔ IsSaidHeld family held n p
+  said_held_open yes goes_on found = (
+    λ shown. inr (goes_on, found.0 shown),
+    λ said. elim said [
+      | inl caught ↦ absurd (not_both family.profile p caught goes_on)
+      | inr other ↦ found.1 other.1
+    ],
+  )
+
+  -- where the game has ended there is nothing to answer
+  pub safe_over : HasLost family.profile p → IsSafe family held n p
+  safe_over over = record {
+    free = lost_not_caught family.profile p over;
+    all_held = λ goes_on reply r goes. absurd (lost_not_open family.profile p over goes_on);
+  }
+
+  pub safe_caught : HasStatus family.profile p Caught → ¬ IsSafe family held n p
+  safe_caught caught safe = safe.free caught
+
+  pub safe_open : (yes : Bool) → HasStatus family.profile p Open → IsTrue yes ↔ AreAllHeld family held n p → IsTrue yes ↔ IsSafe family held n p
+  safe_open yes goes_on all = (
+    λ shown. record { free = λ caught. not_both family.profile p caught goes_on; all_held = all.0 shown },
+    λ safe. all.1 safe.all_held,
+  )
+
+  pub hold_over : HasLost family.profile p → ¬ IsHoldSupported family held n p
+  hold_over over supported = elim supported [
+    | inl caught ↦ lost_not_caught family.profile p over caught
+    | inr more ↦ lost_not_open family.profile p over more.0
+  ]
+
+  pub hold_soon : HasStatus family.profile p Open → n < 2 → IsHoldSupported family held n p
+  hold_soon goes_on few = inr (goes_on, λ many. absurd (omega (arith, few, many)))
+
+  pub hold_open : (yes : Bool) → HasStatus family.profile p Open → 2 ≤ n → IsTrue yes ↔ HasEscape family held (plies_asked n) p →
+      IsTrue yes ↔ IsHoldSupported family held n p
+  hold_open yes goes_on many escape = (
+    λ shown. inr (goes_on, λ _. escape.0 shown),
+    λ supported. elim supported [
+      | inl caught ↦ absurd (not_both family.profile p caught goes_on)
+      | inr more ↦ escape.1 (more.1 many)
+    ],
+  )

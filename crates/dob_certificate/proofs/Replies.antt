@@ -1,0 +1,57 @@
+-- What holds of what each move of a list leads to, and of each entry of a list.
+use Rattle.std.proofs.Common.{◌≡◌, ℕ, ◌+◌, ◌<◌, ◌≤◌, inl, inr, sym, subst, ap, ◌∙◌, arith, List, length, Option, Some, slice_get, Contains, get_or}
+use Rattle.std.proofs.lemmas.Bool.{cases_lt}
+use Rattle.std.proofs.lemmas.Option.{slice_get-get_or, same_Some}
+use Rattle.std.proofs.lemmas.List.{get_or_default}
+use Rattle.dob_pieces.specs.declared.profile.Family.{Family}
+use Rattle.dob_pieces.specs.declared.profile.Profile.{Profile}
+use Rattle.dob_pieces.specs.declared.setup.Setup.{Setup}
+use Rattle.dob_moves.specs.declared.game_move.Move.{Move}
+use Rattle.dob_moves.specs.declared.position_status.Status.TheVariants.{Open}
+use Rattle.dob_moves.specs.Moves.{Goes}
+use Rattle.dob_moves.specs.Statuses.{HasStatus, AreMoves}
+use Rattle.dob_rank.specs.Families.{IsRepresentative, HasClass, classes_of, class_setup}
+use Rattle.dob_rank.proofs.OfFamilies.Present.{HasClasses-classes_of}
+use Rattle.dob_classes.proofs.OfFamilies.FamilyRepresentatives.{class_setup_only}
+
+-- it holds of what the moves below an index lead to
+abbrev pub AllBelow : Profile → (Setup → Type 0) → Setup → List Move → ℕ → Type 0
+AllBelow profile Fits p the_moves upto = (index : ℕ) (move : Move) (q : Setup) → index < upto → slice_get the_moves index ≡ Some move →
+    Goes profile p move q → Fits q
+
+module _ (profile : Profile) (Fits : Setup → Type 0) (p : Setup) (the_moves : List Move) where
+  pub all_none : AllBelow profile Fits p the_moves 0
+  all_none index move q below there goes = absurd (omega arith)
+
+  pub all_more : (upto : ℕ) (the_move : Move) (outcome : Setup) → slice_get the_moves upto ≡ Some the_move →
+      ((q : Setup) → Goes profile p the_move q → outcome ≡ q) → Fits outcome →
+      AllBelow profile Fits p the_moves upto → AllBelow profile Fits p the_moves (upto + 1)
+  all_more upto the_move outcome here alone fits before index move q below there goes = elim (cases_lt index upto) [
+    | inl earlier ↦ before index move q earlier there goes
+    | inr later ↦
+        let same : upto ≡ index = omega arith in
+        let here_too : slice_get the_moves index ≡ Some the_move = subst (λ k. slice_get the_moves k ≡ Some the_move) same here in
+        let is_the_move : move ≡ the_move = same_Some move the_move (sym there ∙ here_too) in
+        subst Fits (alone q (subst (λ m. Goes profile p m q) is_the_move goes)) fits
+  ]
+
+  pub all_done : (upto : ℕ) → length the_moves ≤ upto → AreMoves profile p the_moves → AllBelow profile Fits p the_moves upto →
+      HasStatus profile p Open → (move : Move) (q : Setup) → Goes profile p move q → Fits q
+  all_done upto all are_moves below goes_on move q goes =
+      let there = are_moves.whole move goes_on (q, goes) in
+      let read : slice_get the_moves there.0 ≡ Some move = slice_get-get_or the_moves there.0 move there.1
+      ∙ ap (λ m. let o : Option Move = Some m in o) there.2 in
+      let within : there.0 < length the_moves = there.1 in
+      below there.0 move q (omega arith) read goes
+
+-- what was found of a class's representative holds of what stands at its number
+pub at_class : (family : Family) (Fits : Setup → Type 0) (p : Setup) (class : ℕ) → class < classes_of family → IsRepresentative family p →
+    HasClass family p class → Fits p → Fits (class_setup family class)
+at_class family Fits p class within is number fits =
+    subst Fits (class_setup_only family p class (classes_of family) (HasClasses-classes_of family) within is number) fits
+
+-- and the other way round
+pub of_class : (family : Family) (Fits : Setup → Type 0) (p : Setup) (class : ℕ) → class < classes_of family → IsRepresentative family p →
+    HasClass family p class → Fits (class_setup family class) → Fits p
+of_class family Fits p class within is number fits =
+    subst Fits (sym (class_setup_only family p class (classes_of family) (HasClasses-classes_of family) within is number)) fits

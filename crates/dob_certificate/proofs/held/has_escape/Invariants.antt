@@ -1,0 +1,8 @@
+-- None of the moves so far leads to a safe position.
+use Rattle.dob_pieces.specs.declared.setup.Setup.{Setup}
+use Rattle.dob_certificate.specs.Held.{IsSafe}
+use Rattle.dob_certificate.proofs.Replies.{AllBelow}
+use Rattle.dob_certificate.proofs.held.has_escape.Given as goal
+
+abbrev pub invariant-loop-the_move : goal.invariant-loop-the_move
+invariant-loop-the_move l = AllBelow l.classes.family.profile (λ (q : Setup). ¬ IsSafe l.classes.family l.held l.plies q) l.position.setup l.the_moves l.the_move-index
