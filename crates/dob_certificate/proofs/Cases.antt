@@ -1,16 +1,45 @@
 -- What lists say of a position, by its status.
-use Rattle.std.proofs.Common.{◌≡◌, ℕ, ◌-◌, ◌≤◌, ◌<◌, ◌⊎◌, ◌↔◌, inl, inr, subst, arith, List, Bool, IsTrue}
+use Rattle.std.proofs.Common.{◌≡◌, ℕ, ◌-◌, ◌≤◌, ◌<◌, ◌⊎◌, ◌↔◌, inl, inr, refl, sym, subst, arith, List, Bool, true, false, IsTrue, leb}
+use Rattle.std.proofs.lemmas.Bool.Decides.{nat_tests}
 use Rattle.dob_pieces.specs.declared.profile.Family.{Family}
 use Rattle.dob_pieces.specs.declared.profile.Profile.{Profile}
 use Rattle.dob_pieces.specs.declared.setup.Setup.{Setup}
 use Rattle.dob_moves.specs.declared.position_status.Status.{Status}
 use Rattle.dob_moves.specs.declared.position_status.Status.TheVariants.{Caught, Tried, Stuck, Open}
 use Rattle.dob_moves.specs.Statuses.{HasStatus}
+use Rattle.dob_rank.specs.Families.{IsRepresentative, HasClass, classes_of}
 use Rattle.dob_value.specs.Values.{HasLost}
 use Rattle.dob_value.proofs.Depths.{lost_not_caught, lost_not_open}
 use Rattle.dob_certificate.specs.declared.entry.Entry.{Entry}
-use Rattle.dob_certificate.specs.Lost.{IsListedWithin, IsSaidLost, HasReply, IsAnswered, AreAllAnswered, IsLossSupported}
-use Rattle.dob_certificate.specs.Held.{IsListedBeyond, IsSaidHeld, AreAllHeld, IsSafe, HasEscape, plies_asked, IsHoldSupported}
+use Rattle.dob_certificate.specs.Listed.{IsEntryFor}
+use Rattle.dob_certificate.specs.Lost.{IsListedWithin, IsSaidLost, HasReply, IsAnswered, AreAllAnswered, IsLossSupported, SupportsLost}
+use Rattle.dob_certificate.specs.Held.{IsListedBeyond, IsSaidHeld, AreAllHeld, IsSafe, HasEscape, plies_asked, IsHoldSupported, SupportsHeld}
+use Rattle.dob_certificate.proofs.Replies.{at_class, of_class}
+
+-- ---- answers
+
+pub said_no : {P : Type 0} → ¬ P → IsTrue false ↔ P
+said_no not = (λ shown. absurd (cc), λ p. absurd (not p))
+
+pub said_yes : {P : Type 0} → P → IsTrue true ↔ P
+said_yes p = (λ shown. p, λ _. refl)
+
+-- where the answer is no it isn't so
+pub not_so : {P : Type 0} → (b : Bool) → b ≡ false → IsTrue b ↔ P → ¬ P
+not_so b is answered p = let so : b ≡ true = answered.1 p in absurd (cc)
+
+-- a test of two numbers
+pub at_most : (m n : ℕ) → IsTrue (leb m n) ↔ (m ≤ n)
+at_most m n = (λ shown. grind (arith, nat_tests, shown), λ is. grind (arith, nat_tests, is))
+
+-- the one entry for a position is enough, or none is
+pub listed_by : (family : Family) (entries : List Entry) (q : Setup) (Enough : Entry → Type 0) (b : Bool) (entry : Entry) → IsEntryFor family entries q entry →
+    ((other : Entry) → IsEntryFor family entries q other → entry ≡ other) → IsTrue b ↔ Enough entry →
+    IsTrue b ↔ ((e : Entry) × IsEntryFor family entries q e × Enough e)
+listed_by family entries q Enough b entry is alone enough = (
+  λ shown. (entry, is, enough.0 shown),
+  λ listed. enough.1 (subst Enough (sym (alone listed.0 listed.1)) listed.2),
+)
 
 -- ---- statuses
 
@@ -36,8 +65,8 @@ module _ (family : Family) (lost : List Entry) (n : ℕ) (p : Setup) where
     | inr listed ↦ not_both family.profile p caught listed.0
   ]
 
-  pub said_lost_open : (yes : Bool) → HasStatus family.profile p Open → IsTrue yes ↔ IsListedWithin family lost n p → IsTrue yes ↔ IsSaidLost family lost n p
-  said_lost_open yes goes_on listed = (
+  pub said_lost_open : (b : Bool) → HasStatus family.profile p Open → IsTrue b ↔ IsListedWithin family lost n p → IsTrue b ↔ IsSaidLost family lost n p
+  said_lost_open b goes_on listed = (
     λ shown. inr (goes_on, listed.0 shown),
     λ said. elim said [
       | inl over ↦ absurd (lost_not_open family.profile p over goes_on)
@@ -51,8 +80,8 @@ module _ (family : Family) (lost : List Entry) (n : ℕ) (p : Setup) where
     | inr reply ↦ lost_not_open family.profile p over reply.goes_on
   ]
 
-  pub answered_open : (yes : Bool) → HasStatus family.profile p Open → IsTrue yes ↔ HasReply family lost n p → IsTrue yes ↔ IsAnswered family lost n p
-  answered_open yes goes_on has = (
+  pub answered_open : (b : Bool) → HasStatus family.profile p Open → IsTrue b ↔ HasReply family lost n p → IsTrue b ↔ IsAnswered family lost n p
+  answered_open b goes_on has = (
     λ shown. inr (has.0 shown),
     λ answered. elim answered [
       | inl caught ↦ absurd (not_both family.profile p caught goes_on)
@@ -72,15 +101,23 @@ module _ (family : Family) (lost : List Entry) (n : ℕ) (p : Setup) where
     | inr more ↦ let many : 2 ≤ n = more.0 in absurd (omega (arith, few, many))
   ]
 
-  pub loss_open : (yes : Bool) → HasStatus family.profile p Open → 2 ≤ n → IsTrue yes ↔ AreAllAnswered family lost (n - 2) p →
-      IsTrue yes ↔ IsLossSupported family lost n p
-  loss_open yes goes_on many all = (
+  pub loss_open : (b : Bool) → HasStatus family.profile p Open → 2 ≤ n → IsTrue b ↔ AreAllAnswered family lost (n - 2) p →
+      IsTrue b ↔ IsLossSupported family lost n p
+  loss_open b goes_on many all = (
     λ shown. inr (many, all.0 shown),
     λ supported. elim supported [
       | inl over ↦ absurd (lost_not_open family.profile p over goes_on)
       | inr more ↦ all.1 more.1
     ],
   )
+
+-- an entry is supported where its representative shows what it has to
+pub supports_lost_by : (family : Family) (lost : List Entry) (entry : Entry) (p : Setup) → entry.class < classes_of family → IsRepresentative family p →
+    HasClass family p entry.class → (b : Bool) → IsTrue b ↔ IsLossSupported family lost entry.plies p → IsTrue b ↔ SupportsLost family lost entry
+supports_lost_by family lost entry p within is number b given = (
+  λ shown. record { within = within; supported = at_class family (IsLossSupported family lost entry.plies) p entry.class within is number (given.0 shown) },
+  λ supported. given.1 (of_class family (IsLossSupported family lost entry.plies) p entry.class within is number supported.supported),
+)
 
 -- ---- classes that aren't lost
 module _ (family : Family) (held : List Entry) (n : ℕ) (p : Setup) where
@@ -90,8 +127,8 @@ module _ (family : Family) (held : List Entry) (n : ℕ) (p : Setup) where
     | inr other ↦ lost_not_open family.profile p over other.0
   ]
 
-  pub said_held_open : (yes : Bool) → HasStatus family.profile p Open → IsTrue yes ↔ ((n ≤ 1) ⊎ IsListedBeyond family held n p) → IsTrue yes ↔ IsSaidHeld family held n p
-  said_held_open yes goes_on found = (
+  pub said_held_open : (b : Bool) → HasStatus family.profile p Open → IsTrue b ↔ ((n ≤ 1) ⊎ IsListedBeyond family held n p) → IsTrue b ↔ IsSaidHeld family held n p
+  said_held_open b goes_on found = (
     λ shown. inr (goes_on, found.0 shown),
     λ said. elim said [
       | inl caught ↦ absurd (not_both family.profile p caught goes_on)
@@ -109,8 +146,8 @@ module _ (family : Family) (held : List Entry) (n : ℕ) (p : Setup) where
   pub safe_caught : HasStatus family.profile p Caught → ¬ IsSafe family held n p
   safe_caught caught safe = safe.free caught
 
-  pub safe_open : (yes : Bool) → HasStatus family.profile p Open → IsTrue yes ↔ AreAllHeld family held n p → IsTrue yes ↔ IsSafe family held n p
-  safe_open yes goes_on all = (
+  pub safe_open : (b : Bool) → HasStatus family.profile p Open → IsTrue b ↔ AreAllHeld family held n p → IsTrue b ↔ IsSafe family held n p
+  safe_open b goes_on all = (
     λ shown. record { free = λ caught. not_both family.profile p caught goes_on; all_held = all.0 shown },
     λ safe. all.1 safe.all_held,
   )
@@ -124,12 +161,19 @@ module _ (family : Family) (held : List Entry) (n : ℕ) (p : Setup) where
   pub hold_soon : HasStatus family.profile p Open → n < 2 → IsHoldSupported family held n p
   hold_soon goes_on few = inr (goes_on, λ many. absurd (omega (arith, few, many)))
 
-  pub hold_open : (yes : Bool) → HasStatus family.profile p Open → 2 ≤ n → IsTrue yes ↔ HasEscape family held (plies_asked n) p →
-      IsTrue yes ↔ IsHoldSupported family held n p
-  hold_open yes goes_on many escape = (
+  pub hold_open : (b : Bool) → HasStatus family.profile p Open → 2 ≤ n → IsTrue b ↔ HasEscape family held (plies_asked n) p →
+      IsTrue b ↔ IsHoldSupported family held n p
+  hold_open b goes_on many escape = (
     λ shown. inr (goes_on, λ _. escape.0 shown),
     λ supported. elim supported [
       | inl caught ↦ absurd (not_both family.profile p caught goes_on)
       | inr more ↦ escape.1 (more.1 many)
     ],
   )
+
+pub supports_held_by : (family : Family) (held : List Entry) (entry : Entry) (p : Setup) → entry.class < classes_of family → IsRepresentative family p →
+    HasClass family p entry.class → (b : Bool) → IsTrue b ↔ IsHoldSupported family held entry.plies p → IsTrue b ↔ SupportsHeld family held entry
+supports_held_by family held entry p within is number b given = (
+  λ shown. record { within = within; supported = at_class family (IsHoldSupported family held entry.plies) p entry.class within is number (given.0 shown) },
+  λ supported. given.1 (of_class family (IsHoldSupported family held entry.plies) p entry.class within is number supported.supported),
+)

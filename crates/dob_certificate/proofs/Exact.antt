@@ -13,7 +13,7 @@ use Rattle.dob_certificate.specs.declared.entry.Entry.{Entry}
 use Rattle.dob_certificate.specs.declared.entry.TheConstants.{EVER}
 use Rattle.dob_certificate.specs.Lost.{SupportsAllLost}
 use Rattle.dob_certificate.specs.Held.{SupportsAllHeld}
-use Rattle.dob_certificate.specs.Claims.{Holds, ShowsWon, ShowsLoss, ShowsWin, ShowsDraw, Show, Prove}
+use Rattle.dob_certificate.specs.Claims.{Holds, ShowsWon, ShowsLoss, ShowsWin, ShowsDraw, Prove}
 use Rattle.dob_certificate.proofs.Bounds.{said_lost, answered_won, said_held, safe_not_won}
 
 -- what is not lost within one ply less than d, where d isn't 0, is lost in no fewer than d

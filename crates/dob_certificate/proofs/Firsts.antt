@@ -1,5 +1,5 @@
 -- Entries one after the other: all are supported so far, or the first that isn't is found.
-use Rattle.std.proofs.Common.{◌≡◌, ℕ, ◌+◌, ◌<◌, ◌≤◌, inl, inr, sym, subst, arith, List, length, Some, slice_get, Contains, get_or, Err}
+use Rattle.std.proofs.Common.{◌≡◌, ℕ, ◌+◌, ◌<◌, ◌≤◌, ◌≢◌, ◌↔◌, Bool, false, IsTrue, inl, inr, refl, sym, subst, arith, List, length, Contains, Err}
 use Rattle.std.proofs.lemmas.Bool.{cases_lt}
 use Rattle.std.proofs.lemmas.Option.{slice_get-get_or, get_or_from_slice_get, slice_get_within}
 use Rattle.dob_pieces.specs.declared.profile.Family.{Family}
@@ -11,15 +11,15 @@ use Rattle.dob_certificate.specs.declared.refusal.Refusal.TheVariants.{Memory, U
 use Rattle.dob_certificate.specs.Ascending.{entry_at}
 use Rattle.dob_certificate.specs.Lost.{SupportsLost, SupportsAllLost}
 use Rattle.dob_certificate.specs.Held.{SupportsHeld}
-use Rattle.dob_certificate.specs.Refusals.{IsEntryVerdict, IsListVerdict, IsRefusal}
+use Rattle.dob_certificate.specs.Refusals.{IsFirstUnsupported, IsEntryVerdict, IsListVerdict, IsRefusal}
 use Rattle.dob_certificate.proofs.Orders.{no_entry, read_at}
 
-module _ (Supported : Entry → Type 0) (entries : List Entry) where
-  -- the entries before a place are supported
-  abbrev pub AllBefore : ℕ → Type 0
-  AllBefore upto = (place : ℕ) → place < upto → Supported (entry_at entries place)
+-- the entries before a place are supported
+abbrev pub AllBefore : (Entry → Type 0) → List Entry → ℕ → Type 0
+AllBefore Supported entries upto = (place : ℕ) → place < upto → Supported (entry_at entries place)
 
-  pub entries_more : (upto : ℕ) → Supported (entry_at entries upto) → AllBefore upto → AllBefore (upto + 1)
+module _ (Supported : Entry → Type 0) (entries : List Entry) where
+  pub entries_more : (upto : ℕ) → Supported (entry_at entries upto) → AllBefore Supported entries upto → AllBefore Supported entries (upto + 1)
   entries_more upto here before place below = elim (cases_lt place upto) [
     | inl earlier ↦ before place earlier
     | inr later ↦
@@ -27,13 +27,13 @@ module _ (Supported : Entry → Type 0) (entries : List Entry) where
         subst (λ k. Supported (entry_at entries k)) same here
   ]
 
-  pub entries_done : (upto : ℕ) → length entries ≤ upto → AllBefore upto → (entry : Entry) → Contains entries entry → Supported entry
+  pub entries_done : (upto : ℕ) → length entries ≤ upto → AllBefore Supported entries upto → (entry : Entry) → Contains entries entry → Supported entry
   entries_done upto all before entry there =
       let within : there.0 < length entries = there.1 in
       subst Supported (read_at entries there.0 entry there.1 there.2) (before there.0 (omega arith))
 
   -- the entry at the place is the first for which the check gives up
-  pub first_found : (place : ℕ) (why : Refusal) → place < length entries → AllBefore place → IsEntryVerdict Supported (entry_at entries place) (Err why) →
+  pub first_found : (place : ℕ) (why : Refusal) → place < length entries → AllBefore Supported entries place → IsEntryVerdict Supported (entry_at entries place) (Err why) →
       IsListVerdict Supported entries (Err why)
   first_found place Memory within before found = tt
   first_found place (Unsupported class) within before found = record {
@@ -46,6 +46,25 @@ module _ (Supported : Entry → Type 0) (entries : List Entry) where
         subst Supported (get_or_from_slice_get entries earlier other no_entry is) (before earlier less);
   }
   first_found place Claim within before found = absurd found
+
+-- where some entry isn't supported not all are
+pub not_all : (Supported : Entry → Type 0) (entries : List Entry) (class : ℕ) → IsFirstUnsupported Supported entries class →
+    ¬ ((entry : Entry) → Contains entries entry → Supported entry)
+not_all Supported entries class first all =
+    first.unsupported (all first.entry (
+      first.place,
+      slice_get_within entries first.place first.entry first.there,
+      get_or_from_slice_get entries first.place first.entry first.entry first.there,
+    ))
+
+-- so what isn't passed isn't supported, where memory was left
+pub not_supported : (Supported : Entry → Type 0) (entries : List Entry) (why : Refusal) → IsListVerdict Supported entries (Err why) →
+    (b : Bool) → (b ≡ false) × (why ≢ Memory) → IsTrue b ↔ ((entry : Entry) → Contains entries entry → Supported entry)
+not_supported Supported entries Memory found b is = absurd (is.1 refl)
+not_supported Supported entries (Unsupported class) found b is =
+    let answered : b ≡ false = is.0 in
+    (λ shown. absurd (cc), λ all. absurd (not_all Supported entries class found all))
+not_supported Supported entries Claim found b is = absurd found
 
 -- why a list of the two isn't passed is why the certificate isn't
 module _ (family : Family) (lost held : List Entry) (p : Setup) (claim : Claimed) where

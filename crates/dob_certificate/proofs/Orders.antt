@@ -1,5 +1,5 @@
 -- Entries by ascending class: what a search finds, and that a class has one entry at most.
-use Rattle.std.proofs.Common.{◌≡◌, ℕ, zero, suc, ◌+◌, ◌<◌, ◌≤◌, ◌≢◌, inl, inr, sym, subst, ap, ◌∙◌, arith, List, length, get_or, Contains, Result, Ok, Err, IfOk, IfErr}
+use Rattle.std.proofs.Common.{◌≡◌, ℕ, zero, suc, ◌+◌, ◌<◌, ◌≤◌, ◌≢◌, inl, inr, sym, subst, ap, ◌∙◌, arith, List, length, get_or, Contains, Result, Ok, Err, IfOk, IfErr, Option, Some, None, IfSome, IfNone}
 use Rattle.std.specs.List.Sorted.{IsSearchInRange, IsBinarySearchResult, IsNonDecreasingBy}
 use Rattle.std.specs.Ordering.{nat_cmp, ordering_index}
 use Rattle.std.proofs.lemmas.Bool.{cases_lt}
@@ -7,8 +7,13 @@ use Rattle.std.proofs.lemmas.Bool.Decides.{nat_tests}
 use Rattle.std.proofs.lemmas.Cmp.{ranked}
 use Rattle.std.proofs.lemmas.List.{get_or_default}
 use Rattle.std.proofs.lemmas.List.Sorted.{IsNonDecreasingBy-from_default}
+use Rattle.dob_pieces.specs.declared.profile.Family.{Family}
+use Rattle.dob_pieces.specs.declared.setup.Setup.{Setup}
+use Rattle.dob_rank.specs.Families.{IsInClass}
+use Rattle.dob_classes.proofs.OfFamilies.FamilyRepresentatives.{one_class}
 use Rattle.dob_certificate.specs.declared.entry.Entry.{Entry}
 use Rattle.dob_certificate.specs.Ascending.{entry_at, class_at, AreAscending}
+use Rattle.dob_certificate.specs.Listed.{IsEntryFor}
 
 -- what stands where no entry does
 abbrev pub no_entry : Entry
@@ -55,6 +60,18 @@ pub no_place : (entries : List Entry) (class : ℕ) → ((place : ℕ) → place
     (entry : Entry) → Contains entries entry → entry.class ≢ class
 no_place entries class none entry there same =
     none there.0 there.1 (ap (λ (e : Entry). e.class) (read_at entries there.0 entry there.1 there.2) ∙ same)
+
+-- the entry that a search for a position's class found, or none
+module _ (family : Family) (entries : List Entry) (q : Setup) (class : ℕ) (is : IsInClass family q class) where
+  pub none_for : (found : Option Entry) → IfNone found ((entry : Entry) → Contains entries entry → entry.class ≢ class) →
+      IfNone found ((entry : Entry) → ¬ IsEntryFor family entries q entry)
+  none_for (Some entry) none = tt
+  none_for None none = λ entry found. none entry found.listed (one_class family q entry.class class found.stands is)
+
+  pub alone_for : (found : Option Entry) → IfSome found (λ entry. (other : Entry) → Contains entries other → other.class ≡ class → entry ≡ other) →
+      IfSome found (λ entry. (other : Entry) → IsEntryFor family entries q other → entry ≡ other)
+  alone_for None alone = tt
+  alone_for (Some entry) alone = λ other found. alone other found.listed (one_class family q other.class class found.stands is)
 
 module _ (entries : List Entry) (ascending : AreAscending entries) (class : ℕ) where
   -- the comparisons with the class rise along the list, as a binary search asks

@@ -3,6 +3,7 @@ use Rattle.std.specs.Prelude.{ℕ, ◌-◌, ◌≤◌, ◌<◌, List}
 use Rattle.dob_pieces.specs.declared.profile.Family.{Family}
 use Rattle.dob_pieces.specs.declared.profile.Profile.{Profile}
 use Rattle.dob_pieces.specs.declared.setup.Setup.{Setup}
+use Rattle.dob_value.specs.declared.value.Value.{Value}
 use Rattle.dob_value.specs.declared.value.Value.TheVariants.{Win, Loss, Draw}
 use Rattle.dob_value.specs.Values.{Won, Lost, HasValue}
 use Rattle.dob_certificate.specs.declared.claim.Claim.{Claim}
@@ -36,11 +37,15 @@ ShowsWin family lost held p plies = ShowsWon family lost p plies × (2 ≤ plies
 abbrev pub ShowsDraw : Family → List Entry → Setup → Type 0
 ShowsDraw family held p = IsSaidHeld family held EVER p × IsSafe family held EVER p
 
+-- a value
+abbrev pub ShowsValue : Family → List Entry → List Entry → Setup → Value → Type 0
+ShowsValue family lost held p (Loss plies) = ShowsLoss family lost held p plies
+ShowsValue family lost held p (Win plies) = ShowsWin family lost held p plies
+ShowsValue family lost held p Draw = ShowsDraw family held p
+
 -- the lists show the claim
 abbrev pub Show : Family → List Entry → List Entry → Setup → Claim → Type 0
-Show family lost held p (Exactly (Loss plies)) = ShowsLoss family lost held p plies
-Show family lost held p (Exactly (Win plies)) = ShowsWin family lost held p plies
-Show family lost held p (Exactly Draw) = ShowsDraw family held p
+Show family lost held p (Exactly value) = ShowsValue family lost held p value
 Show family lost held p (LostWithin plies) = IsSaidLost family lost plies p
 Show family lost held p (WonWithin plies) = ShowsWon family lost p plies
 

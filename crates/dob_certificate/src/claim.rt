@@ -1,14 +1,13 @@
 // What a certificate claims of a position, and whether its lists show it.
 ghost use Rattle.std.specs.Prelude.{◌≡◌, ◌↔◌, IfOk, IsTrue};
 ghost use Rattle.dob_rank.specs.Families.{IsPositionOf};
-ghost use Rattle.dob_certificate.specs.Claims.{ShowsWon, ShowsLoss, ShowsWin, ShowsDraw, Show};
+ghost use Rattle.dob_certificate.specs.Claims.{ShowsWon, ShowsLoss, ShowsWin, ShowsDraw, ShowsValue, Show};
 
 use crate::certificate::Certificate;
 use crate::entries::Entries;
 use crate::entry::EVER;
 use crate::held::{is_safe, is_said_held};
 use crate::lost::{is_answered, is_said_lost};
-use crate::room::Room;
 use dob_classes::Classes;
 use dob_moves::Move;
 use dob_pieces::{Memory, Position};
@@ -64,11 +63,15 @@ fn shows_win(
     requires { IsPositionOf classes.now.family position.now.setup }
     ensures { IfOk result (λ yes. IsTrue yes ↔ ShowsWin classes.now.family certificate.now.lost certificate.now.held position.now.setup plies) }
 {
-    let won = shows_won(replies, classes, &certificate.lost, position, plies)?;
-    if !won || plies < 2 {
-        return Ok(won);
+    if plies < 2 {
+        return shows_won(replies, classes, &certificate.lost, position, plies);
     }
-    is_safe(replies, classes, &certificate.held, plies - 2, position)
+    let won = shows_won(replies, classes, &certificate.lost, position, plies)?;
+    if won {
+        is_safe(replies, classes, &certificate.held, plies - 2, position)
+    } else {
+        Ok(false)
+    }
 }
 
 // Whether the list shows that the position is a draw. The list of replies is room for moves.
@@ -90,13 +93,34 @@ fn shows_draw(
     }
 }
 
-/// Whether the lists show the claim of the position. That proves it only where each list supports its entries.
+// Whether the lists show that value of the position. The list of replies is room for moves.
+//
+// Error: `Memory`.
+fn shows_value(
+    replies: &mut Vec<Move>,
+    classes: &Classes,
+    certificate: &Certificate,
+    position: &Position,
+    value: Value,
+) -> Result<bool, Memory>
+    requires { IsPositionOf classes.now.family position.now.setup }
+    ensures { IfOk result (λ yes. IsTrue yes ↔ ShowsValue classes.now.family certificate.now.lost certificate.now.held position.now.setup value) }
+{
+    match value {
+        Value::Loss(plies) => Ok(shows_loss(classes, certificate, position, plies)),
+        Value::Win(plies) => shows_win(replies, classes, certificate, position, plies),
+        Value::Draw => shows_draw(replies, classes, &certificate.held, position),
+    }
+}
+
+/// Whether the lists show the claim of the position. That proves it only where each list supports its entries. The list of replies is
+/// room for moves.
 ///
 /// # Errors
 ///
 /// `Memory`.
 pub(crate) fn is_shown(
-    room: &mut Room,
+    replies: &mut Vec<Move>,
     classes: &Classes,
     certificate: &Certificate,
     position: &Position,
@@ -105,20 +129,9 @@ pub(crate) fn is_shown(
     requires { IsPositionOf classes.now.family position.now.setup }
     ensures { IfOk result (λ yes. IsTrue yes ↔ Show classes.now.family certificate.now.lost certificate.now.held position.now.setup claim) }
 {
-    let replies = &mut room.replies;
     match claim {
-        Claim::Exactly(Value::Loss(plies)) => {
-            Ok(shows_loss(classes, certificate, position, plies))
-        }
-        Claim::Exactly(Value::Win(plies)) => {
-            shows_win(replies, classes, certificate, position, plies)
-        }
-        Claim::Exactly(Value::Draw) => { shows_draw(replies, classes, &certificate.held, position) }
-        Claim::LostWithin(plies) => {
-            Ok(is_said_lost(classes, &certificate.lost, plies, position))
-        }
-        Claim::WonWithin(plies) => {
-            shows_won(replies, classes, &certificate.lost, position, plies)
-        }
+        Claim::Exactly(value) => shows_value(replies, classes, certificate, position, value),
+        Claim::LostWithin(plies) => Ok(is_said_lost(classes, &certificate.lost, plies, position)),
+        Claim::WonWithin(plies) => shows_won(replies, classes, &certificate.lost, position, plies),
     }
 }

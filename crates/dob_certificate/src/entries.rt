@@ -59,6 +59,7 @@ impl Entries {
     pub fn find(&self, class: u64) -> Option<Entry>
         ensures some { IfSome result (λ entry. Contains self.now entry × (entry.class ≡ class)) }
         ensures none { IfNone result ((entry : Entry) → Contains self.now entry → entry.class ≢ class) }
+        ensures alone { IfSome result (λ entry. (other : Entry) → Contains self.now other → other.class ≡ class → entry ≡ other) }
     {
         find_in(self.as_slice(), class)
     }
@@ -69,6 +70,7 @@ fn find_in(entries: &[Entry], class: u64) -> Option<Entry>
     requires { AreAscending entries.now }
     ensures some { IfSome result (λ entry. Contains entries.now entry × (entry.class ≡ class)) }
     ensures none { IfNone result ((entry : Entry) → Contains entries.now entry → entry.class ≢ class) }
+    ensures alone { IfSome result (λ entry. (other : Entry) → Contains entries.now other → other.class ≡ class → entry ≡ other) }
 {
     match entries.binary_search_by_key(&class, |entry: &Entry| entry.class as u64) {
         Ok(place) => Some(entries[place]),

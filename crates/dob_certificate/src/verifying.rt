@@ -1,5 +1,5 @@
 // Whether a certificate proves what is claimed of a position.
-ghost use Rattle.std.specs.Prelude.{◌≡◌, ◌↔◌, IfOk, IfErr, IsTrue};
+ghost use Rattle.std.specs.Prelude.{◌≡◌, ◌≢◌, ◌↔◌, false, IfOk, IfErr, IsTrue};
 ghost use Rattle.dob_rank.specs.Families.{IsPositionOf};
 ghost use Rattle.dob_value.specs.Values.{Lost, Won};
 ghost use Rattle.dob_certificate.specs.Lost.{IsSaidLost, SupportsAllLost};
@@ -10,7 +10,8 @@ ghost use Rattle.dob_certificate.specs.Refusals.{IsRefusal};
 use crate::certificate::Certificate;
 use crate::claim::{Claim, is_shown, shows_won};
 use crate::entries::Entries;
-use crate::lists::{check_held, check_lost};
+use crate::list_kind::ListKind;
+use crate::lists::check_list;
 use crate::lost::is_said_lost;
 use crate::refusal::Refusal;
 use crate::room::Room;
@@ -37,13 +38,13 @@ pub fn verify(
     ensures refusal { IfErr result (IsRefusal classes.now.family certificate.now.lost certificate.now.held position.now.setup claim) }
 {
     let mut room = Room::new(alloc);
-    check_lost(&mut room, classes, &certificate.lost)?;
-    check_held(&mut room, classes, &certificate.held)?;
+    check_list(&mut room, classes, ListKind::Lost, &certificate.lost)?;
+    check_list(&mut room, classes, ListKind::Held, &certificate.held)?;
     check_claim(&mut room, classes, certificate, position, claim)
 }
 
 /// Passes the claim just where the lists show it, once each is known to support its entries: what is left of [`verify`] for who has
-/// looked at the entries by [`check_lost_entry`](crate::check_lost_entry) and [`check_held_entry`](crate::check_held_entry).
+/// looked at the entries by [`check_entry`](crate::check_entry).
 ///
 /// # Errors
 ///
@@ -62,11 +63,8 @@ pub fn check_claim(
     ensures proof { IfOk result (λ _. Prove classes.now.family certificate.now.lost certificate.now.held position.now.setup claim) }
     ensures refusal { IfErr result (IsRefusal classes.now.family certificate.now.lost certificate.now.held position.now.setup claim) }
 {
-    if is_shown(room, classes, certificate, position, claim)? {
-        Ok(())
-    } else {
-        Err(Refusal::Claim)
-    }
+    let shown = is_shown(&mut room.replies, classes, certificate, position, claim)?;
+    if shown { Ok(()) } else { Err(Refusal::Claim) }
 }
 
 /// Whether the certificate proves that the side to move can't keep from losing within so many plies: its lost list supports its
@@ -89,7 +87,11 @@ pub fn is_lost_within(
 {
     let mut room = Room::new(alloc);
     let supported = supports_all_lost(&mut room, classes, &certificate.lost)?;
-    Ok(supported && is_said_lost(classes, &certificate.lost, plies, position))
+    if supported {
+        Ok(is_said_lost(classes, &certificate.lost, plies, position))
+    } else {
+        Ok(false)
+    }
 }
 
 /// Whether the certificate proves that the side to move can force a win within so many plies: its lost list supports its entries, and
@@ -131,9 +133,18 @@ pub fn is_won_within(
 fn supports_all_lost(room: &mut Room, classes: &Classes, lost: &Entries) -> Result<bool, Memory>
     ensures { IfOk result (λ yes. IsTrue yes ↔ SupportsAllLost classes.now.family lost.now) }
 {
-    match check_lost(room, classes, lost) {
+    match check_list(room, classes, ListKind::Lost, lost) {
         Ok(()) => Ok(true),
-        Err(Refusal::Memory) => Err(Memory),
-        Err(Refusal::Unsupported(_) | Refusal::Claim) => Ok(false),
+        Err(refusal) => refused(refusal),
+    }
+}
+
+// Not all entries are supported, or memory ran out.
+fn refused(refusal: Refusal) -> Result<bool, Memory>
+    ensures { IfOk result (λ yes. (yes ≡ false) × (refusal ≢ Refusal.Memory)) }
+{
+    match refusal {
+        Refusal::Memory => Err(Memory),
+        Refusal::Unsupported(_) | Refusal::Claim => Ok(false),
     }
 }

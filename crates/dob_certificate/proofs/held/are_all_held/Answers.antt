@@ -1,0 +1,27 @@
+-- Each move's outcome is one more.
+use Rattle.std.proofs.Common.{refl, rules}
+use Rattle.std.proofs.lemmas.Option.{slice_get_read}
+use Rattle.dob_value.proofs.Successors.{move_goes}
+use Rattle.dob_certificate.specs.Held.{IsSaidHeld}
+use Rattle.dob_certificate.proofs.Cases.{said_yes}
+use Rattle.dob_certificate.proofs.Replies.{all_more, all_done}
+use Rattle.dob_certificate.proofs.held.are_all_held.Goals as goal
+
+pub after-outcome-requires-clause-the_move : goal.after-outcome-requires-clause-the_move
+after-outcome-requires-clause-the_move c =
+    move_goes c.args.classes.now.family.profile c.args.position.now.setup c.args.replies.now c.loop-reply.reply-index c.reply-item.result
+    c.requires.replies c.loop-reply-test.true c.reply-item.is
+
+pub loop-reply-preserved : goal.loop-reply-preserved
+loop-reply-preserved c =
+    let family = c.args.classes.now.family in
+    let replies = c.args.replies.now in
+    all_more family.profile (IsSaidHeld family c.args.held.now c.args.plies) c.args.position.now.setup replies c.loop-reply.reply-index
+    c.reply-item.result c.after-outcome.result.setup
+    (slice_get_read replies _ c.loop-reply.reply-index c.reply-item.result refl c.loop-reply-test.true c.reply-item.is)
+    c.after-outcome.ensures.alone (c.is_said_held.ensures.0 (search rules)) c.loop-reply.invariant
+
+pub returns : goal.returns
+returns c = said_yes (
+    all_done c.args.classes.now.family.profile (IsSaidHeld c.args.classes.now.family c.args.held.now c.args.plies) c.args.position.now.setup c.args.replies.now
+    c.loop-reply.reply-index c.loop-reply-test.false c.requires.replies c.loop-reply.invariant)

@@ -1,0 +1,19 @@
+-- The slice is the list.
+use Rattle.std.proofs.Common.{ap, subst, List}
+use Rattle.dob_certificate.specs.declared.entry.Entry.{Entry}
+use Rattle.dob_certificate.specs.Ascending.{entry_at, class_at}
+use Rattle.dob_certificate.specs.Lists.{Supports}
+use Rattle.dob_certificate.proofs.Cases.{not_so}
+use Rattle.dob_certificate.proofs.lists.check_entry.Goals as goal
+
+pub returns-then-is_supported : goal.returns-then-is_supported
+returns-then-is_supported c =
+    subst (λ (entries : List Entry). Supports c.args.kind c.args.classes.now.family c.args.entries.now (entry_at entries c.args.place))
+    c.as_slice.ensures.entries (c.in_ok-is_supported.ensures.0 c.if-is_supported.true)
+
+pub returns-else-is_supported : goal.returns-else-is_supported
+returns-else-is_supported c = (
+  ap (λ (entries : List Entry). class_at entries c.args.place) c.as_slice.ensures.entries,
+  subst (λ (entries : List Entry). ¬ Supports c.args.kind c.args.classes.now.family c.args.entries.now (entry_at entries c.args.place))
+      c.as_slice.ensures.entries (not_so c.in_ok-is_supported.is_supported c.if-is_supported.false c.in_ok-is_supported.ensures),
+)

@@ -1,0 +1,40 @@
+-- The reply that was found is a move, and where none was found none is.
+use Rattle.std.proofs.Common.{refl, rules}
+use Rattle.std.proofs.lemmas.Option.{slice_get_read}
+use Rattle.dob_pieces.specs.declared.setup.Setup.{Setup}
+use Rattle.dob_value.proofs.Successors.{move_goes}
+use Rattle.dob_certificate.specs.Lost.{IsSaidLost}
+use Rattle.dob_certificate.proofs.Cases.{said_no, said_yes, not_so}
+use Rattle.dob_certificate.proofs.Replies.{all_more, all_done}
+use Rattle.dob_certificate.proofs.lost.has_reply.Goals as goal
+
+pub after-requires-clause-the_move : goal.after-requires-clause-the_move
+after-requires-clause-the_move c =
+    move_goes c.args.classes.now.family.profile c.args.position.now.setup c.args.replies.now c.loop-reply.reply-index c.reply-item.result
+    c.requires.replies c.loop-reply-test.true c.reply-item.is
+
+pub loop-reply-preserved : goal.loop-reply-preserved
+loop-reply-preserved c =
+    let family = c.args.classes.now.family in
+    let replies = c.args.replies.now in
+    all_more family.profile (λ (q : Setup). ¬ IsSaidLost family c.args.lost.now c.args.plies q) c.args.position.now.setup replies c.loop-reply.reply-index
+    c.reply-item.result c.after.result.setup
+    (slice_get_read replies _ c.loop-reply.reply-index c.reply-item.result refl c.loop-reply-test.true c.reply-item.is)
+    c.after.ensures.alone (not_so c.is_said_lost.result (search rules) c.is_said_lost.ensures) c.loop-reply.invariant
+
+pub returns-then-is_said_lost : goal.returns-then-is_said_lost
+returns-then-is_said_lost c =
+    let step = move_goes c.args.classes.now.family.profile c.args.position.now.setup c.args.replies.now c.loop-reply.reply-index c.reply-item.result
+    c.requires.replies c.loop-reply-test.true c.reply-item.is in
+    said_yes (record {
+      goes_on = step.0;
+      reply = c.reply-item.result;
+      outcome = c.after.result.setup;
+      goes = c.after.ensures.goes;
+      said = c.is_said_lost.ensures.0 (search rules);
+    })
+
+pub returns : goal.returns
+returns c = said_no (λ found.
+    all_done c.args.classes.now.family.profile (λ (q : Setup). ¬ IsSaidLost c.args.classes.now.family c.args.lost.now c.args.plies q) c.args.position.now.setup c.args.replies.now
+    c.loop-reply.reply-index c.loop-reply-test.false c.requires.replies c.loop-reply.invariant found.goes_on found.reply found.outcome found.goes found.said)

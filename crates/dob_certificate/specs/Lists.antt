@@ -1,0 +1,13 @@
+-- Which entries a list of either kind supports.
+use Rattle.std.specs.Prelude.{List}
+use Rattle.dob_pieces.specs.declared.profile.Family.{Family}
+use Rattle.dob_certificate.specs.declared.entry.Entry.{Entry}
+use Rattle.dob_certificate.specs.declared.list_kind.ListKind.{ListKind}
+use Rattle.dob_certificate.specs.declared.list_kind.ListKind.TheVariants.{Lost, Held}
+use Rattle.dob_certificate.specs.Lost.{SupportsLost}
+use Rattle.dob_certificate.specs.Held.{SupportsHeld}
+
+-- a list of that kind supports the entry
+abbrev pub Supports : ListKind → Family → List Entry → Entry → Type 0
+Supports Lost = SupportsLost
+Supports Held = SupportsHeld
