@@ -162,22 +162,22 @@ impl Search<'_, '_> {
                 break;
             }
             if self.members.get(*reply).is_none() {
-                cost = cost.saturating_add(self.cost_at(*reply, asked));
+                let value = self.outcomes.value(*reply);
+                cost = cost.saturating_add(cost_at(&self.costs, value, asked));
                 self.asked.push(*reply)?;
             }
         }
         Ok(cost)
     }
+}
 
-    // What a class more costs that has to hold for so many plies.
-    fn cost_at(&self, class: u32, asked: u16) -> u64 {
-        match self.outcomes.value(class) {
-            Value::Win(plies) if plies <= asked => {
-                let half = plies as usize / 2;
-                self.costs.get(half).copied().unwrap_or(GREATEST)
-            }
-            _ => UNWON,
+// What a class of that value costs that has to hold for so many plies.
+fn cost_at(costs: &[u64], value: Value, asked: u16) -> u64 {
+    match value {
+        Value::Win(plies) if plies <= asked => {
+            costs.get(plies as usize / 2).copied().unwrap_or(GREATEST)
         }
+        _ => UNWON,
     }
 }
 

@@ -1,11 +1,11 @@
 // A table of values with the classes to which the moves of a class lead.
-ghost use Rattle.std.specs.Prelude.{◌≡◌};
-ghost use Rattle.dob_moves.specs.Statuses.{AreMoves};
+ghost use Rattle.dob_moves.specs.declared.position_status.Status.{Status};
+ghost use Rattle.dob_moves.specs.Moves.{CanGo};
+ghost use Rattle.dob_moves.specs.Statuses.{AreMoves, HasStatus};
 ghost use Rattle.dob_rank.specs.Families.{IsPositionOf};
 
-use dob_certificate::after;
 use dob_classes::Classes;
-use dob_moves::{Move, first_catch, moves_into};
+use dob_moves::{Move, apply, first_catch, moves_into};
 use dob_pieces::{Memory, Position};
 use dob_value::{Table, Value};
 use std::alloc::Global;
@@ -85,12 +85,21 @@ fn push_outcomes(
     requires the_moves { AreMoves classes.now.family.profile position.now.setup the_moves.now }
 {
     for the_move in the_moves {
-        let outcome = after(classes, position, *the_move);
+        let outcome = outcome_of(classes, position, *the_move);
         if matches!(listed, Listed::All) || first_catch(&outcome).is_none() {
             outcomes.push(number_of(classes, &outcome))?;
         }
     }
     Ok(())
+}
+
+// The position of the family to which the move leads.
+fn outcome_of(classes: &Classes, position: &Position, the_move: Move) -> Position
+    requires member { IsPositionOf classes.now.family position.now.setup }
+    requires the_move { HasStatus classes.now.family.profile position.now.setup Status.Open × CanGo classes.now.family.profile position.now.setup the_move }
+    ensures { IsPositionOf classes.now.family result.setup }
+{
+    apply(position, the_move)
 }
 
 /// The number of the position's class.
