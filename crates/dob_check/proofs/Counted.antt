@@ -1,5 +1,5 @@
 -- What is counted of parts of the classes that lie side by side, and of all of them.
-use Rattle.std.proofs.Common.{◌≡◌, ℕ, zero, suc, ◌+◌, ◌-◌, ◌*◌, ◌/◌, ◌≤◌, ◌<◌, ◌^◌, ◌++◌, refl, sym, ap, subst, ◌∙◌, arith, List, [], ◌∷◌, length, drop, get_or, map, min, take}
+use Rattle.std.proofs.Common.{◌≡◌, ℕ, zero, suc, ◌+◌, ◌*◌, ◌≤◌, ◌<◌, ◌^◌, ◌++◌, refl, sym, ap, subst, ◌∙◌, arith, List, [], ◌∷◌, length, get_or, map, min, take}
 use Rattle.std.proofs.Common.{Ok, Err, IfOk, Option}
 use Rattle.std.specs.Prelude.{MatchResult, Result, Vec}
 use Rattle.std.specs.List.{AllZip, Contains, range_with_len}
@@ -8,7 +8,7 @@ use Rattle.dob_value.specs.declared.value.Value.{Value}
 use Rattle.dob_probe.specs.Slots.{AreSlots, part_of}
 use Rattle.dob_probe.specs.declared.groups.Group.{Group}
 use Rattle.dob_probe.proofs.Slotted.{part_joins, slots_none}
-use Rattle.dob_check.specs.Parts.{IsPart, part_count, part_size}
+use Rattle.dob_check.specs.Parts.{part_count, part_size}
 
 -- answers that are all Ok, in order
 all_ok : {X Y : Type 0} → (E : Type 0) (R : X → Y → Type 0) (xs : List X) (ys : List Y) → AllZip (λ (x : X) (r : Result Y E). IfOk r (R x)) xs (map Ok ys) → AllZip R xs ys

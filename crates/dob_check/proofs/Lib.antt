@@ -1,3 +1,4 @@
 -- The lemmas.
 pub mod Found  -- the first fault among the verdicts of all classes, as a search over them finds it
 pub mod Counted  -- what is counted of parts of the classes, and of all of them
+pub mod Firsts  -- the first refusal among the verdicts of all entries, as a search over them finds it

@@ -27,7 +27,7 @@ pub trait Watch {
 }
 
 // Nobody learns of it.
-struct Unwatched;
+pub(crate) struct Unwatched;
 
 impl Watch for Unwatched {
     ghost told = { λ _ _. Unit {0} };
@@ -91,8 +91,8 @@ pub fn check_watched<R: Threads + Sync, W: Watch + Sync>(
     first_fault.unwrap_or(Ok(()))
 }
 
-// Tells the watch at the class, one of so many, where it is due.
-fn tell<W: Watch>(watch: &W, count: u64, class: u64)
+/// Tells the watch at the class, one of so many, where it is due.
+pub(crate) fn tell<W: Watch>(watch: &W, count: u64, class: u64)
     requires { class < count }
     ensures { IsToldAt (W.told watch.now) count class }
 {

@@ -1,5 +1,5 @@
 -- One part more each time, and then all of them.
-use Rattle.std.proofs.Common.{◌≡◌, ◌*◌, ◌^◌, ◌<◌, ◌≤◌, ℕ, List, Option, arith, get_or, length, subst, sym}
+use Rattle.std.proofs.Common.{◌*◌, ◌^◌, ◌<◌, ℕ, List, Option, arith, get_or, length, subst, sym}
 use Rattle.std.proofs.lemmas.List.{get_or_default}
 use Rattle.dob_probe.specs.Slots.{AreSlots, part_of}
 use Rattle.dob_probe.specs.declared.groups.Group.{Group}

@@ -1,6 +1,6 @@
 -- The parts in their places, each counted by itself.
-use Rattle.std.proofs.Common.{◌≡◌, ◌+◌, ◌-◌, ◌<◌, ℕ, List, Option, ap, arith, length, subst, ◌∙◌}
-use Rattle.std.specs.Prelude.{IfOk, Result, Vec}
+use Rattle.std.proofs.Common.{◌≡◌, ◌-◌, ◌<◌, ℕ, List, ap, arith, subst, ◌∙◌}
+use Rattle.std.specs.Prelude.{IfOk, Result}
 use Rattle.std.specs.List.{AllZip, range_with_len}
 use Rattle.rayon.specs.Numbers.{nat_range}
 use Rattle.rayon.proofs.ListFacts.{AllZip-weaken}
