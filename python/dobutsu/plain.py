@@ -106,19 +106,22 @@ def may_stand(profile, letter, square):
 # ---- moves: (letter, from-square or None, to-square), in move order
 
 
+@functools.cache
+def targets(letter, start):
+    """The squares a step from there, in order."""
+    ways = [(start % 3 + column, start // 3 + row) for column, row in STEPS[letter]]
+    return sorted(column + 3 * row for column, row in ways if 0 <= column < 3 and 0 <= row < 4)
+
+
 def steps_from(squares, start):
     letter = squares[start]
-    for column, row in STEPS[letter]:
-        if 0 <= start % 3 + column < 3 and 0 <= start // 3 + row < 4:
-            end = start + column + 3 * row
-            if not squares[end].isupper():
-                yield letter, start, end
+    return [(letter, start, end) for end in targets(letter, start) if not squares[end].isupper()]
 
 
 def all_moves(profile, position):
     """The steps, those onto the enemy's lion too, and the drops."""
     squares, mover, _enemy = position
-    steps = [move for s in range(12) if squares[s].isupper() for move in sorted(steps_from(squares, s))]
+    steps = [move for s in range(12) if squares[s].isupper() for move in steps_from(squares, s)]
     drops = [(KINDS[i], None, s) for i in range(3) if mover[i] for s in range(12)]
     return steps, [move for move in drops if squares[move[2]] == "." and may_stand(profile, move[0], move[2])]
 
@@ -133,6 +136,18 @@ def status_and_moves(profile, position):
     if squares.index("l") < 3:
         return "tried", []
     return ("open", steps + drops) if steps or drops else ("stuck", [])
+
+
+def status(profile, position):
+    """The status alone."""
+    squares, mover, _enemy = position
+    lion = squares.index("l")
+    if any(squares[s].isupper() and lion in targets(squares[s], s) for s in range(12)):
+        return "caught"
+    if lion < 3:
+        return "tried"
+    # an elephant or a giraffe in hand can always be dropped
+    return "open" if mover[1] or mover[2] else status_and_moves(profile, position)[0]
 
 
 def grows(move):
@@ -298,10 +313,12 @@ def in_hand(profile, on):
     return sum(run_of(profile, on, lions).count for lions in LIONS)
 
 
+@functools.cache
 def hands_of(pieces, on):
     return list(itertools.product(*(range(n - m + 1) for n, m in zip(pieces, on))))
 
 
+@functools.cache
 def boards_of(pieces):
     return list(itertools.product(*(range(n + 1) for n in pieces)))
 
@@ -468,6 +485,197 @@ def open_db(path, check=True):
         if file.seek(0, 2) == 0:
             raise Wrong("E15 Truncated")
         return Db(mmap.mmap(file.fileno(), 0, access=mmap.ACCESS_READ), check)
+
+
+# ---- certificates: a claim of one position, with lists of classes that show it (docs/FORMAT.md, The certificate)
+
+EVER = 65535  # of an entry: never lost
+CLAIMS = ["draw", "win", "loss", "win within", "loss within"]
+
+
+def entry_at(data, place, least):
+    """A class, its plies, and the place behind them. The number there says how far the class is from the last one below the least."""
+    number = 0
+    for digit in range(5):
+        if place >= len(data):
+            raise Wrong("E15 Truncated")
+        byte = data[place]
+        place += 1
+        number += byte % 128 << 7 * digit
+        if byte < 128:
+            if byte == 0 and digit:
+                break
+            return least - 1 + number, place
+    raise Wrong("E36 EntryNumber")
+
+
+def entries_at(data, place, count, classes):
+    """So many entries as a dictionary from classes to plies, and the place behind them."""
+    entries, least = {}, 0
+    for _ in range(count):
+        number, place = entry_at(data, place, least)
+        if number < least:
+            raise Wrong("E37 EntryOrder")
+        if number >= classes:
+            raise Wrong("E38 EntryClass")
+        if place >= len(data):
+            raise Wrong("E15 Truncated")
+        entries[number] = EVER if data[place] == 255 else data[place]
+        place, least = place + 1, number + 1
+    return entries, place
+
+
+class Certificate:
+    """A certificate: `profile`, `pieces`, the class `root`, the `claim` as a word and a number of plies, and the entries of both lists."""
+
+    def __init__(self, data):
+        """Reads a certificate's file. The tests are made in the order of docs/FORMAT.md."""
+        if len(data) < 28:
+            raise Wrong("E15 Truncated")
+        if data[:8] != b"DOBUCERT":
+            raise Wrong("E16 Magic")
+        if data[8] != 1:
+            raise Wrong("E32 Version")
+        self.pieces = tuple(data[9:12])
+        if max(self.pieces) > 2 or data[12] != 2:
+            raise Wrong("E17 SetByte")
+        if data[13] > 1:
+            raise Wrong("E27 ProfileByte")
+        self.profile = PROFILES[data[13]]
+        classes = class_count(self.profile, self.pieces)
+        self.root, kind, self.plies, lost, held = struct.unpack("<IBBII", data[14:28])
+        if self.root >= classes:
+            raise Wrong("E33 RootClass")
+        if kind > 4 or self.plies == 255 or (kind == 0 and self.plies):
+            raise Wrong("E34 ClaimByte")
+        self.claim = CLAIMS[kind]
+        if lost > classes or held > classes:
+            raise Wrong("E35 EntryCount")
+        self.lost, place = entries_at(data, 28, lost, classes)
+        self.held, place = entries_at(data, place, held, classes)
+        if len(data) < place + 32:
+            raise Wrong("E15 Truncated")
+        if len(data) > place + 32:
+            raise Wrong("E19 Trailing")
+        if data[place:] != hashlib.sha256(data[:place]).digest():
+            raise Wrong("E20 Digest")
+
+    def position(self):
+        """The position of which it claims something: the representative of its class."""
+        return self.position_at(self.root)
+
+    def __str__(self):
+        """The claim in a line, as `..l/.../L../... - - win 3`."""
+        return f"{write_position(self.position())} {self.claim}" + (f" {self.plies}" if self.claim != "draw" else "")
+
+    @functools.cache
+    def position_at(self, number):
+        return position_at(self.profile, self.pieces, number)
+
+    def positions_of(self, entries):
+        """The plies of each position whose class is listed, of mirror images too."""
+        listed = {}
+        for number, plies in entries.items():
+            position = self.position_at(number)
+            listed[position] = listed[mirrored(position)] = plies
+        return listed
+
+    @functools.cached_property
+    def lost_plies(self):
+        return self.positions_of(self.lost)
+
+    @functools.cached_property
+    def held_plies(self):
+        return self.positions_of(self.held)
+
+    def asked(self, position):
+        return status_and_moves(self.profile, position)
+
+    def has_lost(self, position):
+        """Whether the side to move has lost already: the enemy's lion has come home, or no move is left."""
+        return status(self.profile, position) in ("tried", "stuck")
+
+    # of positions that are lost
+
+    def is_said_lost(self, position, plies):
+        """Whether the side to move is said to lose within so many plies, or has lost."""
+        return self.lost_plies.get(position, EVER + 1) <= plies or self.has_lost(position)
+
+    def is_answered(self, position, plies):
+        """Whether the side to move catches the lion, or has a move to a position that is said to be lost within so many plies."""
+        found, moves = self.asked(position)
+        if found == "open":
+            return any(self.is_said_lost(apply(position, move), plies) for move in moves)
+        return found == "caught"
+
+    def is_upheld(self, position, plies):
+        """Whether an entry of the lost ones is shown by the others."""
+        found, moves = self.asked(position)
+        if found == "open":
+            return plies >= 2 and all(self.is_answered(apply(position, move), plies - 2) for move in moves)
+        return found != "caught"
+
+    # of positions that aren't
+
+    def is_said_held(self, position, plies):
+        """Whether the side to move is said not to lose within so many plies."""
+        found = status(self.profile, position)
+        return found == "caught" or found == "open" and (plies <= 1 or self.held_plies.get(position, -1) >= plies)
+
+    def is_safe(self, position, plies):
+        """Whether the side to move can't catch the lion, and each of its moves leads to what is said not to be lost within so many plies."""
+        found, moves = self.asked(position)
+        return found != "caught" and all(self.is_said_held(apply(position, move), plies) for move in moves)
+
+    def is_held(self, position, plies):
+        """Whether an entry of the others is shown by the others."""
+        found, moves = self.asked(position)
+        if found == "open":
+            least = EVER if plies == EVER else plies - 2
+            return plies < 2 or any(self.is_safe(apply(position, move), least) for move in moves)
+        return found == "caught"
+
+    def is_shown(self):
+        """Whether the lists show the claim, where each entry is shown by the others."""
+        root, plies = self.position(), self.plies
+        if self.claim == "loss within":
+            return self.is_said_lost(root, plies)
+        if self.claim == "win within":
+            return plies > 0 and self.is_answered(root, plies - 1)
+        if self.claim == "loss":
+            return self.is_said_lost(root, plies) and (plies == 0 or self.is_said_held(root, plies - 1))
+        if self.claim == "win":
+            return plies > 0 and self.is_answered(root, plies - 1) and (plies == 1 or self.is_safe(root, plies - 2))
+        return self.is_said_held(root, EVER) and self.is_safe(root, EVER)
+
+    def verify(self):
+        """Raises what is wrong: the first entry that the others don't show, those of the lost ones first, or the claim."""
+        for entries, is_shown in (self.lost, self.is_upheld), (self.held, self.is_held):
+            for number, plies in entries.items():
+                if not is_shown(self.position_at(number), plies):
+                    raise Wrong(f"E30 Unsupported class {number}")
+        if not self.is_shown():
+            raise Wrong("E31 Claim")
+
+    def reply(self, text):
+        """The move of the position that wins within the fewest plies by the lost ones, and these plies; none where there is no such move."""
+        position = read_position(text)
+        found, moves = self.asked(position)
+        if found == "caught":
+            return move_text(position, moves[0]), 1
+        best = None
+        for move in moves:
+            outcome = apply(position, move)
+            plies = 0 if self.has_lost(outcome) else self.lost_plies.get(outcome, EVER)
+            if plies < EVER and (best is None or plies + 1 < best[1]):
+                best = move_text(position, move), plies + 1
+        return best
+
+
+def open_certificate(path):
+    """The certificate of that name."""
+    with open(path, "rb") as file:
+        return Certificate(file.read())
 
 
 def main():

@@ -59,8 +59,8 @@ pub(crate) fn push_header(bytes: &mut Vec<u8>, family: Family, count: u64) -> Re
     Ok(())
 }
 
-// The number of a profile.
-fn profile_byte(profile: Profile) -> u8
+/// The number of a profile.
+pub fn profile_byte(profile: Profile) -> u8
     ensures { result ≡ profile_byte profile }
 {
     match profile {
@@ -146,8 +146,8 @@ fn format_named(bytes: &[u8]) -> Option<Format>
     }
 }
 
-// The piece set that those bytes name.
-fn set_named(bytes: &[u8]) -> Option<PieceSet>
+/// The piece set that those bytes name.
+pub fn set_named(bytes: &[u8]) -> Option<PieceSet>
     ensures { MatchOption result ((set : AnySet) → bytes.now ≢ set_bytes set) (λ set. bytes.now ≡ set_bytes set) }
 {
     match *bytes {
@@ -171,8 +171,8 @@ fn profile_named(format: Format, header: &[u8]) -> Option<Profile>
     }
 }
 
-// The profile of that number.
-fn profile_of(bytes: &[u8]) -> Option<Profile>
+/// The profile of that number.
+pub fn profile_of(bytes: &[u8]) -> Option<Profile>
     ensures { MatchOption result ((profile : AnyProfile) → bytes.now ≢ profile_byte profile ∷ []) (λ profile. bytes.now ≡ profile_byte profile ∷ []) }
 {
     match *bytes {

@@ -20,7 +20,7 @@ mod write;
 
 pub use device::{Failed, FailedAfter, PlacedSource, Sink, Source};
 pub use fault::Fault;
-pub use header::Format;
+pub use header::{Format, profile_byte, profile_of, set_named};
 pub use held::{held_counted, held_family, held_value};
 pub use held_front::{front_family, header_len};
 pub use held_source::HeldSource;

@@ -1,0 +1,124 @@
+-- A file that is read is the one that was written, and what was written is read again.
+use Rattle.std.proofs.Common.{◌≡◌, ℕ, zero, suc, ◌+◌, ◌-◌, ◌<◌, ◌≤◌, Bool, true, false, cond, ltb, leb, eqb, List, [], ◌∷◌, ◌++◌, length, get_or, take, drop, All, Result, Ok, Err, refl, sym, ap, subst, ◌∙◌, append_assoc, arith, inl, inr}
+use Rattle.std.proofs.lemmas.Bool.{leb-true, le-leb, lt-ltb}
+use Rattle.std.proofs.lemmas.List.{length-append, take_at, drop_at, append-nil}
+use Rattle.byteorder.specs.Endian.{little_bytes, little_number}
+use Rattle.byteorder.specs.Numbers.{little_number-reads_back}
+use Rattle.sha2.specs.Sha256.{sha256}
+use Rattle.sha2.proofs.Facts256.{length-sha256}
+use Rattle.dob_rank.specs.Families.{classes_of}
+use Rattle.dob_rank.proofs.OfFamilies.ClassBounds.{classes_of-below}
+use Rattle.dob_dbfile.specs.Format.{set_bytes, profile_byte}
+use Rattle.dob_pieces.specs.declared.profile.Family.{Family}
+use Rattle.dob_certificate.specs.declared.entry.Entry.{Entry}
+use Rattle.dob_certfile.specs.declared.defect.Defect.{Defect}
+use Rattle.dob_certfile.specs.declared.defect.Defect.TheVariants.{Truncated, Trailing, Digest}
+use Rattle.dob_certfile.specs.Format.{Content, Fits, FitEntries, bytes_of, claim_bytes, contents_of, entries_bytes, head_bytes, title}
+use Rattle.dob_certfile.specs.Reading.{◌>>=◌, wants, FrontContent, front_at, entries_at, seal_at, file_at, are_same}
+use Rattle.dob_certfile.proofs.Fields.{IsBytes, IsBytes-drop, bind_ok, wants_ok, ok_is, Takes}
+use Rattle.dob_certfile.proofs.Same.{same_is, is_same}
+use Rattle.dob_certfile.proofs.Lists.{Rise, StartsFrom, entries_take, entries_again, rise_fit, rise_count, rise_ascends, fit_rises, starts_anywhere}
+use Rattle.dob_certfile.proofs.Fronts.{FitsFront, front_text, front_takes, front_again}
+
+-- ---- the digest
+
+seal_takes : (bytes rest : List ℕ) (done : Unit {0}) → seal_at bytes rest ≡ Ok done → (length rest ≡ 32) × (rest ≡ sha256 (take (length bytes - 32) bytes))
+unfolding seal_at
+seal_takes bytes rest done e =
+    let a = wants_ok (leb 32 (length rest)) Truncated (wants (leb (length rest) 32) Trailing >>= λ ends. wants (are_same rest (sha256 (take (length bytes - 32) bytes))) Digest) done e in
+    let b = wants_ok (leb (length rest) 32) Trailing (wants (are_same rest (sha256 (take (length bytes - 32) bytes))) Digest) done a.1 in
+    let c = right (are_same rest (sha256 (take (length bytes - 32) bytes))) done b.1 in
+    (omega (arith, leb-true 32 (length rest) a.0, leb-true (length rest) 32 b.0), same_is rest (sha256 (take (length bytes - 32) bytes)) c)
+  where
+    right : (b : Bool) (done : Unit {0}) → wants b Digest ≡ Ok done → b ≡ true
+    right true done e = refl
+    right false done e = absurd cc
+
+-- the contents with their digest
+seal_again : (contents rest : List ℕ) → length rest ≡ 32 → rest ≡ sha256 contents → seal_at (contents ++ rest) rest ≡ Ok tt
+unfolding seal_at
+seal_again contents rest long is =
+    let whole : leb 32 (length rest) ≡ true = le-leb 32 (length rest) (omega (arith, long)) in
+    let ends : leb (length rest) 32 ≡ true = le-leb (length rest) 32 (omega (arith, long)) in
+    let before : length (contents ++ rest) - 32 ≡ length contents = omega (arith, length-append contents rest, long) in
+    let cut : take (length (contents ++ rest) - 32) (contents ++ rest) ≡ contents = ap (λ (n : ℕ). take n (contents ++ rest)) before ∙ take_at contents rest (length contents) refl in
+    let same : are_same rest (sha256 (take (length (contents ++ rest) - 32) (contents ++ rest))) ≡ true = is_same rest _ (is ∙ ap sha256 (sym cut)) in
+    rw (whole, ends, same) refl
+
+-- ---- the whole file
+
+abbrev filed : FrontContent → List Entry → List Entry → Content
+filed f lost held = record { family = f.family; root = f.root; claim = f.claim; lost = lost; held = held }
+
+-- the contents, and what comes after them
+joined : (c : Content) (rest : List ℕ) → contents_of c ++ rest
+    ≡ front_text (record { family = c.family; root = c.root; claim = c.claim; lost_count = length c.lost; held_count = length c.held }) ((entries_bytes 0 c.lost ++ entries_bytes 0 c.held) ++ rest)
+unfolding contents_of
+joined c rest =
+    let lost : List ℕ = entries_bytes 0 c.lost in
+    let held : List ℕ = entries_bytes 0 c.held in
+    let more : List ℕ = little_bytes 4 (length c.lost) ++ (little_bytes 4 (length c.held) ++ (lost ++ held)) in
+    ap (λ (x : List ℕ). title ++ 1 ∷ (set_bytes c.family.set ++ profile_byte c.family.profile ∷ (little_bytes 4 c.root ++ x)))
+    (ap (λ (x : List ℕ). x ++ rest) (refl) ∙ append_assoc (claim_bytes c.claim) more rest)
+
+-- ---- reading again
+
+few_entries : (classes : ℕ) (entries : List Entry) → FitEntries classes entries → length entries ≤ classes
+few_entries classes entries fits = (let few = rise_count classes 0 entries (fit_rises classes 0 entries fits (starts_anywhere entries)) (omega arith) in omega (arith, few))
+
+pub file_again : (c : Content) → Fits c → file_at (bytes_of c) ≡ Ok c
+unfolding file_at
+file_again c fits =
+    let long : length (sha256 (contents_of c)) ≡ 32 = length-sha256 (contents_of c) in
+    let classes : ℕ = classes_of c.family in
+    let small : classes < 2147483648 = classes_of-below c.family in
+    let f : FrontContent = record { family = c.family; root = c.root; claim = c.claim; lost_count = length c.lost; held_count = length c.held } in
+    let digest : List ℕ = sha256 (contents_of c) in
+    let rest : List ℕ = (entries_bytes 0 c.lost ++ entries_bytes 0 c.held) ++ digest in
+    let right : FitsFront f = record { root = fits.root; claim = fits.claim; lost = few_entries classes c.lost fits.lost; held = few_entries classes c.held fits.held } in
+    let text : bytes_of c ≡ front_text f rest = joined c digest in
+    let front = front_again f rest right in
+    let regrouped : rest ≡ entries_bytes 0 c.lost ++ (entries_bytes 0 c.held ++ digest) = append_assoc (entries_bytes 0 c.lost) (entries_bytes 0 c.held) digest in
+    let lost : entries_at classes 0 (length c.lost) rest ≡ Ok (c.lost, entries_bytes 0 c.held ++ digest) =
+    ap (entries_at classes 0 (length c.lost)) regrouped ∙ entries_again classes 0 c.lost (entries_bytes 0 c.held ++ digest) small (fit_rises classes 0 c.lost fits.lost (starts_anywhere c.lost)) in
+    let held : entries_at classes 0 (length c.held) (entries_bytes 0 c.held ++ digest) ≡ Ok (c.held, digest) =
+    entries_again classes 0 c.held digest small (fit_rises classes 0 c.held fits.held (starts_anywhere c.held)) in
+    let seal : seal_at (bytes_of c) digest ≡ Ok tt = seal_again (contents_of c) digest long refl in
+    let front_is : front_at (bytes_of c) ≡ Ok f = ap front_at text ∙ front.0 in
+    let rest_is : drop 28 (bytes_of c) ≡ rest = ap (drop 28) text ∙ front.1 in
+    rw (front_is, rest_is, lost, held, seal) refl
+
+pub file_takes : (bytes : List ℕ) (c : Content) → IsBytes bytes → file_at bytes ≡ Ok c → Fits c × (bytes ≡ bytes_of c)
+unfolding file_at
+unfolding contents_of
+file_takes bytes c fits e =
+    let a = bind_ok (front_at bytes) (λ front. entries_at (classes_of front.family) 0 front.lost_count (drop 28 bytes) >>= λ lost. entries_at (classes_of front.family) 0 front.held_count lost.1 >>= λ held. seal_at bytes held.1 >>= λ sealed. Ok (filed front lost.0 held.0)) c e in
+    let f : FrontContent = a.0 in
+    let classes : ℕ = classes_of f.family in
+    let l = bind_ok (entries_at classes 0 f.lost_count (drop 28 bytes)) (λ lost. entries_at classes 0 f.held_count lost.1 >>= λ held. seal_at bytes held.1 >>= λ sealed. Ok (filed f lost.0 held.0)) c a.2 in
+    let h = bind_ok (entries_at classes 0 f.held_count l.0.1) (λ held. seal_at bytes held.1 >>= λ sealed. Ok (filed f l.0.0 held.0)) c l.2 in
+    let s = bind_ok (seal_at bytes h.0.1) (λ sealed. Ok (filed f l.0.0 h.0.0)) c h.2 in
+    let front = front_takes bytes f fits a.1 in
+    let lost = entries_take classes 0 f.lost_count (drop 28 bytes) l.0 (IsBytes-drop 28 bytes fits) l.1 in
+    let held = entries_take classes 0 f.held_count l.0.1 h.0 lost.0.rest_fits h.1 in
+    let seal = seal_takes bytes h.0.1 s.0 s.1 in
+    let made : Content = filed f l.0.0 h.0.0 in
+    let entries : drop 28 bytes ≡ (entries_bytes 0 l.0.0 ++ entries_bytes 0 h.0.0) ++ h.0.1 =
+    lost.0.parts ∙ ap (λ (x : List ℕ). entries_bytes 0 l.0.0 ++ x) held.0.parts ∙ sym (append_assoc (entries_bytes 0 l.0.0) (entries_bytes 0 h.0.0) h.0.1) in
+    let parts : bytes ≡ contents_of made ++ h.0.1 =
+    front.0
+    ∙ ap (front_text f) entries
+    ∙ ap (λ (n : ℕ). front_text (record { family = f.family; root = f.root; claim = f.claim; lost_count = n; held_count = f.held_count }) ((entries_bytes 0 l.0.0 ++ entries_bytes 0 h.0.0) ++ h.0.1)) (sym lost.1)
+    ∙ ap (λ (n : ℕ). front_text (record { family = f.family; root = f.root; claim = f.claim; lost_count = length l.0.0; held_count = n }) ((entries_bytes 0 l.0.0 ++ entries_bytes 0 h.0.0) ++ h.0.1)) (sym held.1)
+    ∙ sym (joined made h.0.1) in
+    let long : length bytes - 32 ≡ length (contents_of made) = omega (arith, ap length parts, length-append (contents_of made) h.0.1, seal.0) in
+    let before : take (length bytes - 32) bytes ≡ contents_of made =
+    ap (λ (n : ℕ). take n bytes) long ∙ ap (λ (x : List ℕ). take (length (contents_of made)) x) parts ∙ take_at (contents_of made) h.0.1 (length (contents_of made)) refl in
+    let whole : bytes ≡ bytes_of made = parts ∙ ap (λ (x : List ℕ). contents_of made ++ x) (seal.1 ∙ ap sha256 before) in
+    let right : Fits made = record {
+      root = front.1.root;
+      claim = front.1.claim;
+      lost = (rise_ascends classes 0 l.0.0 lost.2, rise_fit classes 0 l.0.0 lost.2);
+      held = (rise_ascends classes 0 h.0.0 held.2, rise_fit classes 0 h.0.0 held.2);
+    } in
+    subst (λ (d : Content). Fits d × (bytes ≡ bytes_of d)) (ok_is made c s.2) (right, whole)

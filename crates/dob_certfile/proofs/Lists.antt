@@ -1,0 +1,169 @@
+-- Entries that are read are those that were written, and what was written is read again.
+use Rattle.std.proofs.Common.{◌≡◌, ℕ, zero, suc, ◌+◌, ◌-◌, ◌<◌, ◌≤◌, ◌⊎◌, Bool, true, false, cond, ltb, leb, List, [], ◌∷◌, ◌++◌, length, get_or, slice_index_or, All, Result, Ok, Err, refl, sym, ap, subst, ◌∙◌, append_assoc, arith, inl, inr}
+use Rattle.std.proofs.lemmas.Bool.{cases_lt, cases_Bool, ltb-true, ltb-false, lt-ltb, le-ltb, leb-true, le-leb}
+use Rattle.dob_certificate.specs.declared.entry.Entry.{Entry}
+use Rattle.dob_certificate.specs.declared.entry.TheConstants.{EVER}
+use Rattle.dob_certificate.specs.Ascending.{AreAscending, class_at}
+use Rattle.dob_certfile.specs.declared.defect.Defect.{Defect}
+use Rattle.dob_certfile.specs.declared.defect.Defect.TheVariants.{EntryOrder, EntryClass}
+use Rattle.dob_certfile.specs.Numbers.{number_bytes, leb128}
+use Rattle.dob_certfile.specs.Format.{FitEntry, FitEntries, FitsPlies, entry_bytes, entries_bytes, plies_byte}
+use Rattle.dob_certfile.specs.Reading.{◌>>=◌, wants, byte_at, number_at, plies_of, entry_at, entries_at}
+use Rattle.dob_certfile.proofs.Fields.{IsBytes, bind_ok, wants_ok, ok_is, Takes, Takes-then, byte_takes, number_takes, number_again}
+
+-- ---- plies
+
+plies_fit : (byte : ℕ) → FitsPlies (plies_of byte)
+plies_fit byte = elim (cases_lt byte 255) [
+  | inl lt ↦ let is : ltb byte 255 ≡ true = lt-ltb byte 255 lt in rw is (inl lt)
+  | inr le ↦ let no : ltb byte 255 ≡ false = le-ltb byte 255 le in rw no (inr refl)
+]
+
+plies_back : (byte : ℕ) → byte < 256 → plies_byte (plies_of byte) ≡ byte
+plies_back byte fits = elim (cases_lt byte 255) [
+  | inl lt ↦ let is : ltb byte 255 ≡ true = lt-ltb byte 255 lt in rw (is, is) refl
+  | inr le ↦
+      let no : ltb byte 255 ≡ false = le-ltb byte 255 le in
+      let same : 255 ≡ byte = omega (arith, fits, le) in
+      rw no same
+]
+
+plies_again : (plies : ℕ) → FitsPlies plies → plies_of (plies_byte plies) ≡ plies
+plies_again plies fits = elim fits [
+  | inl lt ↦ let is : ltb plies 255 ≡ true = lt-ltb plies 255 lt in rw (is, is) refl
+  | inr ever ↦ subst (λ (n : ℕ). plies_of (plies_byte n) ≡ n) (sym ever) refl
+]
+
+-- ---- one entry
+
+abbrev made : ℕ → ℕ → ℕ × List ℕ → Entry × List ℕ
+made least number plies = (record { class = least + number - 1; plies = plies_of plies.0 }, plies.1)
+
+-- its class is the least or above and one of the classes, and its plies fit
+pub record IsEntryFrom (classes least : ℕ) (entry : Entry) : Type 0 where
+  pub from : least ≤ entry.class
+  pub fits : FitEntry classes entry
+
+pub entry_takes : (classes least : ℕ) (bytes : List ℕ) (x : Entry × List ℕ) → IsBytes bytes → entry_at classes least bytes ≡ Ok x
+    → Takes bytes (entry_bytes least x.0) x.1 × IsEntryFrom classes least x.0
+unfolding entry_at
+entry_takes classes least bytes x fits e =
+    let a = bind_ok (number_at 4 bytes) (λ number. wants (ltb 0 number.0) EntryOrder >>= λ above. wants (leb (least + number.0) classes) EntryClass >>= λ known. byte_at number.1 >>= λ plies. Ok (made least number.0 plies)) x e in
+    let number = a.0.0 in
+    let b = wants_ok (ltb 0 number) EntryOrder (wants (leb (least + number) classes) EntryClass >>= λ known. byte_at a.0.1 >>= λ plies. Ok (made least number plies)) x a.2 in
+    let c = wants_ok (leb (least + number) classes) EntryClass (byte_at a.0.1 >>= λ plies. Ok (made least number plies)) x b.1 in
+    let d = bind_ok (byte_at a.0.1) (λ plies. Ok (made least number plies)) x c.1 in
+    let first = number_takes 4 bytes a.0 fits a.1 in
+    let second = byte_takes a.0.1 d.0 first.0.rest_fits d.1 in
+    let some : 0 < number = ltb-true 0 number b.0 in
+    let known : least + number ≤ classes = leb-true (least + number) classes c.0 in
+    let class_is : least + number - 1 + 1 - least ≡ number = omega (arith, some) in
+    let both : Takes bytes (number_bytes number ++ d.0.0 ∷ []) d.0.1 = Takes-then bytes (number_bytes number) a.0.1 (d.0.0 ∷ []) d.0.1 first.0 second.0 in
+    let text : number_bytes (least + number - 1 + 1 - least) ++ plies_byte (plies_of d.0.0) ∷ [] ≡ number_bytes number ++ d.0.0 ∷ [] =
+    ap (λ (n : ℕ). number_bytes n ++ plies_byte (plies_of d.0.0) ∷ []) class_is ∙ ap (λ (p : ℕ). number_bytes number ++ p ∷ []) (plies_back d.0.0 second.1) in
+    subst (λ (y : Entry × List ℕ). Takes bytes (entry_bytes least y.0) y.1 × IsEntryFrom classes least y.0) (ok_is (made least number d.0) x d.2)
+    (subst (λ (t : List ℕ). Takes bytes t d.0.1) (sym text) both, record { from = omega (arith, some); fits = record { class = omega (arith, some, known); plies = plies_fit d.0.0 } })
+
+pub entry_again : (classes least : ℕ) (entry : Entry) (rest : List ℕ) → classes < 2147483648 → IsEntryFrom classes least entry
+    → entry_at classes least (entry_bytes least entry ++ rest) ≡ Ok (entry, rest)
+unfolding entry_at
+entry_again classes least entry rest few is =
+    let number : ℕ = entry.class + 1 - least in
+    let from : least ≤ entry.class = is.from in
+    let below : entry.class < classes = is.fits.class in
+    let regrouped : entry_bytes least entry ++ rest ≡ number_bytes number ++ (plies_byte entry.plies ∷ rest) = append_assoc (number_bytes number) (plies_byte entry.plies ∷ []) rest in
+    let read : number_at 4 (number_bytes number ++ (plies_byte entry.plies ∷ rest)) ≡ Ok (number, plies_byte entry.plies ∷ rest) = number_again 4 number (plies_byte entry.plies ∷ rest) (omega (arith, few, below)) in
+    let above : ltb 0 number ≡ true = lt-ltb 0 number (omega (arith, from)) in
+    let known : leb (least + number) classes ≡ true = le-leb (least + number) classes (omega (arith, from, below)) in
+    let class : least + number - 1 ≡ entry.class = omega (arith, from) in
+    ap (entry_at classes least) regrouped ∙ rw (read, above, known, class, plies_again entry.plies is.fits.plies) refl
+
+-- ---- entries in their order
+
+-- each entry is from above the one before
+abbrev pub Rise : ℕ → ℕ → List Entry → Type 0
+Rise classes least [] = Unit {0}
+Rise classes least (entry ∷ entries) = IsEntryFrom classes least entry × Rise classes (entry.class + 1) entries
+
+pub entries_take : (classes least count : ℕ) (bytes : List ℕ) (x : List Entry × List ℕ) → IsBytes bytes → entries_at classes least count bytes ≡ Ok x
+    → Takes bytes (entries_bytes least x.0) x.1 × (length x.0 ≡ count) × Rise classes least x.0
+unfolding entries_at
+unfolding entries_bytes
+entries_take classes least zero bytes x fits e =
+    subst (λ (y : List Entry × List ℕ). Takes bytes (entries_bytes least y.0) y.1 × (length y.0 ≡ 0) × Rise classes least y.0) (ok_is ([], bytes) x e)
+    (record { parts = refl; rest_fits = fits }, refl, tt)
+entries_take classes least (suc count) bytes x fits e =
+    let a = bind_ok (entry_at classes least bytes) (λ first. entries_at classes (first.0.class + 1) count first.1 >>= λ others. Ok (first.0 ∷ others.0, others.1)) x e in
+    let b = bind_ok (entries_at classes (a.0.0.class + 1) count a.0.1) (λ others. Ok (a.0.0 ∷ others.0, others.1)) x a.2 in
+    let first = entry_takes classes least bytes a.0 fits a.1 in
+    let others = entries_take classes (a.0.0.class + 1) count a.0.1 b.0 first.0.rest_fits b.1 in
+    let both = Takes-then bytes (entry_bytes least a.0.0) a.0.1 (entries_bytes (a.0.0.class + 1) b.0.0) b.0.1 first.0 others.0 in
+    let all : List Entry × List ℕ = (a.0.0 ∷ b.0.0, b.0.1) in
+    subst (λ (y : List Entry × List ℕ). Takes bytes (entries_bytes least y.0) y.1 × (length y.0 ≡ suc count) × Rise classes least y.0) (ok_is all x b.2)
+    (both, ap suc others.1, (first.1, others.2))
+
+pub entries_again : (classes least : ℕ) (entries : List Entry) (rest : List ℕ) → classes < 2147483648 → Rise classes least entries
+    → entries_at classes least (length entries) (entries_bytes least entries ++ rest) ≡ Ok (entries, rest)
+unfolding entries_at
+unfolding entries_bytes
+entries_again classes least [] rest few rises = refl
+entries_again classes least (entry ∷ entries) rest few rises =
+    let regrouped : entries_bytes least (entry ∷ entries) ++ rest ≡ entry_bytes least entry ++ (entries_bytes (entry.class + 1) entries ++ rest) =
+    append_assoc (entry_bytes least entry) (entries_bytes (entry.class + 1) entries) rest in
+    ap (entries_at classes least (suc (length entries))) regrouped
+    ∙ rw (entry_again classes least entry (entries_bytes (entry.class + 1) entries ++ rest) few rises.0, entries_again classes (entry.class + 1) entries rest few rises.1) refl
+
+-- ---- the order by places, and how many there are
+
+pub rise_fit : (classes least : ℕ) (entries : List Entry) → Rise classes least entries → All (FitEntry classes) entries
+rise_fit classes least [] rises = λ k d lt. absurd (omega (arith, lt))
+rise_fit classes least (entry ∷ entries) rises = λ k d lt. fit_at k d lt
+  where
+    fit_at : (k : ℕ) (d : Entry) → k < length (entry ∷ entries) → FitEntry classes (slice_index_or (entry ∷ entries) k d)
+    fit_at zero d lt = rises.0.fits
+    fit_at (suc k) d lt = rise_fit classes (entry.class + 1) entries rises.1 k d (omega (arith, lt))
+
+pub rise_count : (classes least : ℕ) (entries : List Entry) → Rise classes least entries → least ≤ classes → length entries + least ≤ classes
+rise_count classes least [] rises from = omega (arith, from)
+rise_count classes least (entry ∷ entries) rises from =
+    let below : entry.class < classes = rises.0.fits.class in
+    let start : least ≤ entry.class = rises.0.from in
+    let rest : length entries + (entry.class + 1) ≤ classes = rise_count classes (entry.class + 1) entries rises.1 (omega (arith, below)) in
+    omega (arith, rest, start)
+
+pub rise_ascends : (classes least : ℕ) (entries : List Entry) → Rise classes least entries → AreAscending entries
+rise_ascends classes least [] rises = λ place lt. absurd (omega (arith, lt))
+rise_ascends classes least (entry ∷ []) rises = λ place lt. absurd (omega (arith, lt))
+rise_ascends classes least (entry ∷ next ∷ entries) rises = λ place lt. ascends_at place lt
+  where
+    ascends_at : (place : ℕ) → place + 1 < length (entry ∷ next ∷ entries) → class_at (entry ∷ next ∷ entries) place < class_at (entry ∷ next ∷ entries) (place + 1)
+    ascends_at zero lt = (let from : entry.class + 1 ≤ next.class = rises.1.0.from in omega (arith, from))
+    ascends_at (suc place) lt =
+        let moved : suc place + 1 ≡ suc (place + 1) = omega arith in
+        let later : class_at (next ∷ entries) place < class_at (next ∷ entries) (place + 1) = rise_ascends classes (entry.class + 1) (next ∷ entries) rises.1 place (omega (arith, lt)) in
+        subst (λ (n : ℕ). class_at (next ∷ entries) place < class_at (entry ∷ next ∷ entries) n) (sym moved) later
+
+-- the first is from the least
+abbrev pub StartsFrom : ℕ → List Entry → Type 0
+StartsFrom least [] = Unit {0}
+StartsFrom least (entry ∷ entries) = least ≤ entry.class
+
+tail_ascends : (entry : Entry) (entries : List Entry) → AreAscending (entry ∷ entries) → AreAscending entries
+tail_ascends entry entries ascending = λ place lt.
+    let moved : suc place + 1 ≡ suc (place + 1) = omega arith in
+    subst (λ (n : ℕ). class_at entries place < class_at (entry ∷ entries) n) moved (ascending (suc place) (omega (arith, lt)))
+
+tail_starts : (entry : Entry) (entries : List Entry) → AreAscending (entry ∷ entries) → StartsFrom (entry.class + 1) entries
+tail_starts entry [] ascending = tt
+tail_starts entry (next ∷ entries) ascending = (let lt : entry.class < next.class = ascending 0 (omega arith) in omega (arith, lt))
+
+pub fit_rises : (classes least : ℕ) (entries : List Entry) → FitEntries classes entries → StartsFrom least entries → Rise classes least entries
+fit_rises classes least [] fits starts = tt
+fit_rises classes least (entry ∷ entries) fits starts = (
+  record { from = starts; fits = fits.1 0 entry (omega arith) },
+  fit_rises classes (entry.class + 1) entries (tail_ascends entry entries fits.0, λ k d lt. fits.1 (suc k) d (omega (arith, lt))) (tail_starts entry entries fits.0),
+)
+
+pub starts_anywhere : (entries : List Entry) → StartsFrom 0 entries
+starts_anywhere [] = tt
+starts_anywhere (entry ∷ entries) = omega arith

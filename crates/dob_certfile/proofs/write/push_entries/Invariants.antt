@@ -1,0 +1,8 @@
+-- What was written and what is left are the whole.
+use Rattle.std.proofs.Common.{◌++◌}
+use Rattle.dob_certfile.specs.Format.{entries_bytes}
+use Rattle.dob_certfile.proofs.Writes.{AreWritten}
+use Rattle.dob_certfile.proofs.write.push_entries.Given as goal
+
+abbrev pub invariant-loop-entry : goal.invariant-loop-entry
+invariant-loop-entry l = AreWritten l.entries l.entry-index l.least l.bytes.items (l.fn.bytes.items ++ entries_bytes 0 l.entries)
