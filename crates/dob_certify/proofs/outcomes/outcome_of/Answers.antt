@@ -1,0 +1,20 @@
+-- What stands after a move is a position of the same family.
+use Rattle.dob_moves.specs.declared.position_status.Status.TheVariants.{Open}
+use Rattle.dob_moves.proofs.ByProfile.{can_go}
+use Rattle.dob_moves.proofs.ProfileMoves.{goes_there, status_there}
+use Rattle.dob_value.proofs.Successors.{moves_keep_the_family}
+use Rattle.dob_certify.proofs.outcomes.outcome_of.Goals as goal
+
+pub apply-requires-clause-open : goal.apply-requires-clause-open
+apply-requires-clause-open c =
+    status_there c.args.classes.now.family.profile c.args.position.now.setup Open c.args.position.now.legal c.requires.the_move.0
+
+pub apply-requires-clause-can_go : goal.apply-requires-clause-can_go
+apply-requires-clause-can_go c = can_go c.args.classes.now.family.profile c.args.position.now.setup c.args.the_move c.requires.the_move.1
+
+pub returns : goal.returns
+returns c =
+    let profile = c.args.classes.now.family.profile in
+    let setup = c.args.position.now.setup in
+    moves_keep_the_family c.args.classes.now.family setup c.args.the_move c.apply.result.setup c.requires.member c.requires.the_move.0
+    (goes_there profile setup c.args.the_move c.apply.result.setup c.requires.the_move.1 c.apply.ensures)

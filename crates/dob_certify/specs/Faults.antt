@@ -1,0 +1,38 @@
+-- Why no certificate is made.
+use Rattle.std.specs.Prelude.{◌≡◌, ℕ, Bool, List, ◌++◌, codes}
+use Rattle.std.specs.Fmt.{decimal}
+use Rattle.dob_pieces.specs.Faults.{memory_text}
+use Rattle.dob_pieces.specs.declared.setup.Setup.{Setup}
+use Rattle.dob_value.specs.declared.value.Value.{Value}
+use Rattle.dob_value.specs.Follows.{ClassTable}
+use Rattle.dob_probe.specs.Lines.{GivenBy}
+use Rattle.dob_probe.specs.Faults as by_table
+use Rattle.dob_certificate.specs.declared.entry.Entry.{Entry}
+use Rattle.dob_certificate.specs.declared.refusal.Refusal.{Refusal}
+use Rattle.dob_certificate.specs.Refusals as lists
+use Rattle.dob_certify.specs.declared.fault.Fault.{Fault}
+use Rattle.dob_certify.specs.declared.fault.Fault.TheVariants.{Table, Unproved, TooMany, Memory}
+use Rattle.dob_certify.specs.Made.{claim_of}
+
+-- the fault's number and name
+abbrev pub fault_text : Fault → List ℕ
+fault_text (Table fault) = by_table.fault_text fault
+fault_text (Unproved refusal) = lists.fault_text refusal
+fault_text (TooMany most) = codes "E39 TooMany more than " ++ decimal most ++ codes " entries"
+fault_text Memory = memory_text
+
+-- some lists don't prove the claim for the value that the table gives the position
+pub record IsUnproved (table : ClassTable) (is_exact : Bool) (p : Setup) (refusal : Refusal) : Type 0 where
+  pub value : Value
+  pub given : GivenBy table p value
+  pub lost : List Entry
+  pub held : List Entry
+  pub refused : lists.IsRefusal table.family lost held p (claim_of value is_exact) refusal
+
+-- Why nothing is made: the position isn't one of the table's; or lists that were found don't prove the claim; or one of them would have more
+-- entries than it may; or memory ran out.
+abbrev pub IsFault : ClassTable → Bool → Setup → ℕ → Fault → Type 0
+IsFault table is_exact p most (Table fault) = by_table.IsRefusal table.family p fault
+IsFault table is_exact p most (Unproved refusal) = IsUnproved table is_exact p refusal
+IsFault table is_exact p most (TooMany number) = number ≡ most
+IsFault table is_exact p most Memory = Unit {0}

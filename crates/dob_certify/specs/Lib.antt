@@ -1,0 +1,3 @@
+-- The definitions.
+pub mod Made  -- what is made of a position
+pub mod Faults  -- why nothing is made

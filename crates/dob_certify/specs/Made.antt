@@ -1,0 +1,24 @@
+-- What is made of what a table says of a position.
+use Rattle.std.specs.Prelude.{◌≡◌, Bool, if◌then◌else◌}
+use Rattle.dob_pieces.specs.declared.setup.Setup.{Setup}
+use Rattle.dob_value.specs.declared.value.Value.{Value}
+use Rattle.dob_value.specs.declared.value.Value.TheVariants.{Win, Loss, Draw}
+use Rattle.dob_value.specs.Follows.{ClassTable}
+use Rattle.dob_probe.specs.Lines.{GivenBy}
+use Rattle.dob_certificate.specs.declared.claim.Claim.{Claim}
+use Rattle.dob_certificate.specs.declared.claim.Claim.TheVariants.{Exactly, LostWithin, WonWithin}
+use Rattle.dob_certificate.specs.Claims.{Prove}
+use Rattle.dob_certify.specs.declared.making.Certified.{Certified}
+
+-- what is claimed of a position with that value: a draw is always exact
+abbrev pub claim_of : Value → Bool → Claim
+claim_of (Win plies) is_exact = if is_exact then Exactly (Win plies) else WonWithin plies
+claim_of (Loss plies) is_exact = if is_exact then Exactly (Loss plies) else LostWithin plies
+claim_of Draw is_exact = Exactly Draw
+
+-- the claim is that of the value which the table gives the position, and the lists prove it
+pub record IsMade (table : ClassTable) (is_exact : Bool) (p : Setup) (made : Certified) : Type 0 where
+  pub value : Value
+  pub given : GivenBy table p value
+  pub claim_is : made.claim ≡ claim_of value is_exact
+  pub proved : Prove table.family made.certificate.lost made.certificate.held p made.claim

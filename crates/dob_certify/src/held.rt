@@ -1,0 +1,190 @@
+// The classes that show that some of them aren't lost within so many plies, found in a table.
+//
+// The classes come by falling plies. Each has to have a move after which the lion can't be caught and each reply leads to a class that isn't lost within
+// two plies less: so the move that is chosen asks for the fewest and cheapest classes that aren't members yet.
+
+use crate::fault::Stop;
+use crate::members::Members;
+use crate::outcomes::{Listed, Outcomes};
+use dob_certificate::{EVER, Entries};
+use dob_check::Watch;
+use dob_value::Value;
+use std::alloc::Global;
+use std::mem;
+
+/// What a class costs that its side to move wins in 1 ply.
+const UNIT: u64 = 1 << 16;
+
+/// What a class costs that its side to move doesn't win in time.
+const UNWON: u64 = 20 * UNIT;
+
+/// The greatest cost of a class. Those of a position's replies add up to less than a `u64` can have.
+const GREATEST: u64 = 1 << 50;
+
+/// For how many distances the costs are kept. Of the last one it is above `GREATEST`.
+const DISTANCES: usize = 64;
+
+// The members so far.
+#[derive(Drop)]
+struct Search<'a, 'b> {
+    alloc: Global,
+    outcomes: &'b mut Outcomes<'a>,
+    members: Members,
+    // Those whose moves haven't been looked at.
+    fresh: Vec<u32>,
+    // What a class costs by half the distance in which its side to move wins.
+    costs: [u64; DISTANCES],
+    // The classes for which the move asks that is looked at, and those for which the cheapest one asks.
+    asked: Vec<u32>,
+    cheapest: Vec<u32>,
+    // Room for classes.
+    replies: Vec<u32>,
+}
+
+/// The entries of the classes, which by the table aren't lost within so many plies, and those that they need. Where the lion can be caught a class
+/// needs no entry, and none needs one within 1 ply. The watch is told of each two plies.
+///
+/// # Errors
+///
+/// `Memory`; `Full` where there would be more than `most` entries.
+pub(crate) fn held_entries<W: Watch>(
+    alloc: Global,
+    outcomes: &mut Outcomes<'_>,
+    roots: &[u32],
+    plies: u16,
+    most: u64,
+    watch: &W,
+) -> Result<Entries, Stop> {
+    let mut search = Search {
+        alloc,
+        outcomes,
+        members: Members::new(alloc, most),
+        fresh: Vec::new(alloc),
+        costs: costs(),
+        asked: Vec::new(alloc),
+        cheapest: Vec::new(alloc),
+        replies: Vec::new(alloc),
+    };
+    let mut plies = plies;
+    search.add_all(roots, plies)?;
+    // A round adds a class at least, and each class is added once.
+    for _ in 0..u32::MAX {
+        if search.fresh.is_empty() {
+            break;
+        }
+        let asked = plies_asked(plies);
+        search.look_at_fresh(plies, asked)?;
+        plies = asked;
+        watch.passed(1);
+    }
+    Ok(search.members.entries(alloc)?)
+}
+
+// What a class that has to hold for so many plies asks of those two plies later.
+fn plies_asked(plies: u16) -> u16 {
+    if plies == EVER {
+        EVER
+    } else {
+        plies.saturating_sub(2)
+    }
+}
+
+// Each cost is half as much again as the one before.
+fn costs() -> [u64; DISTANCES] {
+    let mut costs = [GREATEST; DISTANCES];
+    let mut cost = UNIT;
+    for half in 0..DISTANCES {
+        costs[half] = cost;
+        cost = (cost.saturating_add(cost / 2)).min(GREATEST);
+    }
+    costs
+}
+
+impl Search<'_, '_> {
+    // Makes those classes members that aren't, with so many plies.
+    fn add_all(&mut self, classes: &[u32], plies: u16) -> Result<(), Stop> {
+        if plies < 2 {
+            return Ok(());
+        }
+        for class in classes {
+            if self.members.get(*class).is_none() {
+                self.members.insert(*class, plies)?;
+                self.fresh.push(*class)?;
+            }
+        }
+        Ok(())
+    }
+
+    // Chooses a move for each of the fresh members, which have so many plies, and adds what it asks for.
+    fn look_at_fresh(&mut self, plies: u16, asked: u16) -> Result<(), Stop> {
+        let fresh = mem::replace(&mut self.fresh, Vec::new(self.alloc));
+        if asked < 2 {
+            return Ok(());
+        }
+        let mut outcomes = Vec::new(self.alloc);
+        for class in fresh.iter().rev() {
+            self.outcomes.list(*class, Listed::All, &mut outcomes)?;
+            self.choose(&outcomes, plies, asked)?;
+            let cheapest = mem::replace(&mut self.cheapest, Vec::new(self.alloc));
+            self.add_all(&cheapest, asked)?;
+            self.cheapest = cheapest;
+        }
+        Ok(())
+    }
+
+    // Leaves as the cheapest those classes for which the cheapest of the moves to these classes asks.
+    fn choose(&mut self, outcomes: &[u32], plies: u16, asked: u16) -> Result<(), Stop> {
+        self.cheapest.clear();
+        let mut least = u64::MAX;
+        for class in outcomes {
+            if least == 0 {
+                break;
+            }
+            if !is_won_before(self.outcomes.value(*class), plies) {
+                let cost = self.cost_of(*class, asked, least)?;
+                if cost < least {
+                    least = cost;
+                    mem::swap(&mut self.asked, &mut self.cheapest);
+                }
+            }
+        }
+        Ok(())
+    }
+
+    // What the classes cost for which the move to that class asks, which are listed as far as their costs are below the limit.
+    fn cost_of(&mut self, class: u32, asked: u16, limit: u64) -> Result<u64, Stop> {
+        self.outcomes
+            .list(class, Listed::Uncaught, &mut self.replies)?;
+        self.asked.clear();
+        let mut cost = 0u64;
+        for reply in self.replies.iter() {
+            if cost >= limit {
+                break;
+            }
+            if self.members.get(*reply).is_none() {
+                let value = self.outcomes.value(*reply);
+                cost = cost.saturating_add(cost_at(&self.costs, value, asked));
+                self.asked.push(*reply)?;
+            }
+        }
+        Ok(cost)
+    }
+}
+
+// What a class of that value costs that has to hold for so many plies.
+fn cost_at(costs: &[u64], value: Value, asked: u16) -> u64 {
+    match value {
+        Value::Win(plies) if plies <= asked => {
+            costs.get(plies as usize / 2).copied().unwrap_or(GREATEST)
+        }
+        _ => UNWON,
+    }
+}
+
+// Whether the side to move wins in fewer plies, or at all where these are for ever.
+fn is_won_before(value: Value, plies: u16) -> bool {
+    match value {
+        Value::Win(distance) => distance < plies || plies == EVER,
+        Value::Loss(_) | Value::Draw => false,
+    }
+}

@@ -1,0 +1,12 @@
+// Certificates made from a table of values, and the moves that a certificate gives.
+#![tactic(auto)]
+
+mod fault;
+mod held;
+mod lost;
+mod making;
+mod members;
+mod outcomes;
+
+pub use fault::Fault;
+pub use making::{Certified, certify, claim_of, rounds_of};

@@ -1,0 +1,261 @@
+// The classes that show that one of them is lost within so many plies, found in a table.
+//
+// The classes come by falling distance. Each move of a class leads to one that has to be answered: to have a reply to a member that is lost in time. What
+// has to be answered waits until the distance of its shortest reply is reached, since until then a class may become a member that answers it too. Then those
+// with the fewest replies choose first, and each takes the reply that most of them could take. A member gets as many plies as those whom it answers allow,
+// so that it needs fewer classes itself.
+
+use crate::fault::Stop;
+use crate::members::Members;
+use crate::outcomes::{Listed, Outcomes};
+use dob_certificate::Entries;
+use dob_check::Watch;
+use dob_value::Value;
+use std::alloc::Global;
+use std::mem;
+
+// A class that has to be answered by a reply to one that is lost within so many plies.
+#[derive(Clone, Copy, PartialEq, Eq, PartialOrd, Ord)]
+struct Need {
+    class: u32,
+    plies: u16,
+}
+
+// A class to which a reply leads, and in how many plies it is lost by the table.
+#[derive(Clone, Copy)]
+struct Reply {
+    class: u32,
+    plies: u16,
+}
+
+// A need and the replies that meet it: those from `start` on, before `end`, of a list. The order is that in which needs choose.
+#[derive(Clone, Copy, PartialEq, Eq, PartialOrd, Ord)]
+struct Choice {
+    replies: usize,
+    need: Need,
+    start: usize,
+    end: usize,
+}
+
+// The needs that wait for one distance.
+#[derive(Drop)]
+struct Waiting {
+    needs: Vec<Need>,
+}
+
+// The members so far.
+#[derive(Drop)]
+struct Search<'a, 'b> {
+    alloc: Global,
+    outcomes: &'b mut Outcomes<'a>,
+    members: Members,
+    // Those whose moves haven't been looked at.
+    fresh: Vec<u32>,
+    // By half the distance for which they wait.
+    waiting: Vec<Waiting>,
+    // Room for classes.
+    replies: Vec<u32>,
+}
+
+/// The entry of the class, which by the table is lost in so many plies, and those that it needs. The watch is told of each two plies.
+///
+/// # Errors
+///
+/// `Memory`; `Full` where there would be more than `most` entries.
+pub(crate) fn lost_entries<W: Watch>(
+    alloc: Global,
+    outcomes: &mut Outcomes<'_>,
+    class: u32,
+    plies: u16,
+    most: u64,
+    watch: &W,
+) -> Result<Entries, Stop> {
+    let half = plies / 2;
+    let mut search = Search {
+        alloc,
+        outcomes,
+        members: Members::new(alloc, most),
+        fresh: Vec::new(alloc),
+        waiting: waiting_to(alloc, half)?,
+        replies: Vec::new(alloc),
+    };
+    if half > 0 {
+        search.add(class, plies)?;
+    }
+    for distance in (1..=half).rev() {
+        search.answer_needs(2 * distance)?;
+        search.look_at_fresh()?;
+        watch.passed(1);
+    }
+    Ok(search.members.entries(alloc)?)
+}
+
+// None waits yet.
+fn waiting_to(alloc: Global, half: u16) -> Result<Vec<Waiting>, Stop> {
+    let mut waiting = Vec::new(alloc);
+    for _ in 0..=half {
+        let needs = Vec::new(alloc);
+        waiting.push(Waiting { needs })?;
+    }
+    Ok(waiting)
+}
+
+impl Search<'_, '_> {
+    // Makes the class a member.
+    fn add(&mut self, class: u32, plies: u16) -> Result<(), Stop> {
+        self.members.insert(class, plies)?;
+        self.fresh.push(class)?;
+        Ok(())
+    }
+
+    // Looks at the moves of the fresh members.
+    fn look_at_fresh(&mut self) -> Result<(), Stop> {
+        let fresh = mem::replace(&mut self.fresh, Vec::new(self.alloc));
+        let mut outcomes = Vec::new(self.alloc);
+        for class in fresh.iter() {
+            if let Some(plies) = self.members.get(*class) {
+                self.outcomes.list(*class, Listed::All, &mut outcomes)?;
+                self.look_at(&outcomes, plies.saturating_sub(2))?;
+            }
+        }
+        Ok(())
+    }
+
+    // Each of the classes has to be answered within so many plies. One that is won in 1 ply always is.
+    fn look_at(&mut self, outcomes: &[u32], plies: u16) -> Result<(), Stop> {
+        for class in outcomes {
+            if self.outcomes.value(*class) != Value::Win(1) {
+                self.ask(Need {
+                    class: *class,
+                    plies,
+                })?;
+            }
+        }
+        Ok(())
+    }
+
+    // Has the need wait for the distance of its shortest reply, where no member meets it.
+    fn ask(&mut self, need: Need) -> Result<(), Stop> {
+        self.outcomes
+            .list(need.class, Listed::All, &mut self.replies)?;
+        let mut least = u16::MAX;
+        for reply in self.replies.iter() {
+            if is_within(self.members.get(*reply), need.plies) {
+                return Ok(());
+            }
+            if let Value::Loss(plies) = self.outcomes.value(*reply) {
+                least = least.min(plies);
+            }
+        }
+        if let Some(waiting) = self.waiting.get_mut(least as usize / 2) {
+            waiting.needs.push(need)?;
+        }
+        Ok(())
+    }
+
+    // Finds a member for each need that waits for that distance.
+    fn answer_needs(&mut self, distance: u16) -> Result<(), Stop> {
+        let needs = self.take_needs(distance);
+        let mut replies = Vec::new(self.alloc);
+        let mut choices = Vec::new(self.alloc);
+        for need in needs.iter() {
+            choices.push(self.choice_of(*need, &mut replies)?)?;
+        }
+        choices.sort_unstable();
+        let wanted = wanted_at(self.alloc, &replies, distance)?;
+        for choice in choices.iter() {
+            if let Some(replies) = replies.get(choice.start..choice.end) {
+                self.choose(replies, choice.need.plies, distance, &wanted)?;
+            }
+        }
+        Ok(())
+    }
+
+    // The needs that wait for that distance, of each class the one with the fewest plies.
+    fn take_needs(&mut self, distance: u16) -> Vec<Need> {
+        let mut needs = Vec::new(self.alloc);
+        if let Some(waiting) = self.waiting.get_mut(distance as usize / 2) {
+            mem::swap(&mut needs, &mut waiting.needs);
+        }
+        needs.sort_unstable();
+        needs.dedup_by_key(|need: &mut Need| need.class);
+        needs
+    }
+
+    // Appends the replies that meet the need.
+    fn choice_of(&mut self, need: Need, replies: &mut Vec<Reply>) -> Result<Choice, Stop> {
+        let start = replies.len();
+        self.outcomes
+            .list(need.class, Listed::All, &mut self.replies)?;
+        for class in self.replies.iter() {
+            match self.outcomes.value(*class) {
+                Value::Loss(plies) if plies <= need.plies => replies.push(Reply {
+                    class: *class,
+                    plies,
+                })?,
+                _ => {}
+            }
+        }
+        let end = replies.len();
+        Ok(Choice {
+            replies: end.saturating_sub(start),
+            need,
+            start,
+            end,
+        })
+    }
+
+    // Chooses one of the replies, where no member is lost in time: a member of that distance, whose plies become fewer, or one that most want.
+    fn choose(
+        &mut self,
+        replies: &[Reply],
+        plies: u16,
+        distance: u16,
+        wanted: &Members,
+    ) -> Result<(), Stop> {
+        let mut member = None;
+        let mut best = None;
+        let mut most = 0;
+        for reply in replies {
+            let found = self.members.get(reply.class);
+            if is_within(found, plies) {
+                return Ok(());
+            }
+            if reply.plies == distance {
+                if found.is_some() && member.is_none() {
+                    member = Some(reply.class);
+                }
+                let count = wanted.get(reply.class).unwrap_or(0);
+                if count > most {
+                    most = count;
+                    best = Some(reply.class);
+                }
+            }
+        }
+        match (member, best) {
+            (Some(class), _) => self.members.insert(class, plies),
+            (None, Some(class)) => self.add(class, plies),
+            (None, None) => Ok(()),
+        }
+    }
+}
+
+// How many of the needs each class of that distance meets.
+fn wanted_at(alloc: Global, replies: &[Reply], distance: u16) -> Result<Members, Stop> {
+    let mut wanted = Members::new(alloc, u64::MAX);
+    for reply in replies {
+        if reply.plies == distance {
+            let count = wanted.get(reply.class).unwrap_or(0);
+            wanted.insert(reply.class, count.saturating_add(1))?;
+        }
+    }
+    Ok(wanted)
+}
+
+// Whether there is a number, and it is at most so many plies.
+fn is_within(member: Option<u16>, plies: u16) -> bool {
+    match member {
+        Some(least) => least <= plies,
+        None => false,
+    }
+}

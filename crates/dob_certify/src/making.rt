@@ -1,0 +1,173 @@
+// A certificate of what a table says of a position.
+ghost use Rattle.std.specs.Prelude.{◌≡◌, IfOk, IfErr, OnOk};
+ghost use Rattle.dob_rank.specs.Families.{IsPositionOf};
+ghost use Rattle.dob_value.specs.declared.value.Value.{Value as Valued};
+ghost use Rattle.dob_probe.specs.Lines.{GivenBy};
+ghost use Rattle.dob_certificate.specs.Claims.{Holds, Prove};
+ghost use Rattle.dob_certify.specs.Made.{IsMade, claim_of};
+ghost use Rattle.dob_certify.specs.Faults.{IsFault};
+
+use crate::fault::{Fault, Stop};
+use crate::held::held_entries;
+use crate::lost::lost_entries;
+use crate::outcomes::{Listed, Outcomes, number_of};
+use dob_certificate::{Certificate, Claim, EVER, Entries, verify};
+use dob_check::Watch;
+use dob_pieces::Position;
+use dob_probe::probe;
+use dob_value::{Table, Value};
+use std::alloc::Global;
+
+/// A certificate with what it proves of a position.
+#[derive(Debug, Drop)]
+pub struct Certified {
+    pub claim: Claim,
+    pub certificate: Certificate,
+}
+
+/// What a certificate is to claim: that the position is lost or won within so many plies, or exactly that value. A draw is always exact.
+pub fn claim_of(value: Value, is_exact: bool) -> Claim
+    ensures { result ≡ claim_of value is_exact }
+{
+    match value {
+        Value::Draw => Claim::Exactly(value),
+        _ if is_exact => Claim::Exactly(value),
+        Value::Loss(plies) => Claim::LostWithin(plies),
+        Value::Win(plies) => Claim::WonWithin(plies),
+    }
+}
+
+/// How often the watch of `certify` is told of some work, if the value isn't a draw: once for each two plies, and as often again where it is
+/// to be exact.
+pub fn rounds_of(value: Value, is_exact: bool) -> u64 {
+    match value {
+        Value::Draw => 1,
+        Value::Win(plies) | Value::Loss(plies) => {
+            let half = plies as u64 / 2;
+            if is_exact { 2 * half } else { half }
+        }
+    }
+}
+
+/// Makes a certificate of what the table says of the position. It has been verified, so what it claims holds, whoever made the table.
+///
+/// A loss or a win is claimed to be one within so many plies, and where `is_exact`, in so many and no fewer. The list of lost classes has a few
+/// hundred thousand entries at most; that of the others, which a draw and an exact value need, may have tens of millions, and takes some 40 bytes
+/// for each.
+///
+/// # Errors
+///
+/// `Table` where the position isn't one of the table's (E7, E26); `TooMany` where a list would have more than `most` entries; `Unproved` where the
+/// lists that were found don't prove the claim, as where the table isn't right; `Memory`.
+pub fn certify<W: Watch>(
+    alloc: Global,
+    table: &Table,
+    position: &Position,
+    is_exact: bool,
+    most: u64,
+    watch: &W,
+) -> Result<Certified, Fault>
+    ensures made { IfOk result (IsMade table.now is_exact position.now.setup) }
+    ensures holds { IfOk result (λ certified. Holds table.now.family.profile position.now.setup certified.claim) }
+    ensures member { OnOk result (IsPositionOf table.now.family position.now.setup) }
+    ensures fault { IfErr result (IsFault table.now is_exact position.now.setup most) }
+{
+    let value = probe(table, position)?;
+    let claim = claim_of(value, is_exact);
+    let certificate = match lists(alloc, table, position, claim, most, watch) {
+        Ok(certificate) => certificate,
+        Err(Stop::Memory) => return Err(Fault::Memory),
+        Err(Stop::Full) => return Err(Fault::TooMany(most)),
+    };
+    verify(alloc, table.classes(), &certificate, position, claim)?;
+    Ok(Certified { claim, certificate })
+}
+
+// The lists for the claim.
+fn lists<W: Watch>(
+    alloc: Global,
+    table: &Table,
+    position: &Position,
+    claim: Claim,
+    most: u64,
+    watch: &W,
+) -> Result<Certificate, Stop>
+    requires { IsPositionOf table.now.family position.now.setup }
+{
+    let class = number_of(table.classes(), position);
+    let mut outcomes = Outcomes::new(alloc, table);
+    let lost = lost_list(alloc, &mut outcomes, class, claim, most, watch)?;
+    let left = most.saturating_sub(lost.as_slice().len() as u64);
+    let held = held_list(alloc, &mut outcomes, class, claim, left, watch)?;
+    Ok(Certificate { lost, held })
+}
+
+// The list of lost classes: the class, or one to which a move leads that is lost in time.
+fn lost_list<W: Watch>(
+    alloc: Global,
+    outcomes: &mut Outcomes<'_>,
+    class: u32,
+    claim: Claim,
+    most: u64,
+    watch: &W,
+) -> Result<Entries, Stop> {
+    match claim {
+        Claim::LostWithin(plies) | Claim::Exactly(Value::Loss(plies)) => {
+            lost_entries(alloc, outcomes, class, plies, most, watch)
+        }
+        Claim::WonWithin(plies) | Claim::Exactly(Value::Win(plies)) => {
+            let plies = plies.saturating_sub(1);
+            match lost_outcome(alloc, outcomes, class, plies)? {
+                Some(reply) => lost_entries(alloc, outcomes, reply, plies, most, watch),
+                None => Ok(Entries::new(alloc)),
+            }
+        }
+        Claim::Exactly(Value::Draw) => Ok(Entries::new(alloc)),
+    }
+}
+
+// The first class to which a move leads and that is lost in so many plies.
+fn lost_outcome(
+    alloc: Global,
+    outcomes: &mut Outcomes<'_>,
+    class: u32,
+    plies: u16,
+) -> Result<Option<u32>, Stop> {
+    let mut classes = Vec::new(alloc);
+    outcomes.list(class, Listed::All, &mut classes)?;
+    for outcome in classes.iter() {
+        if outcomes.value(*outcome) == Value::Loss(plies) {
+            return Ok(Some(*outcome));
+        }
+    }
+    Ok(None)
+}
+
+// The list of the other classes, where the claim is exact: those that show that the position isn't lost sooner, or that no move wins sooner.
+fn held_list<W: Watch>(
+    alloc: Global,
+    outcomes: &mut Outcomes<'_>,
+    class: u32,
+    claim: Claim,
+    most: u64,
+    watch: &W,
+) -> Result<Entries, Stop> {
+    let mut roots = Vec::new(alloc);
+    let plies = match claim {
+        Claim::LostWithin(_) | Claim::WonWithin(_) => 0,
+        Claim::Exactly(Value::Loss(plies)) => {
+            roots.push(class)?;
+            plies.saturating_sub(1)
+        }
+        Claim::Exactly(Value::Win(plies)) => {
+            outcomes.list(class, Listed::Uncaught, &mut roots)?;
+            plies.saturating_sub(2)
+        }
+        Claim::Exactly(Value::Draw) => {
+            outcomes.list(class, Listed::Uncaught, &mut roots)?;
+            roots.push(class)?;
+            EVER
+        }
+    };
+    held_entries(alloc, outcomes, &roots, plies, most, watch)
+}

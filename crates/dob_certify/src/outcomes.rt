@@ -1,0 +1,111 @@
+// A table of values with the classes to which the moves of a class lead.
+ghost use Rattle.dob_moves.specs.declared.position_status.Status.{Status};
+ghost use Rattle.dob_moves.specs.Moves.{CanGo};
+ghost use Rattle.dob_moves.specs.Statuses.{AreMoves, HasStatus};
+ghost use Rattle.dob_rank.specs.Families.{IsPositionOf};
+
+use dob_classes::Classes;
+use dob_moves::{Move, apply, first_catch, moves_into};
+use dob_pieces::{Memory, Position};
+use dob_value::{Table, Value};
+use std::alloc::Global;
+
+/// Which of the classes to which moves lead are listed.
+#[derive(Clone, Copy)]
+pub(crate) enum Listed {
+    /// All.
+    All,
+    /// Those whose side to move can't catch the lion.
+    Uncaught,
+}
+
+/// A table with room for a list of moves.
+#[derive(Drop)]
+pub(crate) struct Outcomes<'a> {
+    table: &'a Table,
+    the_moves: Vec<Move>,
+}
+
+impl<'a> Outcomes<'a> {
+    /// Takes no memory yet.
+    pub(crate) fn new(alloc: Global, table: &'a Table) -> Outcomes<'a> {
+        Outcomes {
+            table,
+            the_moves: Vec::new(alloc),
+        }
+    }
+
+    /// The value that the table gives the class; a draw where the table has no class of that number.
+    pub(crate) fn value(&self, class: u32) -> Value {
+        let class = class as u64;
+        if class < self.table.class_count() {
+            self.table.value(class)
+        } else {
+            Value::Draw
+        }
+    }
+
+    /// Writes the classes to which the moves of the class's representative lead, by ascending number and each once, in place of what
+    /// the list had; none where the table has no class of that number.
+    ///
+    /// # Errors
+    ///
+    /// `Memory`.
+    pub(crate) fn list(
+        &mut self,
+        class: u32,
+        listed: Listed,
+        outcomes: &mut Vec<u32>,
+    ) -> Result<(), Memory> {
+        outcomes.clear();
+        let classes = self.table.classes();
+        let class = class as u64;
+        if class < classes.class_count() {
+            let position = classes.class_at(class);
+            moves_into(classes.family.profile, &mut self.the_moves, &position)?;
+            push_outcomes(classes, &position, &self.the_moves, listed, outcomes)?;
+        }
+        outcomes.sort_unstable();
+        outcomes.dedup();
+        Ok(())
+    }
+}
+
+// Appends the classes to which the position's moves lead.
+//
+// Error: `Memory`.
+fn push_outcomes(
+    classes: &Classes,
+    position: &Position,
+    the_moves: &[Move],
+    listed: Listed,
+    outcomes: &mut Vec<u32>,
+) -> Result<(), Memory>
+    requires member { IsPositionOf classes.now.family position.now.setup }
+    requires the_moves { AreMoves classes.now.family.profile position.now.setup the_moves.now }
+{
+    for the_move in the_moves {
+        let outcome = outcome_of(classes, position, *the_move);
+        if matches!(listed, Listed::All) || first_catch(&outcome).is_none() {
+            outcomes.push(number_of(classes, &outcome))?;
+        }
+    }
+    Ok(())
+}
+
+// The position of the family to which the move leads.
+fn outcome_of(classes: &Classes, position: &Position, the_move: Move) -> Position
+    requires member { IsPositionOf classes.now.family position.now.setup }
+    requires the_move { HasStatus classes.now.family.profile position.now.setup Status.Open × CanGo classes.now.family.profile position.now.setup the_move }
+    ensures { IsPositionOf classes.now.family result.setup }
+{
+    apply(position, the_move)
+}
+
+/// The number of the position's class.
+pub(crate) fn number_of(classes: &Classes, position: &Position) -> u32
+    requires { IsPositionOf classes.now.family position.now.setup }
+{
+    let _count = classes.class_count();
+    classes.class_of(position) as u32
+}
