@@ -27,6 +27,7 @@ pub mod Sounds  -- a node stays sound
 pub mod Nodes  -- what a node has, told by its family, its number and how many nodes there are
 pub mod Looks  -- items looked at before they are taken
 pub mod TakenLists  -- items taken one after the other
+pub mod TakenQueues  -- a queue of items, of which the first ones are taken and gone
 pub mod Sends  -- empty outboxes, and what one settlement more adds to them
 pub mod TakenBack  -- outboxes from which a settlement is taken back
 pub mod Noted  -- what holds of a node's core holds of the node, whatever has failed of it

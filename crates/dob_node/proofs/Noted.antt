@@ -5,7 +5,7 @@ use Rattle.dob_stops.specs.declared.cause.Cause.{Cause}
 use Rattle.dob_node.specs.declared.node_core.Core.{Core}
 use Rattle.dob_node.specs.NodeViews.{NodeView, node_of, going}
 use Rattle.dob_node.specs.Nodes.{IsSound, HasTaken, HasTakenBefore, IsUnchanged}
-use Rattle.dob_node.specs.NodeSteps.{AppliesAll}
+use Rattle.dob_node.specs.NodeSteps.{AppliesEveryOwn, AppliesAll}
 
 sound_noted : (core : Core) (was failed : Option Cause) → IsSound (node_of core was) → IsSound (node_of core failed)
 sound_noted core was failed sound = record {
@@ -53,4 +53,19 @@ applied_all items (Err why) old new was now step = record {
   stopped = step.stopped;
   before = before_noted items old new why was now step.before;
   memory = λ memory. (unchanged_noted old new was now (step.memory memory).0, (step.memory memory).1);
+}
+
+pub applied_every : (result : Result (Unit {0}) Cause) (old new : Core) (was now : Option Cause) → AppliesEveryOwn result (going old) (going new) →
+    AppliesEveryOwn result (node_of old was) (node_of new now)
+applied_every (Ok done) old new was now step = record {
+  items = step.items;
+  applied = record { first = step.applied.first; taken = step.applied.taken; same = step.applied.same; outboxes = step.applied.outboxes };
+  all = step.all;
+  stopped = step.stopped;
+}
+applied_every (Err why) old new was now step = record {
+  items = step.items;
+  applied = record { first = step.applied.first; taken = step.applied.taken; same = step.applied.same; outboxes = step.applied.outboxes };
+  all = step.all;
+  stopped = record { item = step.stopped.item; behind = step.stopped.behind; first = step.stopped.first; reason = step.stopped.reason };
 }

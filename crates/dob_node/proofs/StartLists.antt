@@ -1,7 +1,10 @@
 -- The settlements of the start: how many there are, where each stands, and that they are those of the opening.
-use Rattle.std.proofs.Common.{◌≡◌, ℕ, zero, suc, ◌+◌, ◌*◌, ◌<◌, ◌≤◌, inl, inr, refl, ap, ◌∙◌, subst, arith, add-one}
-use Rattle.std.proofs.Common.{List, [], ◌∷◌, ◌++◌, length, Option, None, Some, slice_get}
-use Rattle.std.proofs.lemmas.List.{length-append}
+use Rattle.std.proofs.Common.{◌≡◌, ℕ, zero, suc, ◌+◌, ◌*◌, ◌<◌, ◌≤◌, inl, inr, refl, sym, ap, ◌∙◌, subst, arith, add-one}
+use Rattle.std.proofs.Common.{List, [], ◌∷◌, ◌++◌, length, Option, None, Some, slice_get, get_or}
+use Rattle.std.specs.List.{All}
+use Rattle.std.proofs.lemmas.List.{length-append, get_or_append_left}
+use Rattle.std.proofs.lemmas.List.Elements.{All-append, All-nil, All-cons}
+use Rattle.std.proofs.lemmas.Option.{get_or_from_slice_get}
 use Rattle.std.proofs.lemmas.Bool.{cases_eq}
 use Rattle.dob_pieces.proofs.Elements.{middle, get_front}
 use Rattle.dob_moves.specs.declared.position_status.Status.{Status}
@@ -17,6 +20,7 @@ use Rattle.dob_share.specs.Owners.{class_of_place}
 use Rattle.dob_share.specs.Shares.{places_of, IsOwn, status_at}
 use Rattle.dob_share.specs.Statuses.{StatusesView}
 use Rattle.dob_node.specs.OpeningLists.{opening_value, opening_settlement, opening_settlements, opening_status}
+use Rattle.dob_node.specs.Levels.{level_of}
 use Rattle.dob_node.specs.Stores.{start_status, start_settlements, starts_of, starts_count}
 use Rattle.dob_node.proofs.Beginnings.{or_else, entry_opened}
 use Rattle.dob_node.proofs.Opens.{one_settles, status_listed}
@@ -120,3 +124,27 @@ unfolding places_of
 share_opened share openings n id who less statuses =
     starts_are (start_status share.statuses) (opening_status openings) n id share.statuses.places
     (λ place low. status_listed share openings n id who less statuses place low)
+
+-- ---- on which level they are
+
+level_once : (number class : ℕ) (status : Status) → All (λ (s : Settlement). level_of s ≡ 1) (opening_settlement number class (opening_value status))
+level_once number class Open = All-nil (λ (s : Settlement). level_of s ≡ 1)
+level_once number class Caught = All-cons (λ (s : Settlement). level_of s ≡ 1) _ [] refl (All-nil (λ (s : Settlement). level_of s ≡ 1))
+level_once number class Tried = All-cons (λ (s : Settlement). level_of s ≡ 1) _ [] refl (All-nil (λ (s : Settlement). level_of s ≡ 1))
+level_once number class Stuck = All-cons (λ (s : Settlement). level_of s ≡ 1) _ [] refl (All-nil (λ (s : Settlement). level_of s ≡ 1))
+
+start_levels : (status : ℕ → Status) (n id k : ℕ) → All (λ (s : Settlement). level_of s ≡ 1) (start_settlements status n id k)
+start_levels status n id zero = All-nil (λ (s : Settlement). level_of s ≡ 1)
+start_levels status n id (suc k) =
+    let before = start_settlements status n id k in
+    All-append (λ (s : Settlement). level_of s ≡ 1) before (opening_settlement (length before) (class_of_place n id k) (opening_value (status k)))
+    (start_levels status n id k) (level_once (length before) (class_of_place n id k) (status k))
+
+-- each is on the first
+pub start_level : (n id number : ℕ) (starts : StatusesView) (others : List Settlement) (s : Settlement) → number < starts_count starts →
+    slice_get (starts_of n id starts ++ others) number ≡ Some s → level_of s ≡ 1
+start_level n id number starts others s low there =
+    let front : List Settlement = starts_of n id starts in
+    let within : number < length front = omega (arith, low, starts_length n id starts) in
+    let is : get_or front number s ≡ s = sym (get_or_append_left front others s number within) ∙ get_or_from_slice_get (front ++ others) number s s there in
+    subst (λ (t : Settlement). level_of t ≡ 1) is (start_levels (start_status starts) n id starts.places number s within)

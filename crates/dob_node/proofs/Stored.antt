@@ -161,3 +161,8 @@ next_seen n id room left count starts stored more new view given is same own num
     (room_unseen n id room count starts stored more view is same)
     (ap (λ l. let v : HistoryView = record { id = id; n = n; settlements = l; room = left } in v)
     (ap (λ l. first ++ l) (one_more id (length first) own number_is) ∙ sym (append_assoc first before (given ∷ []))))
+
+-- a place within has a settlement
+pub some_at : (settlements : List Settlement) (k : ℕ) → k < length settlements → (s : Settlement) × slice_get settlements k ≡ Some s
+some_at [] k low = absurd (omega arith)
+some_at (s ∷ settlements) k low = (get_or (s ∷ settlements) k s, slice_get-get_or (s ∷ settlements) k s low)

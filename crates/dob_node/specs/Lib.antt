@@ -11,6 +11,7 @@ pub mod SeenItems
 pub mod Outboxes
 pub mod OpeningLists
 pub mod NodeViews
+pub mod Levels
 pub mod Nodes
 pub mod NodeSteps
 pub mod Alone

@@ -7,7 +7,7 @@ use Rattle.dob_stops.specs.declared.cause.Cause.{Cause}
 use Rattle.dob_stops.specs.declared.cause.Cause.TheVariants.{Memory, Counts}
 use Rattle.dob_node.specs.NodeViews.{NodeView}
 use Rattle.dob_node.specs.TakenItems.{StopsAt}
-use Rattle.dob_node.specs.Nodes.{outbox_to, IsSound, IsExpanded, HasApplied, HasItemFault, HasTaken, HasTakenBefore, HasCut, IsUnchanged}
+use Rattle.dob_node.specs.Nodes.{outbox_to, IsSound, IsExpanded, HasApplied, HasAppliedItems, HasItemFault, HasTaken, HasTakenBefore, HasCut, IsUnchanged}
 
 -- The node is sound after a step, and has failed for the cause that the step answers, and for none where it answers Ok.
 pub record Keeps {T : Type 0} (result : Result T Cause) (new : NodeView) : Type 0 where
@@ -30,6 +30,13 @@ pub record AppliesOwn (result : Result Bool Cause) (old new : NodeView) : Type 0
   pub applied : result ≡ Ok true → HasApplied old new
   pub stopped : IfErr result (λ why. HasItemFault old why)
   pub unchanged : OnErr result (IsUnchanged old new)
+
+-- The own items are applied in order, all of them, or those before one that can't be, which then is the first.
+pub record AppliesEveryOwn (result : Result (Unit {0}) Cause) (old new : NodeView) : Type 0 where
+  pub items : List Item
+  pub applied : HasAppliedItems items old new
+  pub all : OnOk result (new.own ≡ [])
+  pub stopped : IfErr result (λ why. HasItemFault new why)
 
 -- The items are applied in order, or those before one that can't be; memory never lacks where there is room for so many.
 pub record AppliesAll (items : List Item) (result : Result (Unit {0}) Cause) (old new : NodeView) : Type 0 where

@@ -67,6 +67,13 @@ pub record HasApplied (old new : NodeView) : Type 0 where
   pub same : (new.family ≡ old.family) × (new.id ≡ old.id) × (new.n ≡ old.n) × (new.expanded ≡ old.expanded)
   pub outboxes : new.outboxes ≡ old.outboxes
 
+-- The first of the own items are applied, in order.
+pub record HasAppliedItems (items : List Item) (old new : NodeView) : Type 0 where
+  pub first : old.own ≡ items ++ new.own
+  pub taken : AreTaken items old.share new.share old.history new.history
+  pub same : (new.family ≡ old.family) × (new.id ≡ old.id) × (new.n ≡ old.n) × (new.expanded ≡ old.expanded)
+  pub outboxes : new.outboxes ≡ old.outboxes
+
 -- the first of the own items can't be applied
 pub record HasItemFault (node : NodeView) (why : Cause) : Type 0 where
   pub item : Item

@@ -90,3 +90,16 @@ pub record AreTakenBefore (items : List Item) (count : ℕ) (share after : Share
   pub counted : length front ≡ count
   pub taken : AreTaken front share after history grown
   pub reason : IsReason item after why
+
+-- The items in front are taken, and those behind them are left.
+pub record TakesFirst (items left : List Item) (share after : Share) (history grown : HistoryView) : Type 0 where
+  pub front : List Item
+  pub items_are : items ≡ front ++ left
+  pub taken : AreTaken front share after history grown
+
+-- the first of the items can't be taken
+pub record StopsFirst (items : List Item) (share : Share) (why : Cause) : Type 0 where
+  pub item : Item
+  pub behind : List Item
+  pub first : items ≡ item ∷ behind
+  pub reason : IsReason item share why

@@ -3,18 +3,21 @@
 ghost use Rattle.std.specs.Prelude.{◌≡◌, ◌≢◌, ◌↔◌, ℕ, ◌+◌, ◌/◌, ◌^◌, ◌<◌, ◌≤◌, ◌∷◌, ◌++◌, [], length, take, Option, Some, Err, IfErr, OnOk, OnErr, slice_get};
 ghost use Rattle.dob_pieces.specs.declared.profile.Family.{Family as Set};
 ghost use Rattle.dob_value.specs.Follows.{IsEntry};
-ghost use Rattle.dob_share.specs.Owners.{owner_of};
+ghost use Rattle.dob_share.specs.Owners.{owner_of, class_of_place};
+ghost use Rattle.dob_value.specs.declared.value.Value.TheVariants.{Draw};
+ghost use Rattle.dob_share.specs.declared.news.Settlement.{Settlement as Settled};
 ghost use Rattle.dob_share.specs.declared.share.Seen.{Seen};
 ghost use Rattle.dob_share.specs.Shares.{Fits, GoesTooDeep, IsSeen};
 ghost use Rattle.dob_stops.specs.declared.cause.Cause.TheVariants as cause;
-ghost use Rattle.dob_node.specs.Stores.{settlements_from, starts_of};
+ghost use Rattle.dob_node.specs.Stores.{settlement_of, settlements_from, starts_of};
+ghost use Rattle.dob_node.specs.Levels.{plies_of, level_of};
 ghost use Rattle.dob_node.specs.TakenItems.{HasItemEntries, AreKept, IsHistory, IsTaken, IsReason};
 
-use crate::start_statuses::StartStatuses;
+use crate::start_statuses::{StartStatuses, StartValue};
 use dob_lists::{SegmentLength, Segments};
 use dob_pieces::Memory;
 use dob_safra::NodeCount;
-use dob_share::{Item, Seen, Settlement, Share};
+use dob_share::{Item, Seen, Settlement, Share, quotient};
 use dob_stops::Cause;
 use dob_value::{Value, code_of_value, value_of_code};
 use std::alloc::Global;
@@ -83,7 +86,7 @@ impl History {
         self.starts.settled() + self.count
     }
 
-    /// The settlement of that number. For one of the start it walks from where `seek` went last, or else from the first class.
+    /// The settlement of that number. For one of the start it walks from where `reach` went last, or else from the first class.
     pub(crate) fn get(&self, number: u64) -> Settlement
         requires { number < length self.now.settlements }
         ensures get { slice_get self.now.settlements number ≡ Some result }
@@ -91,32 +94,42 @@ impl History {
         ensures now { IsEntry result.now }
     {
         let first = self.starts.settled();
-        let nodes = self.nodes.get() as u64;
         if number < first {
             let start = self.starts.find(number);
-            return Settlement {
-                number,
-                class: start.place * nodes + self.id as u64,
-                was: Value::Draw,
-                now: start.now,
-            };
+            return start_settlement(number, start, self.nodes, self.id);
         }
         let stored = self.stored.get(number - first);
-        Settlement {
-            number,
-            class: u64::from(stored.place) * nodes + self.id as u64,
-            was: value_of_code(stored.was),
-            now: value_of_code(stored.now),
-        }
+        stored_settlement(number, stored, self.nodes, self.id)
     }
 
-    /// Goes to the settlement of that number, so that it and those behind it are found quickly.
-    pub(crate) fn seek(&mut self, number: u64)
+    /// The settlement of that number, as `get` finds it, and so that those behind it are found quickly from then on.
+    pub(crate) fn reach(&mut self, number: u64) -> Settlement
+        requires { number < length self.old.settlements }
         ensures same { self.new ≡ self.old }
+        ensures get { slice_get self.old.settlements number ≡ Some result }
+        ensures was { IsEntry result.was }
+        ensures now { IsEntry result.now }
     {
-        if number < self.starts.settled() {
-            self.starts.seek(number);
+        let first = self.starts.settled();
+        if number < first {
+            let start = self.starts.reach(number);
+            return start_settlement(number, start, self.nodes, self.id);
         }
+        let stored = self.stored.get(number - first);
+        stored_settlement(number, stored, self.nodes, self.id)
+    }
+
+    /// The level of the settlement of that number: the distance of its value now, and 1 of each one of the start.
+    pub(crate) fn level(&self, number: u64) -> u16
+        requires { number < length self.now.settlements }
+        ensures { (s : Settled) → slice_get self.now.settlements number ≡ Some s → result ≡ level_of s }
+    {
+        let first = self.starts.settled();
+        if number < first {
+            return 1;
+        }
+        let stored = self.stored.get(number - first);
+        plies_of(value_of_code(stored.now)).max(1)
     }
 
     /// Makes room for that many settlements. `Memory`, which comes only where there was less, leaves the history as it was.
@@ -172,6 +185,45 @@ impl History {
     }
 }
 
+// The distance of a value, where it has one.
+fn plies_of(value: Value) -> u16
+    ensures { result ≡ plies_of value }
+{
+    match value {
+        Value::Win(plies) | Value::Loss(plies) => plies,
+        Value::Draw => 0,
+    }
+}
+
+// The settlement of that number and of a class that is settled at the start, of owner `id` among `nodes`.
+fn start_settlement(number: u64, start: StartValue, nodes: NodeCount, id: usize) -> Settlement
+    requires place { start.place < 2 ^ 32 }
+    requires id { id < nodes }
+    ensures { result ≡ record { number = number; class = class_of_place nodes id start.place; was = Draw; now = start.now } }
+{
+    Settlement {
+        number,
+        class: start.place * nodes.get() as u64 + id as u64,
+        was: Value::Draw,
+        now: start.now,
+    }
+}
+
+// The settlement of that number that is stored so, of owner `id` among `nodes`.
+fn stored_settlement(number: u64, stored: Stored, nodes: NodeCount, id: usize) -> Settlement
+    requires id { id < nodes }
+    ensures settlement { result ≡ settlement_of nodes id number stored }
+    ensures was { IsEntry result.was }
+    ensures now { IsEntry result.now }
+{
+    Settlement {
+        number,
+        class: u64::from(stored.place) * nodes.get() as u64 + id as u64,
+        was: value_of_code(stored.was),
+        now: value_of_code(stored.now),
+    }
+}
+
 // Makes room for so many behind the first `count` of those stored. `Memory` leaves these as they were.
 fn make_room(stored: &mut Segments<Stored>, count: u64, wanted: u64) -> Result<(), Memory>
     requires { count ≤ length stored.old }
@@ -218,7 +270,7 @@ fn store(stored: &mut Segments<Stored>, count: u64, nodes: NodeCount, settlement
     ensures same { length stored.new ≡ length stored.old }
 {
     stored[count as usize] = Stored {
-        place: (settlement.class / nodes.get() as u64) as u32,
+        place: quotient(settlement.class, nodes.get() as u64) as u32,
         was: code_of_value(settlement.was),
         now: code_of_value(settlement.now),
     };

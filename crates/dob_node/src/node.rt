@@ -1,5 +1,5 @@
 // A node: what its steps change, and what has failed of them. Once a step has failed, none is made.
-ghost use Rattle.std.specs.Prelude.{◌≡◌, ◌<◌, ◌≤◌, ◌^◌, ◌↔◌, length, slice_get, None, Some, IsTrue, IfOk, IfErr, OnOk};
+ghost use Rattle.std.specs.Prelude.{◌≡◌, ◌<◌, ◌≤◌, ◌^◌, ◌↔◌, length, slice_get, None, Some, IsTrue, IfOk, IfErr, OnOk, MatchOption};
 ghost use Rattle.std.specs.List.{All};
 ghost use Rattle.dob_node.specs.Stores.{starts_of};
 ghost use Rattle.dob_node.specs.TakenItems.{HasItemEntries};
@@ -46,7 +46,8 @@ pub struct Part {
 impl Node {
     ghost use Rattle.dob_node.specs.Openings.{AreOpenings};
     ghost use Rattle.dob_node.specs.Nodes.{outbox_to, IsSound, IsOpened, IsIdle, AreValuesNow};
-    ghost use Rattle.dob_node.specs.NodeSteps.{Keeps, Expands, AppliesOwn, AppliesAll, MakesRoom, Cuts};
+    ghost use Rattle.dob_node.specs.Levels.{HasLevel};
+    ghost use Rattle.dob_node.specs.NodeSteps.{Keeps, Expands, AppliesOwn, AppliesEveryOwn, AppliesAll, MakesRoom, Cuts};
     ghost use Rattle.dob_share.specs.Shares.{IsOwn, HasValueNow};
 
     /// The node of owner `id`, one of `nodes`, before its first step. Its history has a settlement for each own
@@ -122,6 +123,21 @@ impl Node {
         ensures keeps { Keeps result self.new }
     {
         noted(&mut self.failed, self.core.apply_own())
+    }
+
+    /// Applies all own items in order, as `apply_own` does each. It looks at the classes of 16 items before it applies the first of these.
+    ///
+    /// # Errors
+    ///
+    /// By which the node fails, with that item as the first of its own: `Memory`; else `Contradiction` where the item doesn't fit, else
+    /// `TooDeep` where its class's value would be too deep.
+    pub fn apply_every_own(&mut self) -> Result<(), Cause>
+        requires sound { IsSound self.old }
+        requires going { self.old.failed ≡ None }
+        ensures step { AppliesEveryOwn result self.old self.new }
+        ensures keeps { Keeps result self.new }
+    {
+        noted(&mut self.failed, self.core.apply_every_own())
     }
 
     /// Applies the items of a batch in order. The batch has to be of the node's family and number of nodes, and its items have to have
@@ -206,6 +222,17 @@ impl Node {
         ensures { IsTrue result ↔ (self.now.expanded ≡ length self.now.history.settlements) }
     {
         self.core.expanded == self.core.history.len()
+    }
+
+    /// The level of the first settlement that isn't expanded: its distance, and 1 of each one of the opening. None where all are expanded.
+    pub fn level(&self) -> Option<u16>
+        requires { IsSound self.now }
+        ensures { MatchOption result (self.now.expanded ≡ length self.now.history.settlements) (λ level. HasLevel self.now level) }
+    {
+        if self.core.expanded == self.core.history.len() {
+            return None;
+        }
+        Some(self.core.history.level(self.core.expanded))
     }
 
     /// How many settlements it has expanded, the first ones of its history.

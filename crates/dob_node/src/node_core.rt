@@ -7,7 +7,7 @@ ghost use Rattle.dob_node.specs.TakenItems.{HasItemEntries};
 
 use crate::history::History;
 use crate::outboxes::add_for_others;
-use crate::taking::take_items;
+use crate::taking::{take_items, take_queue};
 use dob_classes::Classes;
 use dob_pieces::{Family, Memory};
 use dob_safra::NodeCount;
@@ -45,7 +45,7 @@ pub(crate) struct Core {
 impl Core {
     ghost use Rattle.dob_node.specs.NodeViews.{going};
     ghost use Rattle.dob_node.specs.Nodes.{IsSound, AreValuesNow};
-    ghost use Rattle.dob_node.specs.NodeSteps.{Expands, AppliesOwn, AppliesAll, MakesRoom, Cuts};
+    ghost use Rattle.dob_node.specs.NodeSteps.{Expands, AppliesOwn, AppliesEveryOwn, AppliesAll, MakesRoom, Cuts};
 
     /// Expands the next settlement. False where there is none.
     pub(crate) fn expand(&mut self, classes: &Classes) -> Result<bool, Cause>
@@ -57,8 +57,7 @@ impl Core {
         if self.expanded == self.history.len() {
             return Ok(false);
         }
-        self.history.seek(self.expanded);
-        let settlement = self.history.get(self.expanded);
+        let settlement = self.history.reach(self.expanded);
         let room = mem::replace(&mut self.targets, Vec::new(self.alloc));
         let targets = back_into(room, classes, settlement.class)?;
         self.own.reserve(targets.len())?;
@@ -83,6 +82,15 @@ impl Core {
         self.history.take_seen(&mut self.share, item, seen)?;
         self.own.pop_front();
         Ok(true)
+    }
+
+    /// Applies the own items in order. After a failure those before the one that can't be applied are gone.
+    pub(crate) fn apply_every_own(&mut self) -> Result<(), Cause>
+        requires { IsSound (going self.old) }
+        ensures step { AppliesEveryOwn result (going self.old) (going self.new) }
+        ensures sound { IsSound (going self.new) }
+    {
+        take_queue(&mut self.share, &mut self.history, &mut self.own)
     }
 
     /// Applies the items of a batch in order, and makes its growths first.

@@ -77,14 +77,19 @@ impl StartStatuses {
         }
     }
 
-    /// Goes to the settled class before which that many stand, so that it and those behind it are found from there.
-    pub(crate) fn seek(&mut self, number: u64)
+    /// The settled class before which that many stand, from which it and those behind it are found from then on.
+    pub(crate) fn reach(&mut self, number: u64) -> StartValue
         requires { number < starts_count self.old }
         ensures same { self.new ≡ self.old }
+        ensures place { result.place < self.old.places }
+        ensures number { settled_among (start_status self.old) result.place ≡ number }
+        ensures value { opening_value (start_status self.old result.place) ≡ Some result.now }
+        ensures bound { result.place < 2 ^ 32 }
     {
-        let place = self.find(number).place;
+        let found = self.find(number);
         self.passed = number;
-        self.place = place;
+        self.place = found.place;
+        found
     }
 }
 

@@ -1,14 +1,15 @@
 // Items taken in order: what they make of the cells of a node, and of its history.
-ghost use Rattle.std.specs.Prelude.{◌≡◌, ◌<◌, ◌%◌, length, Err, IfErr, OnOk};
+ghost use Rattle.std.specs.Prelude.{◌≡◌, ◌≢◌, ◌<◌, ◌%◌, [], length, drop, Err, IfErr, OnOk};
 ghost use Rattle.std.specs.List.{All};
 ghost use Rattle.dob_pieces.specs.declared.profile.Family.{Family as Set};
 ghost use Rattle.dob_stops.specs.declared.cause.Cause.TheVariants as cause;
-ghost use Rattle.dob_node.specs.TakenItems.{HasItemEntries, AreKept, AreTaken, StopsAt, AreTakenBefore};
+ghost use Rattle.dob_node.specs.TakenItems.{HasItemEntries, AreKept, AreTaken, StopsAt, AreTakenBefore, TakesFirst, StopsFirst};
 ghost use Rattle.dob_node.specs.SeenItems.{AreSeen};
 
 use crate::history::History;
 use dob_share::{Item, Seen, Share};
 use dob_stops::Cause;
+use std::collections::VecDeque;
 
 /// How many items' classes are looked at before the first of the items is applied, so that the memory of all is read at once.
 const AHEAD: usize = 16;
@@ -58,5 +59,57 @@ fn look_ahead(share: &Share, items: &[Item], next: usize, looks: &mut [Option<Se
     for place in next..end {
         let item = items[place];
         looks[place % AHEAD] = share.see(item.to);
+    }
+}
+
+/// Applies the items of the queue in order, as `take_items` does, and drops each that is applied.
+///
+/// # Errors
+///
+/// After which the queue begins with an item that can't be applied: what `History::take_seen` says of it.
+pub(crate) fn take_queue(
+    share: &mut Share,
+    history: &mut History,
+    queue: &mut VecDeque<Item>,
+) -> Result<(), Cause>
+    requires kept { (family : Set) × AreKept family share.old.nodes share.old.id share.old history.old }
+    requires entries { All HasItemEntries queue.old.items }
+    ensures taken { TakesFirst queue.old.items queue.new.items share.old share.new history.old history.new }
+    ensures all { OnOk result (queue.new.items ≡ []) }
+    ensures stopped { IfErr result (λ why. StopsFirst queue.new.items share.new why) }
+    ensures kept { ((family : Set) → AreKept family share.old.nodes share.old.id share.old history.old → AreKept family share.old.nodes share.old.id share.new history.new) }
+{
+    while !queue.is_empty() {
+        take_front(share, history, queue)?;
+    }
+    Ok(())
+}
+
+// Applies those items of the queue that lie side by side from the first on: some, where there is one.
+fn take_front(
+    share: &mut Share,
+    history: &mut History,
+    queue: &mut VecDeque<Item>,
+) -> Result<(), Cause>
+    requires kept { (family : Set) × AreKept family share.old.nodes share.old.id share.old history.old }
+    requires entries { All HasItemEntries queue.old.items }
+    ensures taken { TakesFirst queue.old.items queue.new.items share.old share.new history.old history.new }
+    ensures fewer { OnOk result (queue.old.items ≢ [] → length queue.new.items < length queue.old.items) }
+    ensures stopped { IfErr result (λ why. StopsFirst queue.new.items share.new why) }
+    ensures kept { ((family : Set) → AreKept family share.old.nodes share.old.id share.old history.old → AreKept family share.old.nodes share.old.id share.new history.new) }
+{
+    let (front, _behind) = queue.as_slices();
+    let mut taken = 0;
+    let answer = take_items(share, history, &mut taken, front);
+    drop_first(queue, taken);
+    answer
+}
+
+// Drops the first so many items of the queue.
+fn drop_first(queue: &mut VecDeque<Item>, count: usize)
+    ensures { queue.new.items ≡ drop count queue.old.items }
+{
+    for _ in 0..count {
+        queue.pop_front();
     }
 }

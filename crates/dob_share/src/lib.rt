@@ -14,6 +14,6 @@ mod steps;
 pub use fault::Fault;
 pub use news::{Item, Settlement};
 pub use opening::{Opening, opening_at};
-pub use owners::owner;
+pub use owners::{owner, quotient};
 pub use share::{Seen, Share};
 pub use statuses::Statuses;

@@ -1,5 +1,5 @@
 // Who owns which class.
-ghost use Rattle.std.specs.Prelude.{◌≡◌, ◌<◌};
+ghost use Rattle.std.specs.Prelude.{◌≡◌, ◌<◌, ◌%◌, ◌/◌};
 ghost use Rattle.dob_share.specs.Owners.{owner_of};
 
 /// The owner, one of `n`, of the class: the remainder of its number by `n`, which is at least 1.
@@ -8,5 +8,58 @@ pub fn owner(class: u64, n: usize) -> usize
     ensures owner { result ≡ owner_of n class }
     ensures one_of_n { result < n }
 {
-    (class % n as u64) as usize
+    rest(class, n as u64) as usize
+}
+
+/// The remainder of a number by a number of nodes. A ring has at most 16, and a division by each of these takes no
+/// instruction that divides.
+pub fn rest(number: u64, nodes: u64) -> u64
+    requires { 0 < nodes }
+    ensures { result ≡ number % nodes }
+{
+    match nodes {
+        1 => number % 1,
+        2 => number % 2,
+        3 => number % 3,
+        4 => number % 4,
+        5 => number % 5,
+        6 => number % 6,
+        7 => number % 7,
+        8 => number % 8,
+        9 => number % 9,
+        10 => number % 10,
+        11 => number % 11,
+        12 => number % 12,
+        13 => number % 13,
+        14 => number % 14,
+        15 => number % 15,
+        16 => number % 16,
+        _ => number % nodes,
+    }
+}
+
+/// The quotient of a number by a number of nodes, found likewise.
+pub fn quotient(number: u64, nodes: u64) -> u64
+    requires { 0 < nodes }
+    ensures { result ≡ number / nodes }
+{
+    match nodes {
+        1 => number / 1,
+        2 => number / 2,
+        3 => number / 3,
+        4 => number / 4,
+        5 => number / 5,
+        6 => number / 6,
+        7 => number / 7,
+        8 => number / 8,
+        9 => number / 9,
+        10 => number / 10,
+        11 => number / 11,
+        12 => number / 12,
+        13 => number / 13,
+        14 => number / 14,
+        15 => number / 15,
+        16 => number / 16,
+        _ => number / nodes,
+    }
 }

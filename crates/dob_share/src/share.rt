@@ -13,6 +13,7 @@ use crate::cells::Slot;
 use crate::fault::Fault;
 use crate::news::{Item, Settlement};
 use crate::opening::{Opening, opening_at};
+use crate::owners::{quotient, rest};
 use crate::statuses::Statuses;
 use crate::steps::{apply_at, value_in};
 use dob_lists::Segments;
@@ -132,7 +133,7 @@ impl Share {
         requires { IsOwn self.now class }
         ensures { HasValueNow self.now class result }
     {
-        let place = class / self.nodes.get() as u64;
+        let place = quotient(class, self.nodes.get() as u64);
         match self.statuses.status(place) {
             Status::Caught => Value::Win(1),
             Status::Tried | Status::Stuck => Value::Loss(0),
@@ -237,10 +238,10 @@ impl Share {
         ensures { MatchOption result (¬ IsOwnOpen self.now class) (λ number. IsOwnOpen self.now class × (number ≡ open_number self.now class)) }
     {
         let nodes = self.nodes.get() as u64;
-        if class % nodes != self.id as u64 {
+        if rest(class, nodes) != self.id as u64 {
             return None;
         }
-        let place = class / nodes;
+        let place = quotient(class, nodes);
         if place >= self.statuses.places() {
             return None;
         }

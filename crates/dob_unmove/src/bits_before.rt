@@ -68,8 +68,8 @@ fn bits_before_put(bits: Bitboards, kind: HandKind, to: Square) -> Bitboards
     }
 }
 
-// The sets with nothing on the square.
-fn without(bits: Bitboards, square: Square) -> Bitboards
+/// The sets with nothing on the square.
+pub fn without(bits: Bitboards, square: Square) -> Bitboards
     ensures { (before after : Setup) → IsWith before after square None → AreBitboards before bits → AreBitboards after result }
 {
     Bitboards {
@@ -124,8 +124,9 @@ fn with_own(bits: Bitboards, bit: u16, kind: Kind) -> Bitboards
     }
 }
 
-// And with the enemy's piece: but for the lion it is in the set of all enemies too.
-fn with_enemy(bits: Bitboards, bit: u16, kind: Kind) -> Bitboards
+/// The sets with the enemy's piece of that kind on an empty square, by the square's bit. But for the lion it is in the set of all
+/// enemies too.
+pub fn with_enemy(bits: Bitboards, bit: u16, kind: Kind) -> Bitboards
     ensures { result ≡ with_enemy kind bit bits }
 {
     match kind {

@@ -21,7 +21,7 @@ fn mirrored_mask(mask: u16) -> u16
 }
 
 /// The sets of the setup's mirror image.
-pub(crate) fn mirrored_bits(bits: &Bitboards) -> Bitboards
+pub fn mirrored_bits(bits: &Bitboards) -> Bitboards
     ensures { (setup : Setup) → AreBitboards setup bits.now → AreBitboards (mirrored setup) result }
 {
     Bitboards {

@@ -12,3 +12,7 @@ mod walk;
 mod ways;
 
 pub use predecessors::{back, back_into};
+
+// Changes of sets of squares, of which moves that are made consist too.
+pub use bits_before::{with_enemy, without};
+pub use images::mirrored_bits;

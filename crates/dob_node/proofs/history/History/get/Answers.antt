@@ -1,11 +1,10 @@
 -- What follows from the statuses or is stored at the place is read as the settlement of that number.
-use Rattle.std.proofs.Common.{◌≡◌, ℕ, ◌+◌, ◌-◌, ◌*◌, ◌<◌, ◌≤◌, ◌∙◌, refl, ap, sym, take, length, Some, slice_get, arith}
-use Rattle.dob_value.specs.declared.value.Value.TheVariants.{Draw}
-use Rattle.dob_value.specs.Codes.{value_of_code}
+use Rattle.std.proofs.Common.{◌≡◌, ℕ, ◌+◌, ◌-◌, ◌<◌, ◌≤◌, ◌∙◌, ap, sym, subst, take, length, Some, slice_get, arith}
+use Rattle.dob_value.specs.Follows.{IsEntry}
 use Rattle.dob_share.specs.declared.news.Settlement.{Settlement}
 use Rattle.dob_node.specs.Stores.{HistoryView, start_status, starts_count, starts_of, settlements_from}
 use Rattle.dob_node.proofs.StartLists.{start_found, start_entry}
-use Rattle.dob_node.proofs.Stored.{all_there, count_is, got_within, seen_at, same_settlement}
+use Rattle.dob_node.proofs.Stored.{all_there, count_is, got_within, seen_at}
 use Rattle.dob_node.proofs.history.History.get.Goals as goal
 
 pub returns-then-number-first-clause-get : goal.returns-then-number-first-clause-get
@@ -15,12 +14,15 @@ returns-then-number-first-clause-get c =
     ap (λ (v : HistoryView). slice_get v.settlements c.args.number) (sym c.self.view_is)
     ∙ start_found h.nodes h.id c.args.number start.place h.starts start.now (settlements_from h.nodes h.id (length (starts_of h.nodes h.id h.starts)) (take h.count h.stored))
     c.find-start.ensures.place c.find-start.ensures.number c.find-start.ensures.value
-    ∙ ap (λ (k : ℕ). let s : Settlement = record { number = c.args.number; class = start.place * k + h.id; was = Draw; now = start.now } in Some s)
-    (sym c.get-nodes.ensures.value)
+    ∙ ap (λ (s : Settlement). Some s) (sym c.start_settlement.ensures)
 
 pub returns-then-number-first-clause-now : goal.returns-then-number-first-clause-now
 returns-then-number-first-clause-now c =
-    start_entry (start_status c.self.inside.starts c.find-start.result.place) c.find-start.result.now c.find-start.ensures.value
+    subst (λ (s : Settlement). IsEntry s.now) (sym c.start_settlement.ensures)
+    (start_entry (start_status c.self.inside.starts c.find-start.result.place) c.find-start.result.now c.find-start.ensures.value)
+
+pub returns-then-number-first-clause-was : goal.returns-then-number-first-clause-was
+returns-then-number-first-clause-was c = subst (λ (s : Settlement). IsEntry s.was) (sym c.start_settlement.ensures) tt
 
 pub get-stored-requires : goal.get-stored-requires
 get-stored-requires c =
@@ -41,8 +43,6 @@ returns-clause-get c =
     let k : ℕ = c.args.number - c.settled-first.result in
     let within : k < h.count = omega (arith, low, count, c.settled-first.ensures.count, c.if-number-first.false) in
     let number : c.args.number ≡ starts_count h.starts + k = omega (arith, c.settled-first.ensures.count, c.if-number-first.false) in
-    seen_at h.nodes h.id h.room k c.args.number h.starts (take h.count h.stored) c.args.self.now stored _ c.self.view_is number
+    seen_at h.nodes h.id h.room k c.args.number h.starts (take h.count h.stored) c.args.self.now stored c.stored_settlement.result c.self.view_is number
     (got_within h.count k h.stored stored within (all_there h.count h.room h.stored c.self.invariant.1) c.get-stored.ensures.get)
-    (same_settlement c.args.number c.args.number (stored.place * h.nodes + h.id) (c.from.result * c.get-nodes.result + h.id)
-    (value_of_code stored.was) c.value_of_code.result (value_of_code stored.now) c.value_of_code-2.result refl
-    (ap (λ place. place * h.nodes + h.id) (sym c.from.ensures) ∙ ap (λ (k : ℕ). c.from.result * k + h.id) (sym c.get-nodes.ensures.value)) (sym c.value_of_code.ensures.value) (sym c.value_of_code-2.ensures.value))
+    (sym c.stored_settlement.ensures.settlement)

@@ -17,7 +17,7 @@ add_for_others-requires c =
     record {
       addressed = (
         node.family,
-        c.deref.ensures.value ∙ c.in_ok-targets.ensures.list ∙ ap (λ st. predecessors st c.get-settlement.result.class) c.requires.family,
+        c.deref.ensures.value ∙ c.in_ok-targets.ensures.list ∙ ap (λ st. predecessors st c.reach-settlement.result.class) c.requires.family,
         λ to. subst (λ (m : ℕ). IsOutboxTo node.family m node.id to (outbox_in node.family m node.id node.outboxes.items to)) (sym c.requires.sound.receivers)
             (c.requires.sound.addressed to),
       );
@@ -27,17 +27,17 @@ pub returns-clause-sound : goal.returns-clause-sound
 returns-clause-sound c =
     let node = c.args.self.now in
     let sound = c.requires.sound in
-    let s = c.get-settlement.result in
+    let s = c.reach-settlement.result in
     let targets = c.deref-2.result.now in
     let ready = ready_added node.family c.deref.result.now s node.nodes node.id node.outboxes.items c.add_for_others.new.outboxes.items
-    c.get-settlement.ensures.was c.get-settlement.ensures.now c.in_ok-add_for_others.ensures.added
+    c.reach-settlement.ensures.was c.reach-settlement.ensures.now c.in_ok-add_for_others.ensures.added
     (record { receivers = sound.receivers; addressed = sound.addressed; nothing_to_self = sound.nothing_to_self }) in
     record {
-      kept = subst (λ (h : HistoryView). AreKept node.family node.nodes node.id node.share h) (sym c.seek.ensures.same) sound.kept;
-      emitted = subst (λ (h : HistoryView). node.expanded + 1 ≤ length h.settlements) (sym c.seek.ensures.same)
+      kept = subst (λ (h : HistoryView). AreKept node.family node.nodes node.id node.share h) (sym c.reach-settlement.ensures.same) sound.kept;
+      emitted = subst (λ (h : HistoryView). node.expanded + 1 ≤ length h.settlements) (sym c.reach-settlement.ensures.same)
           (next_emitted node.expanded _ _ sound.emitted c.len.ensures.count c.if-self-len.false);
       entries = entries_more s node.own.items c.push_own.new.queue.items (items_of (λ _. targets) node.nodes node.id s)
-          (filter (λ to. owner_of node.nodes to == node.id) targets) c.get-settlement.ensures.was c.get-settlement.ensures.now
+          (filter (λ to. owner_of node.nodes to == node.id) targets) c.reach-settlement.ensures.was c.reach-settlement.ensures.now
           sound.entries refl (c.push_own.ensures ∙ ap (λ xs. xs ++ items_of (λ _. targets) node.nodes node.id s) c.reserve.ensures.items);
       receivers = ready.receivers;
       addressed = ready.addressed;
@@ -51,8 +51,8 @@ returns-in_err-add_for_others-clause-sound c =
     let ready = ready_same node.family node.nodes node.id node.outboxes.items c.add_for_others.new.outboxes.items c.in_err-add_for_others.ensures.unchanged
     (record { receivers = sound.receivers; addressed = sound.addressed; nothing_to_self = sound.nothing_to_self }) in
     record {
-      kept = subst (λ (h : HistoryView). AreKept node.family node.nodes node.id node.share h) (sym c.seek.ensures.same) sound.kept;
-      emitted = subst (λ (h : HistoryView). node.expanded ≤ length h.settlements) (sym c.seek.ensures.same) sound.emitted;
+      kept = subst (λ (h : HistoryView). AreKept node.family node.nodes node.id node.share h) (sym c.reach-settlement.ensures.same) sound.kept;
+      emitted = subst (λ (h : HistoryView). node.expanded ≤ length h.settlements) (sym c.reach-settlement.ensures.same) sound.emitted;
       entries = subst (λ xs. All HasItemEntries xs) (sym c.reserve.ensures.items) sound.entries;
       receivers = ready.receivers;
       addressed = ready.addressed;

@@ -11,7 +11,8 @@ pub returns-in-Open : goal.returns-in-Open
 unfolding status_at
 returns-in-Open c =
     let share = c.args.self.now in
+    let place = c.quotient-place.ensures ∙ ap (λ (k : ℕ). c.args.class / k) c.get.ensures.value in
     open_has share c.args.class c.open_value.result
-    (ap (λ (k : ℕ). status_in share.statuses.words (c.args.class / k)) (sym c.get.ensures.value) ∙ sym c.status.ensures ∙ c.in-Open.is)
-    (subst (λ (k : ℕ). CellValue (cell_in share.slots share.pool (opens_below share.statuses.words (c.args.class / k))) c.open_value.result)
-    c.get.ensures.value c.open_value.ensures)
+    (ap (λ (p : ℕ). status_in share.statuses.words p) (sym place) ∙ sym c.status.ensures ∙ c.in-Open.is)
+    (subst (λ (p : ℕ). CellValue (cell_in share.slots share.pool (opens_below share.statuses.words p)) c.open_value.result)
+    place c.open_value.ensures)

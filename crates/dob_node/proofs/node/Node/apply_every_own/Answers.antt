@@ -1,0 +1,15 @@
+-- What the core has applied the node has.
+use Rattle.std.proofs.Common.{Result, sym, subst}
+use Rattle.dob_stops.specs.declared.cause.Cause.{Cause}
+use Rattle.dob_node.specs.NodeViews.{NodeView, node_of, going}
+use Rattle.dob_node.specs.NodeSteps.{AppliesEveryOwn}
+use Rattle.dob_node.proofs.Noted.{applied_every}
+use Rattle.dob_node.proofs.node.Node.apply_every_own.Goals as goal
+
+pub returns-clause-step : goal.returns-clause-step
+returns-clause-step c =
+    let old = c.self.inside.core in
+    let new = c.apply_every_own.new.self in
+    subst (λ (node : NodeView). AppliesEveryOwn c.noted.result node (node_of new c.noted.new.failed)) c.self.view_is
+    (applied_every c.noted.result old new c.self.inside.failed c.noted.new.failed
+    (subst (λ (result : Result (Unit {0}) Cause). AppliesEveryOwn result (going old) (going new)) (sym c.noted.ensures.same) c.apply_every_own.ensures.step))

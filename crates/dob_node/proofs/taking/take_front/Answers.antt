@@ -1,0 +1,18 @@
+-- Those that are taken are the first of the queue, and gone.
+use Rattle.std.proofs.Common.{◌∙◌, drop, sym, subst, List}
+use Rattle.dob_share.specs.declared.news.Item.{Item}
+use Rattle.dob_node.specs.TakenItems.{TakesFirst, StopsFirst}
+use Rattle.dob_node.proofs.TakenQueues.{front_entries, front_taken, front_stops, fewer}
+use Rattle.dob_node.proofs.taking.take_front.Goals as goal
+
+pub take_items-answer-requires-clause-entries : goal.take_items-answer-requires-clause-entries
+take_items-answer-requires-clause-entries c =
+    front_entries c.args.queue.now.items c.as_slices.result.0.now c.as_slices.result.1.now c.as_slices.ensures.items c.requires.entries
+
+pub returns-clause-taken : goal.returns-clause-taken
+returns-clause-taken c =
+    let out = c.take_items-answer.ensures in
+    subst (λ (xs : List Item). TakesFirst c.args.queue.now.items xs c.args.share.now c.take_items-answer.new.share c.args.history.now c.take_items-answer.new.history)
+    (sym c.drop_first.ensures)
+    (front_taken c.args.queue.now.items c.as_slices.result.0.now c.as_slices.result.1.now c.take_items-answer.new.taken c.args.share.now c.take_items-answer.new.share c.args.history.now
+    c.take_items-answer.new.history c.as_slices.ensures.items c.take_items-answer.result out.taken out.all out.before)
