@@ -120,7 +120,4 @@ def texts(checks, screen, program):
     screen.open()
 
 
-def topic(checks, screen, program):
-    screen.english()
-    for name, run in [("files", files), ("another set", other_set), ("broken records", broken_records), ("a file that is lost", lost_file), ("texts", texts)]:
-        checks.topic(f"faults, {name}", lambda: run(checks, screen, program))
+PARTS = {"files": files, "another_set": other_set, "records": broken_records, "lost": lost_file, "texts": texts}

@@ -264,8 +264,6 @@ def steps(checks, screen, program):
     checks.expect("a line that is played up to a move", screen.record(), ["start", "La2-a3", "lc4-b4"])
 
 
-def topic(checks, screen, program):
-    screen.english()
-    for name, run in [("mouse", mouse), ("drops", drops), ("keys", keys), ("fingers", fingers), ("setting up", setting), ("hidden values", hidden),
-                      ("exercises", exercises), ("steps", steps)]:
-        checks.topic(f"handling, {name}", lambda: run(checks, screen, program))
+PARTS = {
+    "mouse": mouse, "drops": drops, "keys": keys, "fingers": fingers, "setting": setting, "hidden": hidden, "exercises": exercises, "steps": steps,
+}

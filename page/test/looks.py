@@ -134,8 +134,4 @@ def private(checks, screen, program):
         checks.expect(f"{what} is refused by the page's policy", screen.seen("refused", what), rule)
 
 
-def topic(checks, screen, program):
-    screen.english()
-    parts = [("languages", languages), ("widths", widths), ("contrasts", contrasts), ("what is heard", heard), ("paper", printed), ("privacy", private)]
-    for name, run in parts:
-        checks.topic(f"looks, {name}", lambda: run(checks, screen, program))
+PARTS = {"languages": languages, "widths": widths, "contrasts": contrasts, "heard": heard, "paper": printed, "privacy": private}

@@ -1,4 +1,5 @@
 """The page as its reader sees it: positions entered, values, moves and lines read, clicks, drags, taps and keys."""
+import base64
 import json
 import pathlib
 
@@ -16,15 +17,21 @@ class Screen:
         self.js(SEEN)
         self.settle()
 
+    def afresh(self):
+        """The page as at a first visit, in English, in a window of its usual size."""
+        self.browser.call("Emulation.setEmulatedMedia", media="")
+        self.browser.size(1180, 1000)
+        self.open()
+        self.js("localStorage.clear()")
+        self.open()
+        self.language("en")
+
     def seen(self, name, *about):
         """What a function of seen.js tells."""
         return self.js(f"Seen.{name}({', '.join(map(json.dumps, about))})")
 
     def settle(self, more="true"):
         self.browser.wait(f"{SETTLED} && !!({more})")
-
-    def english(self):
-        self.language("en")
 
     def language(self, name):
         if self.js("document.documentElement.lang") != name:
@@ -42,7 +49,13 @@ class Screen:
         """Gives files, and waits until each of them is told as open or refused."""
         self.js("document.getElementById('files').textContent = ''")
         self.browser.give_files("#file", *files)
+        self.settle_files()
+
+    def settle_files(self):
         self.settle("document.querySelector('#files b') && document.querySelector('#exercise-card[aria-busy=false]')")
+
+    def base64(self, path):
+        return base64.b64encode(path.read_bytes()).decode()
 
     def enter(self, text):
         self.seen("enter", text)
@@ -69,8 +82,14 @@ class Screen:
     def end(self):
         return self.js("(document.querySelector('#line .end') || {textContent: ''}).textContent")
 
+    def score(self):
+        return self.text("score")
+
     def record(self):
         return self.js("[...document.querySelectorAll('#record .move')].map(it => it.textContent)")
+
+    def current(self):
+        return self.js("document.querySelector('#record [aria-current]').textContent")
 
     def files(self):
         return self.js("[...document.querySelectorAll('#files p')].map(it => [it.innerText.trim(), it.classList.contains('bad')])")
@@ -107,6 +126,12 @@ class Screen:
                 finger("touchMove", (at[0] + part * (to[0] - at[0]), at[1] + part * (to[1] - at[1])))
         finger("touchEnd")
         self.settle()
+
+    def in_both(self, checks, what, read, english, japanese):
+        """What is read on the page in English and in Japanese, against two texts that stand in the test."""
+        for language, wanted in [("ja", japanese), ("en", english)]:
+            self.language(language)
+            checks.expect(f"{what}, {language}", read(), wanted)
 
     def focus(self, selector):
         self.js(f"document.querySelector({json.dumps(selector)}).focus()")

@@ -37,6 +37,37 @@ globalThis.Seen = (() => {
     return steps.map((step) => DobutsuCore.classNumber("A", step.position));
   }
 
+  const classNumber = (profile, text) => DobutsuCore.classNumber(profile, DobutsuCore.readPosition(text));
+  // The texts of the positions that the moves of a position lead to.
+  function outcomes(text) {
+    const position = DobutsuCore.readPosition(text);
+    return Game.engine().moves("A", position).moves.map((move) => DobutsuCore.writePosition(DobutsuCore.apply(position, move)));
+  }
+
+  // ---- the board
+
+  const nameOf = (it) => DobutsuCore.squareName(+it.dataset.square);
+  const squares = (marked) => all(`.square${marked}`).map(nameOf).sort();
+  const pieces = () => all(".square:has(.piece)").map((it) => {
+    const art = it.querySelector(".piece"), letter = art.querySelector(".letter").textContent;
+    return [nameOf(it), letter, art.classList[1], ...(art.querySelector("g").getAttribute("transform") ? ["turned"] : [])].join(" ");
+  });
+  const texts = (selector) => all(selector).map((it) => it.textContent);
+
+  // ---- files and the clipboard
+
+  // Drops a file of that name with those bytes on the page.
+  function dropFile(name, base64) {
+    const dataTransfer = new DataTransfer(), bytes = Uint8Array.from(atob(base64), (c) => c.charCodeAt(0));
+    dataTransfer.items.add(new File([bytes], name));
+    element("files").textContent = "";
+    dispatchEvent(new DragEvent("drop", { dataTransfer, bubbles: true, cancelable: true }));
+  }
+  // Keeps what is copied from now on in `window.copied`.
+  function catchCopies() {
+    Object.defineProperty(navigator, "clipboard", { value: { writeText: async (words) => { window.copied = words; } }, configurable: true });
+  }
+
   // ---- texts
 
   function shape(it) {
@@ -130,6 +161,7 @@ globalThis.Seen = (() => {
 
   return {
     enter, choose, middle, tags, hasValues, lineNumbers, shapes, missing, misnamed, cut, onTwoLines, tooSmall, tooPale, paleMarks, visible,
+    classNumber, outcomes, squares, pieces, texts, dropFile, catchCopies,
     refused: (name) => refusal(attempts[name]),
   };
 })();
