@@ -165,7 +165,7 @@ def setting(checks, screen, program):
     checks.expect("a missing lion is told", "E4" in screen.text("editor-fault"))
     checks.expect("and it can't be done", screen.js("document.getElementById('edit').disabled"))
     screen.press("language")
-    checks.expect("in the other language too", screen.text("editor-fault"), screen.js("Texts.languages.ja.faults.E4") + "(E4)")
+    checks.expect("in the other language too", screen.text("editor-fault"), "ライオンは両者に1枚ずつ必要です。(E4)")
     screen.press("language")
     screen.key("L")
     checks.expect("a lion that is back is no fault", screen.text("editor-fault"), "")
@@ -252,7 +252,7 @@ def steps(checks, screen, program):
     for number in range(len(line)):
         screen.press("next")
         checks.expect(f"{number + 1} plies of the line", screen.record()[1:], line[: number + 1])
-    checks.expect("no next move behind it", screen.js("document.getElementById('next').disabled"))
+    checks.expect("no next move behind it", screen.is_enabled("next"), False)
     screen.enter("..l/.../L../... - -")
     screen.give(program.build("000", "A"))
     screen.press("play")

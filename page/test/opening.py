@@ -7,11 +7,11 @@ def dropped(checks, screen, program):
     """A file that is dropped is opened as one that was picked."""
     screen.seen("dropFile", "mine.db", screen.base64(program.build("100", "A")))
     screen.settle_files()
-    checks.expect("the dropped file", screen.files(), [["mine.db set 100, rules A, 2,124 classes", False]])
+    checks.expect("the dropped file", screen.files(), [["mine.db set 100, rules A, 2,124 classes, digest tested", False]])
     screen.enter(PLAIN)
     checks.expect("its value", screen.value(), "win 5")
-    screen.in_both(checks, "what is said of it", screen.files, [["mine.db set 100, rules A, 2,124 classes", False]],
-                   [["mine.db セット 100、ルール A、2,124 局面類", False]])
+    screen.in_both(checks, "what is said of it", screen.files, [["mine.db set 100, rules A, 2,124 classes, digest tested", False]],
+                   [["mine.db セット 100、ルール A、2,124 局面類、ダイジェストテスト済み", False]])
 
 
 def starts(checks, screen, program):
@@ -57,9 +57,7 @@ def ends_early(checks, screen, program):
     for text, record in [(TRIED, 4)] + [(it, 3) for it in screen.seen("outcomes", TRIED)]:
         at = 21 + 2 * number(text)
         whole[at : at + 2] = record.to_bytes(2, "little")
-    path = program.folder / "early.db"
-    path.write_bytes(whole)
-    screen.give(path)
+    screen.give(program.spoilt("early.db", whole))
     screen.enter(TRIED)
     checks.expect("the line breaks", screen.end(), "No move fits here: this file isn't the right table.")
     checks.expect("the file is told as broken", screen.files()[-1][1], True)

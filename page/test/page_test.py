@@ -14,8 +14,11 @@ import tempfile
 sys.dont_write_bytecode = True
 sys.path.insert(0, str(pathlib.Path(__file__).resolve().parent))
 import board
+import classroom
 import faults
 import handling
+import layout
+import links
 import looks
 import opening
 import told
@@ -25,7 +28,10 @@ from checks import Checks
 from program import Program
 from screen import Screen
 
-TOPICS = {"told": told, "words": words, "opening": opening, "board": board, "faults": faults, "handling": handling, "looks": looks}
+TOPICS = {
+    "told": told, "words": words, "opening": opening, "board": board, "links": links, "classroom": classroom, "faults": faults, "handling": handling,
+    "layout": layout, "looks": looks,
+}
 
 
 def parts_of(names):

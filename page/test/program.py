@@ -1,4 +1,5 @@
 """What the program `dobutsu` tells, from which the expected values come, and the small files that it builds."""
+import hashlib
 import pathlib
 import random
 import subprocess
@@ -23,6 +24,12 @@ class Program:
         path = self.files / f"{pieces}{rules}.db"
         if not path.exists():
             self.run("build", "--set", pieces, "--rules", rules, "--nodes", 2, "--out", path)
+        return path
+
+    def spoilt(self, name, whole):
+        """A file of that name with those bytes and their right digest."""
+        body, path = bytes(whole[:-32]), self.folder / name
+        path.write_bytes(body + hashlib.sha256(body).digest())
         return path
 
     def values(self, path, positions):

@@ -2,6 +2,7 @@
 import base64
 import json
 import pathlib
+import re
 
 SEEN = (pathlib.Path(__file__).parent / "seen.js").read_text()
 SETTLED = "document.documentElement.dataset.busy === ''"
@@ -34,8 +35,16 @@ class Screen:
         self.browser.wait(f"{SETTLED} && !!({more})")
 
     def language(self, name):
-        if self.js("document.documentElement.lang") != name:
+        """English, Japanese, or Japanese in kana, by the page's buttons."""
+        of = lambda: self.js("document.documentElement.dataset.language")
+        if (of() == "en") != (name == "en"):
             self.press("language")
+        if of() != name:
+            self.press("kana")
+
+    def theme(self, name):
+        while self.js("document.documentElement.dataset.theme") != name or self.text("theme") == "◐":
+            self.press("theme")
 
     def press(self, button):
         self.js(f"document.getElementById({json.dumps(button)}).click()")
@@ -50,6 +59,9 @@ class Screen:
         self.js("document.getElementById('files').textContent = ''")
         self.browser.give_files("#file", *files)
         self.settle_files()
+
+    def is_enabled(self, button):
+        return self.js(f"(it => !it.disabled && it.getAttribute('aria-disabled') !== 'true')(document.getElementById({json.dumps(button)}))")
 
     def settle_files(self):
         self.settle("document.querySelector('#files b') && document.querySelector('#exercise-card[aria-busy=false]')")
@@ -88,11 +100,21 @@ class Screen:
     def record(self):
         return self.js("[...document.querySelectorAll('#record .move')].map(it => it.textContent)")
 
+    def marks(self):
+        """What is said of the worth of each move that was played."""
+        return self.js("[...document.querySelectorAll('#record .step')].map(it => (it.querySelector('.mark') || {textContent: ''}).textContent.trim())")
+
+    def pages(self):
+        """How many sheets of A4 the page is on paper."""
+        paper = base64.b64decode(self.browser.call("Page.printToPDF", paperWidth=8.27, paperHeight=11.69)["data"])
+        return len(re.findall(rb"/Type\s*/Page\b", paper))
+
     def current(self):
         return self.js("document.querySelector('#record [aria-current]').textContent")
 
     def files(self):
-        return self.js("[...document.querySelectorAll('#files p')].map(it => [it.innerText.trim(), it.classList.contains('bad')])")
+        """Each line of the files: its name and what is said of it, and whether it is a bad one."""
+        return self.js("[...document.querySelectorAll('#files p')].map(it => [[...it.querySelectorAll('b, span')].map(part => part.textContent).join(''), it.classList.contains('bad')])")
 
     def label(self, selector):
         return self.js(f"document.querySelector({json.dumps(selector)}).getAttribute('aria-label')")

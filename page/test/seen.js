@@ -73,7 +73,7 @@ globalThis.Seen = (() => {
   function shape(it) {
     return typeof it === "object" ? Object.fromEntries(Object.entries(it).map(([name, part]) => [name, shape(part)])) : typeof it;
   }
-  const shapes = () => [shape(Texts.languages.en), shape(Texts.languages.ja)];
+  const shapes = () => ["en", "ja", "kana"].map((name) => shape(Texts.languages[name]));
   const missing = () => all("[data-text], [data-label]").filter((it) => {
     const words = (it.dataset.text ? it.textContent : "") + it.getAttribute("aria-label");
     return /undefined|object/.test(words) || (it.dataset.text && !it.textContent);
@@ -84,7 +84,7 @@ globalThis.Seen = (() => {
 
   // ---- sizes
 
-  const cut = () => shown("button, .open, h1, h2, label").filter((it) => it.scrollWidth > it.clientWidth + 1 && getComputedStyle(it).display !== "inline")
+  const cut = () => shown("button, .open, h1, h2, label").filter((it) => it.scrollWidth > it.clientWidth + 1 && getComputedStyle(it).display !== "inline" && it.clientWidth > 1)
     .map((it) => it.outerHTML.slice(0, 90));
   const onTwoLines = () => shown(".told, .move, .tag").filter((it) => !it.closest(".steps") && it.getBoundingClientRect().height > 34)
     .map((it) => it.textContent);
@@ -94,6 +94,28 @@ globalThis.Seen = (() => {
       const { width, height } = it.getBoundingClientRect(), wanted = it.type === "checkbox" ? 24 : it.closest(".steps") ? steps : least;
       return height + 0.5 < wanted || width + 0.5 < 24;
     }).map((it) => it.id || it.className || it.textContent);
+  }
+
+  // The buttons whose text is nearer than so many pixels to their left or right border.
+  const crowded = (selector, least) => shown(selector).filter((it) => {
+    const words = document.createTreeWalker(it, NodeFilter.SHOW_TEXT), outer = it.getBoundingClientRect(), range = document.createRange();
+    for (let node = words.nextNode(); node; node = words.nextNode()) {
+      range.selectNodeContents(node);
+      const { left, right, width } = range.getBoundingClientRect(), isSeen = node.parentElement.getBoundingClientRect().width > 1;
+      if (isSeen && width > 24 && Math.min(left - outer.left, outer.right - right) < least) return true;
+    }
+    return false;
+  }).map((it) => it.id || it.textContent);
+  function box(selector) {
+    const { left, top, right, bottom } = document.querySelector(selector).getBoundingClientRect();
+    return { left, top, right, bottom };
+  }
+  // Fills the lists of moves and of the line with copies, up to so many.
+  function fillLists(moves, plies) {
+    for (const [list, number] of [["moves", moves], ["line", plies]]) {
+      const items = [...element(list).children], end = list === "line" ? items.pop() : null;
+      while (element(list).children.length - (end ? 1 : 0) < number) element(list).insertBefore(items[element(list).children.length % 2].cloneNode(true), end);
+    }
   }
 
   // ---- contrasts, by WCAG
@@ -128,6 +150,7 @@ globalThis.Seen = (() => {
       if (between(mark, it) < 3) found.push(`${mark} on ${it}`);
     }
     for (const side of ["forest", "sky"]) {
+      if (between(`--${side}-dot`, `--${side}-tile`) < 3) found.push(`dots of ${side}`);
       if (Math.max(between(`--${side}`, `--${side}-land`), between(`--${side}-tile`, `--${side}-land`)) < 3) found.push(side);
     }
     return found;
@@ -161,7 +184,7 @@ globalThis.Seen = (() => {
 
   return {
     enter, choose, middle, tags, hasValues, lineNumbers, shapes, missing, misnamed, cut, onTwoLines, tooSmall, tooPale, paleMarks, visible,
-    classNumber, outcomes, squares, pieces, texts, dropFile, catchCopies,
+    classNumber, outcomes, crowded, box, fillLists, squares, pieces, texts, dropFile, catchCopies,
     refused: (name) => refusal(attempts[name]),
   };
 })();
