@@ -44,6 +44,25 @@ def marks(checks, screen, program):
     checks.expect("the squares of a move that is pointed at", screen.seen("squares", ".hint"), ["a2", "b1"])
 
 
+def arrow(checks, screen, program):
+    """The arrow of the best move, or its ring for a drop; none where a piece is chosen, values are hidden or a position is set up."""
+    screen.give(program.build("100", "A"))
+    screen.enter(PLAIN)
+    checks.expect("the arrow", screen.seen("arrow"), ["b1", "a2"])
+    screen.press("flip")
+    checks.expect("on a flipped board", screen.seen("arrow"), ["b1", "a2"])
+    screen.press("flip")
+    screen.browser.click("[data-square='1']")
+    checks.expect("none where a piece is chosen", screen.seen("arrow"), [])
+    screen.key("Escape")
+    checks.expect("and again", screen.seen("arrow"), ["b1", "a2"])
+    screen.press("edit")
+    checks.expect("none while a position is set up", screen.seen("arrow"), [])
+    screen.press("edit")
+    screen.enter("l../.../L../... C -")
+    checks.expect("a ring for a drop", screen.seen("arrow"), ["b3"])
+
+
 def sky(checks, screen, program):
     """Where Sky is to move its moves, its line and what is heard of them have its letters and the board's squares."""
     screen.give(program.build("100", "A"))
@@ -55,6 +74,9 @@ def sky(checks, screen, program):
     checks.expect("its line", screen.line(), "lb4-c3 Lb1-a1 lc3-c2 La1-b1 lc2xb1")
     checks.expect("what is heard of its first move", screen.label("#moves button"), "lb4-c3, lion b4 to c3, win 5")
     checks.expect("its value", screen.told(), "Sky, to move, wins in 5 plies.")
+    checks.expect("the arrow", screen.seen("arrow"), ["b4", "c3"])
+    screen.js("document.querySelector('#moves button').dispatchEvent(new Event('pointerenter'))")
+    checks.expect("the squares of a move that is pointed at", screen.seen("squares", ".hint"), ["b4", "c3"])
     screen.play("lb4-c3")
     checks.expect("its move is played", [screen.record(), screen.js("location.hash")], [["start", "lb4-c3"], "#~.l./.../.C./.L._-_-:lb4-c3"])
 
@@ -76,6 +98,44 @@ def focus(checks, screen, program):
     checks.expect("the focus in the line", screen.js("[...document.querySelectorAll('#line .move')].indexOf(document.activeElement)"), 0)
 
 
+def stops(checks, screen, program):
+    """A line of moves is one stop of the tab key; arrows go from move to move, and play none."""
+    screen.give(program.build("100", "A"))
+    screen.enter(PLAIN)
+    screen.play("Lb1-a2")
+    tabs = lambda box: screen.js(f"[...document.querySelectorAll('#{box} .move')].map(it => it.tabIndex)")
+    checks.expect("one stop in the line", tabs("line"), [0, -1, -1, -1])
+    checks.expect("one stop in the record, the current move", tabs("record"), [-1, 0])
+    screen.focus("#line .move")
+    screen.key("ArrowRight", "ArrowRight")
+    place = "[...document.querySelectorAll('#line .move')].indexOf(document.activeElement)"
+    checks.expect("two moves on", [screen.js(place), tabs("line"), screen.record()], [2, [-1, -1, 0, -1], ["start", "Lb1-a2"]])
+    screen.key("ArrowLeft", "Home", "ArrowLeft")
+    checks.expect("back to the first", screen.js(place), 0)
+    screen.key("End")
+    checks.expect("to the last", screen.js(place), 3)
+    screen.key("Enter")
+    checks.expect("Enter plays up to it", len(screen.record()), 6)
+
+
+def steady(checks, screen, program):
+    """*Next move*, *Undo* and *Redo* keep the focus while they look up, and where they have come to an end."""
+    screen.give(program.build("100", "A"))
+    screen.enter(PLAIN)
+    screen.focus("#next")
+    for number in range(1, 7):
+        screen.key("Enter")
+        checks.expect(f"Next move, {number} times", [screen.js("document.activeElement.id"), len(screen.record()) - 1], ["next", min(number, 5)])
+    checks.expect("at the end of the line", [screen.is_enabled("next"), screen.js("document.getElementById('next').disabled")], [False, False])
+    screen.focus("#undo")
+    for number in range(4, -2, -1):
+        screen.key("Enter")
+        checks.expect(f"Undo, to {number}", [screen.js("document.activeElement.id"), screen.js("Game.state.cursor")], ["undo", max(number, 0)])
+    screen.focus("#redo")
+    screen.key("Enter", "Enter")
+    checks.expect("Redo", [screen.js("document.activeElement.id"), screen.js("Game.state.cursor")], ["redo", 2])
+
+
 def playing(checks, screen, program):
     """A line that is played out is stopped by the same button."""
     screen.give(program.build("100", "A"))
@@ -89,4 +149,4 @@ def playing(checks, screen, program):
     checks.expect("and stays so", screen.record(), made)
 
 
-PARTS = {"flipped": flipped, "marks": marks, "sky": sky, "focus": focus, "playing": playing}
+PARTS = {"flipped": flipped, "marks": marks, "arrow": arrow, "sky": sky, "focus": focus, "stops": stops, "steady": steady, "playing": playing}

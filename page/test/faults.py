@@ -107,6 +107,7 @@ def lost_file(checks, screen, program):
     screen.settle("!/Drawing/.test(document.getElementById('task').textContent)")
     why = "No exercises: the file can't be read any more.", "ファイルが読めなくなったので、練習問題は出せません。"
     screen.in_both(checks, "why there are no exercises", lambda: screen.text("task"), *why)
+    screen.js("Answers.lengths = async () => []")
     screen.give(program.build("000", "A"))
     why = "This file has no exercises: no position of it is won in 3 plies or more.", "このファイルには練習問題がありません。3手以上で勝つ局面がないからです。"
     screen.in_both(checks, "a file without exercises says why", lambda: screen.text("task"), *why)

@@ -63,4 +63,25 @@ def ends_early(checks, screen, program):
     checks.expect("the file is told as broken", screen.files()[-1][1], True)
 
 
-PARTS = {"dropped": dropped, "starts": starts, "short": short, "good": good, "ends_early": ends_early}
+def untested(checks, screen, program):
+    """Where the digest can't be tested the page says so."""
+    screen.js("void Object.defineProperty(globalThis, 'crypto', { value: {}, configurable: true })")
+    screen.give(program.build("100", "A"))
+    screen.in_both(checks, "a digest that isn't tested", screen.files, [["100A.db set 100, rules A, 2,124 classes, digest not tested", False]],
+                   [["100A.db セット 100、ルール A、2,124 局面類、ダイジェスト未テスト", False]])
+    screen.enter(PLAIN)
+    checks.expect("the file answers", screen.value(), "win 5")
+
+
+def rules(checks, screen, program):
+    """One position by both rules, one after the other: by A a chick is dropped on its far row, by B it isn't."""
+    text = "..l/.../.../L.. C -"
+    screen.give(program.build("100", "A"), program.build("100", "B"))
+    for name, number in (("A", 13), ("B", 11), ("A", 13)):
+        screen.choose("rules", name)
+        screen.enter(text)
+        far = [it.split()[0] for it in screen.moves() if it[:2] == "C*" and it[3] == "4"]
+        checks.expect(f"moves by rules {name}", [len(screen.moves()), sorted(far)], [number, ["C*a4", "C*b4"] if name == "A" else []])
+
+
+PARTS = {"dropped": dropped, "starts": starts, "short": short, "good": good, "ends_early": ends_early, "untested": untested, "rules": rules}

@@ -52,6 +52,14 @@ globalThis.Seen = (() => {
     const art = it.querySelector(".piece"), letter = art.querySelector(".letter").textContent;
     return [nameOf(it), letter, art.classList[1], ...(art.querySelector("g").getAttribute("transform") ? ["turned"] : [])].join(" ");
   });
+  // The squares from which and to which the arrow goes, or that of a ring.
+  function arrow() {
+    const path = document.querySelector(".arrow path"), ring = document.querySelector(".arrow circle");
+    const name = ([x, y]) => nameOf(all(".square")[Math.floor(x) + 3 * Math.floor(y)]);
+    if (ring) return [name([+ring.getAttribute("cx"), +ring.getAttribute("cy")])];
+    const points = path ? path.getAttribute("d").match(/[\d.]+ [\d.]+/g).map((it) => it.split(" ").map(Number)) : [];
+    return path ? [name(points[0]), name(points[3])] : [];
+  }
   const texts = (selector) => all(selector).map((it) => it.textContent);
 
   // ---- files and the clipboard
@@ -184,7 +192,7 @@ globalThis.Seen = (() => {
 
   return {
     enter, choose, middle, tags, hasValues, lineNumbers, shapes, missing, misnamed, cut, onTwoLines, tooSmall, tooPale, paleMarks, visible,
-    classNumber, outcomes, crowded, box, fillLists, squares, pieces, texts, dropFile, catchCopies,
+    classNumber, outcomes, arrow, crowded, box, fillLists, squares, pieces, texts, dropFile, catchCopies,
     refused: (name) => refusal(attempts[name]),
   };
 })();
