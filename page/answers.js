@@ -19,10 +19,17 @@ const Answers = (() => {
     return { status, value: engine.valueOf(record), moves: valued, follows: Core.recordOf(record) === Core.recordBy(status, after.map(Core.recordOf)) };
   }
 
+  // What a move that was played was worth, and what the best one would have been, each for the side that made it.
+  async function judge(table, engine, position, move) {
+    const { profile } = table, best = engine.valueOf(await table.record(engine.classOf(profile, position)));
+    if (engine.moves(profile, position).status === "caught") return { value: best, best };
+    return { value: engine.afterMove(await table.record(engine.classAfter(profile, position, move))), best };
+  }
+
   // ---- the best line
 
   const lines = new Map(); // what is left of a line, by table and position
-  const keyOf = (table, position) => table.set + table.profile + Core.writePosition(position);
+  const keyOf = (table, position) => table.key + Core.writePosition(position);
   function keep(table, steps, end) {
     if (lines.size > MOST_LINES) lines.clear();
     steps.forEach((step, i) => lines.set(keyOf(table, step.position), { steps: steps.slice(i), end }));
@@ -80,9 +87,9 @@ const Answers = (() => {
     return [...met].map((it) => it - 1).filter((plies) => plies >= 3 && plies % 2 === 1).sort((a, b) => a - b);
   }
 
-  // A position that its side wins in so many plies by one move alone, with that move, or null where none was found. Of a small file each
-  // position of that length is tried, in an order drawn at random.
-  async function drawExercise(table, engine, plies, isLate) {
+  // A position that its side wins in so many plies by one move alone, with that move, or null where none was found; only one that is wanted is
+  // taken. Of a small file each position of that length is tried, in an order drawn at random.
+  async function drawExercise(table, engine, plies, isLate, isWanted = () => true) {
     const isSmall = table.count <= limits.small, length = isSmall ? table.count : limits.window;
     for (let window = 0; window < (isSmall ? 1 : limits.windows); window++) {
       const first = random(table.count - length + 1);
@@ -91,6 +98,7 @@ const Answers = (() => {
         if (isLate()) return null;
         let position = Core.positionAt(table.profile, table.pieces, first + number);
         if (random(2)) position = Core.mirrored(position);
+        if (!isWanted(position)) continue;
         const { value, moves } = await lookUp(table, engine, position);
         const best = moves.filter((it) => it.value.kind === "win" && it.value.plies === plies);
         if (value.kind === "win" && value.plies === plies && best.length === 1) return { position, move: best[0].move };
@@ -99,5 +107,5 @@ const Answers = (() => {
     return null;
   }
 
-  return { limits, lookUp, bestLine, forget: () => lines.clear(), lengths, drawExercise };
+  return { limits, lookUp, judge, bestLine, forget: () => lines.clear(), lengths, drawExercise };
 })();

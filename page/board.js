@@ -9,6 +9,7 @@ const Board = (() => {
   const element = (id) => document.getElementById(id);
   const squares = []; // the buttons by their places on the screen, from the top left
   const slots = new Map(); // the buttons of the hands by letter
+  const arrow = document.createElement("div"); // lies over the squares
   let calls = null, isFlipped = false, focus = 10;
 
   const squareAt = (place) => (isFlipped ? 2 - (place % 3) + 3 * Math.floor(place / 3) : (place % 3) + 3 * (3 - Math.floor(place / 3)));
@@ -52,6 +53,7 @@ const Board = (() => {
         squares.push(button);
       }
     }
+    element("board").append(arrow);
     addLabel("corner");
     for (let column = 0; column < 3; column++) addLabel("column-label");
   }
@@ -183,13 +185,28 @@ const Board = (() => {
     });
   }
 
-  // Draws { squares, hands, side, isOver, isSetUp, last, chosen, targets, inMoves }: letters by square, Forest's hand and Sky's, the squares of
-  // the last move, the chosen place, and the squares that it reaches with the values of these moves.
+  // An arrow from square to square, or a ring where a piece is dropped; a square is one by one.
+  function arrowDrawing([from, to]) {
+    const middle = (square) => { const place = squares.findIndex((_, at) => squareAt(at) === square); return [(place % 3) + 0.5, Math.floor(place / 3) + 0.5]; };
+    const [x, y] = middle(to);
+    if (from < 0) return `<circle cx="${x}" cy="${y}" r=".4"/>`;
+    const [x0, y0] = middle(from), far = Math.hypot(x - x0, y - y0), [dx, dy] = [(x - x0) / far, (y - y0) / far];
+    const at = (along, aside) => `${(x0 + dx * along - dy * aside).toFixed(3)} ${(y0 + dy * along + dx * aside).toFixed(3)}`;
+    return `<path d="M${at(0.3, 0.05)}L${at(far - 0.35, 0.05)}L${at(far - 0.35, 0.15)}L${at(far - 0.08, 0)}L${at(far - 0.35, -0.15)}L${at(far - 0.35, -0.05)}L${at(0.3, -0.05)}z"/>`;
+  }
+  function drawArrow(move) {
+    arrow.className = "arrow";
+    arrow.innerHTML = move ? `<svg viewBox="0 0 3 4" preserveAspectRatio="none" aria-hidden="true">${arrowDrawing(move)}</svg>` : "";
+  }
+
+  // Draws { squares, hands, side, isOver, isSetUp, last, chosen, targets, arrow, inMoves }: letters by square, Forest's hand and Sky's, the
+  // squares of the last move, the chosen place, the squares that it reaches with the values of these moves, and the best move's two squares.
   function draw(shown) {
     squares.forEach((button, place) => drawSquare(button, place, shown));
     document.querySelectorAll(".row-label").forEach((label, i) => { label.textContent = isFlipped ? i + 1 : 4 - i; });
     document.querySelectorAll(".column-label").forEach((label, i) => { label.textContent = "abc"[isFlipped ? 2 - i : i]; });
     for (const side of [0, 1]) drawHand(side, shown);
+    drawArrow(shown.arrow);
     element("table").classList.toggle("setting", shown.isSetUp);
     rove();
   }

@@ -9,7 +9,10 @@ import pathlib
 import sys
 
 HERE = pathlib.Path(__file__).resolve().parent
-SCRIPTS = ["core.js", "texts.js", "pieces.js", "file.js", "answers.js", "game.js", "board.js", "setup.js", "view.js", "exercise.js", "page.js"]
+SCRIPTS = [
+    "core.js", "texts.js", "english.js", "japanese.js", "hiragana.js", "pieces.js", "file.js", "answers.js", "game.js", "board.js", "setup.js", "view.js",
+    "settings.js", "worksheet.js", "exercise.js", "practice.js", "page.js",
+]
 MOST_BYTES = 200_000
 
 

@@ -5,7 +5,7 @@ const Exercise = (() => {
   const { text } = Texts;
   const element = (id) => document.getElementById(id);
 
-  const known = new Map(); // the lengths of each file's exercises
+  const known = new Map(); // of each file { lengths, why }: the lengths of its exercises, or the name of the text why there are none
   let open = null; // { start, move, plies, isTried, isSolved, verdict } of the exercise on the board
   let notice = null; // the name of a text where there is no exercise
   let right = 0, asked = 0, turn = 0;
@@ -18,6 +18,14 @@ const Exercise = (() => {
     select.replaceChildren(...names.map((name, i) => new Option(name, values[i])));
     if (values.map(String).includes(value)) select.value = value;
   }
+  async function lengthsOf(file) {
+    try {
+      const lengths = await Answers.lengths(file);
+      return { lengths, why: lengths.length ? null : "fewExercises" };
+    } catch {
+      return { lengths: [], why: "lostExercises" };
+    }
+  }
   // Offers the open files and the lengths of the chosen one.
   async function offer() {
     element("exercise-card").setAttribute("aria-busy", true);
@@ -25,26 +33,35 @@ const Exercise = (() => {
     fill(select, names, files.map((it) => it.set + it.profile));
     select.hidden = files.length < 2;
     const chosen = table();
-    if (chosen && !known.has(chosen)) known.set(chosen, await Answers.lengths(chosen).catch(() => []));
-    const lengths = (chosen && known.get(chosen)) || [];
+    if (chosen && !known.get(chosen)?.lengths.length) known.set(chosen, await lengthsOf(chosen));
+    const { lengths, why } = known.get(chosen) || { lengths: [], why: null };
+    if (!open && notice !== "drawing") notice = why;
     fill(element("exercise-length"), lengths.map((plies) => text("length", plies, View.options.inMoves)), lengths);
-    element("draw").disabled = !lengths.length;
+    for (const name of ["draw", "worksheet"]) element(name).disabled = !lengths.length;
     element("exercise-choice").hidden = !lengths.length && files.length < 2;
+    element("worksheet").hidden = !lengths.length;
+    draw();
     element("exercise-card").setAttribute("aria-busy", false);
   }
   function chooseLast() {
     element("exercise-file").selectedIndex = Files.all().length - 1;
   }
 
+  const plies = () => +element("exercise-length").value;
   // Draws one and gives its { position, profile } to be put on the board, or null.
   async function drawOne() {
-    const mine = ++turn, from = table(), plies = +element("exercise-length").value;
+    const mine = ++turn, from = table(), length = plies();
+    let why = "noExercise";
     notice = "drawing";
     draw();
-    const found = await Answers.drawExercise(from, Game.engine(), plies, () => mine !== turn).catch(() => null);
+    const found = await Answers.drawExercise(from, Game.engine(), length, () => mine !== turn).catch(() => {
+      known.delete(from);
+      why = "lostExercises";
+      return null;
+    });
     if (mine !== turn) return null;
-    notice = found ? null : "noExercise";
-    open = found && { start: Core.writePosition(found.position), move: found.move, plies, isTried: false, isSolved: false, verdict: null };
+    notice = found ? null : why;
+    open = found && { start: Core.writePosition(found.position), move: found.move, plies: length, isTried: false, isSolved: false, verdict: null };
     if (!open) draw();
     return open && { start: open.start, profile: from.profile };
   }
@@ -64,6 +81,21 @@ const Exercise = (() => {
     count();
     Object.assign(open, { isSolved: true, verdict: () => text("answered", words) });
     draw();
+  }
+  // Leaves the exercise that is open, and counts it.
+  function leave() {
+    count();
+    open = null;
+  }
+  // Makes a worksheet of the chosen file and length; says whether there are any exercises for it.
+  async function makeSheet() {
+    notice = "drawing";
+    draw();
+    const drawn = await Worksheet.drawSome(table(), Game.engine(), plies()).catch(() => []);
+    notice = drawn.length ? null : "noSheet";
+    draw();
+    if (drawn.length) Worksheet.draw(drawn, plies());
+    return drawn.length > 0;
   }
   // Counts the exercise that is open, once: it was tried, answered, or its values were shown.
   function count() {
@@ -86,5 +118,5 @@ const Exercise = (() => {
     element("score").textContent = asked ? text("score", right, asked) : "";
   }
 
-  return { offer, chooseLast, drawOne, isAsked, judge, told, answer, count, draw };
+  return { offer, chooseLast, drawOne, leave, makeSheet, isAsked, judge, told, answer, count, draw };
 })();

@@ -1,20 +1,23 @@
 // Database files: which are open, what is wrong with those that aren't, and records read by slices. A header is tested as `dobutsu look`
-// tests it, and the length too; the digest isn't read.
+// tests it, and the length too; of a file that isn't large the digest as well.
 const Files = (() => {
   "use strict";
   const Core = DobutsuCore;
-  const MOST_KEPT = 200000;
+  const MOST_KEPT = 200000, MOST_TESTED = 64 << 20, DIGEST = 32;
 
   class Table {
-    constructor(file, header) {
+    constructor(file, header, isTested) {
       const { set, profile, classes, first } = header;
-      Object.assign(this, { file, name: file.name, pieces: set, set: set.join(""), profile, count: classes, start: first, kept: new Map(), isBroken: false });
+      Object.assign(this, {
+        file, name: file.name, key: set.join("") + profile, pieces: set, set: set.join(""), profile, count: classes, start: first, kept: new Map(), isTested,
+        isBroken: false,
+      });
     }
-    // So many bytes at a place of the file, or E15 where it has been cut since it was opened.
+    // So many bytes at a place of the file, which is lost where it was cut, changed or taken away since it was opened.
     async bytes(at, length) {
-      const bytes = new Uint8Array(await this.file.slice(at, at + length).arrayBuffer());
-      if (bytes.length !== length) throw new Core.Fault("E15 Truncated");
-      return bytes;
+      const found = await this.file.slice(at, at + length).arrayBuffer().catch(() => null);
+      if (!found || found.byteLength !== length) throw new Core.Fault("lost");
+      return new Uint8Array(found);
     }
     // The two bytes of a class.
     async record(number) {
@@ -36,13 +39,22 @@ const Files = (() => {
   const tables = new Map(); // the open ones, by set and profile
   let refused = []; // { name, fault } of the files that were given last and aren't open
 
+  // Whether the digest was tested: not of a large file, nor where the browser has no SHA-256 for a page of a file. A wrong one is E20.
+  async function testDigest(file) {
+    if (file.size > MOST_TESTED || !globalThis.crypto?.subtle) return false;
+    const bytes = new Uint8Array(await file.arrayBuffer()), end = bytes.length - DIGEST;
+    const digest = new Uint8Array(await crypto.subtle.digest("SHA-256", bytes.subarray(0, end)));
+    if (digest.some((byte, i) => byte !== bytes[end + i])) throw new Core.Fault("E20 Digest");
+    return true;
+  }
+
   async function open(file, engine) {
     const header = engine.readHeader(new Uint8Array(await file.slice(0, 21).arrayBuffer()), file.size);
     if (header.classes !== Core.countClasses(header.profile, header.set)) throw new Core.Fault("E18 ClassCount");
-    const whole = header.first + 2 * header.classes + 32;
+    const whole = header.first + 2 * header.classes + DIGEST;
     if (file.size < whole) throw new Core.Fault("E15 Truncated");
     if (file.size > whole) throw new Core.Fault("E19 Trailing");
-    return new Table(file, header);
+    return new Table(file, header, await testDigest(file));
   }
 
   // Opens those files that are whole, a later one of the same set and rules in place of an earlier; gives the last that was opened.
@@ -52,8 +64,8 @@ const Files = (() => {
     for (const file of files) {
       try {
         last = await open(file, engine);
-        tables.delete(last.set + last.profile);
-        tables.set(last.set + last.profile, last);
+        tables.delete(last.key);
+        tables.set(last.key, last);
       } catch (fault) {
         refused.push({ name: file.name, fault });
       }
@@ -64,5 +76,7 @@ const Files = (() => {
   const tableFor = (profile, position) => tables.get(Core.setOf(position).join("") + profile) || null;
   const all = () => [...tables.values()];
 
-  return { openAll, tableFor, all, refused: () => refused, last: () => all().pop() || null };
+  const close = (table) => tables.delete(table.key);
+
+  return { openAll, close, tableFor, all, refused: () => refused, last: () => all().pop() || null };
 })();

@@ -39,23 +39,24 @@ const Game = (() => {
     return Core.writePosition({ squares: squares.join(""), mover: [0, 0, 0], enemy: [0, 0, 0] });
   }
 
-  // ---- the address: `#TEXT` with `_` for spaces, then `:MOVE,MOVE`, and `~` in front of the text where Sky moves first
+  // ---- the address: `#TEXT` with `_` for spaces, then `:MOVE,MOVE`; in front of the text `B;` by those rules, then `~` where Sky moves first
 
   function address() {
     const played = state.plies.slice(0, state.cursor).map((ply) => ply.text).join(",");
-    return `#${state.side ? "~" : ""}${state.start.replaceAll(" ", "_")}${played ? ":" + played : ""}`;
+    return `#${state.profile === "A" ? "" : `${state.profile};`}${state.side ? "~" : ""}${state.start.replaceAll(" ", "_")}${played ? ":" + played : ""}`;
   }
-  // Takes the game of an address, up to the first move that isn't one; says whether the address had any.
+  // Takes the game of an address, up to the first move that isn't one: gives that one as { word, number }, or null where all are played.
   function readAddress(hash) {
-    const [, sky, text, played] = /^#(~?)([^:]*):?(.*)$/.exec(decodeURIComponent(hash)) || [];
-    if (!text) return false;
+    const [, profile = "A", sky, text, played] = /^#(?:([AB]);)?(~?)([^:]*):?(.*)$/.exec(decodeURIComponent(hash)) || [];
+    if (!text) return null;
     load(text.replaceAll("_", " "), sky ? 1 : 0);
+    state.profile = profile;
     for (const word of played ? played.split(",") : []) {
       const move = moves().moves.find((it) => textOf(it) === word);
-      if (!move) break;
+      if (!move) return { word, number: state.cursor + 1 };
       play(move);
     }
-    return true;
+    return null;
   }
 
   return {

@@ -3,7 +3,7 @@
   const Core = DobutsuCore;
   const { text } = Texts;
   const { options } = View;
-  const SLOW = 120, STEP = 1200; // milliseconds until a look-up is called slow, and between moves that are played out
+  const SLOW = 120, PATIENCE = 3000; // milliseconds until a look-up is called slow, and until an engine that says nothing is given up
   const element = (id) => document.getElementById(id);
 
   let chosen = null; // the place that is chosen on the board
@@ -11,6 +11,7 @@
   let line = null; // its best line
   let turn = 0; // what is looked up for an earlier position is dropped
   let slow = null; // the timer behind which a look-up is called slow
+  let replying = null; // the timer of the page's answer to one who practises
   let playing = null; // the timer of a line that is played out, or `true` until it is set
   let unfit = null; // what is wrong with the position that is being set up
   let written = ""; // the address as it was written last
@@ -18,12 +19,6 @@
   const say = (words) => { element("live").textContent = words; };
   const isSame = (a, b) => a.letter === b.letter && a.from === b.from && a.to === b.to;
   const seenFrom = (side) => (square) => (side ? 11 - square : square);
-
-  // What is kept between visits, where the browser keeps anything.
-  const stored = {
-    get: (name) => { try { return localStorage.getItem(`dobutsu-${name}`); } catch { return null; } },
-    set: (name, value) => { try { localStorage.setItem(`dobutsu-${name}`, value); } catch { /* nothing is kept */ } },
-  };
 
   // ---- the board
 
@@ -41,7 +36,13 @@
       chosen: Setup.isOn() ? null : chosen,
       last: last && !Setup.isOn() ? [last.move.from, last.move.to].filter((square) => square >= 0).map(seenFrom(1 - last.side)) : [],
       targets: new Map(movesOf(chosen).map((move) => [seen(move.to), valueOf(move)])),
+      arrow: bestArrow(seen),
     });
+  }
+  // The squares of the best move, where it is shown by an arrow.
+  function bestArrow(seen) {
+    const best = found && !options.isHidden && !Setup.isOn() && !chosen && Settings.hasArrow() && found.moves[0];
+    return best ? [best.move.from, best.move.to].map((square) => (square < 0 ? square : seen(square))) : null;
   }
   const isOwn = (place) => {
     const { side, isOver } = Game.now(), { squares, hands } = Setup.seen(Game.now());
@@ -81,6 +82,7 @@
   // A move of the reader: it is played, unless it is a wrong answer to an exercise.
   function tryMove(move) {
     stopPlaying();
+    Practice.forget();
     if (Exercise.isAsked()) {
       const tried = found && found.moves.find((it) => isSame(it.move, move));
       if (!tried) return;
@@ -89,7 +91,7 @@
         View.tellNone(Exercise.told());
         return drawBoard();
       }
-      options.isHidden = false;
+      Settings.hideValues(false);
     }
     playOne(move);
     refresh();
@@ -114,27 +116,47 @@
     playOne(line.steps[0].move);
     refresh();
   }
+  // Goes to that number of plies of the game.
+  function goTo(cursor) {
+    stopPlaying();
+    Practice.forget();
+    chosen = null;
+    Game.goTo(cursor);
+    refresh();
+  }
+  // One who practises takes the page's answer back with their own move.
+  const goBack = () => goTo(Game.state.cursor - (Practice.isOf(Game.now().side) && Game.state.cursor > 1 ? 2 : 1));
   const canStep = () => !!line && line.steps.length > 0 && !options.isHidden && !Setup.isOn();
 
   // ---- what is shown of the position
 
+  // A button that means nothing now keeps the focus, since it may mean something again after a look-up.
+  const enable = (name, isEnabled) => element(name).setAttribute("aria-disabled", !isEnabled);
+  const isEnabled = (name) => element(name).getAttribute("aria-disabled") !== "true" && !element(name).disabled;
   function drawControls() {
     const { cursor, plies } = Game.state, isOn = Setup.isOn();
-    element("undo").disabled = isOn || !cursor;
-    element("redo").disabled = isOn || cursor === plies.length;
+    enable("undo", !isOn && cursor > 0);
+    enable("redo", !isOn && cursor < plies.length);
     element("edit").setAttribute("aria-pressed", isOn);
     element("edit").disabled = isOn && !!unfit;
     element("editor-fault").textContent = isOn && unfit ? Texts.wrong(unfit) : "";
     element("edit").textContent = text(isOn ? "done" : "setUp");
     element("hide").setAttribute("aria-pressed", options.isHidden);
     element("hide").textContent = text(options.isHidden ? "showValues" : "hideValues");
-    element("next").disabled = !canStep();
-    element("play").disabled = !canStep() && !playing;
+    enable("next", canStep());
+    enable("play", canStep() || !!playing);
     element("play").textContent = text(playing ? "stop" : "playOut");
     element("play").setAttribute("aria-pressed", !!playing);
     element("rules").value = Game.state.profile;
     document.body.classList.toggle("hiding", options.isHidden);
     document.body.classList.toggle("in-moves", options.inMoves);
+    document.body.classList.toggle("setting-up", isOn);
+    Practice.draw();
+  }
+  function drawRecord() {
+    const { plies, cursor } = Game.state;
+    View.drawRecord(plies, cursor, goTo);
+    View.drawJudged(cursor && !Setup.isOn() ? plies[cursor - 1] : null);
   }
   const tellNothing = (words) => {
     View.tellNone(words);
@@ -167,13 +189,32 @@
     drawBoard();
     drawMoves(found.moves);
     if (options.isHidden) {
-      View.tellNone(Exercise.isAsked() ? Exercise.told() : text("hidden"));
+      View.tellNone(Exercise.isAsked() ? Exercise.told() : Practice.told() || text("hidden"));
       View.tellLine(text("hiddenShort"));
     } else {
       View.drawValue(found, side);
       await tellLine(table, position, side, isLate);
     }
-    if (table.isBroken !== wasBroken) View.drawFiles();
+    if (table.isBroken !== wasBroken) drawFiles();
+  }
+  // What each move that was played was worth, where a file knows; then the lists say it.
+  async function judgePlayed(isLate) {
+    const { plies, profile, start } = Game.state;
+    let position = Core.readPosition(start);
+    for (const ply of plies) {
+      const table = Files.tableFor(profile, position);
+      if (!ply.judged || ply.judged.table !== table) ply.judged = table && { ...await Answers.judge(table, Game.engine(), position, ply.move), table };
+      if (isLate()) return;
+      ({ position } = ply);
+    }
+    drawRecord();
+  }
+  // In practice the page answers, after a moment.
+  function answer() {
+    const { cursor, plies } = Game.state, wasOn = Practice.isOn();
+    const move = found || Game.now().isOver ? Practice.answer(Game.now(), cursor, found, plies[cursor - 1]) : null;
+    if (move) replying = setTimeout(() => { playOne(move); refresh(); }, Settings.pace() / 2);
+    else if (wasOn && !Practice.isOn()) { Settings.hideValues(false); refresh(); }
   }
   async function tellLine(table, position, side, isLate) {
     if (found.value.kind === "draw") return View.tellLine(text("drawLine"));
@@ -186,6 +227,7 @@
   }
   async function refresh() {
     const mine = ++turn, isLate = () => mine !== turn;
+    clearTimeout(replying);
     clearTimeout(slow);
     slow = setTimeout(() => { drawMoves([]); tellNothing(text("looking")); }, SLOW);
     document.documentElement.dataset.busy = "1";
@@ -194,17 +236,19 @@
     drawBoard();
     Setup.draw();
     drawControls();
-    View.drawRecord(Game.state.plies, Game.state.cursor, (cursor) => { stopPlaying(); chosen = null; Game.goTo(cursor); refresh(); });
+    drawRecord();
     try {
       if (Setup.isOn() && unfit) throw unfit;
       writePosition();
       await tell(isLate);
+      if (!isLate()) await judgePlayed(isLate);
     } catch (fault) {
       if (!isLate()) { drawMoves([]); tellNothing(Setup.isOn() ? text("noPosition") : Texts.wrong(fault)); }
     }
     if (isLate()) return;
     clearTimeout(slow);
-    if (playing) playing = canStep() ? setTimeout(step, STEP) : null;
+    if (playing) playing = canStep() ? setTimeout(step, Settings.pace()) : null;
+    answer();
     drawControls();
     document.documentElement.dataset.busy = "";
   }
@@ -220,8 +264,10 @@
     written = Game.address();
     try { history.replaceState(null, "", written); } catch { location.replace(written); }
   }
+  // A text that is typed or pasted, or a whole link.
   function readText() {
     const words = element("text").value.trim().replace(/\s+/g, " ");
+    if (words.includes("#")) return void readAddress(words.slice(words.indexOf("#")));
     try {
       const position = Core.readPosition(words);
       if (!Core.isAllowed(Game.state.profile, position)) throw new Core.Fault("E26 FarChick");
@@ -237,6 +283,7 @@
   }
   function begin(start, side = 0) {
     stopPlaying();
+    Practice.stop();
     chosen = null;
     Game.load(start, side);
     return refresh();
@@ -270,14 +317,24 @@
   function toggleSetUp() {
     if (element("edit").disabled) return;
     stopPlaying();
+    Practice.stop();
     chosen = unfit = null;
     if (Setup.isOn()) Setup.end();
     else Setup.begin(Game.now().isOver ? { position: Core.readPosition(Game.state.start), side: Game.state.side } : Game.now());
     refresh();
+    if (Setup.isOn()) element("editor").scrollIntoView({ block: "nearest" });
   }
 
   // ---- files
 
+  const drawFiles = () => View.drawFiles(closeFile);
+  async function closeFile(table) {
+    stopPlaying();
+    Files.close(table);
+    drawFiles();
+    await refresh();
+    await Exercise.offer();
+  }
   async function openFiles(files) {
     if (!files.length) return;
     stopPlaying();
@@ -289,7 +346,7 @@
       Game.state.profile = last.profile;
       if (isUntouched && !Files.tableFor(last.profile, Game.now().position)) Game.load(Game.startOf(last.pieces));
     }
-    View.drawFiles();
+    drawFiles();
     await refresh();
     await Exercise.offer();
     if (last) Exercise.chooseLast();
@@ -305,111 +362,124 @@
     if (!drawn) return say(element("task").textContent);
     Setup.end();
     Game.state.profile = drawn.profile;
-    options.isHidden = true;
+    Settings.hideValues(true);
     await begin(drawn.start);
     if (element("table").getBoundingClientRect().top < 0) element("table").scrollIntoView();
   }
-
-  // ---- choices of the reader
-
-  const THEMES = ["system", "light", "dark"], SIGNS = { system: "◐", light: "☀", dark: "☾" };
-  const wantsDark = matchMedia("(prefers-color-scheme: dark)");
-  let theme = THEMES.includes(stored.get("theme")) ? stored.get("theme") : "system";
-  function drawTheme() {
-    document.documentElement.dataset.theme = theme === "system" ? (wantsDark.matches ? "dark" : "light") : theme;
-    element("theme").textContent = SIGNS[theme];
-    element("theme").setAttribute("aria-label", text("theme")[theme]);
-    element("theme").title = text("theme")[theme];
+  // Begins to practise from the position on the board, where its side wins by the file; or stops.
+  function practise() {
+    stopPlaying();
+    if (Practice.isOn()) Practice.stop();
+    else if (found && found.value.kind === "win" && !Setup.isOn()) {
+      Exercise.leave();
+      Practice.begin(Game.now(), Game.state.cursor);
+      Settings.hideValues(true);
+    } else Practice.refuse();
+    refresh();
   }
+  async function printSheet() {
+    if (!await Exercise.makeSheet()) return;
+    document.body.classList.add("sheet");
+    window.print();
+    document.body.classList.remove("sheet");
+  }
+
+  // ---- what the reader asks for
+
   function drawLanguage() {
-    Texts.writeAll();
-    element("language").textContent = text("language");
-    element("language").lang = Texts.language() === "en" ? "ja" : "en";
-    element("language").setAttribute("aria-label", text("languageLabel"));
-    element("engine").textContent = text("engine", text(Game.engine().isProved ? "engineProved" : "enginePlain"));
-    drawTheme();
-    View.drawFiles();
+    const { isProved } = Game.engine();
+    element("engine").textContent = text("engine", text(isProved ? "engineProved" : "enginePlain"));
+    element("badge").textContent = text(isProved ? "badgeProved" : "badgePlain");
+    element("badge").className = isProved ? "proved" : "plain";
+    drawFiles();
     return Exercise.offer();
+  }
+  function showChoices() {
+    drawLanguage();
+    refresh();
   }
 
   const acts = {
-    undo: () => { if (!Setup.isOn()) { stopPlaying(); chosen = null; Game.goTo(Game.state.cursor - 1); refresh(); } },
-    redo: () => { if (!Setup.isOn()) { stopPlaying(); chosen = null; Game.goTo(Game.state.cursor + 1); refresh(); } },
+    undo: goBack,
+    redo: () => goTo(Game.state.cursor + 1),
     flip: () => { Board.flip(); drawBoard(); },
     edit: toggleSetUp,
     start: () => { Setup.end(); begin(Files.last() ? Game.startOf(Files.last().pieces) : Game.START); },
-    hide: () => { stopPlaying(); options.isHidden = !options.isHidden; if (!options.isHidden) Exercise.count(); refresh(); },
-    next: () => { if (canStep()) { stopPlaying(); step(); } },
-    play: () => { if (playing) stopPlaying(); else if (canStep()) { playing = true; step(); } },
+    hide: () => { stopPlaying(); Settings.hideValues(!options.isHidden); if (!options.isHidden) Exercise.count(); refresh(); },
+    next: () => { stopPlaying(); step(); },
+    play: () => { if (playing) stopPlaying(); else { playing = true; step(); } },
     draw: drawExercise,
-    answer: () => { Exercise.answer(); options.isHidden = false; refresh(); },
+    answer: () => { Exercise.answer(); Settings.hideValues(false); refresh(); },
+    practise, worksheet: printSheet,
     print: () => window.print(),
     copy: () => copy(element("text").value, element("copy")),
     link: () => copy(location.href.split("#")[0] + Game.address(), element("link")),
-    theme: () => { theme = THEMES[(THEMES.indexOf(theme) + 1) % 3]; stored.set("theme", theme); drawTheme(); },
-    language: () => { Texts.choose(Texts.language() === "en" ? "ja" : "en"); stored.set("language", Texts.language()); drawLanguage(); refresh(); },
+    theme: Settings.nextTheme,
+    language: () => { Settings.otherLanguage(); showChoices(); },
+    kana: () => { Settings.switchKana(); showChoices(); },
   };
-  function measure() {
-    options.inMoves = element("measure").value === "moves";
-    stored.set("measure", element("measure").value);
-    Exercise.offer();
-    refresh();
-  }
+  const perform = (name) => { if (isEnabled(name)) acts[name](); };
   const LETTERS = { u: "undo", r: "redo", f: "flip", e: "edit", h: "hide", n: "next", p: "play", x: "draw" };
 
   function pressed(event) {
     if (/^(INPUT|SELECT|TEXTAREA)$/.test(event.target.tagName) || event.ctrlKey || event.metaKey || event.altKey) return;
-    if (event.key in LETTERS && element("letters").checked) acts[LETTERS[event.key]]();
+    const arrow = !event.target.closest("#board, .steps") && { ArrowLeft: "undo", ArrowRight: "redo" }[event.key];
+    const letter = Settings.hasLetters() && !(Setup.isOn() && event.key === "x") && LETTERS[event.key];
+    if (arrow || letter) perform(arrow || letter);
     if (event.key === "Escape") { stopPlaying(); chosen = null; drawBoard(); }
   }
   function listen() {
-    for (const [name, act] of Object.entries(acts)) element(name).addEventListener("click", act);
+    for (const name of Object.keys(acts)) element(name).addEventListener("click", () => perform(name));
     element("text").addEventListener("input", readText);
     element("text").addEventListener("blur", leaveText);
     element("file").addEventListener("change", async () => { await openFiles([...element("file").files]); element("file").value = ""; });
     element("exercise-file").addEventListener("change", () => Exercise.offer());
-    element("measure").addEventListener("change", measure);
     element("rules").addEventListener("change", () => { Game.state.profile = element("rules").value; if (Setup.isOn()) setUpChanged(); else refresh(); });
-    element("letters").addEventListener("change", () => stored.set("letters", element("letters").checked ? "on" : "off"));
-    wantsDark.addEventListener("change", drawTheme);
     document.addEventListener("keydown", pressed);
-    addEventListener("hashchange", () => { if (location.hash !== written) readAddress(); });
+    addEventListener("hashchange", () => { if (location.hash !== written) readAddress(location.hash); });
     addEventListener("dragover", (event) => { event.preventDefault(); element("drop").classList.add("on"); });
     addEventListener("dragleave", (event) => { if (!event.relatedTarget) element("drop").classList.remove("on"); });
     addEventListener("drop", (event) => { event.preventDefault(); element("drop").classList.remove("on"); openFiles([...event.dataTransfer.files]); });
   }
 
-  // Takes the game of the address, or says why it has none.
-  async function readAddress() {
-    let fault = null;
+  // Takes the game of an address, or says why it has none or which of its moves is none.
+  async function readAddress(hash) {
+    let told = "";
     stopPlaying();
     Setup.end();
+    Practice.stop();
     chosen = null;
-    try { Game.readAddress(location.hash); } catch (it) { fault = it; Game.load(Game.START); }
+    try {
+      const wrong = Game.readAddress(hash);
+      if (wrong) told = text("badMove", wrong.word, wrong.number);
+    } catch (fault) {
+      told = text("badAddress", Texts.wrong(fault));
+      if (hash === location.hash) Game.load(Game.START);
+    }
     await refresh();
-    if (fault) element("text-fault").textContent = text("badAddress", Texts.wrong(fault));
+    if (!told) leaveText();
+    element("text-fault").textContent = told;
   }
 
-  // The proved engine where this page has it and it runs; else the plain one goes on.
+  // The proved engine where this page has it and it answers soon; else the plain one goes on.
   async function chooseEngine() {
     if (!window.DobutsuWasm) return;
+    const silence = new Promise((_, fail) => { setTimeout(() => fail(new Error("it doesn't answer")), PATIENCE); });
     try {
-      Game.useEngine({ ...Core.engine, ...await window.DobutsuWasm.open(Core), isProved: true });
+      Game.useEngine({ ...Core.engine, ...await Promise.race([window.DobutsuWasm.open(Core), silence]), isProved: true });
     } catch (why) {
       console.warn(`The proved engine isn't used: ${why}`);
     }
   }
   async function begun() {
-    Texts.choose(stored.get("language") || (/^ja\b/.test(navigator.language) ? "ja" : "en"));
-    options.inMoves = stored.get("measure") === "moves";
-    element("measure").value = options.inMoves ? "moves" : "plies";
-    element("letters").checked = stored.get("letters") !== "off";
     Board.make(boardCalls);
     Setup.make(setUpChanged);
+    View.makeSteps();
+    Settings.make(showChoices);
     await chooseEngine();
     listen();
     await drawLanguage();
-    await readAddress();
+    await readAddress(location.hash);
     document.documentElement.dataset.ready = "1";
   }
   begun();

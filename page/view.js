@@ -30,17 +30,24 @@ const View = (() => {
 
   // ---- files
 
-  function fileLine(name, words, isWrong) {
+  function fileLine(name, words, isWrong, close) {
     const line = node("p", "", isWrong ? "bad" : "");
     line.append(node("b", name), node("span", ` ${words}`));
+    if (close) line.append(button("✕", "close", text("closeFile", name), close));
     return line;
   }
-  function drawFiles() {
-    const lines = [
-      ...Files.all().map((table) => fileLine(table.name, text(table.isBroken ? "brokenFile" : "fileInfo", table), table.isBroken)),
-      ...Files.refused().map(({ name, fault }) => fileLine(name, Texts.wrong(fault), true)),
-    ];
-    element("files").replaceChildren(...(lines.length ? lines : [node("p", text("noFile"))]));
+  // The open files with a button to close each, more than one as a menu, and those that were refused; `close` is called with a file.
+  function drawFiles(close) {
+    const lineOf = (table) => fileLine(table.name, text(table.isBroken ? "brokenFile" : "fileInfo", table), table.isBroken, () => close(table));
+    const open = Files.all(), lines = open.map(lineOf), refused = Files.refused().map(({ name, fault }) => fileLine(name, Texts.wrong(fault), true));
+    if (lines.length > 1) {
+      const menu = document.createElement("details"), wasOpen = !!element("files").querySelector("details[open]");
+      menu.append(node("summary", text("filesOpen", lines.length)), ...lines);
+      menu.open = wasOpen;
+      if (open.some((table) => table.isBroken)) menu.className = "bad";
+      lines.splice(0, lines.length, menu);
+    }
+    element("files").replaceChildren(...(lines.length + refused.length ? [...lines, ...refused] : [node("p", text("noFile"))]));
   }
   const tellOpening = () => element("files").replaceChildren(node("p", text("opening")));
 
@@ -58,8 +65,33 @@ const View = (() => {
     tellValue(value.kind, Texts.value(value, options.inMoves), follows ? told : `${told} ${text("ends").broken}`);
   }
 
+  // What a move that was played is said to be worth, beside the best one.
+  const judgedWords = ({ text: words, judged }) => {
+    const [value, best] = [judged.value, judged.best].map((it) => Texts.value(it, options.inMoves));
+    return text("judged", words, value, best, value === best);
+  };
+  const lostWords = ({ text: words, judged }) => text("practiceLost", words, ...[judged.value, judged.best].map((it) => Texts.value(it, options.inMoves)));
+  // A mistake gives away a win or a draw.
+  const isMistake = (ply) => !!ply.judged && ply.judged.value.kind !== ply.judged.best.kind;
+  function drawJudged(ply) {
+    const isTold = !!ply && !!ply.judged && !options.isHidden;
+    element("judged").textContent = isTold ? judgedWords(ply) : "";
+    element("judged").className = isTold && isMistake(ply) ? "mistake" : "";
+  }
+
   // ---- the moves
 
+  // A move as it is written; in kana its piece is a picture.
+  function moveNode(words) {
+    const made = node("span", "", "move");
+    if (Texts.language() !== "kana") made.textContent = words;
+    else {
+      made.innerHTML = Pieces.drawing(words[0], true);
+      made.append(words.slice(1));
+      made.classList.add("pictured");
+    }
+    return made;
+  }
   // A move in words, for who hears it.
   function moveWords(position, { letter, from, to }, side) {
     const name = (square) => Core.squareName(side ? 11 - square : square), piece = text("pieces")[letter];
@@ -73,7 +105,7 @@ const View = (() => {
     replace(element("moves"), shown.map(({ move, value }) => {
       const words = Game.moveText(position, move, side), told = value && !options.isHidden ? Texts.value(value, options.inMoves) : "";
       const made = button("", "", [words, moveWords(position, move, side), told].filter(Boolean).join(", "), () => play(move));
-      made.append(node("span", words, "move"));
+      made.append(moveNode(words));
       if (told) made.append(node("span", told, `told ${value.kind}`));
       const squares = [move.from, move.to].filter((square) => square >= 0).map((square) => (side ? 11 - square : square));
       for (const name of ["pointerenter", "focus"]) made.addEventListener(name, () => Board.hint(squares));
@@ -89,25 +121,65 @@ const View = (() => {
   // Numbers each pair of moves; `label` gives what is heard of a move, `click` what it does.
   function numbered(words, label, click) {
     return words.map((word, i) => {
-      const pair = node("span", "", "step");
+      const pair = node("span", "", "step"), made = button("", "move", label(word, i), () => click(i));
       if (i % 2 === 0) pair.append(node("span", `${i + 1}.`, "number"));
-      pair.append(button(word, "move", label(word, i), () => click(i)));
+      made.append(...moveNode(word).childNodes);
+      pair.append(made);
       return pair;
     });
   }
+  const movesIn = (box) => [...box.querySelectorAll(".move")];
+  // A line of moves is one stop of the tab key: arrows go from move to move.
+  function rove(box, current) {
+    movesIn(box).forEach((it, i) => { it.tabIndex = i === current ? 0 : -1; });
+  }
+  function arrowIn(event) {
+    const moves = movesIn(event.currentTarget), place = moves.indexOf(event.target);
+    const by = { ArrowLeft: place - 1, ArrowRight: place + 1, Home: 0, End: moves.length - 1 }[event.key];
+    if (place < 0 || by === undefined) return;
+    event.preventDefault();
+    event.stopPropagation();
+    const next = Math.max(0, Math.min(by, moves.length - 1));
+    rove(event.currentTarget, next);
+    moves[next].focus();
+  }
+  function drawSteps(name, nodes, current) {
+    const box = element(name), place = movesIn(box).indexOf(document.activeElement);
+    replace(box, nodes);
+    rove(box, place >= 0 ? Math.min(place, movesIn(box).length - 1) : current);
+  }
+  function makeSteps() {
+    for (const name of ["line", "record"]) element(name).addEventListener("keydown", arrowIn);
+  }
+
   function drawLine({ steps, end }, side, playUpTo) {
     const words = steps.map(({ position, move }, i) => Game.moveText(position, move, (side + i) % 2));
     const parts = numbered(words, (word, i) => text("playUpTo", word, i + 1), (i) => playUpTo(steps.slice(0, i + 1)));
-    replace(element("line"), [...parts, node("span", text("ends")[end], end === "broken" ? "end bad" : "end")]);
+    drawSteps("line", [...parts, node("span", text("ends")[end], end === "broken" ? "end bad" : "end")], 0);
   }
-  const tellLine = (words) => replace(element("line"), [node("span", words, "end")]);
+  const tellLine = (words) => drawSteps("line", [node("span", words, "end")], 0);
+
+  // A move that was played says what it was worth, where that is known and shown; a mistake is marked.
+  function valueMark(ply) {
+    if (!ply.judged || options.isHidden) return [];
+    const mark = node("span", `${isMistake(ply) ? "?" : ""} ${Texts.tag(ply.judged.value, options.inMoves)}`, `mark ${ply.judged.value.kind}`);
+    return [mark];
+  }
+  function recordLabel(ply, number) {
+    const told = ply.judged && !options.isHidden ? [judgedWords(ply), isMistake(ply) && text("mistake")] : [];
+    return [text("goTo", ply.text, number), ...told].filter(Boolean).join(", ");
+  }
   function drawRecord(plies, cursor, goTo) {
     const first = button(text("beginning"), "move", text("goToStart"), () => goTo(0));
-    const rest = numbered(plies.map((ply) => ply.text), (word, i) => text("goTo", word, i + 1), (i) => goTo(i + 1));
-    const buttons = [first, ...rest.map((step) => step.lastChild)];
+    const rest = numbered(plies.map((ply) => ply.text), (word, i) => recordLabel(plies[i], i + 1), (i) => goTo(i + 1));
+    rest.forEach((step, i) => {
+      step.append(...valueMark(plies[i]));
+      step.classList.toggle("mistake", isMistake(plies[i]) && !options.isHidden);
+    });
+    const buttons = [first, ...rest.map((step) => step.querySelector(".move"))];
     buttons[cursor].setAttribute("aria-current", "step");
-    replace(element("record"), plies.length ? [first, ...rest] : [node("span", text("noneYet"), "end")]);
+    drawSteps("record", plies.length ? [first, ...rest] : [node("span", text("noneYet"), "end")], cursor);
   }
 
-  return { options, drawFiles, tellOpening, tellNone, drawValue, drawMoves, drawLine, tellLine, drawRecord };
+  return { options, makeSteps, drawFiles, tellOpening, tellNone, drawValue, drawJudged, lostWords, drawMoves, drawLine, tellLine, drawRecord };
 })();

@@ -16,7 +16,7 @@ FLAGS = [
     "--disable-ipc-flooding-protection",
 ]
 KEYS = {"Enter": 13, "Escape": 27, "Delete": 46, "ArrowLeft": 37, "ArrowUp": 38, "ArrowRight": 39, "ArrowDown": 40}
-ANSWER_SECONDS, WAIT_SECONDS = 120, 60
+ANSWER_SECONDS, WAIT_SECONDS = 120, float(os.environ.get("DOBUTSU_WAIT", 60))
 
 
 class Browser:

@@ -102,6 +102,15 @@ def keys(checks, screen, program):
     screen.key("u")
     checks.expect("letters can be switched off", len(screen.record()), 2)
     screen.js("document.getElementById('letters').click()")
+    screen.js("document.activeElement.blur()")
+    screen.key("ArrowLeft")
+    checks.expect("the left arrow goes back", screen.current(), "start")
+    screen.key("ArrowRight")
+    checks.expect("the right arrow goes forward", screen.current(), "Lb1-a2")
+    screen.press("edit")
+    screen.key("x")
+    checks.expect("x draws no exercise while a position is set up", [screen.text("task"), screen.js("Setup.isOn()")], ["", True])
+    screen.press("edit")
     screen.focus(square("b1"))
     screen.key("Enter", "Escape")
     checks.expect("Escape lets go", screen.js("document.querySelectorAll('.square.chosen').length"), 0)
@@ -157,15 +166,29 @@ def setting(checks, screen, program):
     screen.focus(hand("C"))
     screen.key("1")
     checks.expect("a hand by a digit", screen.position(), ".l./.../.../.L. C -")
+    for number, shown in ((2, "2"), (0, ""), (1, "")):
+        screen.browser.click(hand("C"))
+        screen.settle()
+        checks.expect(f"a click on a hand gives {number}", [screen.js(f"Setup.board().hands[0][0]"), screen.js(f"document.querySelector(\"{hand('C')} .number\").textContent")],
+                      [number, shown])
+    screen.press("undo")
+    checks.expect("nothing is undone while a position is set up", screen.position(), ".l./.../.../.L. C -")
+    screen.browser.click(tool("L"))
+    screen.browser.click(square("c1"))
+    screen.settle()
+    checks.expect("a lion is moved, not doubled", screen.position(), ".l./.../.../..L C -")
+    screen.browser.click(square("b1"))
+    screen.settle()
     screen.press("move-1")
     checks.expect("the other side to move", [screen.position(), screen.js("location.hash[1]")], [".l./.../.../.L. - c", "~"])
+    screen.focus(hand("C"))
     screen.key("0")
     screen.focus(square("b1"))
     screen.key("Delete")
     checks.expect("a missing lion is told", "E4" in screen.text("editor-fault"))
     checks.expect("and it can't be done", screen.js("document.getElementById('edit').disabled"))
     screen.press("language")
-    checks.expect("in the other language too", screen.text("editor-fault"), screen.js("Texts.languages.ja.faults.E4") + "(E4)")
+    checks.expect("in the other language too", screen.text("editor-fault"), "ライオンは両者に1枚ずつ必要です。(E4)")
     screen.press("language")
     screen.key("L")
     checks.expect("a lion that is back is no fault", screen.text("editor-fault"), "")
@@ -252,7 +275,7 @@ def steps(checks, screen, program):
     for number in range(len(line)):
         screen.press("next")
         checks.expect(f"{number + 1} plies of the line", screen.record()[1:], line[: number + 1])
-    checks.expect("no next move behind it", screen.js("document.getElementById('next').disabled"))
+    checks.expect("no next move behind it", screen.is_enabled("next"), False)
     screen.enter("..l/.../L../... - -")
     screen.give(program.build("000", "A"))
     screen.press("play")
@@ -264,8 +287,6 @@ def steps(checks, screen, program):
     checks.expect("a line that is played up to a move", screen.record(), ["start", "La2-a3", "lc4-b4"])
 
 
-def topic(checks, screen, program):
-    screen.english()
-    for name, run in [("mouse", mouse), ("drops", drops), ("keys", keys), ("fingers", fingers), ("setting up", setting), ("hidden values", hidden),
-                      ("exercises", exercises), ("steps", steps)]:
-        checks.topic(f"handling, {name}", lambda: run(checks, screen, program))
+PARTS = {
+    "mouse": mouse, "drops": drops, "keys": keys, "fingers": fingers, "setting": setting, "hidden": hidden, "exercises": exercises, "steps": steps,
+}

@@ -1,7 +1,5 @@
 """Both languages, widths, sizes, contrasts, what is heard, what is printed; and that nothing leaves the page."""
-import base64
 import json
-import re
 
 PLAIN = ".l./.../.C./.L. - -"
 WIDTHS = (320, 360, 480, 768, 1024, 1280, 1600)
@@ -11,7 +9,7 @@ def languages(checks, screen, program):
     screen.give(program.build("100", "A"))
     screen.enter(PLAIN)
     shapes = screen.seen("shapes")
-    checks.expect("both languages have the same texts", shapes[0], shapes[1])
+    checks.expect("all languages have the same texts", shapes[1:], [shapes[0]] * 2)
     for language, value, heading in [("en", "win 5", "Dobutsu shogi"), ("ja", "勝ち 5手", "どうぶつしょうぎ")]:
         screen.language(language)
         checks.expect(f"the value in {language}", screen.value(), value)
@@ -19,7 +17,7 @@ def languages(checks, screen, program):
         missing = screen.seen("missing")
         checks.expect(f"texts that are missing in {language}", missing, [])
         screen.choose("measure", "moves")
-        checks.expect(f"the value in moves in {language}", screen.value(), {"en": "wins in 3 moves", "ja": "3回で勝ち"}[language])
+        checks.expect(f"the value in moves in {language}", screen.value(), {"en": "wins in 3 moves", "ja": "3手で勝ち"}[language])
         screen.choose("measure", "plies")
     ours = screen.js("['Lion', 'Undo', 'Redo', 'Moves', 'Value', 'Forest', 'Sky', 'win ', 'plies'].filter(it => document.body.innerText.includes(it))")
     checks.expect("English words left in Japanese", ours, [])
@@ -60,8 +58,7 @@ def contrasts(checks, screen, program):
     broken.write_bytes(path.read_bytes()[:-1])
     screen.give(path, broken)
     for theme in ("light", "dark"):
-        while screen.js("document.documentElement.dataset.theme") != theme or screen.js("document.getElementById('theme').textContent") == "◐":
-            screen.press("theme")
+        screen.theme(theme)
         checks.expect(f"marks that are too pale, {theme}", screen.seen("paleMarks"), [])
         for text in (PLAIN, ".l./.../LC./... - -", "..l/.../L../... - C", "nothing"):
             screen.enter(text)
@@ -106,8 +103,7 @@ def printed(checks, screen, program):
         checks.expect(f"what is printed, values {'hidden' if hide else 'shown'}", screen.seen("visible", *parts), wanted)
         checks.expect("the position's text is printed", screen.js("document.getElementById('caption').innerText"), f"Forest to move: {PLAIN}")
         screen.browser.call("Emulation.setEmulatedMedia", media="")
-        paper = base64.b64decode(screen.browser.call("Page.printToPDF", paperWidth=8.27, paperHeight=11.69)["data"])
-        checks.expect("it is one page of paper", len(re.findall(rb"/Type\s*/Page\b", paper)), 1)
+        checks.expect("it is one page of paper", screen.pages(), 1)
     screen.press("hide")
     screen.js("window.print = () => { window.wasPrinted = true; }")
     screen.press("print")
@@ -134,8 +130,4 @@ def private(checks, screen, program):
         checks.expect(f"{what} is refused by the page's policy", screen.seen("refused", what), rule)
 
 
-def topic(checks, screen, program):
-    screen.english()
-    parts = [("languages", languages), ("widths", widths), ("contrasts", contrasts), ("what is heard", heard), ("paper", printed), ("privacy", private)]
-    for name, run in parts:
-        checks.topic(f"looks, {name}", lambda: run(checks, screen, program))
+PARTS = {"languages": languages, "widths": widths, "contrasts": contrasts, "heard": heard, "paper": printed, "privacy": private}

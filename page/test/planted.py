@@ -1,7 +1,7 @@
 #!/usr/bin/env python3
 """Plants wrong code in the page's plain engine, one piece a page, and sees that the tests count failures: page/test/planted.py PROGRAM
 
-Each planted page has to be told apart by `page_test.py short`, by counts alone: a test that breaks off with a traceback doesn't count. Prints a line for
+Each planted page has to be told apart by `page_test.py told/short`, by counts alone: a test that breaks off with a traceback doesn't count. Prints a line for
 each page that passed, and last `N passed, M failed`.
 """
 import pathlib
@@ -24,7 +24,7 @@ PLANTS = {
 
 def counts(program, page):
     """How many checks failed of a page, or None where the run broke off."""
-    ran = subprocess.run([sys.executable, HERE / "page_test.py", page, program, "short"], capture_output=True, text=True)
+    ran = subprocess.run([sys.executable, HERE / "page_test.py", page, program, "told/short"], capture_output=True, text=True)
     told = re.search(r"^(\d+) passed, (\d+) failed$", ran.stdout, re.MULTILINE)
     return int(told[2]) if told and "Traceback" not in ran.stdout + ran.stderr else None
 

@@ -1,4 +1,5 @@
 """What the program `dobutsu` tells, from which the expected values come, and the small files that it builds."""
+import hashlib
 import pathlib
 import random
 import subprocess
@@ -10,17 +11,25 @@ import read_db
 
 
 class Program:
-    def __init__(self, name, folder):
-        self.name, self.folder = name, pathlib.Path(folder)
+    """The program of that name; `files` keeps what it builds, `folder` has what tests spoil."""
+
+    def __init__(self, name, files, folder):
+        self.name, self.files, self.folder = name, pathlib.Path(files), pathlib.Path(folder)
 
     def run(self, *words, given=None):
         return subprocess.run([self.name, *map(str, words)], input=given, capture_output=True, text=True).stdout
 
     def build(self, pieces, rules):
         """A file of that set by those rules."""
-        path = self.folder / f"{pieces}{rules}.db"
+        path = self.files / f"{pieces}{rules}.db"
         if not path.exists():
             self.run("build", "--set", pieces, "--rules", rules, "--nodes", 2, "--out", path)
+        return path
+
+    def spoilt(self, name, whole):
+        """A file of that name with those bytes and their right digest."""
+        body, path = bytes(whole[:-32]), self.folder / name
+        path.write_bytes(body + hashlib.sha256(body).digest())
         return path
 
     def values(self, path, positions):

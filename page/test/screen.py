@@ -1,6 +1,8 @@
 """The page as its reader sees it: positions entered, values, moves and lines read, clicks, drags, taps and keys."""
+import base64
 import json
 import pathlib
+import re
 
 SEEN = (pathlib.Path(__file__).parent / "seen.js").read_text()
 SETTLED = "document.documentElement.dataset.busy === ''"
@@ -16,6 +18,15 @@ class Screen:
         self.js(SEEN)
         self.settle()
 
+    def afresh(self):
+        """The page as at a first visit, in English, in a window of its usual size."""
+        self.browser.call("Emulation.setEmulatedMedia", media="")
+        self.browser.size(1180, 1000)
+        self.open()
+        self.js("localStorage.clear()")
+        self.open()
+        self.language("en")
+
     def seen(self, name, *about):
         """What a function of seen.js tells."""
         return self.js(f"Seen.{name}({', '.join(map(json.dumps, about))})")
@@ -23,12 +34,17 @@ class Screen:
     def settle(self, more="true"):
         self.browser.wait(f"{SETTLED} && !!({more})")
 
-    def english(self):
-        self.language("en")
-
     def language(self, name):
-        if self.js("document.documentElement.lang") != name:
+        """English, Japanese, or Japanese in kana, by the page's buttons."""
+        of = lambda: self.js("document.documentElement.dataset.language")
+        if (of() == "en") != (name == "en"):
             self.press("language")
+        if of() != name:
+            self.press("kana")
+
+    def theme(self, name):
+        while self.js("document.documentElement.dataset.theme") != name or self.text("theme") == "◐":
+            self.press("theme")
 
     def press(self, button):
         self.js(f"document.getElementById({json.dumps(button)}).click()")
@@ -42,7 +58,16 @@ class Screen:
         """Gives files, and waits until each of them is told as open or refused."""
         self.js("document.getElementById('files').textContent = ''")
         self.browser.give_files("#file", *files)
+        self.settle_files()
+
+    def is_enabled(self, button):
+        return self.js(f"(it => !it.disabled && it.getAttribute('aria-disabled') !== 'true')(document.getElementById({json.dumps(button)}))")
+
+    def settle_files(self):
         self.settle("document.querySelector('#files b') && document.querySelector('#exercise-card[aria-busy=false]')")
+
+    def base64(self, path):
+        return base64.b64encode(path.read_bytes()).decode()
 
     def enter(self, text):
         self.seen("enter", text)
@@ -69,11 +94,27 @@ class Screen:
     def end(self):
         return self.js("(document.querySelector('#line .end') || {textContent: ''}).textContent")
 
+    def score(self):
+        return self.text("score")
+
     def record(self):
         return self.js("[...document.querySelectorAll('#record .move')].map(it => it.textContent)")
 
+    def marks(self):
+        """What is said of the worth of each move that was played."""
+        return self.js("[...document.querySelectorAll('#record .step')].map(it => (it.querySelector('.mark') || {textContent: ''}).textContent.trim())")
+
+    def pages(self):
+        """How many sheets of A4 the page is on paper."""
+        paper = base64.b64decode(self.browser.call("Page.printToPDF", paperWidth=8.27, paperHeight=11.69)["data"])
+        return len(re.findall(rb"/Type\s*/Page\b", paper))
+
+    def current(self):
+        return self.js("document.querySelector('#record [aria-current]').textContent")
+
     def files(self):
-        return self.js("[...document.querySelectorAll('#files p')].map(it => [it.innerText.trim(), it.classList.contains('bad')])")
+        """Each line of the files: its name and what is said of it, and whether it is a bad one."""
+        return self.js("[...document.querySelectorAll('#files p')].map(it => [[...it.querySelectorAll('b, span')].map(part => part.textContent).join(''), it.classList.contains('bad')])")
 
     def label(self, selector):
         return self.js(f"document.querySelector({json.dumps(selector)}).getAttribute('aria-label')")
@@ -107,6 +148,12 @@ class Screen:
                 finger("touchMove", (at[0] + part * (to[0] - at[0]), at[1] + part * (to[1] - at[1])))
         finger("touchEnd")
         self.settle()
+
+    def in_both(self, checks, what, read, english, japanese):
+        """What is read on the page in English and in Japanese, against two texts that stand in the test."""
+        for language, wanted in [("ja", japanese), ("en", english)]:
+            self.language(language)
+            checks.expect(f"{what}, {language}", read(), wanted)
 
     def focus(self, selector):
         self.js(f"document.querySelector({json.dumps(selector)}).focus()")

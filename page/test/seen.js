@@ -37,12 +37,51 @@ globalThis.Seen = (() => {
     return steps.map((step) => DobutsuCore.classNumber("A", step.position));
   }
 
+  const classNumber = (profile, text) => DobutsuCore.classNumber(profile, DobutsuCore.readPosition(text));
+  // The texts of the positions that the moves of a position lead to.
+  function outcomes(text) {
+    const position = DobutsuCore.readPosition(text);
+    return Game.engine().moves("A", position).moves.map((move) => DobutsuCore.writePosition(DobutsuCore.apply(position, move)));
+  }
+
+  // ---- the board
+
+  const nameOf = (it) => DobutsuCore.squareName(+it.dataset.square);
+  const squares = (marked) => all(`.square${marked}`).map(nameOf).sort();
+  const pieces = () => all(".square:has(.piece)").map((it) => {
+    const art = it.querySelector(".piece"), letter = art.querySelector(".letter").textContent;
+    return [nameOf(it), letter, art.classList[1], ...(art.querySelector("g").getAttribute("transform") ? ["turned"] : [])].join(" ");
+  });
+  // The squares from which and to which the arrow goes, or that of a ring.
+  function arrow() {
+    const path = document.querySelector(".arrow path"), ring = document.querySelector(".arrow circle");
+    const name = ([x, y]) => nameOf(all(".square")[Math.floor(x) + 3 * Math.floor(y)]);
+    if (ring) return [name([+ring.getAttribute("cx"), +ring.getAttribute("cy")])];
+    const points = path ? path.getAttribute("d").match(/[\d.]+ [\d.]+/g).map((it) => it.split(" ").map(Number)) : [];
+    return path ? [name(points[0]), name(points[3])] : [];
+  }
+  const texts = (selector) => all(selector).map((it) => it.textContent);
+
+  // ---- files and the clipboard
+
+  // Drops a file of that name with those bytes on the page.
+  function dropFile(name, base64) {
+    const dataTransfer = new DataTransfer(), bytes = Uint8Array.from(atob(base64), (c) => c.charCodeAt(0));
+    dataTransfer.items.add(new File([bytes], name));
+    element("files").textContent = "";
+    dispatchEvent(new DragEvent("drop", { dataTransfer, bubbles: true, cancelable: true }));
+  }
+  // Keeps what is copied from now on in `window.copied`.
+  function catchCopies() {
+    Object.defineProperty(navigator, "clipboard", { value: { writeText: async (words) => { window.copied = words; } }, configurable: true });
+  }
+
   // ---- texts
 
   function shape(it) {
     return typeof it === "object" ? Object.fromEntries(Object.entries(it).map(([name, part]) => [name, shape(part)])) : typeof it;
   }
-  const shapes = () => [shape(Texts.languages.en), shape(Texts.languages.ja)];
+  const shapes = () => ["en", "ja", "kana"].map((name) => shape(Texts.languages[name]));
   const missing = () => all("[data-text], [data-label]").filter((it) => {
     const words = (it.dataset.text ? it.textContent : "") + it.getAttribute("aria-label");
     return /undefined|object/.test(words) || (it.dataset.text && !it.textContent);
@@ -53,7 +92,7 @@ globalThis.Seen = (() => {
 
   // ---- sizes
 
-  const cut = () => shown("button, .open, h1, h2, label").filter((it) => it.scrollWidth > it.clientWidth + 1 && getComputedStyle(it).display !== "inline")
+  const cut = () => shown("button, .open, h1, h2, label").filter((it) => it.scrollWidth > it.clientWidth + 1 && getComputedStyle(it).display !== "inline" && it.clientWidth > 1)
     .map((it) => it.outerHTML.slice(0, 90));
   const onTwoLines = () => shown(".told, .move, .tag").filter((it) => !it.closest(".steps") && it.getBoundingClientRect().height > 34)
     .map((it) => it.textContent);
@@ -63,6 +102,28 @@ globalThis.Seen = (() => {
       const { width, height } = it.getBoundingClientRect(), wanted = it.type === "checkbox" ? 24 : it.closest(".steps") ? steps : least;
       return height + 0.5 < wanted || width + 0.5 < 24;
     }).map((it) => it.id || it.className || it.textContent);
+  }
+
+  // The buttons whose text is nearer than so many pixels to their left or right border.
+  const crowded = (selector, least) => shown(selector).filter((it) => {
+    const words = document.createTreeWalker(it, NodeFilter.SHOW_TEXT), outer = it.getBoundingClientRect(), range = document.createRange();
+    for (let node = words.nextNode(); node; node = words.nextNode()) {
+      range.selectNodeContents(node);
+      const { left, right, width } = range.getBoundingClientRect(), isSeen = node.parentElement.getBoundingClientRect().width > 1;
+      if (isSeen && width > 24 && Math.min(left - outer.left, outer.right - right) < least) return true;
+    }
+    return false;
+  }).map((it) => it.id || it.textContent);
+  function box(selector) {
+    const { left, top, right, bottom } = document.querySelector(selector).getBoundingClientRect();
+    return { left, top, right, bottom };
+  }
+  // Fills the lists of moves and of the line with copies, up to so many.
+  function fillLists(moves, plies) {
+    for (const [list, number] of [["moves", moves], ["line", plies]]) {
+      const items = [...element(list).children], end = list === "line" ? items.pop() : null;
+      while (element(list).children.length - (end ? 1 : 0) < number) element(list).insertBefore(items[element(list).children.length % 2].cloneNode(true), end);
+    }
   }
 
   // ---- contrasts, by WCAG
@@ -97,6 +158,7 @@ globalThis.Seen = (() => {
       if (between(mark, it) < 3) found.push(`${mark} on ${it}`);
     }
     for (const side of ["forest", "sky"]) {
+      if (between(`--${side}-dot`, `--${side}-tile`) < 3) found.push(`dots of ${side}`);
       if (Math.max(between(`--${side}`, `--${side}-land`), between(`--${side}-tile`, `--${side}-land`)) < 3) found.push(side);
     }
     return found;
@@ -130,6 +192,7 @@ globalThis.Seen = (() => {
 
   return {
     enter, choose, middle, tags, hasValues, lineNumbers, shapes, missing, misnamed, cut, onTwoLines, tooSmall, tooPale, paleMarks, visible,
+    classNumber, outcomes, arrow, crowded, box, fillLists, squares, pieces, texts, dropFile, catchCopies,
     refused: (name) => refusal(attempts[name]),
   };
 })();

@@ -23,7 +23,12 @@ def of_a_file(checks, screen, program, pieces, rules, number):
         checks.expect(f"line of {about}", screen.line() or {"draw": "draw"}.get(value, "end"), line)
 
 
-def topic(checks, screen, program, is_short):
-    screen.english()
-    for pieces, rules in [("100", "A"), ("100", "B"), ("101", "A"), ("101", "B"), ("011", "A")]:
-        of_a_file(checks, screen, program, pieces, rules, 10 if is_short else 40)
+def values(number):
+    """As many positions of each of some sets by both rules."""
+    def run(checks, screen, program):
+        for pieces, rules in [("100", "A"), ("100", "B"), ("101", "A"), ("101", "B"), ("011", "A")]:
+            of_a_file(checks, screen, program, pieces, rules, number)
+    return run
+
+
+PARTS = {"values": values(40), "short": values(10)}

@@ -1,0 +1,256 @@
+// Certificates: a small file that shows who wins one position, with no table. Its lists say of classes within how many plies they are lost (`lost`), or for
+// how many they aren't (`held`), and each entry is shown by the others: docs/FORMAT.md, "The certificate". A file is read and looked up here; it is checked
+// by the proved call where the engine has one, else here.
+const Certificates = (() => {
+  "use strict";
+  const Core = DobutsuCore;
+  const TITLE = "DOBUCERT", HEAD = 28, DIGEST = 32, EVER = 65535, NEVER = 255; // NEVER is the byte of EVER
+  const CLAIMS = ["draw", "win", "loss", "winWithin", "lossWithin"];
+  const SLICE = 40; // milliseconds of checking, then the page is drawn
+
+  // ---- reading
+
+  const isOne = (bytes) => String.fromCharCode(...bytes.slice(0, 8)) === TITLE;
+
+  // A list of entries: classes, which ascend, with their plies.
+  class Entries {
+    constructor(count) { Object.assign(this, { classes: new Uint32Array(count), plies: new Uint16Array(count) }); }
+    // The plies of that class, or null where it isn't listed.
+    find(number) {
+      let low = 0, high = this.classes.length;
+      while (low < high) {
+        const middle = (low + high) >> 1;
+        if (this.classes[middle] < number) low = middle + 1;
+        else high = middle;
+      }
+      return this.classes[low] === number ? this.plies[low] : null;
+    }
+  }
+
+  // The number at a place, which says how far a class is from the last one, in groups of seven bits, and the place behind it.
+  function numberAt(bytes, place) {
+    let number = 0;
+    for (let digit = 0; digit < 5; digit++) {
+      if (place >= bytes.length) throw new Core.Fault("E15 Truncated");
+      const byte = bytes[place++];
+      number += (byte % 128) * 128 ** digit;
+      if (byte >= 128) continue;
+      if (byte === 0 && digit) break;
+      return { number, place };
+    }
+    throw new Core.Fault("E36 EntryNumber");
+  }
+  function entriesAt(bytes, place, count, classes) {
+    if (count > bytes.length) throw new Core.Fault("E15 Truncated"); // an entry takes two bytes and more
+    const entries = new Entries(count);
+    let last = -1;
+    for (let i = 0; i < count; i++) {
+      const found = numberAt(bytes, place), number = last + found.number;
+      ({ place } = found);
+      if (number <= last) throw new Core.Fault("E37 EntryOrder");
+      if (number >= classes) throw new Core.Fault("E38 EntryClass");
+      if (place >= bytes.length) throw new Core.Fault("E15 Truncated");
+      entries.classes[i] = last = number;
+      entries.plies[i] = bytes[place] === NEVER ? EVER : bytes[place];
+      place++;
+    }
+    return { entries, place };
+  }
+
+  // The head: set, profile, root's class, claim and the lists' lengths; faults in the order of docs/FORMAT.md.
+  function headOf(bytes) {
+    if (bytes.length < HEAD) throw new Core.Fault("E15 Truncated");
+    if (!isOne(bytes)) throw new Core.Fault("E16 Magic");
+    if (bytes[8] !== 1) throw new Core.Fault("E32 Version");
+    const pieces = [...bytes.slice(9, 12)], view = new DataView(bytes.buffer, bytes.byteOffset, HEAD);
+    if (Math.max(...pieces) > 2 || bytes[12] !== 2) throw new Core.Fault("E17 SetByte");
+    if (bytes[13] > 1) throw new Core.Fault("E27 ProfileByte");
+    const profile = "AB"[bytes[13]], classes = Core.countClasses(profile, pieces), root = view.getUint32(14, true);
+    if (root >= classes) throw new Core.Fault("E33 RootClass");
+    const kind = bytes[18], plies = bytes[19];
+    if (kind >= CLAIMS.length || plies === NEVER || (kind === 0 && plies)) throw new Core.Fault("E34 ClaimByte");
+    const lost = view.getUint32(20, true), held = view.getUint32(24, true);
+    if (lost > classes || held > classes) throw new Core.Fault("E35 EntryCount");
+    return { pieces, profile, classes, root, claim: CLAIMS[kind], plies, lost, held };
+  }
+  // What a file says: its head with both lists of entries. Its digest is tested where the browser can.
+  async function read(bytes) {
+    const head = headOf(bytes);
+    const lost = entriesAt(bytes, HEAD, head.lost, head.classes), held = entriesAt(bytes, lost.place, head.held, head.classes), end = held.place;
+    if (bytes.length < end + DIGEST) throw new Core.Fault("E15 Truncated");
+    if (bytes.length > end + DIGEST) throw new Core.Fault("E19 Trailing");
+    if (globalThis.crypto?.subtle) {
+      const digest = new Uint8Array(await crypto.subtle.digest("SHA-256", bytes.subarray(0, end)));
+      if (digest.some((byte, i) => byte !== bytes[end + i])) throw new Core.Fault("E20 Digest");
+    }
+    return { ...head, lost: lost.entries, held: held.entries };
+  }
+
+  // ---- checking, in plain JavaScript: each entry by the others, then the claim
+
+  class Checker {
+    constructor({ profile, pieces, lost, held }) {
+      Object.assign(this, { profile, pieces, lost, held });
+      this.plies = { lost: new Map(), held: new Map() }; // by position, that of a mirror image too
+    }
+    key({ squares, mover, enemy }) { return squares + mover.join("") + enemy.join(""); }
+    at(number) { return Core.positionAt(this.profile, this.pieces, number); }
+    asked(position) { return Core.statusAndMoves(this.profile, position); }
+    status(position) { return this.asked(position).status; }
+
+    hasLost(position) { return ["tried", "stuck"].includes(this.status(position)); }
+    isSaidLost(position, plies) {
+      const listed = this.plies.lost.get(this.key(position));
+      return (listed !== undefined && listed <= plies) || this.hasLost(position);
+    }
+    isAnswered(position, plies) {
+      const { status, moves } = this.asked(position);
+      return status === "caught" || (status === "open" && moves.some((move) => this.isSaidLost(Core.apply(position, move), plies)));
+    }
+    isLostShown(position, plies) {
+      const { status, moves } = this.asked(position);
+      if (status !== "open") return status !== "caught";
+      return plies >= 2 && moves.every((move) => this.isAnswered(Core.apply(position, move), plies - 2));
+    }
+
+    isSaidHeld(position, plies) {
+      const status = this.status(position);
+      return status === "caught" || (status === "open" && (plies <= 1 || (this.plies.held.get(this.key(position)) ?? -1) >= plies));
+    }
+    isSafe(position, plies) {
+      const { status, moves } = this.asked(position);
+      return status !== "caught" && moves.every((move) => this.isSaidHeld(Core.apply(position, move), plies));
+    }
+    isHeldShown(position, plies) {
+      const { status, moves } = this.asked(position), least = plies === EVER ? EVER : plies - 2;
+      return status === "caught" || (status === "open" && (plies < 2 || moves.some((move) => this.isSafe(Core.apply(position, move), least))));
+    }
+
+    isClaimShown({ root, claim, plies }) {
+      const position = this.at(root);
+      const isLost = () => this.isSaidLost(position, plies), isWon = () => plies > 0 && this.isAnswered(position, plies - 1);
+      return {
+        lossWithin: isLost, winWithin: isWon,
+        loss: () => isLost() && (plies === 0 || this.isSaidHeld(position, plies - 1)),
+        win: () => isWon() && (plies === 1 || this.isSafe(position, plies - 2)),
+        draw: () => this.isSaidHeld(position, EVER) && this.isSafe(position, EVER),
+      }[claim]();
+    }
+  }
+
+  // Does something with each entry of a list, in slices between which the page is drawn; `tell` is called with how many were done.
+  async function each(entries, act, tell) {
+    let since = performance.now();
+    for (let i = 0; i < entries.classes.length; i++) {
+      act(entries.classes[i], entries.plies[i]);
+      if (performance.now() - since < SLICE) continue;
+      tell(i);
+      await new Promise((done) => setTimeout(done, 0));
+      since = performance.now();
+    }
+  }
+  // Throws the first entry that isn't shown, E30, or E31 where the lists don't show the claim. `tell` is called with the part that is done.
+  async function check(certificate, tell) {
+    const checker = new Checker(certificate), { lost, held } = certificate, all = 2 * (lost.classes.length + held.classes.length);
+    let before = 0;
+    const part = (i) => tell((before + i) / all);
+    for (const [list, entries] of Object.entries({ lost, held })) {
+      await each(entries, (number, plies) => {
+        const position = checker.at(number);
+        for (const it of [position, Core.mirrored(position)]) checker.plies[list].set(checker.key(it), plies);
+      }, part);
+      before += entries.classes.length;
+    }
+    for (const [entries, isShown] of [[lost, "isLostShown"], [held, "isHeldShown"]]) {
+      await each(entries, (number, plies) => { if (!checker[isShown](checker.at(number), plies)) throw new Core.Fault(`E30 Unsupported class ${number}`); }, part);
+      before += entries.classes.length;
+    }
+    if (!checker.isClaimShown(certificate)) throw new Core.Fault("E31 Claim");
+  }
+
+  // ---- what it says of a position
+
+  const within = (kind, plies) => ({ kind, plies, isWithin: plies > 1 });
+
+  // A move with which the side to move wins within the fewest plies by the list, of equal ones the first: { move, plies }, or null.
+  function replyTo({ certificate, engine }, position) {
+    const { profile } = certificate, { status, moves } = engine.moves(profile, position);
+    if (status === "caught") return { move: moves[0], plies: 1 };
+    let best = null;
+    for (const move of status === "open" ? moves : []) {
+      const plies = pliesAfter(certificate, engine, position, move);
+      if (plies !== null && (!best || plies + 1 < best.plies)) best = { move, plies: plies + 1 };
+    }
+    return best;
+  }
+  // Within how many plies the other side has lost after a move, or null where the list doesn't say.
+  function pliesAfter({ profile, lost }, engine, position, move) {
+    const after = engine.apply(profile, position, move), { status } = engine.moves(profile, after);
+    if (status === "tried" || status === "stuck") return 0;
+    const plies = status === "open" ? lost.find(engine.classAfter(profile, position, move)) : null;
+    return plies === EVER ? null : plies;
+  }
+  const isRoot = ({ profile, root, set }, engine, position) => Core.setOf(position).join("") === set && engine.classOf(profile, position) === root;
+
+  function ofLost(certificate, engine, position, moves, plies) {
+    const { profile } = certificate;
+    const answered = moves.map((move, order) => {
+      const after = engine.apply(profile, position, move), reply = replyTo({ certificate, engine }, after);
+      return { move, order, value: within("loss", reply ? reply.plies + 1 : plies), reply: reply && { move: reply.move, position: after, plies: reply.plies } };
+    });
+    answered.sort((a, b) => b.value.plies - a.value.plies || a.order - b.order);
+    return { value: within("loss", plies), moves: answered };
+  }
+  function ofOthers(certificate, engine, position, moves) {
+    const valued = moves.map((move, order) => {
+      const plies = pliesAfter(certificate, engine, position, move);
+      return { move, order, value: plies === null ? null : within("win", plies + 1) };
+    });
+    const plies = ({ value }) => (value ? value.plies : EVER);
+    valued.sort((a, b) => plies(a) - plies(b) || a.order - b.order);
+    return { value: valued.length && valued[0].value ? valued[0].value : { kind: "unknown", plies: 0 }, moves: valued };
+  }
+  // { status, value, moves, follows } as of a table. A value may be a bound (`isWithin`), of kind `unknown` outside; a move that loses has its reply.
+  function lookUp(certificate, engine, position) {
+    const { profile, claim, plies } = certificate, { status, moves } = engine.moves(profile, position), follows = true;
+    const said = (value) => ({ status, value, moves: moves.map((move, order) => ({ move, order, value })), follows });
+    if (status === "caught") return said({ kind: "win", plies: 1 });
+    if (status !== "open") return said({ kind: "loss", plies: 0 });
+    const listed = certificate.lost.find(engine.classOf(profile, position));
+    const found = listed !== null && listed !== EVER ? ofLost(certificate, engine, position, moves, listed) : ofOthers(certificate, engine, position, moves);
+    if (["win", "loss", "draw"].includes(claim) && isRoot(certificate, engine, position)) found.value = { kind: claim, plies };
+    return { status, ...found, follows };
+  }
+  // The line of its replies: the winner's by the list, against the moves that hold out longest by it.
+  function line(certificate, engine, position) {
+    const steps = [];
+    for (;;) {
+      const { status, value, moves } = lookUp(certificate, engine, position);
+      if (status === "tried" || status === "stuck") return { steps, end: status };
+      if (value.kind === "unknown" || value.kind === "draw") return { steps, end: "outside" };
+      steps.push({ position, move: moves[0].move });
+      if (status === "caught") return { steps, end: "caught" };
+      position = engine.apply(certificate.profile, position, moves[0].move);
+    }
+  }
+
+  // ---- an open one
+
+  class Open {
+    constructor(name, certificate, isProved) {
+      const { pieces, profile } = certificate, set = pieces.join("");
+      Object.assign(this, certificate, { name, set, key: `${set}${profile}.cert`, isCertificate: true, isProved, isTested: true, isBroken: false });
+    }
+    position() { return Core.positionAt(this.profile, this.pieces, this.root); }
+  }
+  // Reads and checks a file's bytes: by the engine's proved call, or in plain JavaScript with `tell` for the part that is done.
+  async function open(name, bytes, engine, tell) {
+    const certificate = await read(bytes);
+    if (engine.verify) engine.verify(bytes);
+    else await check(certificate, tell);
+    return new Open(name, certificate, !!engine.verify);
+  }
+
+  return { isOne, read, check, open, lookUp, line };
+})();
+if (typeof module === "object") module.exports = Certificates;

@@ -1,0 +1,103 @@
+"""Where things stand at five sizes, in three languages and both themes: nothing is cut, the palette and the value are in view, a sheet is one sheet."""
+PLAIN = ".l./.../.C./.L. - -"
+SIZES = ((1366, 768), (1280, 720), (1024, 768), (768, 1024), (360, 740))
+LANGUAGES = ("en", "ja", "kana")
+
+
+def at(screen, size):
+    screen.browser.size(*size, 1, size[0] < 500)
+    screen.js("scrollTo(0, 0)")
+    screen.settle()
+
+
+def sizes(checks, screen, program):
+    """Nothing is wider than the window, cut or too small, in any language and theme, values shown and setting up."""
+    screen.give(program.build("100", "A"))
+    screen.enter(PLAIN)
+    screen.play("Cb2-b3")
+    for theme in ("light", "dark"):
+        screen.theme(theme)
+        for language in LANGUAGES:
+            screen.language(language)
+            for size in SIZES:
+                at(screen, size)
+                about = f"{size[0]} by {size[1]}, {language}, {theme}"
+                least = (44, 36) if size[0] < 500 else (28, 28)
+                checks.expect(f"{about}: width", screen.js("document.documentElement.scrollWidth"), size[0])
+                checks.expect(f"{about}: texts that are cut", screen.seen("cut"), [])
+                checks.expect(f"{about}: what is too small", screen.seen("tooSmall", *least), [])
+                checks.expect(f"{about}: texts near a border", screen.seen("crowded", ".controls button, .row button, header > button", 8), [])
+            checks.expect(f"{language}, {theme}: texts that are too pale", screen.seen("tooPale"), [])
+
+
+def palette(checks, screen, program):
+    """*Set up* shows its palette: beside the board where there is room, else by scrolling to it."""
+    screen.give(program.build("100", "A"))
+    for language in LANGUAGES:
+        screen.language(language)
+        for size in SIZES:
+            at(screen, size)
+            screen.press("edit")
+            found = screen.seen("box", "#palette")
+            board = screen.seen("box", "#board")
+            in_view = found["top"] >= 0 and found["bottom"] <= size[1]
+            checks.expect(f"the palette is in view, {size}, {language}", in_view)
+            if size[0] >= 760:
+                checks.expect(f"it is beside the board, {size}, {language}", found["left"] > board["right"] and found["top"] < board["bottom"])
+            screen.press("edit")
+
+
+def fold(checks, screen, program):
+    """The value, and on wide screens the board's buttons too, are above the fold."""
+    screen.give(program.build("100", "A"))
+    screen.enter(PLAIN)
+    for language in LANGUAGES:
+        screen.language(language)
+        for size in SIZES:
+            at(screen, size)
+            checks.expect(f"the value is in view, {size}, {language}", screen.seen("box", "#value")["bottom"] <= size[1])
+            if size[0] > 500:
+                checks.expect(f"the buttons are in view, {size}, {language}", screen.seen("box", "#start")["bottom"] <= size[1])
+
+
+def paper(checks, screen, program):
+    """A position with 25 moves and a line of 47 plies is one sheet, in each language and measure."""
+    screen.give(program.build("100", "A"))
+    screen.enter(PLAIN)
+    for language in LANGUAGES:
+        screen.language(language)
+        for measure in ("plies", "moves"):
+            screen.choose("measure", measure)
+            screen.seen("fillLists", 25, 47)
+            checks.expect(f"25 moves and 47 plies", screen.js("[document.querySelectorAll('#moves li').length, document.querySelectorAll('#line .step').length]"), [25, 47])
+            checks.expect(f"one sheet, {language}, in {measure}", screen.pages(), 1)
+            screen.settle()
+
+
+def menu(checks, screen, program):
+    """Files are closed by their button, and more than one are a menu."""
+    files = [program.build("100", "A"), program.build("000", "A")]
+    screen.give(files[0])
+    checks.expect("one file is no menu", screen.js("document.querySelectorAll('#files details').length"), 0)
+    checks.expect("its button's name", screen.label("#files .close"), "Close 100A.db")
+    screen.give(*files)
+    screen.in_both(checks, "the menu's name", lambda: screen.js("document.querySelector('#files summary').textContent"), "2 files open", "2個のファイル")
+    checks.expect("it has both", [line.split()[0] for line, _ in screen.files()], ["100A.db", "000A.db"])
+    height = screen.seen("box", "header")["bottom"]
+    screen.js("document.querySelector('#files summary').click()")
+    screen.js("document.querySelectorAll('#files .close')[1].click()")
+    screen.settle()
+    checks.expect("the other one is left", [line.split()[0] for line, _ in screen.files()], ["100A.db"])
+    screen.enter(PLAIN)
+    checks.expect("and answers", screen.value(), "win 5")
+    checks.expect("the head is low", height < 90)
+    screen.js("document.querySelector('#files .close').click()")
+    screen.settle()
+    none = "No file is open. Moves can be played; values need a file that dobutsu build has made.", \
+        "ファイルは開かれていません。駒は動かせます。評価を見るには dobutsu build で作ったファイルを開いてください。"
+    screen.in_both(checks, "no file is open", lambda: screen.js("document.querySelector('#files').textContent"), *none)
+    screen.in_both(checks, "no value then", screen.told, "Open the file of set 100 to see values.", "評価を見るにはセット 100 のファイルを開いてください。")
+    screen.in_both(checks, "no exercises then", lambda: screen.text("task"), "Open a file for exercises.", "練習問題にはファイルを開いてください。")
+
+
+PARTS = {"sizes": sizes, "palette": palette, "fold": fold, "paper": paper, "menu": menu}

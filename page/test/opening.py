@@ -1,0 +1,87 @@
+"""Files as they are given: picked, dropped, opened again, cut short; which of them is asked, and where the board begins."""
+PLAIN = ".l./.../.C./.L. - -"
+TRIED = ".../L../..l/h.. - -"  # won by a try, La3-a4
+
+
+def dropped(checks, screen, program):
+    """A file that is dropped is opened as one that was picked."""
+    screen.seen("dropFile", "mine.db", screen.base64(program.build("100", "A")))
+    screen.settle_files()
+    checks.expect("the dropped file", screen.files(), [["mine.db set 100, rules A, 2,124 classes, digest tested", False]])
+    screen.enter(PLAIN)
+    checks.expect("its value", screen.value(), "win 5")
+    screen.in_both(checks, "what is said of it", screen.files, [["mine.db set 100, rules A, 2,124 classes, digest tested", False]],
+                   [["mine.db セット 100、ルール A、2,124 局面類、ダイジェストテスト済み", False]])
+
+
+def starts(checks, screen, program):
+    """The board begins with the pieces of the file that was opened last, one that is opened again among them."""
+    lions, chick = program.build("000", "A"), program.build("100", "A")
+    screen.give(chick)
+    checks.expect("the first position of 100", screen.position(), ".l./.../.C./.L. - -")
+    screen.give(lions)
+    screen.press("start")
+    checks.expect("the first position of 000", screen.position(), ".l./.../.../.L. - -")
+    screen.give(chick)
+    screen.press("start")
+    checks.expect("of 100, which was opened again", screen.position(), ".l./.../.C./.L. - -")
+    checks.expect("files in the order in which they were opened", [line.split()[0] for line, _ in screen.files()], [lions.name, chick.name])
+    for pieces, text in [("111", ".l./.../.C./ELG - -"), ("200", ".l./.c./.C./.L. - -"), ("021", ".le/.../.../ELG - -"), ("222", "gle/.c./.C./ELG - -")]:
+        checks.expect(f"the first position of {pieces}", screen.js(f"Game.startOf({[int(it) for it in pieces]})"), text)
+
+
+def short(checks, screen, program):
+    """A read that gives fewer bytes than it was asked for is a fault, and no value."""
+    screen.give(program.build("100", "A"))
+    screen.enter(PLAIN)
+    screen.js("Files.last().kept.clear(); Files.last().file = new Blob([new Uint8Array(100)])")
+    screen.enter("..l/.../.../L.. C -")
+    checks.expect("no value by a short read", screen.value(), "")
+    checks.expect("no moves with values", [it for it in screen.moves() if " " in it], [])
+
+
+def good(checks, screen, program):
+    """A right table is never called broken: wins, losses and draws, and moves whose values differ."""
+    screen.give(program.build("100", "A"))
+    for text, value in [(".../..l/.../L.. - c", "loss 6"), (".l./.../.../L.. - c", "loss 12"), ("..l/.../.../L.. C -", "win 7"), (TRIED, "win 1")]:
+        screen.enter(text)
+        checks.expect(f"the value of {text}", screen.value(), value)
+        checks.expect(f"the file isn't broken by {text}", screen.files()[0][1], False)
+
+
+def ends_early(checks, screen, program):
+    """A line that ends before its distance says so, and so does the file's name."""
+    whole = bytearray(program.build("100", "A").read_bytes())
+    number = lambda text: screen.seen("classNumber", "A", text)
+    screen.enter(TRIED)
+    for text, record in [(TRIED, 4)] + [(it, 3) for it in screen.seen("outcomes", TRIED)]:
+        at = 21 + 2 * number(text)
+        whole[at : at + 2] = record.to_bytes(2, "little")
+    screen.give(program.spoilt("early.db", whole))
+    screen.enter(TRIED)
+    checks.expect("the line breaks", screen.end(), "No move fits here: this file isn't the right table.")
+    checks.expect("the file is told as broken", screen.files()[-1][1], True)
+
+
+def untested(checks, screen, program):
+    """Where the digest can't be tested the page says so."""
+    screen.js("void Object.defineProperty(globalThis, 'crypto', { value: {}, configurable: true })")
+    screen.give(program.build("100", "A"))
+    screen.in_both(checks, "a digest that isn't tested", screen.files, [["100A.db set 100, rules A, 2,124 classes, digest not tested", False]],
+                   [["100A.db セット 100、ルール A、2,124 局面類、ダイジェスト未テスト", False]])
+    screen.enter(PLAIN)
+    checks.expect("the file answers", screen.value(), "win 5")
+
+
+def rules(checks, screen, program):
+    """One position by both rules, one after the other: by A a chick is dropped on its far row, by B it isn't."""
+    text = "..l/.../.../L.. C -"
+    screen.give(program.build("100", "A"), program.build("100", "B"))
+    for name, number in (("A", 13), ("B", 11), ("A", 13)):
+        screen.choose("rules", name)
+        screen.enter(text)
+        far = [it.split()[0] for it in screen.moves() if it[:2] == "C*" and it[3] == "4"]
+        checks.expect(f"moves by rules {name}", [len(screen.moves()), sorted(far)], [number, ["C*a4", "C*b4"] if name == "A" else []])
+
+
+PARTS = {"dropped": dropped, "starts": starts, "short": short, "good": good, "ends_early": ends_early, "untested": untested, "rules": rules}

@@ -1,0 +1,68 @@
+// A worksheet: six exercises of one length on a sheet of paper, their answers below. No two of them are alike.
+const Worksheet = (() => {
+  "use strict";
+  const Core = DobutsuCore;
+  const { text } = Texts;
+  const NUMBER = 6;
+  const element = (id) => document.getElementById(id);
+
+  // Each piece of a position with where it is: a square, or a hand.
+  function placesOf({ squares, mover, enemy }) {
+    const onBoard = [...squares].map((letter, square) => letter + square).filter((it) => it[0] !== ".");
+    const inHand = (hand, name) => hand.flatMap((number, kind) => Array(number).fill(`${Core.KINDS[kind]}${name}`));
+    return [...onBoard, ...inHand(mover, "mover"), ...inHand(enemy, "enemy")];
+  }
+  // How many pieces of a position stand elsewhere in another of the same set.
+  function differences(a, b) {
+    const left = placesOf(b);
+    return placesOf(a).filter((place) => {
+      const at = left.indexOf(place);
+      if (at >= 0) left.splice(at, 1);
+      return at < 0;
+    }).length;
+  }
+  // Whether two positions, or one and the other's mirror image, differ in one piece at most.
+  const areAlike = (a, b) => differences(a, b) < 2 || differences(a, Core.mirrored(b)) < 2;
+
+  // Up to six exercises { position, move } of that length, no two of them alike.
+  async function drawSome(table, engine, plies) {
+    const drawn = [], isNew = (position) => drawn.every((it) => !areAlike(position, it.position));
+    while (drawn.length < NUMBER) {
+      const found = await Answers.drawExercise(table, engine, plies, () => false, isNew);
+      if (!found) break;
+      drawn.push(found);
+    }
+    return drawn;
+  }
+
+  // ---- paper
+
+  function node(name, className, ...content) {
+    const made = document.createElement(name);
+    made.className = className;
+    made.append(...content);
+    return made;
+  }
+  function piece(letter) {
+    const made = node("span", "small");
+    if (letter !== ".") made.innerHTML = Pieces.drawing(letter, Core.isOwn(letter));
+    return made;
+  }
+  const hand = (numbers, isOwn) => node("div", "sheet-hand", ...numbers.flatMap((number, kind) => Array.from({ length: number }, () => piece(isOwn ? Core.KINDS[kind] : Core.KINDS[kind].toLowerCase()))));
+  function board(position) {
+    const rows = [3, 2, 1, 0].map((row) => node("div", "sheet-row", ...[0, 1, 2].map((column) => piece(position.squares[3 * row + column]))));
+    return node("div", "sheet-board", ...rows);
+  }
+  function exercise({ position }, i) {
+    return node("div", "sheet-item", node("b", "", `${i + 1}.`), hand(position.enemy, false), board(position), hand(position.mover, true),
+      node("p", "sheet-text", Core.writePosition(position)), node("p", "", `${text("sheetMove")} ______________`));
+  }
+  function draw(drawn, plies) {
+    const answers = drawn.map(({ position, move }, i) => `${i + 1}. ${Game.moveText(position, move, 0)}`).join("   ");
+    element("sheet").replaceChildren(
+      node("h2", "", text("sheetTitle")), node("p", "", `${text("sheetTask", text("length", plies, View.options.inMoves))} ${text("sheetName")} ____________________`),
+      node("div", "sheet-items", ...drawn.map(exercise)), node("p", "sheet-answers", `${text("sheetAnswers")} ${answers}`));
+  }
+
+  return { areAlike, drawSome, draw };
+})();
