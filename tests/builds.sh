@@ -36,7 +36,7 @@ note "the file of 111 by one node is that by two" "$good"
 rm -f "$work/alone.db"
 expect 0 'consistent' '' check --progress --db "$built"
 expect 1 '' 'dobutsu: E25 SetText' build --set 003 --nodes 2 --out "$other" --progress
-expect 3 '' 'dobutsu: E24 Io' check --progress --db "$work/none.db"
+expect 3 '' "$(failed_at "$work/none.db" "$gone")" check --progress --db "$work/none.db"
 # by rules B: of lions alone the files differ in byte 12 and the digest alone; with a chick fewer classes, and E26 before E7
 ruled="$work/ruled.db"
 expect 0 "$of_lions" '' build --set 000 --rules B --nodes 2 --out "$ruled"
@@ -63,8 +63,8 @@ expect 1 '' 'dobutsu: E9 Nodes' build --set 000 --nodes 17 --out "$work/refused.
 expect 1 '' 'dobutsu: E9 Nodes' build --set 000 --nodes 18446744073709551615 --out "$work/refused.db"
 if [ -e "$work/refused.db" ]; then good=no; else good=yes; fi
 note "a refused build makes no file" "$good"
-expect 3 '' 'dobutsu: E24 Io' build --set 000 --nodes 2 --out "$work/none/built.db"
-expect 3 '' 'dobutsu: E24 Io' build --set 000 --nodes 2 --out "$work"
+expect 3 '' "$(failed_at "$work/none/built.db" "$gone")" build --set 000 --nodes 2 --out "$work/none/built.db"
+expect 3 '' "$(failed_at "$work" "$folder")" build --set 000 --nodes 2 --out "$work"
 if [ -c /dev/full ]; then expect 3 '' 'dobutsu: E24 Io' build --set 000 --nodes 2 --out /dev/full; fi
 
 # A file is as it was until the new one is whole: where a build is killed at some moment, where the disk takes no more, and
@@ -84,7 +84,7 @@ done
 note "builds killed at 20 moments leave the file as it was, or whole" "$same"
 cp testdata/lions_alone.db "$work/kept.db"
 (ulimit -f 2; trap '' XFSZ; "$program" build --set 100 --nodes 2 --out "$work/kept.db") >"$work/out" 2>"$work/err" && status=0 || status=$?
-if [ "$status" = 3 ] && [ "$(cat "$work/err")" = 'dobutsu: E24 Io' ] && cmp -s "$work/kept.db" testdata/lions_alone.db \
+if [ "$status" = 3 ] && [ "$(cat "$work/err")" = "$(failed_at "$work/kept.db" 'File too large (os error 27)')" ] && cmp -s "$work/kept.db" testdata/lions_alone.db \
     && [ ! -e "$work/kept.db.part" ]; then good=yes; else good=no; fi
 note "a build whose file may not grow leaves the one that was there, and no part" "$good"
 expect 0 '~^classes 54$' '' build --set 000 --nodes 2 --out /dev/null
@@ -100,14 +100,15 @@ note "a build to a link's name writes what the link leads to" "$good"
 if [ -d /proc ]; then expect 3 '' 'dobutsu: E24 Io' build --set 000 --nodes 2 --out /proc/built.db; fi
 mkdir "$work/small"
 no_room() {
-    local good=no
+    local good=no reason="$full"
+    [ "$1" = rw ] || reason='Read-only file system (os error 30)'
     # shellcheck disable=SC2016
     if unshare -rm bash -c '
         mount -t tmpfs -o size=1m none "$1" && cp testdata/lions_alone.db "$1/kept.db" && mount -o "remount,size=1m,$3" "$1" || exit 1
         "$2" build --set 111 --nodes 4 --out "$1/kept.db"
         [ "$?" = 3 ] && cmp -s "$1/kept.db" testdata/lions_alone.db && [ "$(ls "$1")" = kept.db ]
     ' bash "$work/small" "$top/crates/dobutsu/out/dobutsu" "$1" >"$work/out" 2>"$work/err" && [ ! -s "$work/out" ] \
-        && holds "$work/err" 'dobutsu: E24 Io'; then good=yes; fi
+        && holds "$work/err" "$(failed_at "$work/small/kept.db" "$reason")"; then good=yes; fi
     note "a build on a file system of 1 MB, mounted $1: $(head -c 80 "$work/err")" "$good"
 }
 if unshare -rm mount -t tmpfs -o size=1m none "$work/small" 2>/dev/null; then
@@ -129,8 +130,8 @@ for turn in $(seq 20); do
     wait "$first" && first=0 || first=$?
     case "$first$later" in
         00) [ ! -s "$work/err" ] && [ ! -s "$work/later_err" ] ;;
-        03) [ ! -s "$work/err" ] && holds "$work/later_err" 'dobutsu: E24 Io' ;;
-        30) holds "$work/err" 'dobutsu: E24 Io' && [ ! -s "$work/later_err" ] ;;
+        03) [ ! -s "$work/err" ] && holds "$work/later_err" '~^dobutsu: E24 Io: .*/kept.db: ' ;;
+        30) holds "$work/err" '~^dobutsu: E24 Io: .*/kept.db: ' && [ ! -s "$work/later_err" ] ;;
         *) false ;;
     esac || same=no
     cmp -s "$work/kept.db" testdata/one_chick_2.db || { [ "$set" = 000 ] && cmp -s "$work/kept.db" testdata/lions_alone_2.db; } || same=no

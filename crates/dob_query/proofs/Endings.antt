@@ -36,7 +36,8 @@ faulty AreLines Holds fault status out err holds told = inr (inl (record { fault
 
 -- lack of memory, with nothing on standard output
 pub memory_told : (status : ℕ) (out : SinkState) (err : Change) → TellsOneFault Memory status err → TellsMemory (ended status (change out out) err)
-memory_told status out err (inl told) = (told, refl)
+memory_told status out err (inl (is, line, inl same, says)) = ((is, rw sym same in says), refl)
+memory_told status out err (inl (is, line, inr (never, said), says)) = absurd (cc)
 memory_told status out err (inr told) = (told, refl)
 
 -- lines that are right

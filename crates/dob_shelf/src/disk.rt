@@ -2,9 +2,10 @@
 ghost use Rattle.std.specs.Prelude.{◌≡◌, None, false};
 
 use crate::inputs::read_all;
+use crate::said::{Heard, Note, Place};
 use crate::shelf::{Shelf, ShelfFault, is_failed};
 use dob_dbfile::{Failed, Sink, Source, Std};
-use std::alloc::Global;
+use std::alloc::{AllocError, Global};
 use std::fs::{self, File, OpenFile};
 use std::io::{self, ErrorKind, Read, Write};
 use std::os::unix::fs::MetadataExt;
@@ -17,11 +18,15 @@ use std::rt::Files;
 /// on; where only the folder fails, it is whole, and the shelf says that it failed. A part that a run left behind is taken away
 /// by the next one; so of two that write one name at once the later one keeps its file, and the other one fails. What is no
 /// regular file (a pipe, a device, a link) is written where it is; what a link leads to is put on the disk then.
+///
+/// What the system says of a failure is left in its note, and the shelf keeps the name of the last file that it was asked for.
 #[derive(Drop)]
 pub struct DiskShelf<'a, R, I> {
     rt: &'a R,
     alloc: Global,
-    input: Std<I>,
+    input: Std<Heard<'a, I>>,
+    note: &'a Note,
+    name: String,
     has_failed: bool,
 }
 
@@ -43,23 +48,30 @@ impl<F: Write> Write for DiskFile<F> {
 }
 
 impl<'a, R, I> DiskShelf<'a, R, I> {
-    /// The files of the system and that standard input, of which no call has failed.
-    pub fn new(rt: &'a R, alloc: Global, input: I) -> DiskShelf<'a, R, I>
+    /// The files of the system and that standard input, of which no call has failed. What they say is left in the note.
+    pub fn new(rt: &'a R, alloc: Global, input: I, note: &'a Note) -> DiskShelf<'a, R, I>
         ensures { result.has_failed ≡ false }
     {
         DiskShelf {
             rt,
             alloc,
-            input: Std::new(input),
+            input: Std::new(Heard::new(input, Place::Input, note)),
+            note,
+            name: String::new(alloc),
             has_failed: false,
         }
     }
 }
 
-impl<R: Files, I> DiskShelf<'_, R, I> {
+impl<'a, R: Files, I> DiskShelf<'a, R, I> {
     // The file of that name.
-    fn open(&self, name: &str) -> Result<R::File, ShelfFault> {
-        Ok(fs::open(self.rt, name)?)
+    fn open(&mut self, name: &str) -> Result<Heard<'a, R::File>, ShelfFault>
+        ensures { self.new.has_failed ≡ self.old.has_failed }
+    {
+        self.name = name.to_string(self.alloc)?;
+        let opened = fs::open(self.rt, name);
+        self.note.hear(Place::File, &opened);
+        Ok(Heard::new(opened?, Place::File, self.note))
     }
 
     // Whether the name has a regular file or none, so that another file may take its place.
@@ -73,7 +85,9 @@ impl<R: Files, I> DiskShelf<'_, R, I> {
 
     // The name under which the file of that name is written; `None` where that is the same.
     fn part_of(&self, name: &str) -> Result<Option<String>, ShelfFault> {
-        if self.can_be_replaced(name)? {
+        let can_be_replaced = self.can_be_replaced(name);
+        self.note.hear(Place::File, &can_be_replaced);
+        if can_be_replaced? {
             Ok(Some(format!(in self.alloc; "{name}.part")?))
         } else {
             Ok(None)
@@ -87,12 +101,17 @@ impl<R: Files, I> DiskShelf<'_, R, I> {
     }
 
     // A new file for the bytes of that name.
-    fn create(&self, name: &str) -> Result<DiskFile<R::File>, ShelfFault> {
+    fn create(&mut self, name: &str) -> Result<DiskFile<Heard<'a, R::File>>, ShelfFault>
+        ensures { self.new.has_failed ≡ self.old.has_failed }
+    {
+        self.name = name.to_string(self.alloc)?;
         let part = self.part_of(name)?;
-        let file = match &part {
-            Some(part) => self.begin(part.as_str())?,
-            None => fs::create(self.rt, name)?,
+        let made = match &part {
+            Some(part) => self.begin(part.as_str()),
+            None => fs::create(self.rt, name),
         };
+        self.note.hear(Place::File, &made);
+        let file = Heard::new(made?, Place::File, self.note);
         Ok(DiskFile { file, part })
     }
 
@@ -123,14 +142,14 @@ impl<R: Files, I> DiskShelf<'_, R, I> {
     }
 
     // Keeps the file under the name. One that isn't kept takes its part along.
-    fn keep_file(&self, name: &str, kept: DiskFile<R::File>) -> io::Result<()> {
+    fn keep_file(&self, name: &str, kept: DiskFile<Heard<'a, R::File>>) -> io::Result<()> {
         let DiskFile { file, part } = kept;
         let Some(part) = part else {
-            return self.put_down(&file);
+            return self.put_down(file.inner());
         };
-        let done = self.put_in_place(&file, part.as_str(), name);
+        let done = self.put_in_place(file.inner(), part.as_str(), name);
         if done.is_err() {
-            self.take_away(&file, part.as_str());
+            self.take_away(file.inner(), part.as_str());
         }
         done
     }
@@ -152,10 +171,10 @@ fn folder_of(name: &str) -> &str {
     }
 }
 
-impl<R: Files, I: Read> Shelf for DiskShelf<'_, R, I> {
-    type Src = Std<R::File>;
+impl<'a, R: Files, I: Read> Shelf for DiskShelf<'a, R, I> {
+    type Src = Std<Heard<'a, R::File>>;
 
-    type Dst = Std<DiskFile<R::File>>;
+    type Dst = Std<DiskFile<Heard<'a, R::File>>>;
 
     ghost state = { λ shelf. record {
       has = λ _ _. ⊥;
@@ -164,25 +183,27 @@ impl<R: Files, I: Read> Shelf for DiskShelf<'_, R, I> {
       input = None;
     } };
 
-    fn find(&mut self, name: &str) -> Result<Std<R::File>, ShelfFault> {
+    fn find(&mut self, name: &str) -> Result<Std<Heard<'a, R::File>>, ShelfFault> {
         let found = self.open(name);
         self.has_failed |= is_failed(&found);
         Ok(Std::new(found?))
     }
 
-    fn close(&mut self, source: Std<R::File>) {
+    fn close(&mut self, source: Std<Heard<'a, R::File>>) {
         self.has_failed |= Source::failed(&source);
     }
 
-    fn make(&mut self, name: &str) -> Result<Std<DiskFile<R::File>>, ShelfFault> {
+    fn make(&mut self, name: &str) -> Result<Std<DiskFile<Heard<'a, R::File>>>, ShelfFault> {
         let made = self.create(name);
         self.has_failed |= is_failed(&made);
         Ok(Std::new(made?))
     }
 
-    fn keep(&mut self, name: &str, sink: Std<DiskFile<R::File>>) -> Result<(), Failed> {
+    fn keep(&mut self, name: &str, sink: Std<DiskFile<Heard<'a, R::File>>>) -> Result<(), Failed> {
         self.has_failed |= Sink::failed(&sink);
-        match self.keep_file(name, sink.into_inner()) {
+        let kept = self.keep_file(name, sink.into_inner());
+        self.note.hear(Place::File, &kept);
+        match kept {
             Ok(()) => Ok(()),
             Err(_) => {
                 self.has_failed = true;
@@ -191,11 +212,11 @@ impl<R: Files, I: Read> Shelf for DiskShelf<'_, R, I> {
         }
     }
 
-    fn discard(&mut self, _name: &str, sink: Std<DiskFile<R::File>>) {
+    fn discard(&mut self, _name: &str, sink: Std<DiskFile<Heard<'a, R::File>>>) {
         self.has_failed |= Sink::failed(&sink);
         let DiskFile { file, part } = sink.into_inner();
         if let Some(part) = part {
-            self.take_away(&file, part.as_str());
+            self.take_away(file.inner(), part.as_str());
         }
     }
 
@@ -203,5 +224,9 @@ impl<R: Files, I: Read> Shelf for DiskShelf<'_, R, I> {
         let read = read_all(self.alloc, &mut self.input);
         self.has_failed |= is_failed(&read);
         read
+    }
+
+    fn said(&self, alloc: Global) -> Result<Option<String>, AllocError> {
+        self.note.text(alloc, self.name.as_str())
     }
 }
