@@ -23,7 +23,7 @@ same=yes
 for planted in READ_PAST_FILE READ_PAST_INDEX READ_BEFORE_TEXT WRITE_PAST_MOVES WRITE_FILE; do
     compile -O2 -DPLANTED="$planted" -Wl,--wrap=dobutsu_probe,--wrap=dobutsu_probe_by,--wrap=dobutsu_moves examples/hostile.c tests/planted.c \
         -o "$work/planted" || same=no
-    for name in lions_alone one_chick_2; do
+    for name in lions_alone lions_alone_2; do
         status=0
         "$work/planted" "testdata/$name.db" "$position" >"$work/out" 2>&1 || status=$?
         [ "$status" = 20 ] || same=no

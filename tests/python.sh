@@ -204,9 +204,9 @@ with open(sys.argv[2], "wb") as file:
     file.truncate(21 + 2 * 588021930 + 32)
 spent = []
 for _ in range(5):
-    begun = time.perf_counter()
+    begun = time.process_time()
     with Table(sys.argv[2], library) as whole:
-        spent.append(time.perf_counter() - begun)
+        spent.append(time.process_time() - begun)
         assert whole["gle/.c./.C./ELG - -"] == Value("draw") and len(whole) == 588021930
 assert library is None or min(spent) < 0.05, spent
 

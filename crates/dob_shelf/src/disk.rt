@@ -6,16 +6,16 @@ use crate::said::{Heard, Note, Place};
 use crate::shelf::{Shelf, ShelfFault, is_failed};
 use dob_dbfile::{Failed, Sink, Source, Std};
 use std::alloc::{AllocError, Global};
-use std::fs::{self, File, OpenFile};
+use std::fs::{self, File, OpenFile, OpenOptions, Permissions};
 use std::io::{self, ErrorKind, Read, Write};
-use std::os::unix::fs::MetadataExt;
+use std::os::unix::fs::{MetadataExt, OpenOptionsExt, PermissionsExt};
 use std::rt::Files;
 
 /// The files that the system has, and a reader as standard input, of which no bytes are told.
 ///
 /// A file is written under its name with `.part` behind it, and takes its name once the system was made to put its bytes on the
 /// disk; then the folder is put there too. So the file of that name is as it was until then, whatever happens, and whole from then
-/// on; where only the folder fails, it is whole, and the shelf says that it failed. A part that a run left behind is taken away
+/// on; where only the folder fails, it is whole, and the shelf says that it failed. It has the mode of the file that it replaces. A part that a run left behind is taken away
 /// by the next one; so of two that write one name at once the later one keeps its file, and the other one fails. What is no
 /// regular file (a pipe, a device, a link) is written where it is; what a link leads to is put on the disk then.
 ///
@@ -28,6 +28,13 @@ pub struct DiskShelf<'a, R, I> {
     note: &'a Note,
     name: String,
     has_failed: bool,
+}
+
+// How a file is written: beside its name, by the mode of the file whose place it takes where there is one, or where it is.
+#[derive(Clone, Copy)]
+enum Way {
+    Beside(Option<u32>),
+    InPlace,
 }
 
 /// A file that is being written, and its name until it is kept, where that is another one.
@@ -74,30 +81,35 @@ impl<'a, R: Files, I> DiskShelf<'a, R, I> {
         Ok(Heard::new(opened?, Place::File, self.note))
     }
 
-    // Whether the name has a regular file or none, so that another file may take its place.
-    fn can_be_replaced(&self, name: &str) -> io::Result<bool> {
+    // How a file of that name is written.
+    fn way_to(&self, name: &str) -> io::Result<Way> {
         match fs::symlink_metadata(self.rt, name) {
-            Ok(found) => Ok(found.is_file()),
-            Err(error) if error.kind() == ErrorKind::NotFound => Ok(true),
+            Ok(found) if found.is_file() => Ok(Way::Beside(Some(found.mode()))),
+            Ok(_) => Ok(Way::InPlace),
+            Err(error) if error.kind() == ErrorKind::NotFound => Ok(Way::Beside(None)),
             Err(error) => Err(error),
         }
     }
 
-    // The name under which the file of that name is written; `None` where that is the same.
-    fn part_of(&self, name: &str) -> Result<Option<String>, ShelfFault> {
-        let can_be_replaced = self.can_be_replaced(name);
-        self.note.hear(Place::File, &can_be_replaced);
-        if can_be_replaced? {
-            Ok(Some(format!(in self.alloc; "{name}.part")?))
-        } else {
-            Ok(None)
-        }
-    }
-
-    // The file of a part that is new, where a part of an earlier run may be left.
-    fn begin(&self, part: &str) -> io::Result<R::File> {
+    // The file of a part that is new, where a part of an earlier run may be left; it has that mode, and never a wider one.
+    fn begin(&self, part: &str, mode: Option<u32>) -> io::Result<R::File> {
         let _ = fs::remove_file(self.rt, part);
-        File::create_new(self.rt, part)
+        let Some(mode) = mode else {
+            return File::create_new(self.rt, part);
+        };
+        let mut how = OpenOptions::new();
+        how.read(true)
+            .write(true)
+            .create_new(true)
+            .mode(mode & 0o777);
+        let file = how.open(self.rt, part)?;
+        match file.set_permissions(Permissions::from_mode(mode & 0o7777)) {
+            Ok(()) => Ok(file),
+            Err(error) => {
+                let _ = fs::remove_file(self.rt, part);
+                Err(error)
+            }
+        }
     }
 
     // A new file for the bytes of that name.
@@ -105,10 +117,14 @@ impl<'a, R: Files, I> DiskShelf<'a, R, I> {
         ensures { self.new.has_failed ≡ self.old.has_failed }
     {
         self.name = name.to_string(self.alloc)?;
-        let part = self.part_of(name)?;
-        let made = match &part {
-            Some(part) => self.begin(part.as_str()),
-            None => fs::create(self.rt, name),
+        let way = self.way_to(name);
+        self.note.hear(Place::File, &way);
+        let (made, part) = match way? {
+            Way::InPlace => (fs::create(self.rt, name), None),
+            Way::Beside(mode) => {
+                let part = format!(in self.alloc; "{name}.part")?;
+                (self.begin(part.as_str(), mode), Some(part))
+            }
         };
         self.note.hear(Place::File, &made);
         let file = Heard::new(made?, Place::File, self.note);

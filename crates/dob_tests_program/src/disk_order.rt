@@ -7,7 +7,7 @@ use crate::typed::Typed;
 use dob_cli::{DiskShelf, Note};
 use std::alloc::{Allocator, Global};
 use std::cell::RefCell;
-use std::fs::{self, Metadata, OpenFile, OpenOptions};
+use std::fs::{self, Metadata, OpenFile, OpenOptions, Permissions};
 use std::io::{self, ErrorKind, Read, Seek, SeekFrom, Write};
 use std::process::Abort;
 use std::rt::Files;
@@ -222,6 +222,10 @@ impl<F: OpenFile> OpenFile for ListedFile<'_, F> {
     fn sync_all(&self) -> io::Result<()> {
         self.log.note("sync", self.path)?;
         self.file.sync_all()
+    }
+
+    fn set_permissions(&self, permissions: Permissions) -> io::Result<()> {
+        self.file.set_permissions(permissions)
     }
 
     fn sync_data(&self) -> io::Result<()> {

@@ -3,9 +3,18 @@
 
 use dob_cli::{DiskShelf, Heard, Note, Place, run_given};
 use dob_dbfile::Std;
+use std::fs::OpenOptions;
 use std::process::ExitCode;
 
 fn main(rt: HostRuntime) -> ExitCode {
+    // These take the numbers of standard streams that were closed, so that no file that is opened later does.
+    let mut how = OpenOptions::new();
+    how.read(true).write(true);
+    let _streams = [
+        how.open(&rt, "/dev/null"),
+        how.open(&rt, "/dev/null"),
+        how.open(&rt, "/dev/null"),
+    ];
     let note = Note::new();
     ExitCode::from(run_given(
         &rt,
