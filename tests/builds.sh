@@ -84,10 +84,33 @@ done
 note "builds killed at 20 moments leave the file as it was, or whole" "$same"
 cp testdata/lions_alone.db "$work/kept.db"
 (ulimit -f 2; trap '' XFSZ; "$program" build --set 100 --nodes 2 --out "$work/kept.db") >"$work/out" 2>"$work/err" && status=0 || status=$?
-if [ "$status" = 3 ] && [ "$(cat "$work/err")" = "$(failed_at "$work/kept.db" 'File too large (os error 27)')" ] && cmp -s "$work/kept.db" testdata/lions_alone.db \
+too_large="$(failed_at "$work/kept.db" 'File too large (os error 27)')"
+if [ "$status" = 3 ] && [ "$(cat "$work/err")" = "$too_large" ] && cmp -s "$work/kept.db" testdata/lions_alone.db \
     && [ ! -e "$work/kept.db.part" ]; then good=yes; else good=no; fi
 note "a build whose file may not grow leaves the one that was there, and no part" "$good"
 expect 0 '~^classes 54$' '' build --set 000 --nodes 2 --out /dev/null
+# a rebuilt file keeps its mode, whatever the shell would give it, and a new one has that
+same=yes
+for mode in 600 644 755 444; do
+    cp testdata/one_chick.db "$work/mode.db"
+    chmod "$mode" "$work/mode.db"
+    (umask 027; "$program" build --set 000 --nodes 2 --out "$work/mode.db") >"$work/out" 2>&1 || same=no
+    [ "$(stat -c %a "$work/mode.db")" = "$mode" ] && cmp -s "$work/mode.db" testdata/lions_alone_2.db || same=no
+done
+rm -f "$work/mode.db"
+(umask 027; "$program" build --set 000 --nodes 2 --out "$work/mode.db") >"$work/out" 2>&1 || same=no
+[ "$(stat -c %a "$work/mode.db")" = 640 ] || same=no
+note "a rebuilt file keeps its mode, and a new one has that of the shell: $(stat -c %a "$work/mode.db")" "$same"
+# standard streams that are closed lead nowhere: no file that is opened takes their numbers
+same=yes
+"$program" build --set 000 --nodes 2 --progress --out "$work/silent.db" 2>&- >"$work/out" || same=no
+cmp -s "$work/silent.db" testdata/lions_alone_2.db && grep -qx 'classes 54' "$work/out" || same=no
+rm -f "$work/silent.db"
+"$program" build --set 000 --nodes 2 --out "$work/silent.db" <&- >&- 2>&- || same=no
+cmp -s "$work/silent.db" testdata/lions_alone_2.db || same=no
+"$program" look --each --db "$lions" <&- >"$work/out" 2>"$work/err" || same=no
+[ ! -s "$work/out" ] && [ ! -s "$work/err" ] || same=no
+note "closed standard streams lead nowhere: $(head -c 80 "$work/out")" "$same"
 # a link stays, and what it leads to is written
 cp testdata/lions_alone.db "$work/behind.db"
 ln -s behind.db "$work/link.db"
