@@ -56,7 +56,8 @@ assert number > 100, number
 start = "gle/1c1/1C1/ELG b - 1"
 assert Position.from_sfen(start).text == "gle/.c./.C./ELG - -"
 for text in ("", "gle/1c1/1C1/ELG", "gle/1c1/1C1 b - 1", "gle/1c1/1C1/EL b - 1", "gle/1c1/1C1/ELG2 b - 1", "gle/1c1/1C1/ELG x - 1",
-             "gle/1c1/1C1/ELG b 1", "gle/1c1/1C1/ELG b L 1", "gle/1c1/1C1/ELG b - 0", "gle/1c1/1C1/ELG b - 1 1", "gle/1h1/1C1/ELG b - 1", "+gle/1c1/1C1/ELG b - 1", "4/1l1/1L1/3 b - 1",
+             "gle/1c1/1C1/ELG b 1", "gle/1c1/1C1/ELG b L 1", "gle/1c1/1C1/ELG b - 0", "gle/1c1/1C1/ELG b - 1 1", "gle/1h1/1C1/ELG b - 1",
+             "+gle/1c1/1C1/ELG b - 1", "4/1l1/1L1/3 b - 1",
              "gle/.c./1C1/ELG b - 1", "gle/1c1/1C1/ELG  b - 1", "gle/1c1/1C1/ELG[-] b 0 1"):
     try:
         raise AssertionError((text, Position.from_sfen(text)))
