@@ -1,191 +1,270 @@
 /* Asks a file for a position in each state that a caller may hand over: hostile FILE POSITION. Of the file the first n bytes are asked, for n from 0 to
-   its length, each in memory of just that size; then all of it with one byte changed, for each byte of the first 32 and of the last; and with a
-   header that claims each other set. It asks for the value, the moves into no room, into too little and into enough, and whether the file is
+   its length; then all of it with one byte changed, for each byte of the first 32 and of the last; with a header that claims each other set; and for the
+   first n bytes of the position. It asks for the value, the moves into no room, into too little and into enough, and whether the file is
    consistent; for the value and the moves by the index of the file's family too. Then the file is asked by the first n numbers of the index, by all of them
-   with one changed, and by the index of each other family. Prints how often each answer came. Build it with -fsanitize=address, which stops it at a read or
-   a write past the end. */
+   with one changed, and by the index of each other family.
 
+   All that is handed over lies against a page that nobody may touch, once behind it and once before it. What a call reads can't be written, and of what it
+   writes all else must stay as it was. So a call that touches what isn't its own ends the program with status 20, whatever the library was built by. Prints
+   how often each answer came. */
+
+#define _DEFAULT_SOURCE /* for MAP_ANONYMOUS */
+
+#include <signal.h>
 #include <stdio.h>
 #include <stdlib.h>
 #include <string.h>
+#include <sys/mman.h>
+#include <unistd.h>
 
 #include "dobutsu.h"
+
+enum { BEHIND, BEFORE, FILL = 77, MOST_BYTES = 1 << 20 };
+
+/* Pages between two that nobody may touch. */
+typedef struct {
+    uint8_t *pages;
+    size_t size;
+} Room;
 
 static unsigned long answers[32], checks[32], by_index[32];
 static uint64_t *index_words;
 static size_t index_len;
 static uint32_t index_set[3], index_profile;
+static Room file_room, text_room, index_room, value_room, moves_room, number_room;
+static int guard; /* where the page lies against which all is put */
 
-/* Numbers in memory that ends where they do. */
-static uint64_t *numbers(size_t len)
+static void touched(int number)
 {
-    uint64_t *held = malloc(len == 0 ? 1 : len * sizeof *held);
-    if (held == NULL)
+    static const char said[] = "hostile: a call touched memory that isn't its own\n";
+    (void)number;
+    if (write(2, said, sizeof said - 1) != 0)
+        _exit(20);
+    _exit(20);
+}
+
+static Room room_for(size_t most)
+{
+    size_t page = (size_t)sysconf(_SC_PAGESIZE);
+    Room room;
+    uint8_t *all;
+    room.size = (most / page + 1) * page;
+    all = mmap(NULL, room.size + 2 * page, PROT_NONE, MAP_PRIVATE | MAP_ANONYMOUS, -1, 0);
+    if (all == MAP_FAILED)
         exit(3);
-    return held;
+    room.pages = all + page;
+    return room;
+}
+
+static void *place(const Room *room, size_t len)
+{
+    return guard == BEHIND ? room->pages + room->size - len : room->pages;
+}
+
+/* The bytes, in memory that can only be read. */
+static const void *lent(const Room *room, const void *bytes, size_t len)
+{
+    if (len > room->size || mprotect(room->pages, room->size, PROT_READ | PROT_WRITE) != 0)
+        exit(3);
+    memcpy(place(room, len), bytes, len);
+    if (mprotect(room->pages, room->size, PROT_READ) != 0)
+        exit(3);
+    return place(room, len);
+}
+
+/* Memory for that many bytes, which a call may write. */
+static void *blank(const Room *room, size_t len)
+{
+    if (len > room->size || mprotect(room->pages, room->size, PROT_READ | PROT_WRITE) != 0)
+        exit(3);
+    memset(room->pages, FILL, room->size);
+    return place(room, len);
+}
+
+/* Whether of memory for `len` bytes only the first `written` were written. */
+static int is_kept(const Room *room, size_t len, size_t written)
+{
+    const uint8_t *from = place(room, len), *byte;
+    for (byte = room->pages; byte < room->pages + room->size; byte++)
+        if ((byte < from || byte >= from + written) && *byte != FILL)
+            return 0;
+    return 1;
+}
+
+/* Into how much room moves are asked. */
+static const size_t rooms[] = {0, 1, DOBUTSU_MOST_MOVES};
+
+/* Whether a call for moves has written what it says: nothing at a fault, else the count and as many moves as there are and as there is room for. */
+static int is_told(uint32_t fault, const uint64_t *count, size_t room)
+{
+    size_t len = room * sizeof(DobutsuMove), written;
+    if (fault != DOBUTSU_OK)
+        return fault < 32 && is_kept(&number_room, sizeof *count, 0) && is_kept(&moves_room, len, 0);
+    written = *count < room ? (size_t)*count : room;
+    return *count <= DOBUTSU_MOST_MOVES && is_kept(&number_room, sizeof *count, sizeof *count)
+        && is_kept(&moves_room, len, written * sizeof(DobutsuMove));
 }
 
 /* How many moves the position has by the file without an index; none where that answers a fault. */
-static uint64_t moves_without(const uint8_t *held, size_t length, const uint8_t *text, size_t text_len, uint64_t none)
+static uint64_t moves_without(const uint8_t *file, size_t length, const uint8_t *text, size_t text_len, uint64_t none)
 {
     DobutsuMove first;
     uint64_t count = none;
-    dobutsu_moves(held, length, text, text_len, &first, 1, &count);
+    dobutsu_moves(file, length, text, text_len, &first, 1, &count);
     return count;
 }
 
-/* Asks by these numbers. What was there must stay where a fault is answered, and the value and the moves have one fault. Where none is, there are a value and as
-   many moves as without the numbers. */
-static uint32_t ask_by(const uint8_t *held, size_t length, const uint64_t *words, size_t len, const uint8_t *text, size_t text_len, DobutsuValue *value)
+/* Asks by these numbers, of memory that is lent already. The value and the moves have one fault. Where none is, there are a value and as many moves as without
+   the numbers. */
+static uint32_t ask_by(const uint8_t *file, size_t length, const uint64_t *words, size_t len, const uint8_t *text, size_t text_len, DobutsuValue *found)
 {
-    static const size_t rooms[] = {0, 1, DOBUTSU_MOST_MOVES};
-    static const DobutsuValue before = {77, 77};
-    uint64_t class_number = 77, wanted = moves_without(held, length, text, text_len, 77);
-    uint32_t fault, named;
+    const uint64_t *held = lent(&index_room, words, len * sizeof *words);
+    DobutsuValue *value = blank(&value_room, sizeof *value);
+    uint64_t *number, wanted = moves_without(file, length, text, text_len, FILL);
+    uint32_t fault = dobutsu_probe_by(file, length, held, len, text, text_len, value), named;
     size_t n;
-    *value = before;
-    fault = dobutsu_probe_by(held, length, words, len, text, text_len, value);
-    if (fault >= 32 || (fault != DOBUTSU_OK ? memcmp(value, &before, sizeof before) != 0 : value->kind > DOBUTSU_LOSS))
+    if (fault >= 32 || !is_kept(&value_room, sizeof *value, fault == DOBUTSU_OK ? sizeof *value : 0) || (fault == DOBUTSU_OK && value->kind > DOBUTSU_LOSS))
         exit(9);
+    *found = *value;
     for (n = 0; n < 3; n++) {
-        DobutsuMove *moves = malloc(rooms[n] == 0 ? 1 : rooms[n] * sizeof *moves);
-        uint64_t count = 77;
-        uint32_t moved;
-        if (moves == NULL)
-            exit(3);
-        moved = dobutsu_moves_by(held, length, words, len, text, text_len, moves, rooms[n], &count);
-        if (moved >= 32 || (moved != DOBUTSU_OK ? count != 77 : wanted == 77 ? count > DOBUTSU_MOST_MOVES : count != wanted) ||
-            (moved != fault && fault != DOBUTSU_INDEX && moved != DOBUTSU_INDEX))
+        DobutsuMove *moves = blank(&moves_room, rooms[n] * sizeof *moves);
+        uint64_t *count = blank(&number_room, sizeof *count);
+        uint32_t moved = dobutsu_moves_by(file, length, held, len, text, text_len, moves, rooms[n], count);
+        if (!is_told(moved, count, rooms[n]) || (moved != fault && fault != DOBUTSU_INDEX && moved != DOBUTSU_INDEX))
             exit(10);
-        free(moves);
+        if (moved == DOBUTSU_OK && wanted != FILL && *count != wanted)
+            exit(18);
     }
-    named = dobutsu_class_by(index_set[0], index_set[1], index_set[2], index_profile, words, len, text, text_len, &class_number);
-    if (named >= 32 || (named != DOBUTSU_OK && class_number != 77))
+    number = blank(&number_room, sizeof *number);
+    named = dobutsu_class_by(index_set[0], index_set[1], index_set[2], index_profile, held, len, text, text_len, number);
+    if (named >= 32 || !is_kept(&number_room, sizeof *number, named == DOBUTSU_OK ? sizeof *number : 0))
         exit(11);
     by_index[fault]++;
     return fault;
+}
+
+/* The index of a family, written into memory that ends where it does; into one number less it isn't. */
+static uint64_t *index_of(uint32_t c, uint32_t e, uint32_t g, uint32_t profile, size_t *len)
+{
+    uint64_t *words, *copy;
+    *len = (size_t)dobutsu_index_words(c, e, g, profile);
+    words = blank(&index_room, (*len - 1) * sizeof *words);
+    if (dobutsu_index(c, e, g, profile, words, *len - 1) != DOBUTSU_INDEX || !is_kept(&index_room, (*len - 1) * sizeof *words, 0))
+        exit(14);
+    words = blank(&index_room, *len * sizeof *words);
+    copy = malloc(*len * sizeof *copy);
+    if (copy == NULL)
+        exit(3);
+    if (dobutsu_index(c, e, g, profile, words, *len) != DOBUTSU_OK || !is_kept(&index_room, *len * sizeof *words, *len * sizeof *words))
+        exit(14);
+    memcpy(copy, words, *len * sizeof *copy);
+    return copy;
+}
+
+/* Asks the whole file by numbers that all lead far outside. */
+static void ask_far(const uint8_t *file, size_t length, const uint8_t *text, size_t text_len)
+{
+    uint64_t *far = malloc(index_len * sizeof *far);
+    DobutsuValue value;
+    uint32_t without = dobutsu_probe(file, length, text, text_len, &value);
+    size_t n;
+    if (far == NULL)
+        exit(3);
+    for (n = 0; n < index_len; n++)
+        far[n] = n < 3 ? index_words[n] : (uint64_t)1 << 41;
+    if (ask_by(file, length, far, index_len, text, text_len, &value) != (without == DOBUTSU_OK ? DOBUTSU_INDEX : without))
+        exit(17);
+    free(far);
 }
 
 /* Asks the whole file by spoilt numbers: the first n, all with one changed, all that lead far outside, and the index of each other family. */
 static void ask_by_others(const uint8_t *bytes, size_t length, const char *text)
 {
     static const uint64_t changes[] = {1, (uint64_t)1 << 20, (uint64_t)1 << 41, UINT64_MAX};
-    const uint8_t *words = (const uint8_t *)text;
-    DobutsuValue value = {77, 77};
+    const uint8_t *file = lent(&file_room, bytes, length), *words = lent(&text_room, text, strlen(text));
+    DobutsuValue value;
     unsigned family;
     size_t n, k;
-    for (n = 0; n < index_len; n++) {
-        uint64_t *first = numbers(n);
-        memcpy(first, index_words, n * sizeof *first);
-        if (ask_by(bytes, length, first, n, words, strlen(text), &value) != DOBUTSU_INDEX)
+    for (n = 0; n < index_len; n++)
+        if (ask_by(file, length, index_words, n, words, strlen(text), &value) != DOBUTSU_INDEX)
             exit(12);
-        free(first);
-    }
     for (n = 0; n < index_len; n++)
         for (k = 0; k < sizeof changes / sizeof *changes; k++) {
             index_words[n] ^= changes[k];
             /* the first three are the mark, the classes and how many numbers there are */
-            if (ask_by(bytes, length, index_words, index_len, words, strlen(text), &value) != DOBUTSU_INDEX && n < 3)
+            if (ask_by(file, length, index_words, index_len, words, strlen(text), &value) != DOBUTSU_INDEX && n < 3)
                 exit(13);
             index_words[n] ^= changes[k];
         }
-    {
-        uint64_t *far = numbers(index_len);
-        uint32_t without = dobutsu_probe(bytes, length, words, strlen(text), &value);
-        for (n = 0; n < index_len; n++)
-            far[n] = n < 3 ? index_words[n] : (uint64_t)1 << 41;
-        if (ask_by(bytes, length, far, index_len, words, strlen(text), &value) != (without == DOBUTSU_OK ? DOBUTSU_INDEX : without))
-            exit(17);
-        free(far);
-    }
+    ask_far(file, length, words, strlen(text));
     for (family = 0; family < 16; family++) {
         uint32_t c = family / 4 % 2, e = family / 2 % 2, g = family % 2, profile = family / 8;
-        size_t len = dobutsu_index_words(c, e, g, profile);
-        uint64_t *other = numbers(len);
-        if (dobutsu_index(c, e, g, profile, other, len - 1) != DOBUTSU_INDEX || dobutsu_index(c, e, g, profile, other, len) != DOBUTSU_OK)
-            exit(14);
-        if ((ask_by(bytes, length, other, len, words, strlen(text), &value) == DOBUTSU_INDEX)
+        size_t len;
+        uint64_t *other = index_of(c, e, g, profile, &len);
+        if ((ask_by(file, length, other, len, words, strlen(text), &value) == DOBUTSU_INDEX)
             != (c != index_set[0] || e != index_set[1] || g != index_set[2] || profile != index_profile))
             exit(15);
         free(other);
     }
 }
 
-/* Asks for the moves, into memory that ends where the room does. */
-static uint32_t ask_moves(const uint8_t *held, size_t length, const uint8_t *words, size_t text_len, size_t room)
+/* Asks for the moves, into that much room. */
+static uint32_t ask_moves(const uint8_t *file, size_t length, const uint8_t *words, size_t text_len, size_t room)
 {
-    DobutsuMove *moves = malloc(room == 0 ? 1 : room * sizeof *moves);
-    uint64_t count = 77;
-    uint32_t fault;
-    if (moves == NULL)
-        exit(3);
-    fault = dobutsu_moves(held, length, words, text_len, moves, room, &count);
-    if (fault != DOBUTSU_OK ? count != 77 : count > DOBUTSU_MOST_MOVES)
+    DobutsuMove *moves = blank(&moves_room, room * sizeof *moves);
+    uint64_t *count = blank(&number_room, sizeof *count);
+    uint32_t fault = dobutsu_moves(file, length, words, text_len, moves, room, count);
+    if (!is_told(fault, count, room))
         exit(6);
-    free(moves);
     return fault;
 }
 
-/* Asks the bytes, from memory that ends where they do. What was there must stay where a fault is answered. */
-static void ask(const uint8_t *bytes, size_t length, const char *text)
+/* Asks the bytes for the position. */
+static void ask(const uint8_t *bytes, size_t length, const char *text, size_t text_len)
 {
-    uint8_t *held = malloc(length == 0 ? 1 : length);
-    size_t text_len = strlen(text);
-    uint8_t *words = malloc(text_len);
-    DobutsuValue value = {77, 77};
-    uint64_t broken = 77;
-    uint32_t fault, checked;
-    if (held == NULL || words == NULL)
-        exit(3);
-    memcpy(held, bytes, length);
-    memcpy(words, text, text_len);
-    fault = dobutsu_probe(held, length, words, text_len, &value);
-    if (fault >= 32 || (fault != DOBUTSU_OK && (value.kind != 77 || value.plies != 77)))
+    const uint8_t *file = lent(&file_room, bytes, length), *words = lent(&text_room, text, text_len);
+    DobutsuValue *value = blank(&value_room, sizeof *value), found;
+    uint64_t *broken;
+    uint32_t fault = dobutsu_probe(file, length, words, text_len, value), checked;
+    size_t n;
+    if (fault >= 32 || !is_kept(&value_room, sizeof *value, fault == DOBUTSU_OK ? sizeof *value : 0))
         exit(4);
-    if (ask_moves(held, length, words, text_len, 0) != fault || ask_moves(held, length, words, text_len, 1) != fault
-        || ask_moves(held, length, words, text_len, DOBUTSU_MOST_MOVES) != fault)
-        exit(7);
+    found = *value;
+    for (n = 0; n < 3; n++)
+        if (ask_moves(file, length, words, text_len, rooms[n]) != fault)
+            exit(7);
     if (fault == DOBUTSU_OK || fault >= DOBUTSU_TRUNCATED) {
-        DobutsuValue other = {77, 77};
-        uint32_t by = ask_by(held, length, index_words, index_len, words, text_len, &other);
-        if (by != fault ? by != DOBUTSU_INDEX || (fault != DOBUTSU_OK && fault != DOBUTSU_FAR_CHICK) : memcmp(&value, &other, sizeof other) != 0)
+        DobutsuValue other;
+        uint32_t by = ask_by(file, length, index_words, index_len, words, text_len, &other);
+        if (by != fault ? by != DOBUTSU_INDEX || (fault != DOBUTSU_OK && fault != DOBUTSU_FAR_CHICK) : memcmp(&found, &other, sizeof other) != 0)
             exit(16);
     }
-    checked = dobutsu_check(held, length, &broken);
-    if (checked >= 32 || (checked == DOBUTSU_INCONSISTENT) != (broken != 77) || (fault >= DOBUTSU_TRUNCATED && fault <= DOBUTSU_TRAILING && checked != fault))
+    broken = blank(&number_room, sizeof *broken);
+    checked = dobutsu_check(file, length, broken);
+    if (checked >= 32 || !is_kept(&number_room, sizeof *broken, checked == DOBUTSU_INCONSISTENT ? sizeof *broken : 0)
+        || (fault >= DOBUTSU_TRUNCATED && fault <= DOBUTSU_TRAILING && checked != fault))
         exit(8);
     answers[fault]++;
     checks[checked]++;
-    free(words);
-    free(held);
 }
 
-int main(int argc, char **argv)
+/* Asks the file in each state. */
+static void ask_all(uint8_t *bytes, size_t length, const char *text)
 {
-    static uint8_t bytes[1 << 20];
-    size_t length, n;
+    uint8_t header[21];
+    size_t text_len = strlen(text), n;
     unsigned set;
-    FILE *opened;
-
-    if (argc != 3 || (opened = fopen(argv[1], "rb")) == NULL)
-        return 2;
-    length = fread(bytes, 1, sizeof bytes, opened);
-    fclose(opened);
-    for (set = 0; set < 3; set++)
-        index_set[set] = bytes[8 + set];
-    index_profile = bytes[7] == '1' ? 0 : bytes[12];
-    index_len = dobutsu_index_words(index_set[0], index_set[1], index_set[2], index_profile);
-    index_words = numbers(index_len);
-    if (dobutsu_index(index_set[0], index_set[1], index_set[2], index_profile, index_words, index_len) != DOBUTSU_OK)
-        return 5;
-    ask_by_others(bytes, length, argv[2]);
+    memcpy(header, bytes, sizeof header);
+    ask_by_others(bytes, length, text);
     for (n = 0; n <= length; n++)
-        ask(bytes, n, argv[2]);
+        ask(bytes, n, text, text_len);
+    for (n = 0; n < text_len; n++)
+        ask(bytes, length, text, n);
     for (n = 0; n < length; n++) {
         if (n >= 32 && n + 32 < length)
             continue;
         bytes[n] ^= 0x55;
-        ask(bytes, length, argv[2]);
+        ask(bytes, length, text, text_len);
         bytes[n] ^= 0x55;
     }
     for (set = 0; set < 27; set++) {
@@ -195,14 +274,45 @@ int main(int argc, char **argv)
         bytes[9] = (uint8_t)(set / 3 % 3);
         bytes[10] = (uint8_t)(set % 3);
         if (dobutsu_count(bytes[8], bytes[9], bytes[10], 0, &positions, &classes) != DOBUTSU_OK)
-            return 5;
+            exit(5);
         for (place = 0; place < 8; place++)
             bytes[(bytes[7] == '1' ? 12 : 13) + place] = (uint8_t)(classes >> 8 * place);
-        ask(bytes, length, argv[2]);
+        ask(bytes, length, text, text_len);
+    }
+    memcpy(bytes, header, sizeof header);
+}
+
+int main(int argc, char **argv)
+{
+    static uint8_t bytes[MOST_BYTES];
+    struct sigaction caught;
+    size_t length, n;
+    FILE *opened;
+
+    if (argc != 3 || (opened = fopen(argv[1], "rb")) == NULL)
+        return 2;
+    length = fread(bytes, 1, sizeof bytes, opened);
+    fclose(opened);
+    memset(&caught, 0, sizeof caught);
+    caught.sa_handler = touched;
+    if (sigaction(SIGSEGV, &caught, NULL) != 0 || sigaction(SIGBUS, &caught, NULL) != 0)
+        return 3;
+    file_room = room_for(MOST_BYTES);
+    text_room = room_for(strlen(argv[2]));
+    index_room = room_for(MOST_BYTES);
+    value_room = room_for(sizeof(DobutsuValue));
+    moves_room = room_for(DOBUTSU_MOST_MOVES * sizeof(DobutsuMove));
+    number_room = room_for(sizeof(uint64_t));
+    for (n = 0; n < 3; n++)
+        index_set[n] = bytes[8 + n];
+    index_profile = bytes[7] == '1' ? 0 : bytes[12];
+    for (guard = BEHIND; guard <= BEFORE; guard++) {
+        index_words = index_of(index_set[0], index_set[1], index_set[2], index_profile, &index_len);
+        ask_all(bytes, length, argv[2]);
+        free(index_words);
     }
     for (n = 0; n < 32; n++)
         if (answers[n] != 0 || checks[n] != 0 || by_index[n] != 0)
             printf("E%u %lu %lu %lu\n", (unsigned)n, answers[n], checks[n], by_index[n]);
-    free(index_words);
     return 0;
 }

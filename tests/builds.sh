@@ -36,7 +36,7 @@ note "the file of 111 by one node is that by two" "$good"
 rm -f "$work/alone.db"
 expect 0 'consistent' '' check --progress --db "$built"
 expect 1 '' 'dobutsu: E25 SetText' build --set 003 --nodes 2 --out "$other" --progress
-expect 3 '' 'dobutsu: E24 Io' check --progress --db "$work/none.db"
+expect 3 '' "$(failed_at "$work/none.db" "$gone")" check --progress --db "$work/none.db"
 # Without --nodes a build takes a node a processor, 16 at most: of its threads, counted over and over, there are mostly one a node and the main one.
 for processors in 0 0,1 ''; do
     run=()
@@ -83,8 +83,8 @@ expect 1 '' 'dobutsu: E9 Nodes' build --set 000 --nodes 17 --out "$work/refused.
 expect 1 '' 'dobutsu: E9 Nodes' build --set 000 --nodes 18446744073709551615 --out "$work/refused.db"
 if [ -e "$work/refused.db" ]; then good=no; else good=yes; fi
 note "a refused build makes no file" "$good"
-expect 3 '' 'dobutsu: E24 Io' build --set 000 --nodes 2 --out "$work/none/built.db"
-expect 3 '' 'dobutsu: E24 Io' build --set 000 --nodes 2 --out "$work"
+expect 3 '' "$(failed_at "$work/none/built.db" "$gone")" build --set 000 --nodes 2 --out "$work/none/built.db"
+expect 3 '' "$(failed_at "$work" "$folder")" build --set 000 --nodes 2 --out "$work"
 if [ -c /dev/full ]; then expect 3 '' 'dobutsu: E24 Io' build --set 000 --nodes 2 --out /dev/full; fi
 
 # A file is as it was until the new one is whole: where a build is killed at some moment, where the disk takes no more, and
@@ -104,10 +104,33 @@ done
 note "builds killed at 20 moments leave the file as it was, or whole" "$same"
 cp testdata/lions_alone.db "$work/kept.db"
 (ulimit -f 2; trap '' XFSZ; "$program" build --set 100 --nodes 2 --out "$work/kept.db") >"$work/out" 2>"$work/err" && status=0 || status=$?
-if [ "$status" = 3 ] && [ "$(cat "$work/err")" = 'dobutsu: E24 Io' ] && cmp -s "$work/kept.db" testdata/lions_alone.db \
+too_large="$(failed_at "$work/kept.db" 'File too large (os error 27)')"
+if [ "$status" = 3 ] && [ "$(cat "$work/err")" = "$too_large" ] && cmp -s "$work/kept.db" testdata/lions_alone.db \
     && [ ! -e "$work/kept.db.part" ]; then good=yes; else good=no; fi
 note "a build whose file may not grow leaves the one that was there, and no part" "$good"
 expect 0 '~^classes 54$' '' build --set 000 --nodes 2 --out /dev/null
+# a rebuilt file keeps its mode, whatever the shell would give it, and a new one has that
+same=yes
+for mode in 600 644 755 444; do
+    cp testdata/one_chick.db "$work/mode.db"
+    chmod "$mode" "$work/mode.db"
+    (umask 027; "$program" build --set 000 --nodes 2 --out "$work/mode.db") >"$work/out" 2>&1 || same=no
+    [ "$(stat -c %a "$work/mode.db")" = "$mode" ] && cmp -s "$work/mode.db" testdata/lions_alone_2.db || same=no
+done
+rm -f "$work/mode.db"
+(umask 027; "$program" build --set 000 --nodes 2 --out "$work/mode.db") >"$work/out" 2>&1 || same=no
+[ "$(stat -c %a "$work/mode.db")" = 640 ] || same=no
+note "a rebuilt file keeps its mode, and a new one has that of the shell: $(stat -c %a "$work/mode.db")" "$same"
+# standard streams that are closed lead nowhere: no file that is opened takes their numbers
+same=yes
+"$program" build --set 000 --nodes 2 --progress --out "$work/silent.db" 2>&- >"$work/out" || same=no
+cmp -s "$work/silent.db" testdata/lions_alone_2.db && grep -qx 'classes 54' "$work/out" || same=no
+rm -f "$work/silent.db"
+"$program" build --set 000 --nodes 2 --out "$work/silent.db" <&- >&- 2>&- || same=no
+cmp -s "$work/silent.db" testdata/lions_alone_2.db || same=no
+"$program" look --each --db "$lions" <&- >"$work/out" 2>"$work/err" || same=no
+[ ! -s "$work/out" ] && [ ! -s "$work/err" ] || same=no
+note "closed standard streams lead nowhere: $(head -c 80 "$work/out")" "$same"
 # a link stays, and what it leads to is written
 cp testdata/lions_alone.db "$work/behind.db"
 ln -s behind.db "$work/link.db"
@@ -120,14 +143,15 @@ note "a build to a link's name writes what the link leads to" "$good"
 if [ -d /proc ]; then expect 3 '' 'dobutsu: E24 Io' build --set 000 --nodes 2 --out /proc/built.db; fi
 mkdir "$work/small"
 no_room() {
-    local good=no
+    local good=no reason="$full"
+    [ "$1" = rw ] || reason='Read-only file system (os error 30)'
     # shellcheck disable=SC2016
     if unshare -rm bash -c '
         mount -t tmpfs -o size=1m none "$1" && cp testdata/lions_alone.db "$1/kept.db" && mount -o "remount,size=1m,$3" "$1" || exit 1
         "$2" build --set 111 --nodes 4 --out "$1/kept.db"
         [ "$?" = 3 ] && cmp -s "$1/kept.db" testdata/lions_alone.db && [ "$(ls "$1")" = kept.db ]
     ' bash "$work/small" "$top/crates/dobutsu/out/dobutsu" "$1" >"$work/out" 2>"$work/err" && [ ! -s "$work/out" ] \
-        && holds "$work/err" 'dobutsu: E24 Io'; then good=yes; fi
+        && holds "$work/err" "$(failed_at "$work/small/kept.db" "$reason")"; then good=yes; fi
     note "a build on a file system of 1 MB, mounted $1: $(head -c 80 "$work/err")" "$good"
 }
 if unshare -rm mount -t tmpfs -o size=1m none "$work/small" 2>/dev/null; then
@@ -149,8 +173,8 @@ for turn in $(seq 20); do
     wait "$first" && first=0 || first=$?
     case "$first$later" in
         00) [ ! -s "$work/err" ] && [ ! -s "$work/later_err" ] ;;
-        03) [ ! -s "$work/err" ] && holds "$work/later_err" 'dobutsu: E24 Io' ;;
-        30) holds "$work/err" 'dobutsu: E24 Io' && [ ! -s "$work/later_err" ] ;;
+        03) [ ! -s "$work/err" ] && holds "$work/later_err" '~^dobutsu: E24 Io: .*/kept.db: ' ;;
+        30) holds "$work/err" '~^dobutsu: E24 Io: .*/kept.db: ' && [ ! -s "$work/later_err" ] ;;
         *) false ;;
     esac || same=no
     cmp -s "$work/kept.db" testdata/one_chick_2.db || { [ "$set" = 000 ] && cmp -s "$work/kept.db" testdata/lions_alone_2.db; } || same=no

@@ -6,7 +6,7 @@ if [ -c /dev/full ]; then
         IFS='|' read -r -a given <<<"$words"
         status=0
         ./dobutsu "${given[@]}" >/dev/full 2>"$work/err" || status=$?
-        if [ "$status" = 3 ] && holds "$work/err" 'dobutsu: E24 Io'; then good=yes; else good=no; fi
+        if [ "$status" = 3 ] && holds "$work/err" "$(failed_at 'standard output' "$full")"; then good=yes; else good=no; fi
         note "./dobutsu $words >/dev/full: status $status, $(head -c 80 "$work/err")" "$good"
     done
     for words in '1|value|x' '2|solve' "0|value|$position"; do

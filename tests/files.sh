@@ -46,7 +46,7 @@ loss 4,1
 win 5,3
 loss 6,2
 win 7,3' '' stats --csv --db "$lions"
-expect 3 '' 'dobutsu: E24 Io' stats --db "$work/none.db"
+expect 3 '' "$(failed_at "$work/none.db" "$gone")" stats --db "$work/none.db"
 expect 1 '' 'dobutsu: E15 Truncated' stats --db /dev/null
 # the moves with their values, best first
 expect 0 'La2-a3 win 3
@@ -61,7 +61,7 @@ expect 0 'Lb2xb3 win 1' '' moves --db "$lions" '.../.l./.L./... - -'
 expect 0 'end' '' moves --db "$lions" '.../L../.../..l - -'
 expect 1 '' 'dobutsu: E7 OtherSet' moves --db "$lions" '..l/.../.../L.. C -'
 expect 1 '' 'dobutsu: E1 Shape' moves --db "$work/none.db" ''
-expect 3 '' 'dobutsu: E24 Io' moves --db "$work/none.db" "$position"
+expect 3 '' "$(failed_at "$work/none.db" "$gone")" moves --db "$work/none.db" "$position"
 # the first of them
 expect 0 'La2-a3 win 3' '' best --db "$lions" "$position"
 expect 0 'La1-b1 loss 2' '' best '.../.../..l/L.. - -' --db "$lions"
@@ -69,7 +69,7 @@ expect 0 'Lb2xb3 win 1' '' best --db "$lions" '.../.l./.L./... - -'
 expect 0 'end' '' best --db "$lions" '.../L../.../..l - -'
 expect 1 '' 'dobutsu: E7 OtherSet' best --db "$lions" '..l/.../.../L.. C -'
 expect 1 '' 'dobutsu: E1 Shape' best --db "$work/none.db" ''
-expect 3 '' 'dobutsu: E24 Io' best --db "$work/none.db" "$position"
+expect 3 '' "$(failed_at "$work/none.db" "$gone")" best --db "$work/none.db" "$position"
 # each line of standard input: positions, some of them refused, lines of other systems, and a last line without its end
 answers_of() {
     local status=0 word="$1" wanted="$2" input="$3" out="$4" good=no
@@ -84,18 +84,18 @@ answers 0 "$position"'\n.../.../..l/L.. - -\n.l./.../.L./... - -\n' 'win 3\nloss
 answers 0 "$position"'\r\n.../.../..l/L.. - -\r\n.l./.../.L./... - -' 'win 3\nloss 2\ndraw\n' --db="$lions"
 answers 1 "$position"'\n..l/.../L../... - x\n\n\377\n..l/.../.../L.. C -\nL../.../.../..l - -\n.../.../..l/L.. - -\n' \
     'win 3\nE3 Hand\nE1 Shape\nE1 Shape\nE7 OtherSet\nE6 FarLion\nloss 2\n' --db "$lions"
-expect 3 '' 'dobutsu: E24 Io' probe --each --db "$work/none.db"
+expect 3 '' "$(failed_at "$work/none.db" "$gone")" probe --each --db "$work/none.db"
 expect 1 '' 'dobutsu: E15 Truncated' probe --each --db /dev/null
-expect 3 '' 'dobutsu: E24 Io' probe --each --db "$lions" <"$work"
+expect 3 '' "$(failed_at 'standard input' "$folder")" probe --each --db "$lions" <"$work"
 # the same by each position's own record; of a file that is cut inside one, that line alone is refused
 answers_of look 1 "$position"'\n..l/.../L../... - x\n\n\377\n..l/.../.../L.. C -\nL../.../.../..l - -\n.../.../..l/L.. - -\n.l./.../.L./... - -' \
     'win 3\nE3 Hand\nE1 Shape\nE1 Shape\nE7 OtherSet\nE6 FarLion\nloss 2\ndraw\n' --db "$lions"
 answers_of look 0 '' '' --db "$lions"
 head -c 77 "$lions" >"$work/cut.db"
 answers_of look 1 "$position"'\n.../.../..l/L.. - -\n' 'E15 Truncated\nloss 2\n' --db "$work/cut.db"
-expect 3 '' 'dobutsu: E24 Io' look --each --db "$work/none.db"
+expect 3 '' "$(failed_at "$work/none.db" "$gone")" look --each --db "$work/none.db"
 expect 1 '' 'dobutsu: E15 Truncated' look --each --db /dev/null
-expect 3 '' 'dobutsu: E24 Io' look --each --db "$lions" <"$work"
+expect 3 '' "$(failed_at 'standard input' "$folder")" look --each --db "$lions" <"$work"
 # positions that one move alone wins soonest; a length that no puzzle has is refused before the file is looked for
 expect 0 '.../..l/L../... - -  La2-a3
 ..l/.../L../... - -  La2-a3
@@ -125,7 +125,7 @@ expect 0 'none' '' puzzles --db "$lions" --plies 9 --count 1 --random 1844674407
 for plies in 0 1 2 4 18446744073709551614; do
     expect 2 '' 'dobutsu: --plies is an odd number of at least 3' puzzles --db "$work/none.db" --plies "$plies" --count 1
 done
-expect 3 '' 'dobutsu: E24 Io' puzzles --db "$work/none.db" --plies 3 --count 1
+expect 3 '' "$(failed_at "$work/none.db" "$gone")" puzzles --db "$work/none.db" --plies 3 --count 1
 expect 1 '' 'dobutsu: E15 Truncated' puzzles --db /dev/null --plies 3 --count 1
 # the board as it is drawn
 expect 0 'The other side: small letters, going down the board.
@@ -206,11 +206,11 @@ expect 0 '~In hand: nothing' '' show --svg "$work/start.svg" 'gle/.c./.C./ELG - 
 if cmp -s "$work/start.svg" docs/start.svg; then good=yes; else good=no; fi
 note "the picture of README is that of the starting position" "$good"
 expect 1 '' 'dobutsu: E7 OtherSet' show --db "$lions" --svg "$work/refused.svg" '..l/.../.../L.. C -'
-expect 3 '' 'dobutsu: E24 Io' show --db "$work/none.db" --svg "$work/refused.svg" "$position"
+expect 3 '' "$(failed_at "$work/none.db" "$gone")" show --db "$work/none.db" --svg "$work/refused.svg" "$position"
 expect 1 '' 'dobutsu: E1 Shape' show --svg "$work/refused.svg" ''
 if [ -e "$work/refused.svg" ]; then good=no; else good=yes; fi
 note "a position that isn't shown has no picture" "$good"
-expect 3 '' 'dobutsu: E24 Io' show --svg "$work/none/picture.svg" "$position"
+expect 3 '' "$(failed_at "$work/none/picture.svg" "$gone")" show --svg "$work/none/picture.svg" "$position"
 expect 0 'win 3' '' look --db "$lions" "$position"
 expect 0 'loss 2' '' look '.../.../..l/L.. - -' --db "$lions"
 expect 0 'draw' '' look --db="$lions" '.l./.../.L./... - -'
@@ -223,12 +223,12 @@ expect 1 '' 'dobutsu: E1 Shape' probe --db "$work/none.db" ''
 expect 1 '' 'dobutsu: E1 Shape' line --db "$work/none.db" ''
 expect 1 '' 'dobutsu: E1 Shape' look --db "$work/none.db" ''
 expect 1 '' 'dobutsu: E6 FarLion' probe --db "$work/none.db" 'L../.../.../..l - -'
-expect 3 '' 'dobutsu: E24 Io' probe --db "$work/none.db" "$position"
-expect 3 '' 'dobutsu: E24 Io' line --db "$work/none.db" "$position"
-expect 3 '' 'dobutsu: E24 Io' look --db "$work/none.db" "$position"
-expect 3 '' 'dobutsu: E24 Io' look --db "$work" "$position"
-expect 3 '' 'dobutsu: E24 Io' check --db "$work/none.db"
-expect 3 '' 'dobutsu: E24 Io' check --db "$work"
+expect 3 '' "$(failed_at "$work/none.db" "$gone")" probe --db "$work/none.db" "$position"
+expect 3 '' "$(failed_at "$work/none.db" "$gone")" line --db "$work/none.db" "$position"
+expect 3 '' "$(failed_at "$work/none.db" "$gone")" look --db "$work/none.db" "$position"
+expect 3 '' "$(failed_at "$work" "$folder")" look --db "$work" "$position"
+expect 3 '' "$(failed_at "$work/none.db" "$gone")" check --db "$work/none.db"
+expect 3 '' "$(failed_at "$work" "$folder")" check --db "$work"
 expect 1 '' 'dobutsu: E15 Truncated' check --db /dev/null
 
 # Files brought to the second format, from either, over what was there and over themselves; a damaged one leaves what was there.
@@ -244,6 +244,6 @@ if cmp -s "$work/migrated.db" "$lions_2"; then good=yes; else good=no; fi
 note "a file migrated over itself" "$good"
 { head -c 12 "$lions_2"; printf '\1'; tail -c +14 "$lions_2"; } >"$work/other_profile.db"
 expect 1 '' 'dobutsu: E20 Digest' migrate --db "$work/other_profile.db" --out "$work/migrated.db"
-expect 3 '' 'dobutsu: E24 Io' migrate --db "$work/none.db" --out "$work/migrated.db"
+expect 3 '' "$(failed_at "$work/none.db" "$gone")" migrate --db "$work/none.db" --out "$work/migrated.db"
 if cmp -s "$work/migrated.db" "$lions_2" && [ ! -e "$work/migrated.db.part" ]; then good=yes; else good=no; fi
 note "a file that isn't migrated leaves the one that was there" "$good"

@@ -3,7 +3,7 @@
 
 # Three programs in C over the archive, and one in Python over the shared object. `examples/probe.c`
 # prints what `probe` does of these positions and of those of testdata, in each profile, `examples/explore.py` what `moves` does too, and
-# `examples/hostile.c` reads nothing past the end of files and indexes that are cut or changed. The header is one of C++ too.
+# `examples/hostile.c` sees that no call touches memory that isn't its own, and sees each planted library that does. The header is one of C++ too.
 make_release || note "the release of which the library is a part" no
 compile() { cc -std=c99 -D_POSIX_C_SOURCE=200809L -Wall -Wextra -Werror -pedantic "$@" -I"$release" "$release/libdobutsu.a" >"$work/out" 2>&1; }
 same=yes
@@ -15,9 +15,21 @@ cc -O2 examples/probe.c -D_POSIX_C_SOURCE=200809L -I"$release" -L"$release" -ldo
 echo '#include "dobutsu.h"' | cc -x c++ -fsyntax-only -Wall -Wextra -Werror -I"$release" - >"$work/out" 2>&1 || same=no
 note "the shared object, and the header in C++: $(head -1 "$work/out")" "$same"
 same=yes
-compile -g -fsanitize=address examples/hostile.c -o "$work/hostile" || same=no
+compile -O2 examples/hostile.c -o "$work/hostile" || same=no
 for name in lions_alone one_chick lions_alone_2; do "$work/hostile" "testdata/$name.db" "$position" >"$work/out" 2>&1 || same=no; done
 note "examples/hostile.c over cut and changed files and indexes: $(tail -1 "$work/out")" "$same"
+# Libraries that read past a file, past an index, before a text, and that write past the moves, and into the file.
+same=yes
+for planted in READ_PAST_FILE READ_PAST_INDEX READ_BEFORE_TEXT WRITE_PAST_MOVES WRITE_FILE; do
+    compile -O2 -DPLANTED="$planted" -Wl,--wrap=dobutsu_probe,--wrap=dobutsu_probe_by,--wrap=dobutsu_moves examples/hostile.c tests/planted.c \
+        -o "$work/planted" || same=no
+    for name in lions_alone lions_alone_2; do
+        status=0
+        "$work/planted" "testdata/$name.db" "$position" >"$work/out" 2>&1 || status=$?
+        [ "$status" = 20 ] || same=no
+    done
+done
+note "examples/hostile.c finds each planted library: status $status, $(tail -1 "$work/out")" "$same"
 
 # Whether the program and the example print the same of each position of a file, values and faults.
 answer_alike() {

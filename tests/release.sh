@@ -21,8 +21,19 @@ same=yes
 cmp -s "$release/chick.db" testdata/one_chick_2.db || same=no
 rm -f "$release/chick.db"
 ! ldd "$release/dobutsu" >"$work/out" 2>&1 || same=no
-for name in FORMAT.md RULES.md CLASSES.md PROVED dobutsu.h dobutsu.html libdobutsu.a libdobutsu.so dobutsu.1 \
+for name in README.md QUESTIONS.md FORMAT.md RULES.md CLASSES.md PROVED libdobutsu.pc dobutsu.h dobutsu.html libdobutsu.a libdobutsu.so dobutsu.1 \
     completions/{dobutsu.bash,_dobutsu,dobutsu.fish}; do
     [ -s "$release/$name" ] || same=no
 done
 note "the program of the release, unpacked in an empty folder" "$same"
+# What libdobutsu.pc says builds an example in another folder.
+if command -v pkg-config >/dev/null; then
+    same=yes
+    read -r -a words < <(PKG_CONFIG_PATH="$release" pkg-config --cflags --libs libdobutsu)
+    cc examples/probe.c -D_POSIX_C_SOURCE=200809L "${words[@]}" -Wl,-rpath,"$release" -o "$work/by_pc" >"$work/out" 2>&1 || same=no
+    [ "$(echo "$position" | "$work/by_pc" testdata/lions_alone.db)" = 'win 3' ] || same=no
+    [ "$(PKG_CONFIG_PATH="$release" pkg-config --modversion libdobutsu)" = "$("$release/dobutsu" --version | sed 's/^dobutsu //')" ] || same=no
+    note "libdobutsu.pc: ${words[*]}, $(tail -1 "$work/out")" "$same"
+else
+    echo "Not run: libdobutsu.pc, since pkg-config isn't here."
+fi

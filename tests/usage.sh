@@ -122,7 +122,17 @@ completes() {
 same=yes
 [ "$(completes dobutsu '' | grep -v -e '^--')" = "$(echo "$forms" | sort)" ] || same=no
 [ "$(completes dobutsu value --rules '')" = $'A\nB' ] || same=no
-[ "$(completes dobutsu check --db testdata/lions_alone.d)" = testdata/lions_alone.db ] || same=no
+[ "$(completes dobutsu value --rules = '')" = $'A\nB' ] || same=no
+[ "$(completes dobutsu value --rules=)" = $'--rules=A\n--rules=B' ] || same=no
+[ "$(completes dobutsu count --set 21)" = $'210\n211\n212' ] || same=no
+[ "$(completes dobutsu build --set = | wc -l)" = 27 ] || same=no
+[ "$(completes dobutsu build --nodes 1 | wc -l)" = 8 ] || same=no
+for words in '--db' '--db =' '--db='; do
+    read -r -a given <<<"$words"
+    front=''
+    [ "$words" = '--db=' ] && front='--db=' && given=()
+    [ "$(completes dobutsu check "${given[@]}" "${front}testdata/lions_alone.d")" = "${front}testdata/lions_alone.db" ] || same=no
+done
 for form in $forms; do
     [ "$form" != help ] || continue
     sed -n "/^\\.SS $form\$/,/^\\.S[SH] /p" "$work/dobutsu.1" | grep -A1 '^\.TP' | grep -o -e '^\\fB\\-\\-[a-z]*' | sed 's/^.*-/--/' >"$work/in_page"

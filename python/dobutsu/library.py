@@ -2,11 +2,14 @@
 from __future__ import annotations
 
 import ctypes
-import ctypes.util
+import functools
 import os
 import pathlib
+from collections.abc import Iterator
+from typing import Any
 
-from .value import Fault, Move, Value
+from .plain import PROFILES, Fault, Pieces
+from .value import Move, Value
 
 NAMES = {
     1: "Shape", 2: "Letter", 3: "Hand", 4: "Lions", 5: "Count", 6: "FarLion", 7: "OtherSet", 15: "Truncated", 16: "Magic", 17: "SetByte",
@@ -22,11 +25,18 @@ class CValue(ctypes.Structure):
     _fields_ = [("kind", ctypes.c_uint32), ("plies", ctypes.c_uint32)]
 
     def value(self) -> Value:
-        return Value(VALUES[self.kind], self.plies)
+        return value_of(self.kind, self.plies)
 
 
 class CMove(ctypes.Structure):
-    _fields_ = [(name, ctypes.c_uint32) for name in ("kind", "start", "end", "catches", "grows")] + [("value", CValue)]
+    _fields_ = [
+        ("kind", ctypes.c_uint32),
+        ("start", ctypes.c_uint32),
+        ("end", ctypes.c_uint32),
+        ("catches", ctypes.c_uint32),
+        ("grows", ctypes.c_uint32),
+        ("value", CValue),
+    ]
 
     def move(self) -> Move:
         letter, end = KINDS[self.kind], square(self.end)
@@ -36,72 +46,102 @@ class CMove(ctypes.Structure):
 
 
 class CVersion(ctypes.Structure):
-    _fields_ = [(name, ctypes.c_uint32) for name in ("major", "minor", "patch")]
+    _fields_ = [("major", ctypes.c_uint32), ("minor", ctypes.c_uint32), ("patch", ctypes.c_uint32)]
+
+
+@functools.cache
+def value_of(kind: int, plies: int) -> Value:
+    return Value(VALUES[kind], plies)
 
 
 def square(number: int) -> str:
     return "abc"[number % 3] + str(number // 3 + 1)
 
 
-def paths() -> list[str]:
+def paths() -> Iterator[str]:
     """Where the library may be: as the environment says, beside the package, beside its folder, or where the system looks."""
     package = pathlib.Path(__file__).resolve().parent
-    near = [package / "libdobutsu.so", package.parent.parent / "libdobutsu.so"]
-    found = [os.environ.get("DOBUTSU_LIBRARY"), *(str(path) for path in near if path.is_file()), ctypes.util.find_library("dobutsu")]
-    return [path for path in found if path]
+    if named := os.environ.get("DOBUTSU_LIBRARY"):
+        yield named
+    for near in (package / "libdobutsu.so", package.parent.parent / "libdobutsu.so"):
+        if near.is_file():
+            yield str(near)
+    yield "libdobutsu.so"
 
 
 class Library:
-    """The library, over one file's bytes. Its index of the file's family is made once, so that each answer takes microseconds.
+    """The library's calls. Raises OSError where it can't be loaded, AttributeError where it lacks a call."""
 
-    Raises OSError where the library can't be loaded, AttributeError where it lacks a call.
-    """
-
-    def __init__(self, path: str, data: memoryview, pieces: tuple[int, ...], rules: str) -> None:
-        self.calls = ctypes.CDLL(path)
+    def __init__(self, path: str) -> None:
+        calls = ctypes.CDLL(path)
         size, number, bytes_at, words_at = ctypes.c_size_t, ctypes.c_uint32, ctypes.c_void_p, ctypes.POINTER(ctypes.c_uint64)
-        asked = [bytes_at, size, words_at, size, ctypes.c_char_p, size]
-        self.calls.dobutsu_index_words.argtypes = [number] * 4
-        self.calls.dobutsu_index_words.restype = ctypes.c_uint64
-        self.calls.dobutsu_index.argtypes = [number] * 4 + [words_at, size]
-        self.calls.dobutsu_probe_by.argtypes = asked + [ctypes.POINTER(CValue)]
-        self.calls.dobutsu_moves_by.argtypes = asked + [ctypes.POINTER(CMove), size, ctypes.POINTER(ctypes.c_uint64)]
-        for call in (self.calls.dobutsu_index, self.calls.dobutsu_probe_by, self.calls.dobutsu_moves_by):
-            call.restype = ctypes.c_uint32
-        self.calls.dobutsu_version.restype = CVersion
-        family = [*pieces, "AB".index(rules)]
-        self.index = (ctypes.c_uint64 * self.calls.dobutsu_index_words(*family))()
-        refuse(self.calls.dobutsu_index(*family, self.index, len(self.index)))
-        self.data = data
-        self.held = (ctypes.c_char * max(1, len(data))).from_buffer(data)
+        asked: list[Any] = [bytes_at, size, words_at, size, ctypes.c_char_p, size]
+        calls.dobutsu_count.argtypes = [number] * 4 + [words_at] * 2
+        calls.dobutsu_index_words.argtypes = [number] * 4
+        calls.dobutsu_index_words.restype = ctypes.c_uint64
+        calls.dobutsu_index.argtypes = [number] * 4 + [words_at, size]
+        calls.dobutsu_probe_by.argtypes = [*asked, ctypes.POINTER(CValue)]
+        calls.dobutsu_moves_by.argtypes = [*asked, ctypes.POINTER(CMove), size, words_at]
+        for call in (calls.dobutsu_count, calls.dobutsu_index, calls.dobutsu_probe_by, calls.dobutsu_moves_by):
+            call.restype = number
+        calls.dobutsu_version.restype = CVersion
+        self.calls = calls
 
+    @property
     def version(self) -> str:
-        """The library's version."""
         found = self.calls.dobutsu_version()
         return f"{found.major}.{found.minor}.{found.patch}"
 
+    def class_count(self, rules: str, pieces: Pieces) -> int:
+        """How many classes the family has."""
+        positions, classes = ctypes.c_uint64(), ctypes.c_uint64()
+        refuse(self.calls.dobutsu_count(*pieces, PROFILES.index(rules), positions, classes))
+        return classes.value
+
+    def index(self, rules: str, pieces: Pieces) -> ctypes.Array[ctypes.c_uint64]:
+        """The index of the family: some hundredths of a second for the whole game."""
+        family = [*pieces, PROFILES.index(rules)]
+        count: int = self.calls.dobutsu_index_words(*family)
+        words = (ctypes.c_uint64 * count)()
+        refuse(self.calls.dobutsu_index(*family, words, len(words)))
+        return words
+
+
+@functools.cache
+def load(path: str) -> Library:
+    return Library(path)
+
+
+class LibraryFile:
+    """A file's bytes, asked by the library. Its index of the family is made once, at the first question, so that each answer takes microseconds."""
+
+    def __init__(self, library: Library, data: memoryview, rules: str, pieces: Pieces) -> None:
+        self.library, self.rules, self.pieces = library, rules, pieces
+        self.held = (ctypes.c_char * len(data)).from_buffer(data)
+
+    @functools.cached_property
+    def index(self) -> ctypes.Array[ctypes.c_uint64]:
+        return self.library.index(self.rules, self.pieces)
+
     def value(self, text: str) -> Value:
-        words, answer = text_bytes(text), CValue()
-        refuse(self.calls.dobutsu_probe_by(*self.asked(words), answer))
+        answer = CValue()
+        refuse(self.library.calls.dobutsu_probe_by(*self.asked(text), answer))
         return answer.value()
 
     def moves(self, text: str) -> list[Move]:
-        words, count = text_bytes(text), ctypes.c_uint64(MOST_MOVES)
+        count = ctypes.c_uint64(MOST_MOVES)
         while True:
             found = (CMove * count.value)()
-            refuse(self.calls.dobutsu_moves_by(*self.asked(words), found, len(found), count))
+            refuse(self.library.calls.dobutsu_moves_by(*self.asked(text), found, len(found), count))
             if count.value <= len(found):
                 return [each.move() for each in found[: count.value]]
 
-    def asked(self, words: bytes) -> tuple[object, ...]:
-        return self.held, len(self.data), self.index, len(self.index), words, len(words)
+    def asked(self, text: str) -> tuple[object, ...]:
+        words = text.encode("utf-8", "surrogatepass")
+        return self.held, len(self.held), self.index, len(self.index), words, len(words)
 
     def close(self) -> None:
         del self.held
-
-
-def text_bytes(text: str) -> bytes:
-    return text.encode("utf-8", "surrogateescape")
 
 
 def refuse(fault: int) -> None:

@@ -13,14 +13,27 @@ class numbers are computed, so that a value of a file of any set takes milliseco
 are read. The digest is read through once when a file is opened; `open_db(path, check=False)` leaves it out. The program prints
 `win D`, `loss D` or `draw` for each position, or what is wrong with the file or a text on standard error, with status 1.
 """
+from __future__ import annotations
+
 import collections
 import functools
 import hashlib
 import itertools
 import math
 import mmap
+import os
 import struct
 import sys
+from collections.abc import Callable, Iterator, Sequence
+from typing import Any, NamedTuple, Optional, TypedDict, Union
+
+Pieces = tuple[int, int, int]  # how many chicks, elephants and giraffes
+Position = tuple[str, Pieces, Pieces]  # the twelve squares from a1 to c4, and the mover's and the enemy's hand
+Move = tuple[str, Optional[int], int]  # letter, from-square or None, to-square
+Lions = tuple[int, int]  # the squares of the mover's lion and of the enemy's
+Choice = tuple[Any, ...]  # the squares of a kind, which are numbers, or its forms there, which are letters
+Place = tuple[Choice, ...]  # the squares of the chicks, the elephants and the giraffes, and then their forms
+Bytes = Union[bytes, bytearray, memoryview, mmap.mmap]
 
 PROFILES = "AB"
 KINDS = "CEG"  # chicks (hens counted with them), elephants, giraffes
@@ -34,102 +47,121 @@ STEPS = {  # columns to the right and rows forward, of the mover
 }
 
 
-class Wrong(Exception):
-    """What is wrong with a file or a text."""
+class Fault(ValueError):
+    """What is wrong with a file or a text: the program's number and name of it, as `E7 OtherSet`.
+
+    >>> Fault("E7 OtherSet").number
+    7
+    """
+
+    @property
+    def number(self) -> int:
+        return int(str(self).split()[0][1:])
 
 
-# ---- positions: the twelve squares from a1 to c4, and the mover's and the enemy's hand as numbers of C, E and G
+# ---- positions
 
 
-def kind_of(letter):
+def kind_of(letter: str) -> str:
     return "C" if letter in "CHch" else letter.upper()
 
 
-def read_hand(word, letters):
-    numbers = tuple(word.count(letter) for letter in letters)
-    if word != "-" and word != "".join(letter * n for letter, n in zip(letters, numbers)):
-        raise Wrong("E3 Hand")
+def read_hand(word: str, letters: str) -> Pieces:
+    chicks, elephants, giraffes = map(word.count, letters)
+    numbers = chicks, elephants, giraffes
+    if word != "-" and word != hand_text(numbers, letters):
+        raise Fault("E3 Hand")
     return numbers
 
 
-def read_position(text):
+def hand_text(numbers: Pieces, letters: str) -> str:
+    return "".join(letter * n for letter, n in zip(letters, numbers))
+
+
+def read_position(text: str) -> Position:
     rows, hands = text[:15].split("/"), text[15:].split(" ")
     is_shape = text.isascii() and [len(row) for row in rows] == [3] * 4 and " " not in text[:15]
     if not is_shape or len(hands) != 3 or hands[0] or not all(hands[1:]):
-        raise Wrong("E1 Shape")
+        raise Fault("E1 Shape")
     squares = "".join(reversed(rows))
     if not all(letter in ".LGECHlgech" for letter in squares):
-        raise Wrong("E2 Letter")
+        raise Fault("E2 Letter")
     position = squares, read_hand(hands[1], "CEG"), read_hand(hands[2], "ceg")
     if squares.count("L") != 1 or squares.count("l") != 1:
-        raise Wrong("E4 Lions")
+        raise Fault("E4 Lions")
     if max(set_of(position)) > 2:
-        raise Wrong("E5 Count")
+        raise Fault("E5 Count")
     if squares.index("L") >= 9:
-        raise Wrong("E6 FarLion")
+        raise Fault("E6 FarLion")
     return position
 
 
-def write_position(position):
+def write_position(position: Position) -> str:
     squares, mover, enemy = position
     rows = "/".join(squares[row : row + 3] for row in (9, 6, 3, 0))
-    hand = lambda numbers, letters: "".join(letter * n for letter, n in zip(letters, numbers)) or "-"
-    return f"{rows} {hand(mover, 'CEG')} {hand(enemy, 'ceg')}"
+    return f"{rows} {hand_text(mover, 'CEG') or '-'} {hand_text(enemy, 'ceg') or '-'}"
 
 
-def mirrored_square(square):
+def mirrored_square(square: int) -> int:
     return square + 2 - 2 * (square % 3)
 
 
-def mirrored(position):
+def mirrored(position: Position) -> Position:
     squares, mover, enemy = position
     return "".join(squares[mirrored_square(s)] for s in range(12)), mover, enemy
 
 
-def turned(position):
+def turned(position: Position) -> Position:
+    """The same board as the other side sees it."""
     squares, mover, enemy = position
     return squares[::-1].swapcase(), enemy, mover
 
 
-def places(squares, kind):
+def places(squares: str, kind: str) -> list[int]:
     return [s for s in range(12) if squares[s] not in ".Ll" and kind_of(squares[s]) == kind]
 
 
-def set_of(position):
+def set_of(position: Position) -> Pieces:
     squares, mover, enemy = position
-    return tuple(len(places(squares, kind)) + mover[i] + enemy[i] for i, kind in enumerate(KINDS))
+    chicks, elephants, giraffes = (len(places(squares, kind)) + mover[i] + enemy[i] for i, kind in enumerate(KINDS))
+    return chicks, elephants, giraffes
 
 
-def may_stand(profile, letter, square):
+def may_stand(profile: str, letter: str, square: int) -> bool:
     """In profile B no chick stands on its own far row."""
     return profile == "A" or not (letter == "C" and square >= 9 or letter == "c" and square < 3)
 
 
-# ---- moves: (letter, from-square or None, to-square), in move order
+def is_allowed(profile: str, position: Position) -> bool:
+    """Whether by the profile each chick may stand where it does."""
+    return all(may_stand(profile, letter, square) for square, letter in enumerate(position[0]))
+
+
+# ---- moves, in move order
 
 
 @functools.cache
-def targets(letter, start):
+def targets(letter: str, start: int) -> list[int]:
     """The squares a step from there, in order."""
     ways = [(start % 3 + column, start // 3 + row) for column, row in STEPS[letter]]
     return sorted(column + 3 * row for column, row in ways if 0 <= column < 3 and 0 <= row < 4)
 
 
-def steps_from(squares, start):
+def steps_from(squares: str, start: int) -> list[Move]:
     letter = squares[start]
     return [(letter, start, end) for end in targets(letter, start) if not squares[end].isupper()]
 
 
-def all_moves(profile, position):
+def all_moves(profile: str, position: Position) -> tuple[list[Move], list[Move]]:
     """The steps, those onto the enemy's lion too, and the drops."""
     squares, mover, _enemy = position
     steps = [move for s in range(12) if squares[s].isupper() for move in steps_from(squares, s)]
-    drops = [(KINDS[i], None, s) for i in range(3) if mover[i] for s in range(12)]
+    drops: list[Move] = [(KINDS[i], None, s) for i in range(3) if mover[i] for s in range(12)]
     return steps, [move for move in drops if squares[move[2]] == "." and may_stand(profile, move[0], move[2])]
 
 
-def status_and_moves(profile, position):
-    """The status, and the moves: just the first catch at `caught`, none at `tried` and `stuck`."""
+def status_and_moves(profile: str, position: Position) -> tuple[str, list[Move]]:
+    """The status, and the moves: only the first catch at `caught`, none at `tried` and `stuck`."""
     squares = position[0]
     steps, drops = all_moves(profile, position)
     catches = [move for move in steps if squares[move[2]] == "l"]
@@ -140,7 +172,7 @@ def status_and_moves(profile, position):
     return ("open", steps + drops) if steps or drops else ("stuck", [])
 
 
-def status(profile, position):
+def status(profile: str, position: Position) -> str:
     """The status alone."""
     squares, mover, _enemy = position
     lion = squares.index("l")
@@ -152,11 +184,11 @@ def status(profile, position):
     return "open" if mover[1] or mover[2] else status_and_moves(profile, position)[0]
 
 
-def grows(move):
+def grows(move: Move) -> bool:
     return move[0] == "C" and move[1] is not None and move[2] >= 9
 
 
-def apply(position, move):
+def apply(position: Position, move: Move) -> Position:
     """The position after the move of an open one, seen from the other side."""
     squares, mover, enemy = list(position[0]), list(position[1]), position[2]
     letter, start, end = move
@@ -167,14 +199,15 @@ def apply(position, move):
             mover[KINDS.index(kind_of(squares[end]))] += 1
         squares[start] = "."
     squares[end] = "H" if grows(move) else letter
-    return turned(("".join(squares), tuple(mover), enemy))
+    chicks, elephants, giraffes = mover
+    return turned(("".join(squares), (chicks, elephants, giraffes), enemy))
 
 
-def square_name(square):
+def square_name(square: int) -> str:
     return "abc"[square % 3] + str(square // 3 + 1)
 
 
-def move_text(position, move):
+def move_text(position: Position, move: Move) -> str:
     letter, start, end = move
     if start is None:
         return f"{letter}*{square_name(end)}"
@@ -190,34 +223,34 @@ def move_text(position, move):
 
 
 @functools.cache
-def choices(squares, number):
-    """The ways to choose so many of the squares, in order, with the number of each."""
-    listed = list(itertools.combinations(squares, number))
+def choices(squares: tuple[int, ...], number: int) -> tuple[Sequence[Choice], dict[Choice, int]]:
+    """The ways to choose that many of the squares, in order, with the number of each."""
+    listed: list[Choice] = list(itertools.combinations(squares, number))
     return listed, {chosen: i for i, chosen in enumerate(listed)}
 
 
 @functools.cache
-def forms(profile, kind, squares):
+def forms(profile: str, kind: str, squares: Sequence[int]) -> tuple[Sequence[Choice], dict[Choice, int]]:
     """The forms that pieces of the kind may have on those squares, in order, with the number of each."""
     letters = [[letter for letter in FORMS_OF[kind] if may_stand(profile, letter, square)] for square in squares]
-    listed = list(itertools.product(*letters))
+    listed: list[Choice] = list(itertools.product(*letters))
     return listed, {chosen: i for i, chosen in enumerate(listed)}
 
 
 class Run:
     """The places of the runs with these numbers on the board and these lions."""
 
-    def __init__(self, profile, on, lions):
+    def __init__(self, profile: str, on: Pieces, lions: Lions) -> None:
         self.profile, self.on, self.lions = profile, on, lions
         own, other = lions
         image = mirrored_square(own), mirrored_square(other)
         self.order = (lions > image) - (lions < image)  # -1: each is the earlier one, 1: the later one, 0: mixed
         free = [10, 10 - on[0], 10 - on[0] - on[1]]
-        # how many ways there are from a digit on, but for what the chicks have
-        bases = [1, math.comb(free[1], on[1]), math.comb(free[2], on[2]), 1, 2 ** on[1], 2 ** on[2]]
+        # how many ways there are from a digit on, without what the chicks have
+        bases = [1, math.comb(free[1], on[1]), math.comb(free[2], on[2]), 1, 1 << on[1], 1 << on[2]]
         self.others = [math.prod(bases[digit:]) for digit in range(7)]
 
-    def options(self, chosen, digit):
+    def options(self, chosen: Place, digit: int) -> tuple[Sequence[Choice], dict[Choice, int]]:
         """What may be chosen next, with the number of each: squares, and then their forms."""
         if digit < 3:
             taken = set(self.lions).union(*chosen)
@@ -225,17 +258,17 @@ class Run:
         return forms(self.profile, KINDS[digit - 3], chosen[digit - 3])
 
     @functools.cached_property
-    def size(self):
+    def size(self) -> int:
         """How many places there are."""
         return sum(self.ways((squares,), 1) for squares in self.options((), 0)[0])
 
-    def ways(self, chosen, digit):
+    def ways(self, chosen: Place, digit: int) -> int:
         """How many ways there are to go on."""
         if digit == 0:
             return self.size
         return self.others[digit] * (len(forms(self.profile, "C", chosen[0])[0]) if digit <= 3 else 1)
 
-    def image(self, chosen, digit, option):
+    def image(self, chosen: Place, digit: int, option: Choice) -> int:
         """The number of the image's option, where the digits before are those of the image."""
         numbers = self.options(chosen, digit)[1]
         if digit < 3:
@@ -244,14 +277,14 @@ class Run:
         return numbers[tuple(form for _, form in seen)]
 
     @functools.cache
-    def fixed(self, chosen, digit):
+    def fixed(self, chosen: Place, digit: int) -> int:
         """How many ways to go on are their own images."""
         if digit == 6:
             return 1
         listed = enumerate(self.options(chosen, digit)[0])
         return sum(self.fixed(chosen + (option,), digit + 1) for i, option in listed if self.image(chosen, digit, option) == i)
 
-    def earlier(self, chosen, digit, number, option):
+    def earlier(self, chosen: Place, digit: int, number: int, option: Choice) -> int:
         """How many ways to go on from the option of that number are no later than their images."""
         image = self.image(chosen, digit, option)
         chosen += (option,)
@@ -260,12 +293,12 @@ class Run:
         return self.ways(chosen, digit + 1) if image > number else 0
 
     @functools.cached_property
-    def count(self):
+    def count(self) -> int:
         if self.order:
             return self.size if self.order < 0 else 0
         return (self.size + self.fixed((), 0)) // 2
 
-    def number(self, options, digit):
+    def number(self, options: Place, digit: int) -> int:
         """How many places with the same options before a digit come before that one."""
         total = 0
         for at in range(digit, 6):
@@ -273,7 +306,7 @@ class Run:
             total += sum(self.ways(options[:at] + (option,), at + 1) for option in listed[: numbers[options[at]]])
         return total
 
-    def before(self, options, digit=0):
+    def before(self, options: Place, digit: int = 0) -> int:
         """How many representatives of the run with the same options before a digit come before that place."""
         if self.order:
             return self.number(options, 0) if self.order < 0 else 0
@@ -287,9 +320,10 @@ class Run:
             return total + self.before(options, digit + 1)
         return total + self.number(options, digit + 1) if image > number else total
 
-    def options_at(self, number):
-        """The place of the representative with so many before it in the run."""
-        chosen, is_mixed = (), not self.order
+    def options_at(self, number: int) -> Place:
+        """The place of the representative with that many before it in the run."""
+        chosen: Place = ()
+        is_mixed = not self.order
         for digit in range(6):
             for i, option in enumerate(self.options(chosen, digit)[0]):
                 some = self.earlier(chosen, digit, i, option) if is_mixed else self.ways(chosen + (option,), digit + 1)
@@ -305,32 +339,37 @@ LIONS = [(own, other) for own in range(9) for other in range(12) if own != other
 
 
 @functools.cache
-def run_of(profile, on, lions):
+def run_of(profile: str, on: Pieces, lions: Lions) -> Run:
     return Run(profile, on, lions)
 
 
 @functools.cache
-def in_hand(profile, on):
+def in_hand(profile: str, on: Pieces) -> int:
     """How many representatives the runs of one hand have."""
     return sum(run_of(profile, on, lions).count for lions in LIONS)
 
 
 @functools.cache
-def hands_of(pieces, on):
-    return list(itertools.product(*(range(n - m + 1) for n, m in zip(pieces, on))))
+def up_to(most: Pieces) -> list[Pieces]:
+    """The numbers of pieces that are no greater, in order."""
+    chicks, elephants, giraffes = (range(number + 1) for number in most)
+    return list(itertools.product(chicks, elephants, giraffes))
+
+
+def hands_of(pieces: Pieces, on: Pieces) -> list[Pieces]:
+    """What the mover may have in hand, where those are on the board."""
+    return up_to((pieces[0] - on[0], pieces[1] - on[1], pieces[2] - on[2]))
+
+
+boards_of = up_to
 
 
 @functools.cache
-def boards_of(pieces):
-    return list(itertools.product(*(range(n + 1) for n in pieces)))
-
-
-@functools.cache
-def class_count(profile, pieces):
+def class_count(profile: str, pieces: Pieces) -> int:
     return sum(len(hands_of(pieces, on)) * in_hand(profile, on) for on in boards_of(pieces))
 
 
-def place_of(profile, position):
+def place_of(profile: str, position: Position) -> tuple[Run, Place, list[int]]:
     """The run of a position and its place there, with the number of each option."""
     squares = position[0]
     on = tuple(tuple(places(squares, kind)) for kind in KINDS)
@@ -339,7 +378,7 @@ def place_of(profile, position):
     return run, options, [run.options(options[:digit], digit)[1][options[digit]] for digit in range(6)]
 
 
-def class_number(profile, position):
+def class_number(profile: str, position: Position) -> int:
     """How many representatives stand before that of the position."""
     pieces, mover = set_of(position), position[1]
     run, options, digits = place_of(profile, position)
@@ -352,7 +391,7 @@ def class_number(profile, position):
     return total + run.before(options)
 
 
-def position_at(profile, pieces, number):
+def position_at(profile: str, pieces: Pieces, number: int) -> Position:
     """The representative of the class of that number."""
     for on in boards_of(pieces):
         hands = hands_of(pieces, on)
@@ -372,86 +411,114 @@ def position_at(profile, pieces, number):
         for square, letter in zip(options[i], options[3 + i]):
             squares[square] = letter
     mover = hands[hand]
-    return "".join(squares), mover, tuple(n - m - h for n, m, h in zip(pieces, on, mover))
+    chicks, elephants, giraffes = (n - m - h for n, m, h in zip(pieces, on, mover))
+    return "".join(squares), mover, (chicks, elephants, giraffes)
 
 
 # ---- files
 
 
-def value_text(record):
+def value_text(record: int) -> str:
     if record == 0:
         return "draw"
     distance = record - 1
     return ("win " if distance % 2 else "loss ") + str(distance)
 
 
-def after_move(record):
+def after_move(record: int) -> str:
     """The value of a move, as its side sees it, by the record of what it leads to."""
     return value_text(record + 1) if record else "draw"
 
 
-def rank_of(value):
+def rank_of(value: str) -> tuple[int, int]:
     """Best first: wins by the least distance, draws, losses by the greatest."""
     kind, _, distance = value.partition(" ")
     return {"win": (0, int(distance or 0)), "draw": (1, 0), "loss": (2, -int(distance or 0))}[kind]
 
 
+class Header(NamedTuple):
+    """What a file's first bytes say: its family, where its records begin, and how many they are."""
+
+    pieces: Pieces
+    profile: str
+    start: int
+    classes: int
+
+
+def read_header(data: Bytes) -> Header:
+    """The tests are made in the order of docs/FORMAT.md; the number of classes isn't tested here."""
+    if len(data) < 20:
+        raise Fault("E15 Truncated")
+    if data[:8] not in (b"DOBUTSU1", b"DOBUTSU2"):
+        raise Fault("E16 Magic")
+    chicks, elephants, giraffes, columns = data[8:12]
+    if max(chicks, elephants, giraffes) > 2 or columns != 2:
+        raise Fault("E17 SetByte")
+    profile, start = "A", 20
+    if data[7:8] == b"2":
+        if len(data) < 21:
+            raise Fault("E15 Truncated")
+        if data[12] > 1:
+            raise Fault("E27 ProfileByte")
+        profile, start = PROFILES[data[12]], 21
+    return Header((chicks, elephants, giraffes), profile, start, int.from_bytes(data[start - 8 : start], "little"))
+
+
+class Counts(TypedDict):
+    """How many classes have which value; the first class of the longest win and of the longest loss, with its distance."""
+
+    classes: int
+    draw: int
+    win: dict[int, int]
+    loss: dict[int, int]
+    longest: dict[str, tuple[int, str]]
+
+
 class Db:
     """A database file that is open."""
 
-    def __init__(self, data, check=True):
-        """The tests are made in the order of docs/FORMAT.md; the digest is left out unless it is to be checked."""
-        if len(data) < 20:
-            raise Wrong("E15 Truncated")
-        if data[:8] not in (b"DOBUTSU1", b"DOBUTSU2"):
-            raise Wrong("E16 Magic")
-        self.pieces = tuple(data[8:11])
-        if max(self.pieces) > 2 or data[11] != 2:
-            raise Wrong("E17 SetByte")
-        self.profile, self.start = "A", 20
-        if data[7:8] == b"2":
-            if len(data) < 21:
-                raise Wrong("E15 Truncated")
-            if data[12] > 1:
-                raise Wrong("E27 ProfileByte")
-            self.profile, self.start = PROFILES[data[12]], 21
-        self.count = int.from_bytes(data[self.start - 8 : self.start], "little")
-        if self.count != class_count(self.profile, self.pieces):
-            raise Wrong("E18 ClassCount")
+    def __init__(self, data: Bytes, check: bool = True, classes: Callable[[str, Pieces], int] | None = None) -> None:
+        """The tests are made in the order of docs/FORMAT.md; the digest is left out unless it is to be checked. `classes`
+        counts those of a family; without it they are counted here."""
+        self.pieces, self.profile, self.start, self.count = read_header(data)
+        if self.count != (classes or class_count)(self.profile, self.pieces):
+            raise Fault("E18 ClassCount")
         end = self.start + 2 * self.count
         if len(data) < end + 32:
-            raise Wrong("E15 Truncated")
+            raise Fault("E15 Truncated")
         if len(data) > end + 32:
-            raise Wrong("E19 Trailing")
+            raise Fault("E19 Trailing")
         if check:
             digest = hashlib.sha256()
             for start in range(0, end, 1 << 20):
                 digest.update(data[start : min(start + (1 << 20), end)])
             if data[end:] != digest.digest():
-                raise Wrong("E20 Digest")
+                raise Fault("E20 Digest")
         self.data = data
 
-    def record(self, position):
-        if not all(may_stand(self.profile, letter, square) for square, letter in enumerate(position[0])):
-            raise Wrong("E26 FarChick")
+    def record(self, position: Position) -> int:
+        if not is_allowed(self.profile, position):
+            raise Fault("E26 FarChick")
         if set_of(position) != self.pieces:
-            raise Wrong("E7 OtherSet")
+            raise Fault("E7 OtherSet")
         return self.record_at(class_number(self.profile, position))
 
-    def record_at(self, number):
+    def record_at(self, number: int) -> int:
+        if not 0 <= number < self.count:
+            raise IndexError(f"no class {number}: there are {self.count}")
         place = self.start + 2 * number
         return int.from_bytes(self.data[place : place + 2], "little")
 
-    def positions(self, first=0, end=None):
+    def positions(self, first: int = 0, end: int | None = None) -> Iterator[tuple[str, str]]:
         """The position of each class from the first number to the one before the end, with its value, both as texts."""
         for number in range(first, self.count if end is None else min(end, self.count)):
             yield write_position(position_at(self.profile, self.pieces, number)), value_text(self.record_at(number))
 
-    def value(self, text):
+    def value(self, text: str) -> str:
         """The value of the position of that text: `win D`, `loss D` or `draw`."""
         return value_text(self.record(read_position(text)))
 
-    def moves(self, text):
+    def moves(self, text: str) -> list[tuple[str, str]]:
         """Each move of the position with its value for the side that makes it, best first, equal ones in move order."""
         position = read_position(text)
         self.record(position)
@@ -461,9 +528,10 @@ class Db:
         valued = [(move_text(position, move), after_move(self.record(apply(position, move)))) for move in moves]
         return sorted(valued, key=lambda pair: rank_of(pair[1]))
 
-    def stats(self):
+    def stats(self) -> Counts:
         """How many classes have which value, and the first class of the longest win and of the longest loss, as texts."""
-        counts, first = collections.Counter(), {}
+        counts: collections.Counter[int] = collections.Counter()
+        first: dict[int, int] = {}
         for start in range(0, self.count, 1 << 16):
             many = min(1 << 16, self.count - start)
             place = self.start + 2 * start
@@ -472,20 +540,21 @@ class Db:
                 counts[record] += number
                 if record not in first:
                     first[record] = start + records.index(record)
-        told = {"classes": self.count, "draw": counts[0], "win": {}, "loss": {}, "longest": {}}
-        for record in sorted(counts):
+        longest = {}
+        for record in max((each for each in counts if each % 2), default=0), max((each for each in counts if each and not each % 2), default=0):
             if record:
                 kind, distance = value_text(record).split(" ")
-                told[kind][int(distance)] = counts[record]
-                told["longest"][kind] = int(distance), write_position(position_at(self.profile, self.pieces, first[record]))
-        return told
+                longest[kind] = int(distance), write_position(position_at(self.profile, self.pieces, first[record]))
+        wins = {record - 1: counts[record] for record in sorted(counts) if record and not record % 2}
+        losses = {record - 1: counts[record] for record in sorted(counts) if record % 2}
+        return {"classes": self.count, "draw": counts[0], "win": wins, "loss": losses, "longest": longest}
 
 
-def open_db(path, check=True):
+def open_db(path: str | os.PathLike[str], check: bool = True) -> Db:
     """The database file of that name, mapped into memory."""
     with open(path, "rb") as file:
         if file.seek(0, 2) == 0:
-            raise Wrong("E15 Truncated")
+            raise Fault("E15 Truncated")
         return Db(mmap.mmap(file.fileno(), 0, access=mmap.ACCESS_READ), check)
 
 
@@ -685,15 +754,15 @@ def open_certificate(path):
         return Certificate(file.read())
 
 
-def main():
+def main() -> None:
     if len(sys.argv) < 3:
         sys.exit("usage: python -m dobutsu.plain FILE POSITION..")
     try:
         db = open_db(sys.argv[1])
         for text in sys.argv[2:]:
             print(db.value(text))
-    except Wrong as wrong:
-        print(wrong, file=sys.stderr)
+    except Fault as fault:
+        print(fault, file=sys.stderr)
         sys.exit(1)
 
 

@@ -5,17 +5,23 @@ import mmap
 import os
 from collections.abc import Iterator
 from types import TracebackType
+from typing import TypeVar, Union
 
 from . import plain
-from .library import Library, paths
-from .value import Fault, Move, Stats, Value
+from .library import Library, LibraryFile, load, paths
+from .plain import Fault
+from .position import Position, after_move
+from .value import Move, Stats, Value
+
+Asked = Union[str, Position]
+Default = TypeVar("Default")
 
 
 class Table:
     """A database file of Dobutsu shogi, mapped into memory: the value of each position of its piece set.
 
-    A position is a text, as `dobutsu help` and docs/RULES.md have it; the side to move stands below. The answers are those of `dobutsu probe`,
-    `moves`, `line` and `stats`. They are right where the file is, which `dobutsu check` says.
+    A position is a `Position` or its text, as `dobutsu help` and docs/RULES.md have it; the side to move stands below. The answers are those of
+    `dobutsu probe`, `moves`, `line` and `stats`. They are right where the file is, which `dobutsu check` says.
 
     >>> table = Table("testdata/lions_alone_2.db")
     >>> print(table["..l/.../L../... - -"])
@@ -25,86 +31,101 @@ class Table:
     >>> table["..l/.../L../... C -"]
     Traceback (most recent call last):
     ...
-    dobutsu.value.Fault: E7 OtherSet
+    dobutsu.plain.Fault: E7 OtherSet
+    >>> "..l/.../L../... C -" in table, table.get("..l/.../L../... C -", "another set")
+    (False, 'another set')
+    >>> next(iter(table)), len(table)
+    ('.../.../.../Ll. - -', 54)
 
     Raises OSError where the file can't be opened, and `Fault` (E15 to E19, E27) where it is no database file, by its header and its length; the
-    digest is read through by `dobutsu probe` and `check`, and not here.
+    digest is read through by `dobutsu probe` and `check`, and not here. After `close` whatever is asked raises ValueError.
     """
 
     #: Which code answers: `libdobutsu 0.1.0`, the proved library, or `plain Python`, where none was found.
     engine: str
 
     def __init__(self, path: str | os.PathLike[str], library: str | None = None) -> None:
+        found = load(library) if library else nearest_library()
+        self._path = os.fspath(path)
+        self._library: LibraryFile | None = None
         with open(path, "rb") as file:
             if os.fstat(file.fileno()).st_size == 0:
                 raise Fault("E15 Truncated")
             # a private map can be handed to the library as it is: nothing is ever written to it
             self._map = mmap.mmap(file.fileno(), 0, access=mmap.ACCESS_COPY)
         try:
-            self._db = plain.Db(self._map, check=False)
-        except plain.Wrong as wrong:
+            self._db: plain.Db | None = plain.Db(self._map, False, found.class_count if found else None)
+        except Fault:
             self._map.close()
-            raise Fault(str(wrong)) from None
-        self._library = self._load([library] if library else paths(), must=library is not None)
-        self.engine = f"libdobutsu {self._library.version()}" if self._library else "plain Python"
+            raise
+        if found:
+            self._library = LibraryFile(found, memoryview(self._map), self._db.profile, self._db.pieces)
+        self.engine = f"libdobutsu {found.version}" if found else "plain Python"
 
-    def _load(self, found: list[str], must: bool) -> Library | None:
-        for path in found:
-            try:
-                return Library(path, memoryview(self._map), self._db.pieces, self._db.profile)
-            except (OSError, AttributeError):
-                if must:
-                    raise
-        return None
+    def __repr__(self) -> str:
+        return f"Table({self._path!r})"
+
+    def _open(self) -> plain.Db:
+        """The file, which isn't closed."""
+        if self._db is None:
+            raise ValueError(f"{self!r} is closed")
+        return self._db
 
     @property
     def set(self) -> str:
         """The piece set's name: the numbers of chicks, elephants and giraffes."""
-        return "".join(map(str, self._db.pieces))
+        return "".join(map(str, self._open().pieces))
 
     @property
     def rules(self) -> str:
         """By which rules the values are: `A` or `B`."""
-        return self._db.profile
+        return self._open().profile
 
     def __len__(self) -> int:
         """How many classes the file has."""
-        return self._db.count
+        return self._open().count
 
-    def __getitem__(self, text: str) -> Value:
+    def __getitem__(self, position: Asked) -> Value:
         """The position's value. Raises `Fault` where the text is no position (E1 to E6) or not of the file's set and rules (E7, E26)."""
-        if self._library:
-            return self._library.value(text)
-        try:
-            return Value.read(self._db.value(text))
-        except plain.Wrong as wrong:
-            raise Fault(str(wrong)) from None
+        db, text = self._open(), text_of(position)
+        return self._library.value(text) if self._library else Value.read(db.value(text))
 
-    def moves(self, text: str) -> list[Move]:
+    def get(self, position: Asked, default: Default | None = None) -> Value | Default | None:
+        """The position's value, or the default where `table[position]` raises `Fault`."""
+        try:
+            return self[position]
+        except Fault:
+            return default
+
+    def __contains__(self, position: object) -> bool:
+        """Whether it is a position of the file's set and rules, or the text of one."""
+        return isinstance(position, (str, Position)) and self.get(position) is not None
+
+    def __iter__(self) -> Iterator[str]:
+        """The position of each class, in the order of the file."""
+        return (text for text, _ in self.positions())
+
+    def moves(self, position: Asked) -> list[Move]:
         """Each move with the value that the side that makes it then has, best first, equal ones in the move order.
 
         Where the enemy lion can be caught there is its first catch alone, and no move where the position is lost already. Raises `Fault` as
-        `table[text]` does.
+        `table[position]` does.
         """
+        db, text = self._open(), text_of(position)
         if self._library:
             return self._library.moves(text)
-        try:
-            return [Move(move, Value.read(value)) for move, value in self._db.moves(text)]
-        except plain.Wrong as wrong:
-            raise Fault(str(wrong)) from None
+        return [Move(move, Value.read(value)) for move, value in db.moves(text)]
 
-    def line(self, text: str) -> list[str]:
+    def line(self, position: Asked) -> list[str]:
         """Best play of both sides from the position to its end, as the moves' texts; none for a draw or where the game has ended.
 
         Squares are named as the side sees them that is to move at the start; the other side's pieces are small letters.
         """
         played: list[str] = []
-        while self[text].kind != "draw" and (moves := self.moves(text)):
+        text: str | None = text_of(position)
+        while text is not None and self[text].kind != "draw" and (moves := self.moves(text)):
             played.append(turned_move(moves[0].text) if len(played) % 2 else moves[0].text)
-            after = after_move(self._db.profile, text, moves[0].text)
-            if after is None:
-                break
-            text = after
+            text = after_move(self.rules, text, moves[0].text)
         return played
 
     def positions(self, first: int = 0, end: int | None = None) -> Iterator[tuple[str, Value]]:
@@ -114,35 +135,55 @@ class Table:
 
         >>> [f"{text} = {value}" for text, value in Table("testdata/lions_alone_2.db").positions(2, 4)]
         ['.../.../l../L.. - - = win 1', '.../.../.l./L.. - - = win 1']
+
+        Raises IndexError where a number is below 0 or above that of all classes.
         """
-        for text, value in self._db.positions(first, end):
-            yield text, Value.read(value)
+        db = self._open()
+        end = db.count if end is None else end
+        if not (0 <= first <= db.count and 0 <= end <= db.count):
+            raise IndexError(f"classes {first} to {end} of {db.count}")
+        return ((text, Value.read(value)) for text, value in db.positions(first, end))
 
     def stats(self) -> Stats:
         """How many classes have which value. It looks at each record: a second for some ten million."""
-        told = self._db.stats()
-        values = {Value(kind, plies): number for kind in ("win", "loss") for plies, number in told[kind].items()}
-        if told["draw"]:
-            values[Value("draw")] = told["draw"]
-        longest = {kind: (Value(kind, found[0]), found[1]) for kind, found in told["longest"].items()}
-        return Stats(told["classes"], values, longest.get("win"), longest.get("loss"))
+        counts = self._open().stats()
+        values = {Value("win", plies): number for plies, number in counts["win"].items()}
+        values.update((Value("loss", plies), number) for plies, number in counts["loss"].items())
+        if counts["draw"]:
+            values[Value("draw")] = counts["draw"]
+        longest = {kind: (Value(kind, found[0]), found[1]) for kind, found in counts["longest"].items()}
+        return Stats(counts["classes"], values, longest.get("win"), longest.get("loss"))
 
     def close(self) -> None:
-        """Gives the file back. Nothing can be asked afterwards."""
+        """Gives the file back. Nothing can be asked afterwards; a second call does nothing."""
         if self._library:
             self._library.close()
-            self._library = None
-        del self._db
-        try:
-            self._map.close()
-        except BufferError:  # a view of it is still in use: it goes with that
-            pass
+        self._library = self._db = None
+        self._map.close()
 
     def __enter__(self) -> Table:
         return self
 
     def __exit__(self, kind: type[BaseException] | None, error: BaseException | None, trace: TracebackType | None) -> None:
         self.close()
+
+
+def nearest_library() -> Library | None:
+    """The first library of `paths` that can be loaded and has each call."""
+    for path in paths():
+        try:
+            return load(path)
+        except (OSError, AttributeError):
+            pass
+    return None
+
+
+def text_of(position: Asked) -> str:
+    if isinstance(position, Position):
+        return position.text
+    if not isinstance(position, str):
+        raise TypeError(f"neither a position nor its text: {position!r}")
+    return position
 
 
 def turned_move(move: str) -> str:
@@ -152,15 +193,3 @@ def turned_move(move: str) -> str:
     ('cb3xb2+', 'e*c4')
     """
     return move[0].lower() + move[1:].translate(str.maketrans("abc1234", "cba4321"))
-
-
-def after_move(rules: str, text: str, move: str) -> str | None:
-    """The position that the move leads to, as the other side sees it; none where the move catches the lion."""
-    position = plain.read_position(text)
-    status, moves = plain.status_and_moves(rules, position)
-    if status == "caught":
-        return None
-    for each in moves:
-        if plain.move_text(position, each) == move:
-            return plain.write_position(plain.apply(position, each))
-    raise Fault("E1 Shape")

@@ -1,13 +1,15 @@
 """Values of positions, and moves with their values."""
 from __future__ import annotations
 
+import dataclasses
 import functools
 from typing import NamedTuple
 
 
 @functools.total_ordering
+@dataclasses.dataclass(frozen=True, repr=False)
 class Value:
-    """What the side to move can force: a win or a loss in so many plies, or a draw.
+    """What the side to move can force: a win or a loss in that many plies, or a draw.
 
     Values compare by how good they are for the side to move, and print as the program prints them.
 
@@ -19,20 +21,14 @@ class Value:
     True
     """
 
-    __slots__ = ("kind", "plies")
     kind: str
-    plies: int
+    plies: int = 0
 
-    def __init__(self, kind: str, plies: int = 0) -> None:
-        if kind not in ("win", "loss", "draw"):
-            raise ValueError(f"no kind of value: {kind!r}")
-        if (kind == "draw") != (plies == 0) and not (kind == "loss" and plies == 0):
-            raise ValueError(f"no value: {kind} {plies}")
-        object.__setattr__(self, "kind", kind)
-        object.__setattr__(self, "plies", plies)
-
-    def __setattr__(self, name: str, value: object) -> None:
-        raise AttributeError("a value doesn't change")
+    def __post_init__(self) -> None:
+        if self.kind not in ("win", "loss", "draw"):
+            raise ValueError(f"no kind of value: {self.kind!r}")
+        if self.plies < 0 or (self.kind == "draw" and self.plies) or (self.kind == "win" and not self.plies):
+            raise ValueError(f"no value: {self.kind} {self.plies}")
 
     @classmethod
     def read(cls, text: str) -> Value:
@@ -45,16 +41,10 @@ class Value:
             return 1, -self.plies
         return (0, 0) if self.kind == "draw" else (-1, self.plies)
 
-    def __eq__(self, other: object) -> bool:
-        return isinstance(other, Value) and self._goodness() == other._goodness()
-
     def __lt__(self, other: Value) -> bool:
         if not isinstance(other, Value):
             return NotImplemented
         return self._goodness() < other._goodness()
-
-    def __hash__(self) -> int:
-        return hash(self._goodness())
 
     def __str__(self) -> str:
         return self.kind if self.kind == "draw" else f"{self.kind} {self.plies}"
@@ -88,15 +78,3 @@ class Stats(NamedTuple):
     def count(self, kind: str) -> int:
         """How many classes are won, lost or drawn: `win`, `loss` or `draw`."""
         return sum(number for value, number in self.values.items() if value.kind == kind)
-
-
-class Fault(ValueError):
-    """What is wrong with a file or a text: the program's number and name of it, as `E7 OtherSet`.
-
-    >>> Fault("E7 OtherSet").number
-    7
-    """
-
-    @property
-    def number(self) -> int:
-        return int(str(self).split()[0][1:])

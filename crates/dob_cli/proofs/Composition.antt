@@ -77,7 +77,7 @@ file_kept c profile set nodes file e tells (inr (inr t)) done = absurd (no_fault
 memory_answered : (c : ShelfChange) (AreLines : List ℕ → Type 0) (Holds : Fault → Type 0) (e : Ending) → Holds Memory → LacksMemory c e
     → AnswersOver c AreLines Holds e
 memory_answered c AreLines Holds e holds lacks =
-    inr (inl (record { fault = Memory; holds = (holds, lacks.1.1); told = inl lacks.0.0; silent = lacks.0.1 }))
+    inr (inl (record { fault = Memory; holds = (holds, lacks.1.1); told = inr lacks.0.0; silent = lacks.0.1 }))
 
 -- the order that the words ask for is done, or no memory was left for them
 order_done : (c : ShelfChange) (words : List Text) (e : Ending) (name : Text) (texts : List (Option Text)) (P : Type 0) → meaning_of words ≡ asks name texts

@@ -27,7 +27,7 @@ said_same c bytes (inl wrote) = wrote.same
 said_same c bytes (inr stopped) = stopped.1.same
 
 fault_same : (fault : Fault) (status : ℕ) (c : Change) → TellsOneFault fault status c → IsSame c
-fault_same fault status c (inl told) = said_same c _ told.1
+fault_same fault status c (inl told) = said_same c told.1 told.3
 fault_same fault status c (inr told) = said_same c _ told.1
 
 told_same : (text : List ℕ) (e : Ending) → Tells text e → IsSame e.out × IsSame e.err

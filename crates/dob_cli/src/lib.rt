@@ -5,5 +5,7 @@ mod builds;
 pub mod laws;
 mod program;
 
-pub use dob_query::{Console, DiskFile, DiskShelf, Fault, MemShelf, Progress, Shelf, ShelfFault};
+pub use dob_query::{
+    Console, DiskFile, DiskShelf, Fault, Heard, MemShelf, Note, Place, Progress, Shelf, ShelfFault,
+};
 pub use program::{run_given, run_over, run_words, tell_memory};

@@ -8,6 +8,7 @@ ghost use Rattle.dob_cli.specs.Runs.{LeavesShelf, Ran, RanOver, TellsNoText, con
 ghost use Rattle.dob_cli.specs.Orders.{AnswersOrder, GivesFor, GivesLinesFor, IsByLines, KeepsFiles, search_of};
 ghost use Rattle.dob_shelf.specs.Shelves.{Changes, Leaving};
 ghost use Rattle.dob_query.specs.Endings.{TellsAs, TellsFaultAs, TellsMemory, TellsOneFault, ended};
+ghost use Rattle.dob_query.specs.Faults.{IsFaultLine};
 ghost use Rattle.dob_query.specs.declared.fault.Fault.TheVariants.{Memory};
 
 use crate::builds::answer_build;
@@ -79,8 +80,8 @@ pub fn run_over<'a, S: Shelf, O: Sink, E: Sink>(
 {
     match read_words(alloc, words) {
         Err(AllocError) => tell_memory(err),
-        Ok(Reading::Help(text)) => tell(alloc, 0, text.as_str(), out, err),
-        Ok(Reading::Version) => tell(alloc, 0, VERSION, out, err),
+        Ok(Reading::Help(text)) => tell(alloc, 0, text.as_str(), shelf, out, err),
+        Ok(Reading::Version) => tell(alloc, 0, VERSION, shelf, out, err),
         Ok(Reading::Usage(text)) => {
             say(err, text.as_bytes());
             USAGE
@@ -102,8 +103,11 @@ fn run_order<S: Shelf, O: Sink, E: Sink>(
         (ended result (change (O.state out.old) (O.state out.new)) (change (E.state err.old) (E.state err.new)))) }
 {
     match answers_for(rt, alloc, order, shelf) {
-        Ok(answers) => tell(alloc, answers.status(), answers.lines.as_str(), out, err),
-        Err(fault) => tell_fault(alloc, fault, err),
+        Ok(answers) => {
+            let status = answers.status();
+            tell(alloc, status, answers.lines.as_str(), shelf, out, err)
+        }
+        Err(fault) => tell_fault(alloc, fault, shelf, err),
     }
 }
 
@@ -200,13 +204,20 @@ fn search_of(
     }
 }
 
-// Prints a line, or a few, on standard output. The answer is that status where that works.
-fn tell<O: Sink, E: Sink>(alloc: Global, status: u8, line: &str, out: &mut O, err: &mut E) -> u8
+// Prints a line, or a few, on standard output. The answer is that status where that works; the shelf knows what a device said.
+fn tell<S: Shelf, O: Sink, E: Sink>(
+    alloc: Global,
+    status: u8,
+    line: &str,
+    shelf: &S,
+    out: &mut O,
+    err: &mut E,
+) -> u8
     ensures { TellsAs status line.now (ended result (change (O.state out.old) (O.state out.new)) (change (E.state err.old) (E.state err.new))) }
 {
     match put_all(out, line.as_bytes()) {
         Ok(()) => status,
-        Err(_failed) => tell_fault(alloc, Fault::Io, err),
+        Err(_failed) => tell_fault(alloc, Fault::Io, shelf, err),
     }
 }
 
@@ -217,11 +228,23 @@ fn say<E: Sink>(err: &mut E, bytes: &[u8])
     let _written = write_all(err, bytes);
 }
 
+// The fault's line. Of a device that failed it says what that said, where the shelf knows it.
+fn fault_line<S: Shelf>(alloc: Global, fault: Fault, shelf: &S) -> Result<String, AllocError>
+    ensures { IfOk result (λ line. IsFaultLine fault (string_bytes line)) }
+{
+    if fault.is_io() {
+        if let Some(said) = shelf.said(alloc)? {
+            return format!(in alloc; "dobutsu: {fault}: {said}\n");
+        }
+    }
+    format!(in alloc; "dobutsu: {fault}\n")
+}
+
 // Prints a fault on standard error, or that no memory was left for it.
-fn tell_fault<E: Sink>(alloc: Global, fault: Fault, err: &mut E) -> u8
+fn tell_fault<S: Shelf, E: Sink>(alloc: Global, fault: Fault, shelf: &S, err: &mut E) -> u8
     ensures { TellsOneFault fault result (change (E.state err.old) (E.state err.new)) }
 {
-    match format!(in alloc; "dobutsu: {fault}\n") {
+    match fault_line(alloc, fault, shelf) {
         Ok(line) => {
             say(err, line.as_bytes());
             fault.status()

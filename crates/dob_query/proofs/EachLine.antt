@@ -119,7 +119,7 @@ module _ (c : ShelfChange) (AreLines : Bool → List ℕ → Type 0) (Holds : Fa
 
   -- lack of memory, where it is such a fault
   pub each_memory : (e : Ending) → Holds Memory → FailsWhere c false → TellsMemory e → AnswersLines c AreLines Holds e
-  each_memory e holds works told = inr (inl (record { fault = Memory; holds = (holds, works); told = inl told.0; silent = told.1 }))
+  each_memory e holds works told = inr (inl (record { fault = Memory; holds = (holds, works); told = inr told.0; silent = told.1 }))
 
   -- where lines of one kind are of another one
   pub lines_weaker : (Others : Bool → List ℕ → Type 0) (e : Ending) → ((is_refused : Bool) (lines : List ℕ) → AreLines is_refused lines → Others is_refused lines)

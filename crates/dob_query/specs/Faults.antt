@@ -1,5 +1,5 @@
 -- The program's faults as they are printed, and their exit statuses.
-use Rattle.std.specs.Prelude.{ℕ, Bool, true, false, List, [], ◌∷◌, ◌++◌, Result, Ok, Err, codes}
+use Rattle.std.specs.Prelude.{◌≡◌, ◌⊎◌, ℕ, Bool, true, false, List, [], ◌∷◌, ◌++◌, Result, Ok, Err, codes}
 use Rattle.dob_pieces.specs.Faults.{memory_text, set_fault_text}
 use Rattle.dob_text.specs.Faults as position
 use Rattle.dob_value.specs.Faults as value_texts
@@ -33,11 +33,19 @@ fault_text Io = file.fault_text (file_fault.Io 0)
 abbrev pub fault_line : Fault → List ℕ
 fault_line fault = codes "dobutsu: " ++ fault_text fault ++ line_feed ∷ []
 
+-- the line on standard error, with what a device said
+abbrev pub said_line : Fault → List ℕ → List ℕ
+said_line fault said = codes "dobutsu: " ++ fault_text fault ++ codes ": " ++ said ++ line_feed ∷ []
+
 -- whether it is the fault of a device that failed
 abbrev pub is_io : Fault → Bool
 is_io (File fault) = reading.is_io fault
 is_io Io = true
 is_io _ = false
+
+-- a line on standard error for the fault: of a device that failed it may say what that said
+abbrev pub IsFaultLine : Fault → List ℕ → Type 0
+IsFaultLine fault line = (line ≡ fault_line fault) ⊎ ((is_io fault ≡ true) × (said : List ℕ) × (line ≡ said_line fault said))
 
 abbrev pub is_io_error : {X : Type 0} → Result X Fault → Bool
 is_io_error (Ok x) = false

@@ -55,7 +55,7 @@ impl Fault {
     }
 
     /// Whether it is the fault of a device that failed.
-    pub(crate) fn is_io(self) -> bool
+    pub fn is_io(self) -> bool
         ensures { result ≡ is_io self }
     {
         match self {

@@ -20,7 +20,7 @@ mod valued_moves;
 mod values;
 
 pub use counts::answer_count;
-pub use dob_shelf::{DiskFile, DiskShelf, MemShelf, Shelf, ShelfFault};
+pub use dob_shelf::{DiskFile, DiskShelf, Heard, MemShelf, Note, Place, Shelf, ShelfFault};
 pub use each::{LineAnswers, answer_each};
 pub use fault::{Fault, Lines};
 pub use keeping::{keep_table, lines_of};

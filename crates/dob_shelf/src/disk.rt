@@ -2,27 +2,39 @@
 ghost use Rattle.std.specs.Prelude.{◌≡◌, None, false};
 
 use crate::inputs::read_all;
+use crate::said::{Heard, Note, Place};
 use crate::shelf::{Shelf, ShelfFault, is_failed};
 use dob_dbfile::{Failed, Sink, Source, Std};
-use std::alloc::Global;
-use std::fs::{self, File, OpenFile};
+use std::alloc::{AllocError, Global};
+use std::fs::{self, File, OpenFile, OpenOptions, Permissions};
 use std::io::{self, ErrorKind, Read, Write};
-use std::os::unix::fs::MetadataExt;
+use std::os::unix::fs::{MetadataExt, OpenOptionsExt, PermissionsExt};
 use std::rt::Files;
 
 /// The files that the system has, and a reader as standard input, of which no bytes are told.
 ///
 /// A file is written under its name with `.part` behind it, and takes its name once the system was made to put its bytes on the
 /// disk; then the folder is put there too. So the file of that name is as it was until then, whatever happens, and whole from then
-/// on; where only the folder fails, it is whole, and the shelf says that it failed. A part that a run left behind is taken away
+/// on; where only the folder fails, it is whole, and the shelf says that it failed. It has the mode of the file that it replaces. A part that a run left behind is taken away
 /// by the next one; so of two that write one name at once the later one keeps its file, and the other one fails. What is no
 /// regular file (a pipe, a device, a link) is written where it is; what a link leads to is put on the disk then.
+///
+/// What the system says of a failure is left in its note, and the shelf keeps the name of the last file that it was asked for.
 #[derive(Drop)]
 pub struct DiskShelf<'a, R, I> {
     rt: &'a R,
     alloc: Global,
-    input: Std<I>,
+    input: Std<Heard<'a, I>>,
+    note: &'a Note,
+    name: String,
     has_failed: bool,
+}
+
+// How a file is written: beside its name, by the mode of the file whose place it takes where there is one, or where it is.
+#[derive(Clone, Copy)]
+enum Way {
+    Beside(Option<u32>),
+    InPlace,
 }
 
 /// A file that is being written, and its name until it is kept, where that is another one.
@@ -43,56 +55,79 @@ impl<F: Write> Write for DiskFile<F> {
 }
 
 impl<'a, R, I> DiskShelf<'a, R, I> {
-    /// The files of the system and that standard input, of which no call has failed.
-    pub fn new(rt: &'a R, alloc: Global, input: I) -> DiskShelf<'a, R, I>
+    /// The files of the system and that standard input, of which no call has failed. What they say is left in the note.
+    pub fn new(rt: &'a R, alloc: Global, input: I, note: &'a Note) -> DiskShelf<'a, R, I>
         ensures { result.has_failed ≡ false }
     {
         DiskShelf {
             rt,
             alloc,
-            input: Std::new(input),
+            input: Std::new(Heard::new(input, Place::Input, note)),
+            note,
+            name: String::new(alloc),
             has_failed: false,
         }
     }
 }
 
-impl<R: Files, I> DiskShelf<'_, R, I> {
+impl<'a, R: Files, I> DiskShelf<'a, R, I> {
     // The file of that name.
-    fn open(&self, name: &str) -> Result<R::File, ShelfFault> {
-        Ok(fs::open(self.rt, name)?)
+    fn open(&mut self, name: &str) -> Result<Heard<'a, R::File>, ShelfFault>
+        ensures { self.new.has_failed ≡ self.old.has_failed }
+    {
+        self.name = name.to_string(self.alloc)?;
+        let opened = fs::open(self.rt, name);
+        self.note.hear(Place::File, &opened);
+        Ok(Heard::new(opened?, Place::File, self.note))
     }
 
-    // Whether the name has a regular file or none, so that another file may take its place.
-    fn can_be_replaced(&self, name: &str) -> io::Result<bool> {
+    // How a file of that name is written.
+    fn way_to(&self, name: &str) -> io::Result<Way> {
         match fs::symlink_metadata(self.rt, name) {
-            Ok(found) => Ok(found.is_file()),
-            Err(error) if error.kind() == ErrorKind::NotFound => Ok(true),
+            Ok(found) if found.is_file() => Ok(Way::Beside(Some(found.mode()))),
+            Ok(_) => Ok(Way::InPlace),
+            Err(error) if error.kind() == ErrorKind::NotFound => Ok(Way::Beside(None)),
             Err(error) => Err(error),
         }
     }
 
-    // The name under which the file of that name is written; `None` where that is the same.
-    fn part_of(&self, name: &str) -> Result<Option<String>, ShelfFault> {
-        if self.can_be_replaced(name)? {
-            Ok(Some(format!(in self.alloc; "{name}.part")?))
-        } else {
-            Ok(None)
+    // The file of a part that is new, where a part of an earlier run may be left; it has that mode, and never a wider one.
+    fn begin(&self, part: &str, mode: Option<u32>) -> io::Result<R::File> {
+        let _ = fs::remove_file(self.rt, part);
+        let Some(mode) = mode else {
+            return File::create_new(self.rt, part);
+        };
+        let mut how = OpenOptions::new();
+        how.read(true)
+            .write(true)
+            .create_new(true)
+            .mode(mode & 0o777);
+        let file = how.open(self.rt, part)?;
+        match file.set_permissions(Permissions::from_mode(mode & 0o7777)) {
+            Ok(()) => Ok(file),
+            Err(error) => {
+                let _ = fs::remove_file(self.rt, part);
+                Err(error)
+            }
         }
     }
 
-    // The file of a part that is new, where a part of an earlier run may be left.
-    fn begin(&self, part: &str) -> io::Result<R::File> {
-        let _ = fs::remove_file(self.rt, part);
-        File::create_new(self.rt, part)
-    }
-
     // A new file for the bytes of that name.
-    fn create(&self, name: &str) -> Result<DiskFile<R::File>, ShelfFault> {
-        let part = self.part_of(name)?;
-        let file = match &part {
-            Some(part) => self.begin(part.as_str())?,
-            None => fs::create(self.rt, name)?,
+    fn create(&mut self, name: &str) -> Result<DiskFile<Heard<'a, R::File>>, ShelfFault>
+        ensures { self.new.has_failed ≡ self.old.has_failed }
+    {
+        self.name = name.to_string(self.alloc)?;
+        let way = self.way_to(name);
+        self.note.hear(Place::File, &way);
+        let (made, part) = match way? {
+            Way::InPlace => (fs::create(self.rt, name), None),
+            Way::Beside(mode) => {
+                let part = format!(in self.alloc; "{name}.part")?;
+                (self.begin(part.as_str(), mode), Some(part))
+            }
         };
+        self.note.hear(Place::File, &made);
+        let file = Heard::new(made?, Place::File, self.note);
         Ok(DiskFile { file, part })
     }
 
@@ -123,14 +158,14 @@ impl<R: Files, I> DiskShelf<'_, R, I> {
     }
 
     // Keeps the file under the name. One that isn't kept takes its part along.
-    fn keep_file(&self, name: &str, kept: DiskFile<R::File>) -> io::Result<()> {
+    fn keep_file(&self, name: &str, kept: DiskFile<Heard<'a, R::File>>) -> io::Result<()> {
         let DiskFile { file, part } = kept;
         let Some(part) = part else {
-            return self.put_down(&file);
+            return self.put_down(file.inner());
         };
-        let done = self.put_in_place(&file, part.as_str(), name);
+        let done = self.put_in_place(file.inner(), part.as_str(), name);
         if done.is_err() {
-            self.take_away(&file, part.as_str());
+            self.take_away(file.inner(), part.as_str());
         }
         done
     }
@@ -152,10 +187,10 @@ fn folder_of(name: &str) -> &str {
     }
 }
 
-impl<R: Files, I: Read> Shelf for DiskShelf<'_, R, I> {
-    type Src = Std<R::File>;
+impl<'a, R: Files, I: Read> Shelf for DiskShelf<'a, R, I> {
+    type Src = Std<Heard<'a, R::File>>;
 
-    type Dst = Std<DiskFile<R::File>>;
+    type Dst = Std<DiskFile<Heard<'a, R::File>>>;
 
     ghost state = { λ shelf. record {
       has = λ _ _. ⊥;
@@ -164,25 +199,27 @@ impl<R: Files, I: Read> Shelf for DiskShelf<'_, R, I> {
       input = None;
     } };
 
-    fn find(&mut self, name: &str) -> Result<Std<R::File>, ShelfFault> {
+    fn find(&mut self, name: &str) -> Result<Std<Heard<'a, R::File>>, ShelfFault> {
         let found = self.open(name);
         self.has_failed |= is_failed(&found);
         Ok(Std::new(found?))
     }
 
-    fn close(&mut self, source: Std<R::File>) {
+    fn close(&mut self, source: Std<Heard<'a, R::File>>) {
         self.has_failed |= Source::failed(&source);
     }
 
-    fn make(&mut self, name: &str) -> Result<Std<DiskFile<R::File>>, ShelfFault> {
+    fn make(&mut self, name: &str) -> Result<Std<DiskFile<Heard<'a, R::File>>>, ShelfFault> {
         let made = self.create(name);
         self.has_failed |= is_failed(&made);
         Ok(Std::new(made?))
     }
 
-    fn keep(&mut self, name: &str, sink: Std<DiskFile<R::File>>) -> Result<(), Failed> {
+    fn keep(&mut self, name: &str, sink: Std<DiskFile<Heard<'a, R::File>>>) -> Result<(), Failed> {
         self.has_failed |= Sink::failed(&sink);
-        match self.keep_file(name, sink.into_inner()) {
+        let kept = self.keep_file(name, sink.into_inner());
+        self.note.hear(Place::File, &kept);
+        match kept {
             Ok(()) => Ok(()),
             Err(_) => {
                 self.has_failed = true;
@@ -191,11 +228,11 @@ impl<R: Files, I: Read> Shelf for DiskShelf<'_, R, I> {
         }
     }
 
-    fn discard(&mut self, _name: &str, sink: Std<DiskFile<R::File>>) {
+    fn discard(&mut self, _name: &str, sink: Std<DiskFile<Heard<'a, R::File>>>) {
         self.has_failed |= Sink::failed(&sink);
         let DiskFile { file, part } = sink.into_inner();
         if let Some(part) = part {
-            self.take_away(&file, part.as_str());
+            self.take_away(file.inner(), part.as_str());
         }
     }
 
@@ -203,5 +240,9 @@ impl<R: Files, I: Read> Shelf for DiskShelf<'_, R, I> {
         let read = read_all(self.alloc, &mut self.input);
         self.has_failed |= is_failed(&read);
         read
+    }
+
+    fn said(&self, alloc: Global) -> Result<Option<String>, AllocError> {
+        self.note.text(alloc, self.name.as_str())
     }
 }

@@ -3,7 +3,9 @@
 
 mod disk;
 mod inputs;
+mod said;
 mod shelf;
 
 pub use disk::{DiskFile, DiskShelf};
+pub use said::{Heard, Note, Place};
 pub use shelf::{MemShelf, Shelf, ShelfFault};

@@ -134,6 +134,14 @@ pub trait Shelf {
         ensures kept { SameFiles (state self.old).has (state self.new).has }
         ensures told { (state self.new).tells ≡ (state self.old).tells }
         ensures failed { (state self.new).has_failed ≡ ((state self.old).has_failed || is_failed result) };
+
+    /// What the device said that failed last, as text: which one it is, and why it failed. `None` where that isn't known. Nothing is promised of
+    /// what a device says.
+    ///
+    /// # Errors
+    ///
+    /// No memory was left for the text.
+    fn said(&self, alloc: Global) -> Result<Option<String>, AllocError>;
 }
 
 /// A shelf of files and of a standard input in memory, for tests.
@@ -239,5 +247,9 @@ impl Shelf for MemShelf {
 
     fn input(&mut self) -> Result<Vec<u8>, ShelfFault> {
         Ok(mem::replace(&mut self.input, Vec::new(self.alloc)))
+    }
+
+    fn said(&self, _alloc: Global) -> Result<Option<String>, AllocError> {
+        Ok(None)
     }
 }

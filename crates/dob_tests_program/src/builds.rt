@@ -4,7 +4,7 @@ ghost use Rattle.std.specs.Prelude.{None, false};
 use crate::program::{FILE, run_on};
 use dob_cli::{Console, Shelf, ShelfFault};
 use dob_dbfile::{Failed, MemSink, MemSource, Sink, Source};
-use std::alloc::Global;
+use std::alloc::{AllocError, Global};
 use std::process::Abort;
 use std::sync::Wait;
 use std::thread::Threads;
@@ -62,6 +62,10 @@ impl Shelf for FullShelf {
     fn input(&mut self) -> Result<Vec<u8>, ShelfFault> {
         self.has_failed = true;
         Err(ShelfFault::Failed)
+    }
+
+    fn said(&self, _alloc: Global) -> Result<Option<String>, AllocError> {
+        Ok(None)
     }
 }
 

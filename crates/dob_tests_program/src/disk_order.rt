@@ -4,10 +4,10 @@ use crate::lions::file;
 use crate::program::run_on;
 use crate::shelves::{has, put, removes};
 use crate::typed::Typed;
-use dob_cli::{Console, DiskShelf};
+use dob_cli::{Console, DiskShelf, Note};
 use std::alloc::{Allocator, Global};
 use std::cell::RefCell;
-use std::fs::{self, Metadata, OpenFile, OpenOptions};
+use std::fs::{self, Metadata, OpenFile, OpenOptions, Permissions};
 use std::io::{self, ErrorKind, Read, Seek, SeekFrom, Write};
 use std::process::Abort;
 use std::rt::Files;
@@ -235,6 +235,10 @@ impl<F: OpenFile> OpenFile for ListedFile<'_, F> {
         self.file.sync_all()
     }
 
+    fn set_permissions(&self, permissions: Permissions) -> io::Result<()> {
+        self.file.set_permissions(permissions)
+    }
+
     fn sync_data(&self) -> io::Result<()> {
         self.log.note("sync the bytes of", self.path)?;
         self.file.sync_data()
@@ -251,7 +255,8 @@ fn puts<R: Abort + Files + AllocGlobal>(
 ) -> bool {
     let log = Log::new(rt.alloc(), failing);
     let files = Listed { rt, log: &log };
-    let mut shelf = DiskShelf::new(&files, rt.alloc(), Typed::whole(b""));
+    let note = Note::new();
+    let mut shelf = DiskShelf::new(&files, rt.alloc(), Typed::whole(b""), &note);
     let kept = put(&mut shelf, name, bytes);
     assert!(rt; log.says(calls));
     kept
@@ -259,11 +264,9 @@ fn puts<R: Abort + Files + AllocGlobal>(
 
 // Whether the file of that name has just these bytes, by the system's own files.
 fn stands<R: Files + AllocGlobal>(rt: &R, name: &str, bytes: &[u8]) -> bool {
-    has(
-        &mut DiskShelf::new(rt, rt.alloc(), Typed::whole(b"")),
-        name,
-        bytes,
-    )
+    let note = Note::new();
+    let mut shelf = DiskShelf::new(rt, rt.alloc(), Typed::whole(b""), &note);
+    has(&mut shelf, name, bytes)
 }
 
 // A build that reports a failure leaves the file that was there, and no part.
@@ -313,7 +316,8 @@ fn opens_once<R: Abort + Files + AllocGlobal + Threads + Wait + Sync + Console>(
     let log = Log::new(rt.alloc(), "");
     let files = Listed { rt, log: &log };
     let typed = Typed::whole(b"..l/.../L../... - -\n.../.../..l/L.. - -\n");
-    let mut shelf = DiskShelf::new(&files, rt.alloc(), typed);
+    let note = Note::new();
+    let mut shelf = DiskShelf::new(&files, rt.alloc(), typed, &note);
     let words = [word, "--db", ASKED, "--each"];
     let told = run_on(rt, rt.alloc(), &mut shelf, &words);
     assert!(rt; told.is(0, b"win 3\nloss 2\n", b"") && log.says(&["open asked\n"]));
@@ -321,7 +325,8 @@ fn opens_once<R: Abort + Files + AllocGlobal + Threads + Wait + Sync + Console>(
 
 #[test]
 fn one_reading_for_each_line(rt: HostRuntime) {
-    let mut shelf = DiskShelf::new(&rt, rt.alloc(), Typed::whole(b""));
+    let note = Note::new();
+    let mut shelf = DiskShelf::new(&rt, rt.alloc(), Typed::whole(b""), &note);
     assert!(rt; put(&mut shelf, ASKED, file(&rt).as_slice()));
     opens_once(&rt, "probe");
     opens_once(&rt, "look");

@@ -3,7 +3,7 @@ use crate::lions::first_file;
 use crate::program::{Told, run_on};
 use crate::shelves::{put, removes};
 use crate::typed::Typed;
-use dob_cli::{Console, DiskShelf, MemShelf, Shelf};
+use dob_cli::{Console, DiskShelf, MemShelf, Note, Shelf};
 use std::alloc::Global;
 use std::io::ErrorKind;
 use std::process::Abort;
@@ -157,7 +157,8 @@ fn told_of_pieces<R: Abort + AllocGlobal + Files + Threads + Wait + Sync + Conso
         longest,
         error,
     };
-    let mut shelf = DiskShelf::new(rt, rt.alloc(), typed);
+    let note = Note::new();
+    let mut shelf = DiskShelf::new(rt, rt.alloc(), typed, &note);
     assert!(rt; put(&mut shelf, FILE, &first_file(rt)));
     let told = run_on(rt, rt.alloc(), &mut shelf, &WORDS);
     removes(rt, FILE);
@@ -173,7 +174,7 @@ fn input_in_pieces(rt: HostRuntime) {
     let told = told_of_pieces(&rt, first, None);
     assert!(rt; told.is(0, b"win 3\n", b""));
     let told = told_of_pieces(&rt, first, Some(ErrorKind::Other));
-    assert!(rt; told.is(3, b"", b"dobutsu: E24 Io\n"));
+    assert!(rt; told.is(3, b"", b"dobutsu: E24 Io: standard input: other error\n"));
 }
 
 const LINE: &[u8] = b"..l/.../L../... - -\n";

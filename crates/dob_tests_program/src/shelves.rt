@@ -1,5 +1,5 @@
 // Files that are made, kept and found again on a disk.
-use dob_cli::{DiskShelf, Shelf, ShelfFault};
+use dob_cli::{DiskShelf, Note, Shelf, ShelfFault};
 use dob_dbfile::{Sink, put_all, read_full};
 use std::fs;
 use std::io::Read;
@@ -91,7 +91,8 @@ pub(crate) fn removes(rt: &(impl Abort + Files), name: &str) {
 
 #[test]
 fn files_on_a_disk(rt: HostRuntime) {
-    let mut shelf = DiskShelf::new(&rt, rt.alloc(), rt.stdin());
+    let note = Note::new();
+    let mut shelf = DiskShelf::new(&rt, rt.alloc(), rt.stdin(), &note);
     keeps_files(&rt, &mut shelf);
     leaves_file(&rt, &mut shelf);
     keeps_the_later_file(&rt, &mut shelf);

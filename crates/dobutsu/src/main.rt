@@ -1,17 +1,27 @@
 // The program `dobutsu`: its arguments, its streams, its files and its exit status.
 #![tactic(auto)]
 
-use dob_cli::{DiskShelf, run_given};
+use dob_cli::{DiskShelf, Heard, Note, Place, run_given};
 use dob_dbfile::Std;
+use std::fs::OpenOptions;
 use std::process::ExitCode;
 
 fn main(rt: HostRuntime) -> ExitCode {
+    // These take the numbers of standard streams that were closed, so that no file that is opened later does.
+    let mut how = OpenOptions::new();
+    how.read(true).write(true);
+    let _streams = [
+        how.open(&rt, "/dev/null"),
+        how.open(&rt, "/dev/null"),
+        how.open(&rt, "/dev/null"),
+    ];
+    let note = Note::new();
     ExitCode::from(run_given(
         &rt,
         rt.alloc(),
         std::env::args(&rt),
-        &mut DiskShelf::new(&rt, rt.alloc(), rt.stdin()),
-        &mut Std::new(rt.stdout()),
+        &mut DiskShelf::new(&rt, rt.alloc(), rt.stdin(), &note),
+        &mut Std::new(Heard::new(rt.stdout(), Place::Output, &note)),
         &mut Std::new(rt.stderr()),
     ))
 }

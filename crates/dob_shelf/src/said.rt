@@ -1,0 +1,115 @@
+// What devices say when they fail: which one it was, and the system's reason.
+use std::alloc::{AllocError, Global};
+use std::cell::Cell;
+use std::io::{self, Read, Seek, SeekFrom, Write};
+
+/// Which device it is.
+#[derive(Clone, Copy, Debug, PartialEq, Eq)]
+pub enum Place {
+    /// A file.
+    File,
+    /// Standard input.
+    Input,
+    /// Standard output.
+    Output,
+}
+
+/// Why a device failed.
+#[derive(Clone, Copy)]
+struct Said {
+    place: Place,
+    reason: io::Error,
+}
+
+impl Said {
+    // Where it failed, and why; a file is called by that name.
+    fn text(self, alloc: Global, file: &str) -> Result<String, AllocError> {
+        let reason = self.reason;
+        match self.place {
+            Place::File => format!(in alloc; "{file}: {reason}"),
+            Place::Input => format!(in alloc; "standard input: {reason}"),
+            Place::Output => format!(in alloc; "standard output: {reason}"),
+        }
+    }
+}
+
+/// What the device said that failed last. Devices and a shelf that share a note leave it there.
+#[derive(Drop)]
+pub struct Note {
+    said: Cell<Option<Said>>,
+}
+
+impl Note {
+    /// A note in which nothing was left.
+    pub fn new() -> Note {
+        Note {
+            said: Cell::new(None),
+        }
+    }
+
+    /// Leaves why that device failed, if it did.
+    pub(crate) fn hear<X>(&self, place: Place, answer: &io::Result<X>) {
+        if let Err(reason) = answer {
+            let reason = *reason;
+            self.said.set(Some(Said { place, reason }));
+        }
+    }
+
+    /// What was left there last, as text: the device, a file by that name, and its reason. `None` where nothing was.
+    pub(crate) fn text(&self, alloc: Global, file: &str) -> Result<Option<String>, AllocError> {
+        match self.said.get() {
+            Some(said) => Ok(Some(said.text(alloc, file)?)),
+            None => Ok(None),
+        }
+    }
+}
+
+/// A reader or a writer that leaves in a note why a call of it failed.
+#[derive(Drop)]
+pub struct Heard<'a, T> {
+    inner: T,
+    place: Place,
+    note: &'a Note,
+}
+
+impl<'a, T> Heard<'a, T> {
+    /// The device of that place, over it.
+    pub fn new(inner: T, place: Place, note: &'a Note) -> Heard<'a, T> {
+        Heard { inner, place, note }
+    }
+
+    /// What it was made over.
+    pub(crate) fn inner(&self) -> &T {
+        &self.inner
+    }
+}
+
+impl<T: Read> Read for Heard<'_, T> {
+    fn read(&mut self, room: &mut [u8]) -> io::Result<usize> {
+        let read = self.inner.read(room);
+        self.note.hear(self.place, &read);
+        read
+    }
+}
+
+impl<T: Seek> Seek for Heard<'_, T> {
+    fn seek(&mut self, place: SeekFrom) -> io::Result<u64> {
+        let found = self.inner.seek(place);
+        self.note.hear(self.place, &found);
+        found
+    }
+}
+
+impl<T: Write> Write for Heard<'_, T> {
+    fn write(&mut self, bytes: &[u8]) -> io::Result<usize> {
+        let written = self.inner.write(bytes);
+        self.note.hear(self.place, &written);
+        written
+    }
+
+    fn flush(&mut self) -> io::Result<()> {
+        let flushed = self.inner.flush();
+        self.note.hear(self.place, &flushed);
+        flushed
+    }
+}
