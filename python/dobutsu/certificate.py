@@ -4,7 +4,6 @@ from __future__ import annotations
 import os
 
 from . import plain
-from .value import Fault
 
 
 class Certificate:
@@ -19,7 +18,7 @@ class Certificate:
     >>> Certificate("testdata/one_chick.db")
     Traceback (most recent call last):
     ...
-    dobutsu.value.Fault: E16 Magic
+    dobutsu.plain.Fault: E16 Magic
 
     Raises OSError where the file can't be opened, and `Fault` where it is no certificate's, by all the tests of docs/FORMAT.md. What it claims is true
     only where `verify` says nothing. Both go by plain Python, which is a second opinion to `dobutsu verify`, and unproved: small ones take a moment,
@@ -27,10 +26,7 @@ class Certificate:
     """
 
     def __init__(self, path: str | os.PathLike[str]) -> None:
-        try:
-            self._plain = plain.open_certificate(path)
-        except plain.Wrong as wrong:
-            raise Fault(str(wrong)) from None
+        self._plain = plain.open_certificate(path)
 
     @property
     def set(self) -> str:
@@ -61,17 +57,11 @@ class Certificate:
 
     def verify(self) -> None:
         """Raises `Fault` where the lists don't show the claim: E30 with the first entry that the others don't show, or E31. Else the claim is true."""
-        try:
-            self._plain.verify()
-        except plain.Wrong as wrong:
-            raise Fault(str(wrong)) from None
+        self._plain.verify()
 
     def reply(self, text: str) -> tuple[str, int] | None:
         """The move of the position by which its side wins soonest, by the lost classes, and within how many plies; none where no move leads there.
 
         Raises `Fault` where the text is no position (E1 to E6) or not of the certificate's set and rules (E7, E26).
         """
-        try:
-            return self._plain.reply(text)
-        except plain.Wrong as wrong:
-            raise Fault(str(wrong)) from None
+        return self._plain.reply(text)

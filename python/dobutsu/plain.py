@@ -562,14 +562,16 @@ def open_db(path: str | os.PathLike[str], check: bool = True) -> Db:
 
 EVER = 65535  # of an entry: never lost
 CLAIMS = ["draw", "win", "loss", "win within", "loss within"]
+Entries = dict[int, int]  # from a class to its plies
+Listed = dict[Position, int]  # from a position to its plies
 
 
-def entry_at(data, place, least):
-    """A class, its plies, and the place behind them. The number there says how far the class is from the last one below the least."""
+def entry_at(data: bytes, place: int, least: int) -> tuple[int, int]:
+    """A class, and the place behind it. The number there says how far the class is from the last one below the least."""
     number = 0
     for digit in range(5):
         if place >= len(data):
-            raise Wrong("E15 Truncated")
+            raise Fault("E15 Truncated")
         byte = data[place]
         place += 1
         number += byte % 128 << 7 * digit
@@ -577,20 +579,21 @@ def entry_at(data, place, least):
             if byte == 0 and digit:
                 break
             return least - 1 + number, place
-    raise Wrong("E36 EntryNumber")
+    raise Fault("E36 EntryNumber")
 
 
-def entries_at(data, place, count, classes):
-    """So many entries as a dictionary from classes to plies, and the place behind them."""
-    entries, least = {}, 0
+def entries_at(data: bytes, place: int, count: int, classes: int) -> tuple[Entries, int]:
+    """That many entries as a dictionary from classes to plies, and the place behind them."""
+    entries: Entries = {}
+    least = 0
     for _ in range(count):
         number, place = entry_at(data, place, least)
         if number < least:
-            raise Wrong("E37 EntryOrder")
+            raise Fault("E37 EntryOrder")
         if number >= classes:
-            raise Wrong("E38 EntryClass")
+            raise Fault("E38 EntryClass")
         if place >= len(data):
-            raise Wrong("E15 Truncated")
+            raise Fault("E15 Truncated")
         entries[number] = EVER if data[place] == 255 else data[place]
         place, least = place + 1, number + 1
     return entries, place
@@ -599,53 +602,53 @@ def entries_at(data, place, count, classes):
 class Certificate:
     """A certificate: `profile`, `pieces`, the class `root`, the `claim` as a word and a number of plies, and the entries of both lists."""
 
-    def __init__(self, data):
+    def __init__(self, data: bytes) -> None:
         """Reads a certificate's file. The tests are made in the order of docs/FORMAT.md."""
         if len(data) < 28:
-            raise Wrong("E15 Truncated")
+            raise Fault("E15 Truncated")
         if data[:8] != b"DOBUCERT":
-            raise Wrong("E16 Magic")
+            raise Fault("E16 Magic")
         if data[8] != 1:
-            raise Wrong("E32 Version")
-        self.pieces = tuple(data[9:12])
+            raise Fault("E32 Version")
+        self.pieces: Pieces = (data[9], data[10], data[11])
         if max(self.pieces) > 2 or data[12] != 2:
-            raise Wrong("E17 SetByte")
+            raise Fault("E17 SetByte")
         if data[13] > 1:
-            raise Wrong("E27 ProfileByte")
+            raise Fault("E27 ProfileByte")
         self.profile = PROFILES[data[13]]
         classes = class_count(self.profile, self.pieces)
         self.root, kind, self.plies, lost, held = struct.unpack("<IBBII", data[14:28])
         if self.root >= classes:
-            raise Wrong("E33 RootClass")
+            raise Fault("E33 RootClass")
         if kind > 4 or self.plies == 255 or (kind == 0 and self.plies):
-            raise Wrong("E34 ClaimByte")
+            raise Fault("E34 ClaimByte")
         self.claim = CLAIMS[kind]
         if lost > classes or held > classes:
-            raise Wrong("E35 EntryCount")
+            raise Fault("E35 EntryCount")
         self.lost, place = entries_at(data, 28, lost, classes)
         self.held, place = entries_at(data, place, held, classes)
         if len(data) < place + 32:
-            raise Wrong("E15 Truncated")
+            raise Fault("E15 Truncated")
         if len(data) > place + 32:
-            raise Wrong("E19 Trailing")
+            raise Fault("E19 Trailing")
         if data[place:] != hashlib.sha256(data[:place]).digest():
-            raise Wrong("E20 Digest")
+            raise Fault("E20 Digest")
 
-    def position(self):
+    def position(self) -> Position:
         """The position of which it claims something: the representative of its class."""
         return self.position_at(self.root)
 
-    def __str__(self):
+    def __str__(self) -> str:
         """The claim in a line, as `..l/.../L../... - - win 3`."""
         return f"{write_position(self.position())} {self.claim}" + (f" {self.plies}" if self.claim != "draw" else "")
 
     @functools.cache
-    def position_at(self, number):
+    def position_at(self, number: int) -> Position:
         return position_at(self.profile, self.pieces, number)
 
-    def positions_of(self, entries):
+    def positions_of(self, entries: Entries) -> Listed:
         """The plies of each position whose class is listed, of mirror images too, where the game goes on: others show by themselves."""
-        listed = {}
+        listed: Listed = {}
         for number, plies in entries.items():
             position = self.position_at(number)
             if status(self.profile, position) == "open":
@@ -653,34 +656,34 @@ class Certificate:
         return listed
 
     @functools.cached_property
-    def lost_plies(self):
+    def lost_plies(self) -> Listed:
         return self.positions_of(self.lost)
 
     @functools.cached_property
-    def held_plies(self):
+    def held_plies(self) -> Listed:
         return self.positions_of(self.held)
 
-    def asked(self, position):
+    def asked(self, position: Position) -> tuple[str, list[Move]]:
         return status_and_moves(self.profile, position)
 
-    def has_lost(self, position):
+    def has_lost(self, position: Position) -> bool:
         """Whether the side to move has lost already: the enemy's lion has come home, or no move is left."""
         return status(self.profile, position) in ("tried", "stuck")
 
     # of positions that are lost
 
-    def is_said_lost(self, position, plies):
-        """Whether the side to move is said to lose within so many plies, or has lost."""
+    def is_said_lost(self, position: Position, plies: int) -> bool:
+        """Whether the side to move is said to lose within N plies, or has lost."""
         return self.lost_plies.get(position, EVER + 1) <= plies or self.has_lost(position)
 
-    def is_answered(self, position, plies):
+    def is_answered(self, position: Position, plies: int) -> bool:
         """Whether the side to move catches the lion, or has a move to a position that is said to be lost within so many plies."""
         found, moves = self.asked(position)
         if found == "open":
             return any(self.is_said_lost(apply(position, move), plies) for move in moves)
         return found == "caught"
 
-    def is_upheld(self, position, plies):
+    def is_upheld(self, position: Position, plies: int) -> bool:
         """Whether an entry of the lost ones is shown by the others."""
         found, moves = self.asked(position)
         if found == "open":
@@ -689,17 +692,17 @@ class Certificate:
 
     # of positions that aren't
 
-    def is_said_held(self, position, plies):
+    def is_said_held(self, position: Position, plies: int) -> bool:
         """Whether the side to move is said not to lose within so many plies."""
         found = status(self.profile, position)
         return found == "caught" or found == "open" and (plies <= 1 or self.held_plies.get(position, -1) >= plies)
 
-    def is_safe(self, position, plies):
+    def is_safe(self, position: Position, plies: int) -> bool:
         """Whether the side to move can't catch the lion, and each of its moves leads to what is said not to be lost within so many plies."""
         found, moves = self.asked(position)
         return found != "caught" and all(self.is_said_held(apply(position, move), plies) for move in moves)
 
-    def is_held(self, position, plies):
+    def is_held(self, position: Position, plies: int) -> bool:
         """Whether an entry of the others is shown by the others."""
         found, moves = self.asked(position)
         if found == "open":
@@ -707,7 +710,7 @@ class Certificate:
             return plies < 2 or any(self.is_safe(apply(position, move), least) for move in moves)
         return found == "caught"
 
-    def is_shown(self):
+    def is_shown(self) -> bool:
         """Whether the lists show the claim, where each entry is shown by the others."""
         root, plies = self.position(), self.plies
         if self.claim == "loss within":
@@ -720,26 +723,26 @@ class Certificate:
             return plies > 0 and self.is_answered(root, plies - 1) and (plies == 1 or self.is_safe(root, plies - 2))
         return self.is_said_held(root, EVER) and self.is_safe(root, EVER)
 
-    def verify(self):
+    def verify(self) -> None:
         """Raises what is wrong: the first entry that the others don't show, those of the lost ones first, or the claim."""
         for entries, is_shown in (self.lost, self.is_upheld), (self.held, self.is_held):
             for number, plies in entries.items():
                 if not is_shown(self.position_at(number), plies):
-                    raise Wrong(f"E30 Unsupported class {number}")
+                    raise Fault(f"E30 Unsupported class {number}")
         if not self.is_shown():
-            raise Wrong("E31 Claim")
+            raise Fault("E31 Claim")
 
-    def reply(self, text):
+    def reply(self, text: str) -> tuple[str, int] | None:
         """The move of the position that wins within the fewest plies by the lost ones, and these plies; none where there is no such move."""
         position = read_position(text)
         if not all(may_stand(self.profile, letter, square) for square, letter in enumerate(position[0])):
-            raise Wrong("E26 FarChick")
+            raise Fault("E26 FarChick")
         if set_of(position) != self.pieces:
-            raise Wrong("E7 OtherSet")
+            raise Fault("E7 OtherSet")
         found, moves = self.asked(position)
         if found == "caught":
             return move_text(position, moves[0]), 1
-        best = None
+        best: tuple[str, int] | None = None
         for move in moves:
             outcome = apply(position, move)
             plies = 0 if self.has_lost(outcome) else self.lost_plies.get(outcome, EVER)
@@ -748,7 +751,7 @@ class Certificate:
         return best
 
 
-def open_certificate(path):
+def open_certificate(path: str | os.PathLike[str]) -> Certificate:
     """The certificate of that name."""
     with open(path, "rb") as file:
         return Certificate(file.read())
