@@ -15,9 +15,10 @@ use dob_dbfile::{Lent, Sink, put_all, write_all};
 use dob_pieces::Profile;
 use dob_probe::Walk;
 use dob_query::{
-    Console, Fault, LineAnswers, Lines, PuzzleSearch, ReachSearch, Shelf, answer_best, answer_check,
-    answer_count, answer_each, answer_line, answer_look, answer_look_each, answer_migrate,
-    answer_moves, answer_probe, answer_puzzles, answer_reach, answer_show, answer_stats, answer_value,
+    Console, Fault, LineAnswers, Lines, PuzzleSearch, ReachSearch, Shelf, answer_best,
+    answer_check, answer_count, answer_each, answer_line, answer_look, answer_look_each,
+    answer_migrate, answer_moves, answer_probe, answer_puzzles, answer_reach, answer_show,
+    answer_stats, answer_value,
 };
 use dob_words::command::{Order, Reading, read_words};
 use std::alloc::{AllocError, Global};

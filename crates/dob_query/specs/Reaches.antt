@@ -38,11 +38,14 @@ abbrev pub levels_asked : Bool → List ℕ → List ℕ
 levels_asked true levels = level_lines levels (length levels)
 levels_asked false levels = []
 
--- how many classes are won, lost and drawn, where that is known
+-- how many classes are won, lost and drawn
+abbrev pub value_text : ByValue → List ℕ
+value_text counts = count_line (codes "win ") counts.win ++ (count_line (codes "loss ") counts.loss ++ count_line (codes "draw ") counts.draw)
+
+-- the same, where that is known
 abbrev pub value_lines : Option ByValue → List ℕ
 value_lines None = []
-value_lines (Some counts) =
-    count_line (codes "win ") counts.win ++ (count_line (codes "loss ") counts.loss ++ count_line (codes "draw ") counts.draw)
+value_lines (Some counts) = value_text counts
 
 -- how many classes are reached, how many of them are open, and the greatest distance
 abbrev pub number_lines : Reached → List ℕ

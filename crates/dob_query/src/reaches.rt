@@ -1,8 +1,9 @@
 // What a game from a position can reach, by rules or by a database file.
-ghost use Rattle.std.specs.Prelude.{◌≡◌, ◌<◌, ◌++◌, IfErr, IfOk, OnOk, length, string_bytes};
+ghost use Rattle.std.specs.Prelude.{◌≡◌, ◌<◌, ◌+◌, ◌++◌, ℕ, IfErr, IfOk, OnOk, length, string_bytes};
+ghost use Rattle.dob_pieces.specs.Profiles.{IsAllowed};
 ghost use Rattle.dob_rank.specs.Families.{IsPositionOf, class_number};
 ghost use Rattle.dob_reach.specs.Reached.{AreReachedFrom};
-ghost use Rattle.dob_query.specs.Reaches.{AreReachLines, AreReachLinesBy, IsReachFault, GivesReach, level_line, level_lines, levels_asked, number_lines, reach_lines, value_lines};
+ghost use Rattle.dob_query.specs.Reaches.{AreReachLines, AreReachLinesBy, IsReachFault, GivesReach, level_line, level_lines, levels_asked, number_lines, reach_lines, value_lines, value_text};
 ghost use Rattle.dob_query.specs.Endings.{GivesLines};
 ghost use Rattle.dob_query.specs.Tables.{IsFileOf, IsPositionFault};
 ghost use Rattle.dob_words.specs.Readings.{text_given};
@@ -77,13 +78,22 @@ fn by_rules(
     ensures err { IfErr result (IsReachFault search.profile text.now) }
 {
     let position = read_position(search.profile, text)?;
-    let family = Family {
-        set: position.piece_set(),
-        profile: search.profile,
-    };
-    let classes = Classes::open(alloc, family)?;
+    let classes = classes_for(alloc, search.profile, &position)?;
     let reached = reached_from(rt, alloc, &classes, &position, search.is_watched)?;
     Ok(reach_lines(alloc, search.has_levels, &reached, None)?)
+}
+
+// The classes of the position's family by the rules of the profile.
+fn classes_for(alloc: Global, profile: Profile, position: &Position) -> Result<Classes, Memory>
+    requires { IsAllowed profile position.now.setup }
+    ensures rules { IfOk result (λ classes. classes.family.profile ≡ profile) }
+    ensures member { IfOk result (λ classes. IsPositionOf classes.family position.now.setup) }
+{
+    let family = Family {
+        set: position.piece_set(),
+        profile,
+    };
+    Classes::open(alloc, family)
 }
 
 // The lines by the table of the file.
@@ -158,13 +168,18 @@ fn value_lines(alloc: Global, counts: Option<ByValue>) -> Result<String, Memory>
 {
     match counts {
         None => Ok(String::new(alloc)),
-        Some(counts) => {
-            let win = counts.win;
-            let loss = counts.loss;
-            let draw = counts.draw;
-            Ok(format!(in alloc; "win {win}\nloss {loss}\ndraw {draw}\n")?)
-        }
+        Some(counts) => value_text(alloc, counts),
     }
+}
+
+// The lines of the values.
+fn value_text(alloc: Global, counts: ByValue) -> Result<String, Memory>
+    ensures { IfOk result (λ lines. string_bytes lines ≡ value_text counts) }
+{
+    let win = counts.win;
+    let loss = counts.loss;
+    let draw = counts.draw;
+    Ok(format!(in alloc; "win {win}\nloss {loss}\ndraw {draw}\n")?)
 }
 
 // A line for each distance, where they are asked for.
@@ -179,6 +194,7 @@ fn levels_asked(alloc: Global, has_levels: bool, levels: &[u64]) -> Result<Strin
 }
 
 // A line for each distance.
+#[tactic(auto, using(crate::proofs::Reaching::one_level))]
 fn level_lines(alloc: Global, levels: &[u64]) -> Result<String, Memory>
     ensures { IfOk result (λ lines. string_bytes lines ≡ level_lines levels.now (length levels.now)) }
 {
@@ -190,12 +206,7 @@ fn level_lines(alloc: Global, levels: &[u64]) -> Result<String, Memory>
 }
 
 // Writes the line of a distance at the end.
-fn push_level(
-    alloc: Global,
-    lines: &mut String,
-    distance: u64,
-    classes: u64,
-) -> Result<(), Memory>
+fn push_level(alloc: Global, lines: &mut String, distance: u64, classes: u64) -> Result<(), Memory>
     ensures { OnOk result (string_bytes lines.new ≡ string_bytes lines.old ++ level_line distance classes) }
 {
     let line = level_line(alloc, distance, classes)?;

@@ -40,10 +40,10 @@ module _ (words : List ℕ) (number word : ℕ) (bits : number + 1 ≤ length wo
 -- ---- marks
 
 pub keeps_all : (words : List ℕ) → KeepsMarks words words
-keeps_all words = record { long = refl; kept = λ number is. is; }
+keeps_all words = record { long = refl; kept = λ number is. is }
 
 pub keeps_both : (a b c : List ℕ) → KeepsMarks a b → KeepsMarks b c → KeepsMarks a c
-keeps_both a b c first second = record { long = second.long ∙ first.long; kept = λ number is. second.kept number (first.kept number is); }
+keeps_both a b c first second = record { long = second.long ∙ first.long; kept = λ number is. second.kept number (first.kept number is) }
 
 -- nothing is done yet
 pub marked_none : (words : List ℕ) → AreMarked words words [] []
@@ -76,7 +76,7 @@ pub marked_more : (before words done next after : List ℕ) (number : ℕ) → A
     → length after ≡ length words → IsMarked after number → ((other : ℕ) → other ≢ number → mark_of after other ≡ mark_of words other)
     → AreMarked before after (done ++ number ∷ []) (next ++ number ∷ [])
 marked_more before words done next after number are not_yet long marked others = record {
-  keeps = record { long = long ∙ are.keeps.long; kept = λ other is. stays other (are.keeps.kept other is); };
+  keeps = record { long = long ∙ are.keeps.long; kept = λ other is. stays other (are.keeps.kept other is) };
   marked = λ other is. elim (cases_eq other number) [
     | inl same ↦ inr (subst (Contains (next ++ number ∷ [])) (sym same) (Contains-push next number))
     | inr apart ↦ elim (are.marked other (sym (others other apart) ∙ is)) [

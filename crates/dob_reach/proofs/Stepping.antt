@@ -45,10 +45,10 @@ sifted_both words all more numbers others a b = record {
 }
 
 pub sifted_none : (words : List ℕ) → IsSifted words [] []
-sifted_none words = record { sound = λ number there. there; whole = λ number there. inl there; }
+sifted_none words = record { sound = λ number there. there; whole = λ number there. inl there }
 
 pub sifted_kept : (words : List ℕ) (number : ℕ) → IsSifted words (number ∷ []) (number ∷ [])
-sifted_kept words number = record { sound = λ other there. there; whole = λ other there. inl there; }
+sifted_kept words number = record { sound = λ other there. there; whole = λ other there. inl there }
 
 pub sifted_out : (words : List ℕ) (number : ℕ) → IsMarked words number → IsSifted words (number ∷ []) []
 sifted_out words number is = record {
@@ -87,7 +87,7 @@ expanded_class family words p class all numbers is_open represents successors si
       (subst (λ s. Goes family.profile s leads.move leads.outcome) same leads.goes) in
       let number : found.0 ≡ other = one_class family leads.outcome found.0 other found.2.1 leads.inside in
       sifted.whole other (subst (Contains all) number found.1);
-  opened = λ is. record { representative = p; represents = represents; is_open = opened is; };
+  opened = λ is. record { representative = p; represents = represents; is_open = opened is };
   closed = λ is.
       let same : is.representative ≡ p = one_representative family is.representative p class is.represents represents in
       closed (subst (λ s. HasStatus family.profile s Open) same is.is_open);

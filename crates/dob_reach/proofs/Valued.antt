@@ -19,19 +19,19 @@ module _ (words : List ℕ) (values : List Value) where
         → HasJust (λ k. MarkedBelow (class + 1) k × Is k) (count + 1)
     one_more class count marked is has =
         just_same (Below (λ k. IsMarked words k × Is k) (class + 1)) (λ k. MarkedBelow (class + 1) k × Is k) (count + 1)
-            (λ k low. ((low.0, low.1.0), low.1.1)) (λ k low. (low.0.0, (low.0.1, low.1)))
-            (below_more (λ k. IsMarked words k × Is k) class count (marked, is)
-            (just_same (λ k. MarkedBelow class k × Is k) (Below (λ k. IsMarked words k × Is k) class) count
-            (λ k low. (low.0.0, (low.0.1, low.1))) (λ k low. ((low.0, low.1.0), low.1.1)) has))
+        (λ k low. ((low.0, low.1.0), low.1.1)) (λ k low. (low.0.0, (low.0.1, low.1)))
+        (below_more (λ k. IsMarked words k × Is k) class count (marked, is)
+        (just_same (λ k. MarkedBelow class k × Is k) (Below (λ k. IsMarked words k × Is k) class) count
+        (λ k low. (low.0.0, (low.0.1, low.1))) (λ k low. ((low.0, low.1.0), low.1.1)) has))
 
     no_more : (class count : ℕ) → (IsMarked words class → Is class → ⊥) → HasJust (λ k. MarkedBelow class k × Is k) count
         → HasJust (λ k. MarkedBelow (class + 1) k × Is k) count
     no_more class count not_is has =
         just_same (Below (λ k. IsMarked words k × Is k) (class + 1)) (λ k. MarkedBelow (class + 1) k × Is k) count
-            (λ k low. ((low.0, low.1.0), low.1.1)) (λ k low. (low.0.0, (low.0.1, low.1)))
-            (below_same (λ k. IsMarked words k × Is k) class count (λ both. not_is both.0 both.1)
-            (just_same (λ k. MarkedBelow class k × Is k) (Below (λ k. IsMarked words k × Is k) class) count
-            (λ k low. (low.0.0, (low.0.1, low.1))) (λ k low. ((low.0, low.1.0), low.1.1)) has))
+        (λ k low. ((low.0, low.1.0), low.1.1)) (λ k low. (low.0.0, (low.0.1, low.1)))
+        (below_same (λ k. IsMarked words k × Is k) class count (λ both. not_is both.0 both.1)
+        (just_same (λ k. MarkedBelow class k × Is k) (Below (λ k. IsMarked words k × Is k) class) count
+        (λ k low. (low.0.0, (low.0.1, low.1))) (λ k low. ((low.0, low.1.0), low.1.1)) has))
 
     none_yet : HasJust (λ k. MarkedBelow 0 k × Is k) 0
     none_yet = just_none (λ k. MarkedBelow 0 k × Is k) (λ k low. absurd (omega (arith, low.0.0)))
@@ -40,7 +40,7 @@ module _ (words : List ℕ) (values : List Value) where
     few class count has = just_few (λ k. MarkedBelow class k × Is k) count class (λ k low. low.0.0) has
 
   pub counted_none : AreCounted (MarkedBelow 0) values (record { win = 0; loss = 0; draw = 0 })
-  counted_none = record { won = none_yet (IsWon values); lost = none_yet (IsLost values); drawn = none_yet (IsDrawn values); }
+  counted_none = record { won = none_yet (IsWon values); lost = none_yet (IsLost values); drawn = none_yet (IsDrawn values) }
 
   pub counted_same : (class : ℕ) (counts : ByValue) → (¬ IsMarked words class) → AreCounted (MarkedBelow class) values counts
       → AreCounted (MarkedBelow (class + 1)) values counts

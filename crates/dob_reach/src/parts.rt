@@ -89,12 +89,7 @@ fn part_at(
 // What is found of the classes.
 //
 // Error: `Memory`.
-fn part_of(
-    alloc: Global,
-    classes: &Classes,
-    marks: &Marks,
-    part: &[u32],
-) -> Result<Part, Memory>
+fn part_of(alloc: Global, classes: &Classes, marks: &Marks, part: &[u32]) -> Result<Part, Memory>
     requires members { AreClasses classes.now.family part.now }
     requires bits { HasBits marks.now.words.items (classes_of classes.now.family) }
     ensures { IfOk result (λ found. AreExpanded classes.now.family marks.now.words.items part.now found.outcomes.items found.opens) }
