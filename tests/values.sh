@@ -126,6 +126,12 @@ open 0
 depth 0' '' reach '.../.l./.L./... - -'
 expect 0 'classes 39
 open 21
-depth 6' $'ply 0: 1 classes\nply 1: 5 classes\nply 2: 10 classes\nply 3: 12 classes\nply 4: 4 classes\nply 5: 3 classes\nply 6: 4 classes' reach --progress "$position"
+depth 6' 'ply 0: 1 classes
+ply 1: 5 classes
+ply 2: 10 classes
+ply 3: 12 classes
+ply 4: 4 classes
+ply 5: 3 classes
+ply 6: 4 classes' reach --progress "$position"
 expect 1 '' 'dobutsu: E1 Shape' reach ''
 expect 1 '' 'dobutsu: E26 FarChick' reach --rules B 'C.l/.../.../L.. - -'
