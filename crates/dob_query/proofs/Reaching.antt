@@ -1,11 +1,8 @@
 -- What can be reached, by rules or by a file, and how the lines tell it.
-use Rattle.std.proofs.Common.{◌≡◌, ◌∙◌, ℕ, suc, ◌+◌, ◌++◌, List, [], ◌∷◌, Some, ap, arith, get_or, sym}
-use Rattle.std.specs.Fmt.{decimal}
-use Rattle.std.proofs.lemmas.List.{append_assoc}
+use Rattle.std.proofs.Common.{◌≡◌, ℕ, suc, ◌+◌, ◌++◌, List, Some, ap, arith, get_or}
 use Rattle.dob_pieces.specs.declared.profile.Profile.{Profile}
 use Rattle.dob_query.specs.Endings.{Ending}
 use Rattle.dob_query.specs.Reaches.{AnswersReach, AnswersReachRight, AreReachLinesBy, level_line, level_lines}
-use Rattle.dob_query.specs.Sizes.{count_line}
 use Rattle.dob_query.specs.declared.reaches.ReachSearch.{ReachSearch}
 use Rattle.dob_query.specs.Tables.{HasValueFile, IsFileOf, IsPositionFault, IsRightFileOf}
 use Rattle.dob_query.proofs.TableFaults.{over_weaker, right_table}
@@ -14,18 +11,6 @@ use Rattle.dob_shelf.specs.Shelves.{ShelfChange}
 -- one distance more
 pub one_level : (levels : List ℕ) (distance : ℕ) → level_lines levels (distance + 1) ≡ level_lines levels distance ++ level_line distance (get_or levels distance 0)
 one_level levels distance = let next : distance + 1 ≡ suc distance = omega arith in ap (level_lines levels) next
-
--- a line with a name and a number before others
-line_then : (name : List ℕ) (number : ℕ) (rest : List ℕ) → name ++ (decimal number ++ (10 ∷ rest)) ≡ count_line name number ++ rest
-line_then name number rest =
-    sym (append_assoc name (decimal number ++ 10 ∷ []) rest ∙ ap (λ (l : List ℕ). name ++ l) (append_assoc (decimal number) (10 ∷ []) rest))
-
--- three of them
-pub three_lines : (first second third : List ℕ) (a b d : ℕ) → first ++ (decimal a ++ (10 ∷ (second ++ (decimal b ++ (10 ∷ count_line third d)))))
-    ≡ count_line first a ++ (count_line second b ++ count_line third d)
-three_lines first second third a b d =
-    line_then first a (second ++ (decimal b ++ (10 ∷ count_line third d)))
-    ∙ ap (λ (l : List ℕ). count_line first a ++ l) (line_then second b (count_line third d))
 
 module _ (c : ShelfChange) (profile : Profile) (file : List ℕ) (e : Ending) (right : HasValueFile (c.before.has file) profile) where
   reach_rightly : (search : ReachSearch) (words lines : List ℕ) → AreReachLinesBy (IsFileOf (c.before.has file)) search words lines

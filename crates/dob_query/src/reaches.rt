@@ -123,7 +123,7 @@ fn reached_from(
     position: &Position,
     is_watched: bool,
 ) -> Result<Reached, Memory>
-    requires { IsPositionOf classes.now.family position.now.setup }
+    requires member { IsPositionOf classes.now.family position.now.setup }
     ensures { IfOk result (AreReachedFrom classes.now.family (class_number classes.now.family position.now.setup)) }
 {
     let levels = Levels {

@@ -20,8 +20,8 @@ returns-in_err-check_member g c =
       asked.1,
     )
 
-pub reached_from-requires : goal.reached_from-requires
-reached_from-requires g c = λ κs lives.
+pub reached_from-requires-clause-member : goal.reached_from-requires-clause-member
+reached_from-requires-clause-member g c = λ κs lives.
     let setup = c.in_ok-table.position.setup in
     let member : IsPositionOf c.in_ok-table.table.family setup = subst (λ f. IsPositionOf f setup) c.family.ensures.family c.in_ok-check_member.ensures.member in
     subst (λ f. IsPositionOf f setup) (sym c.classes.ensures.family) member

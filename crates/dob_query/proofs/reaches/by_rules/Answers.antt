@@ -1,8 +1,8 @@
 -- The position is the text's, and one of the family that is searched.
 use Rattle.dob_query.proofs.reaches.by_rules.Goals as goal
 
-pub reached_from-requires : goal.reached_from-requires
-reached_from-requires g c = λ κs lives. c.in_ok-classes.ensures.member
+pub reached_from-requires-clause-member : goal.reached_from-requires-clause-member
+reached_from-requires-clause-member g c = λ κs lives. c.in_ok-classes.ensures.member
 
 pub reach_lines-requires : goal.reach_lines-requires
 reach_lines-requires g c = c.in_ok-reached.ensures.some
