@@ -48,6 +48,29 @@ loss 6,2
 win 7,3' '' stats --csv --db "$lions"
 expect 3 '' "$(failed_at "$work/none.db" "$gone")" stats --db "$work/none.db"
 expect 1 '' 'dobutsu: E15 Truncated' stats --db /dev/null
+# what can be reached, with the values, of an independent search
+expect 0 'classes 39
+open 21
+depth 6
+win 26
+loss 9
+draw 4' '' reach --db "$lions" "$position"
+expect 0 'classes 39
+open 21
+depth 6
+win 26
+loss 9
+draw 4
+0 1
+1 5
+2 10
+3 12
+4 4
+5 3
+6 4' '' reach "$position" --levels --db "$lions"
+expect 1 '' 'dobutsu: E7 OtherSet' reach --db "$lions" '..l/.../.../L.. C -'
+expect 1 '' 'dobutsu: E1 Shape' reach --db "$work/none.db" ''
+expect 3 '' 'dobutsu: E24 Io' reach --db "$work/none.db" "$position"
 # the moves with their values, best first
 expect 0 'La2-a3 win 3
 La2-b2 draw

@@ -2,7 +2,7 @@
 
 # Help, each text whole, and the version.
 for words in '--help' '-h' 'help'; do helps dobutsu "$words"; done
-for form in value count build probe line check look show moves best stats puzzles migrate; do
+for form in value count reach build probe line check look show moves best stats puzzles migrate; do
     helps "$form" "$form" --help
     helps "$form" "$form" -h
     helps "$form" help "$form"
@@ -98,6 +98,10 @@ misused "'x'" build --set 000 --nodes 2 --out "$work/none.db" --progress=x
 misused '--progress' check --progress --db x --progress
 misused "'--progress'" probe --progress --db x "$position"
 misused "'--rules'" probe --db x --rules B "$position"
+misused '<POSITION>' reach --levels
+misused "'b'" reach "$position" --rules b
+misused "'x'" reach "$position" --levels=x
+misused "'--set'" reach --set 000 "$position"
 misused '--out <OUT>' migrate --db x
 misused '--db <FILE>' migrate --out x
 misused "'a'" migrate --db x --out y a

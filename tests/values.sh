@@ -25,6 +25,50 @@ expect 1 '' 'dobutsu: E4 Lions' value '.../.../.../L.. - -'
 expect 1 '' 'dobutsu: E5 Count' value '..l/.../.../L.. CCC -'
 expect 1 '' 'dobutsu: E6 FarLion' value 'L../.../.../..l - -'
 
+# what a side can give and still not lose: the starting layout with at most three pieces beside the lions, values from outside
+expect 0 'win 5' '' value '.l./.../.C./ELG - -'
+expect 0 'win 19' '' value 'gl./.../.../ELG - -'
+expect 0 'win 23' '' value '.le/.../.../ELG - -'
+expect 0 'win 13' '' value '.l./.c./.../ELG - -'
+expect 0 'win 5' '' value '.l./.../.../ELG - -'
+expect 0 'draw' '' value 'gl./.../.C./.LG - -'
+expect 0 'win 7' '' value '.le/.../.C./.LG - -'
+expect 0 'win 15' '' value '.l./.c./.C./.LG - -'
+expect 0 'win 5' '' value '.l./.../.C./.LG - -'
+expect 0 'loss 32' '' value 'gle/.../.../.LG - -'
+expect 0 'draw' '' value 'gl./.c./.../.LG - -'
+expect 0 'draw' '' value 'gl./.../.../.LG - -'
+expect 0 'win 17' '' value '.le/.c./.../.LG - -'
+expect 0 'draw' '' value '.le/.../.../.LG - -'
+expect 0 'draw' '' value '.l./.c./.../.LG - -'
+expect 0 'win 5' '' value '.l./.../.../.LG - -'
+expect 0 'loss 28' '' value 'gl./.../.C./EL. - -'
+expect 0 'win 7' '' value '.le/.../.C./EL. - -'
+expect 0 'win 11' '' value '.l./.c./.C./EL. - -'
+expect 0 'win 5' '' value '.l./.../.C./EL. - -'
+expect 0 'loss 24' '' value 'gle/.../.../EL. - -'
+expect 0 'loss 16' '' value 'gl./.c./.../EL. - -'
+expect 0 'draw' '' value 'gl./.../.../EL. - -'
+expect 0 'draw' '' value '.le/.c./.../EL. - -'
+expect 0 'draw' '' value '.le/.../.../EL. - -'
+expect 0 'win 21' '' value '.l./.c./.../EL. - -'
+expect 0 'win 5' '' value '.l./.../.../EL. - -'
+expect 0 'loss 14' '' value 'gle/.../.C./.L. - -'
+expect 0 'loss 16' '' value 'gl./.c./.C./.L. - -'
+expect 0 'draw' '' value 'gl./.../.C./.L. - -'
+expect 0 'loss 16' '' value '.le/.c./.C./.L. - -'
+expect 0 'win 7' '' value '.le/.../.C./.L. - -'
+expect 0 'win 15' '' value '.l./.c./.C./.L. - -'
+expect 0 'win 5' '' value '.l./.../.C./.L. - -'
+expect 0 'loss 8' '' value 'gle/.c./.../.L. - -'
+expect 0 'loss 10' '' value 'gle/.../.../.L. - -'
+expect 0 'loss 8' '' value 'gl./.c./.../.L. - -'
+expect 0 'loss 12' '' value 'gl./.../.../.L. - -'
+expect 0 'draw' '' value '.le/.c./.../.L. - -'
+expect 0 'draw' '' value '.le/.../.../.L. - -'
+expect 0 'loss 10' '' value '.l./.c./.../.L. - -'
+expect 0 'win 5' '' value '.l./.../.../.L. - -'
+
 # count
 expect 0 $'positions 99\nclasses 54' '' count --set 000
 expect 0 $'positions 2178\nclasses 1116' '' count --set 001
@@ -55,3 +99,39 @@ expect 0 'draw' '' value "$far_chick"
 expect 0 'draw' '' value --rules A "$far_chick"
 expect 0 'win 7' '' value '..l/.../.../L.c - -'
 expect 0 'win 3' '' value --rules B "$position"
+
+# reach: classes, open ones and distances from an independent search
+expect 0 'classes 39
+open 21
+depth 6
+0 1
+1 5
+2 10
+3 12
+4 4
+5 3
+6 4' '' reach --levels "$position"
+expect 0 'classes 443086
+open 201898
+depth 26' '' reach 'gl./.c./.../E.L - -'
+expect 0 'classes 385001
+open 174386
+depth 26' '' reach --rules B 'gl./.c./.../E.L - -'
+expect 0 'classes 1
+open 0
+depth 0
+0 1' '' reach '.../L../.../..l - -' --levels
+expect 0 'classes 1
+open 0
+depth 0' '' reach '.../.l./.L./... - -'
+expect 0 'classes 39
+open 21
+depth 6' 'ply 0: 1 classes
+ply 1: 5 classes
+ply 2: 10 classes
+ply 3: 12 classes
+ply 4: 4 classes
+ply 5: 3 classes
+ply 6: 4 classes' reach --progress "$position"
+expect 1 '' 'dobutsu: E1 Shape' reach ''
+expect 1 '' 'dobutsu: E26 FarChick' reach --rules B 'C.l/.../.../L.. - -'

@@ -7,7 +7,7 @@ use Rattle.dob_words.specs.Forms.{Text}
 use Rattle.dob_words.specs.Words.{number_in, profile_named}
 use Rattle.dob_words.specs.Readings.{IsOrder, name_of_order, text_given}
 use Rattle.dob_words.specs.declared.command.Order.{Order}
-use Rattle.dob_words.specs.declared.command.Order.TheVariants.{Value, Build, Probe, Each, Line, Look, LookEach, Show, Moves, Best, Stats, Puzzles}
+use Rattle.dob_words.specs.declared.command.Order.TheVariants.{Value, Reach, Build, Probe, Each, Line, Look, LookEach, Show, Moves, Best, Stats, Puzzles}
 use Rattle.dob_query.specs.declared.fault.Fault.{Fault}
 use Rattle.dob_query.specs.Each.{AnswersLines, status_of_lines}
 use Rattle.dob_query.specs.Endings.{AnswersOver, Ending}
@@ -17,10 +17,11 @@ use Rattle.dob_query.specs.Tables.{AnswersProbe}
 use Rattle.dob_query.proofs.ByPlace.{look_right}
 use Rattle.dob_query.proofs.EachLine.{each_right}
 use Rattle.dob_query.proofs.Placed.{look_each_right}
+use Rattle.dob_query.proofs.Reaching.{reach_right}
 use Rattle.dob_query.proofs.Rightly.{line_right, puzzles_right, show_right, stats_right}
 use Rattle.dob_query.proofs.TableFaults.{best_right, moves_right, probe_right}
 use Rattle.dob_cli.specs.Builds.{AnswersBuild}
-use Rattle.dob_cli.specs.Orders.{AllTold, AnswersOrder, AnswersRight, AreLinesFor, AreToldFor, IsByLines, search_of}
+use Rattle.dob_cli.specs.Orders.{AllTold, AnswersOrder, AnswersRight, AreLinesFor, AreToldFor, IsByLines, reach_of, search_of}
 
 -- ---- an order that isn't for each line of standard input
 
@@ -65,6 +66,7 @@ module _ (c : ShelfChange) (e : Ending) where
   rightly (Look f t) answers = λ profile right. look_right c profile f.now t.now e right (told_over c _ _ e answers)
   rightly (LookEach f) answers = λ profile right. look_each_right c profile f.now e right answers
   rightly (Show (Some f) p t) answers = λ profile right. show_right c profile f.now e right (text_given p) t.now (told_over c _ _ e answers)
+  rightly (Reach p (Some f) l w t) answers = λ profile right. reach_right c profile f.now e right (reach_of p l w) t.now (told_over c _ _ e answers)
   rightly (Moves f t) answers = λ profile right. moves_right c profile f.now t.now e right (told_over c _ _ e answers)
   rightly (Best f t) answers = λ profile right. best_right c profile f.now t.now e right (told_over c _ _ e answers)
   rightly (Stats f b) answers = λ profile right. stats_right c profile f.now e right b (told_over c _ _ e answers)

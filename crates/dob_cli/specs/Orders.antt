@@ -3,7 +3,7 @@ use Rattle.std.specs.Prelude.{◌≡◌, ℕ, Bool, false, List, Option, Result,
 use Rattle.dob_pieces.specs.declared.profile.Profile.{Profile}
 use Rattle.dob_query.specs.declared.fault.Fault.{Fault}
 use Rattle.dob_words.specs.declared.command.Order.{Order}
-use Rattle.dob_words.specs.declared.command.Order.TheVariants.{Value, Count, Build, Probe, Each, Line, Check, Look, LookEach, Show, Moves, Best, Stats, Puzzles, Migrate}
+use Rattle.dob_words.specs.declared.command.Order.TheVariants.{Value, Count, Reach, Build, Probe, Each, Line, Check, Look, LookEach, Show, Moves, Best, Stats, Puzzles, Migrate}
 use Rattle.dob_query.specs.declared.each.LineAnswers.{LineAnswers}
 use Rattle.dob_query.specs.Endings.{Ending, GivesLines}
 use Rattle.dob_shelf.specs.Shelves.{Files, SameFiles, SameOthers, ShelfChange}
@@ -15,6 +15,8 @@ use Rattle.dob_query.specs.ValuedMoves.{AnswersBestRight, AnswersMovesRight, Are
 use Rattle.dob_query.specs.Each.{AnswersEachRight, AnswersLines, AreEachLines, GivesAnswers, IsEachFault, IsGivenTo}
 use Rattle.dob_query.specs.LooksEach.{AnswersLookEachRight, ArePlaceLines, IsLookedFor, IsPlacesFault}
 use Rattle.dob_query.specs.Migrations.{AreMigrateLines, IsMigrateFault}
+use Rattle.dob_query.specs.Reaches.{AnswersReachRight, AreReachLinesFor, IsReachFaultFor}
+use Rattle.dob_query.specs.declared.reaches.ReachSearch.{ReachSearch}
 use Rattle.dob_query.specs.Puzzles.{AnswersPuzzlesRight, ArePuzzleLines, IsPuzzlesFault}
 use Rattle.dob_query.specs.declared.puzzles.PuzzleSearch.{PuzzleSearch}
 use Rattle.dob_words.specs.Readings.{text_given}
@@ -27,10 +29,15 @@ abbrev pub search_of : ℕ → ℕ → Option ℕ → Option ℕ → Bool → Pu
 search_of plies count from seed is_numbered =
     record { plies = plies; count = count; walk = record { seed = seed; behind = from }; is_numbered = is_numbered }
 
+-- how it is looked for what can be reached: by the rules of a profile, with a line for each distance, and watched
+abbrev pub reach_of : Profile → Bool → Bool → ReachSearch
+reach_of profile has_levels is_watched = record { profile = profile; has_levels = has_levels; is_watched = is_watched }
+
 -- the lines are right for the order, over a shelf that changes so; those of `--each` come below, since a line may be refused there
 abbrev pub AreLinesFor : ShelfChange → Order → List ℕ → Type 0
 AreLinesFor c (Value profile position) = IsValueLineOf profile position.now
 AreLinesFor c (Count profile set) = AreCountLinesOf profile set.now
+AreLinesFor c (Reach profile file has_levels is_watched position) = AreReachLinesFor c.before.has (reach_of profile has_levels is_watched) (text_given file) position.now
 AreLinesFor c (Build profile set nodes file is_watched) = AreBuildLines c profile set.now nodes file.now
 AreLinesFor c (Probe file position) = IsProbeLine (c.before.has file.now) position.now
 AreLinesFor c (Each file) = λ lines. ⊥
@@ -50,6 +57,7 @@ AreLinesFor c (Migrate file out) = AreMigrateLines c file.now out.now
 abbrev pub IsFaultFor : ShelfChange → Order → Fault → Type 0
 IsFaultFor c (Value profile position) = IsFaultOf profile position.now
 IsFaultFor c (Count profile set) = IsCountFaultOf set.now
+IsFaultFor c (Reach profile file has_levels is_watched position) = IsReachFaultFor c.before.has (reach_of profile has_levels is_watched) (text_given file) position.now
 IsFaultFor c (Build profile set nodes file is_watched) = IsBuildFault c profile set.now nodes file.now
 IsFaultFor c (Probe file position) = IsPositionFault (c.before.has file.now) position.now
 IsFaultFor c (Each file) = IsEachFault c file.now
@@ -112,6 +120,8 @@ AnswersRight c (Look file position) e = ByValueFile c file.now (λ profile. Answ
 AnswersRight c (LookEach file) e = ByValueFile c file.now (λ profile. AnswersLookEachRight c profile file.now e)
 AnswersRight c (Show (Some file) picture position) e =
     ByValueFile c file.now (λ profile. AnswersShowRight c profile file.now (text_given picture) position.now e)
+AnswersRight c (Reach own (Some file) has_levels is_watched position) e =
+    ByValueFile c file.now (λ profile. AnswersReachRight c profile file.now (reach_of own has_levels is_watched) position.now e)
 AnswersRight c (Moves file position) e = ByValueFile c file.now (λ profile. AnswersMovesRight c profile file.now position.now e)
 AnswersRight c (Best file position) e = ByValueFile c file.now (λ profile. AnswersBestRight c profile file.now position.now e)
 AnswersRight c (Stats file is_csv) e = ByValueFile c file.now (λ profile. AnswersStatsRight c profile file.now is_csv e)

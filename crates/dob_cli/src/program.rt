@@ -5,7 +5,7 @@ ghost use Rattle.std.specs.declared.io.ErrorKind.TheVariants.{OutOfMemory};
 ghost use Rattle.std.specs.Vec.Iter.{into_iter_items};
 ghost use Rattle.dob_dbfile.specs.Sinks.{Says, change};
 ghost use Rattle.dob_cli.specs.Runs.{LeavesShelf, Ran, RanOver, TellsNoText, contents};
-ghost use Rattle.dob_cli.specs.Orders.{AnswersOrder, GivesFor, GivesLinesFor, IsByLines, KeepsFiles, search_of};
+ghost use Rattle.dob_cli.specs.Orders.{AnswersOrder, GivesFor, GivesLinesFor, IsByLines, KeepsFiles, reach_of, search_of};
 ghost use Rattle.dob_shelf.specs.Shelves.{Changes, Leaving};
 ghost use Rattle.dob_query.specs.Endings.{TellsAs, TellsFaultAs, TellsMemory, TellsOneFault, ended};
 ghost use Rattle.dob_query.specs.Faults.{IsFaultLine};
@@ -13,11 +13,13 @@ ghost use Rattle.dob_query.specs.declared.fault.Fault.TheVariants.{Memory};
 
 use crate::builds::answer_build;
 use dob_dbfile::{Lent, Sink, put_all, write_all};
+use dob_pieces::Profile;
 use dob_probe::Walk;
 use dob_query::{
-    Console, Fault, LineAnswers, Lines, PuzzleSearch, Shelf, answer_best, answer_check,
-    answer_count, answer_each, answer_line, answer_look, answer_look_each, answer_migrate,
-    answer_moves, answer_probe, answer_puzzles, answer_show, answer_stats, answer_value,
+    Console, Fault, LineAnswers, Lines, PuzzleSearch, ReachSearch, Shelf, answer_best,
+    answer_check, answer_count, answer_each, answer_line, answer_look, answer_look_each,
+    answer_migrate, answer_moves, answer_probe, answer_puzzles, answer_reach, answer_show,
+    answer_stats, answer_value,
 };
 use dob_words::command::{Order, Reading, read_words};
 use std::alloc::{AllocError, Global};
@@ -146,6 +148,16 @@ fn answer<S: Shelf>(
     match order {
         Order::Value { profile, position } => answer_value(alloc, profile, position),
         Order::Count { profile, set } => answer_count(alloc, profile, set),
+        Order::Reach {
+            profile,
+            file,
+            has_levels,
+            is_watched,
+            position,
+        } => {
+            let search = reach_of(profile, has_levels, is_watched);
+            answer_reach(rt, alloc, shelf, search, file, position)
+        }
         Order::Build {
             profile,
             set,
@@ -183,6 +195,17 @@ fn answer<S: Shelf>(
             answer_puzzles(alloc, shelf, file, search)
         }
         Order::Migrate { file, out } => answer_migrate(alloc, shelf, file, out),
+    }
+}
+
+// How it is looked for what can be reached.
+fn reach_of(profile: Profile, has_levels: bool, is_watched: bool) -> ReachSearch
+    ensures { result ≡ reach_of profile has_levels is_watched }
+{
+    ReachSearch {
+        profile,
+        has_levels,
+        is_watched,
     }
 }
 

@@ -12,4 +12,5 @@ pub mod Progress
 pub mod Migrations
 pub mod Stats
 pub mod Puzzles
+pub mod Reaches
 pub mod LooksEach

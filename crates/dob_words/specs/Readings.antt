@@ -15,6 +15,7 @@ use Rattle.dob_words.specs.declared.command.Reading.TheVariants as reading
 abbrev pub name_of_order : Order → Text
 name_of_order (order.Value _ _) = codes "value"
 name_of_order (order.Count _ _) = codes "count"
+name_of_order (order.Reach _ _ _ _ _) = codes "reach"
 name_of_order (order.Build _ _ _ _ _) = codes "build"
 name_of_order (order.Probe _ _) = codes "probe"
 name_of_order (order.Each _) = codes "probe"
@@ -39,6 +40,9 @@ HasTexts texts (order.Value profile position) =
     (rules : Option Text) × (rules ∷ Some position.now ∷ [] ≡ texts) × (profile ≡ profile_named rules)
 HasTexts texts (order.Count profile set) =
     (rules : Option Text) × (Some set.now ∷ rules ∷ [] ≡ texts) × (profile ≡ profile_named rules)
+HasTexts texts (order.Reach profile file has_levels is_watched position) =
+    (rules levels flag : Option Text) × (text_given file ∷ rules ∷ levels ∷ flag ∷ Some position.now ∷ [] ≡ texts) × (profile ≡ profile_named rules)
+    × (has_levels ≡ is_some levels) × (is_watched ≡ is_some flag)
 HasTexts texts (order.Build profile set nodes file is_watched) =
     (n rules flag : Option Text) × (Some set.now ∷ n ∷ Some file.now ∷ rules ∷ flag ∷ [] ≡ texts) × IfSome n (λ t. is_number t ≡ true)
     × (nodes ≡ option_map number_in n) × (profile ≡ profile_named rules) × (is_watched ≡ is_some flag)

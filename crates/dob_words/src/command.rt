@@ -38,6 +38,15 @@ pub enum Order<'a> {
         profile: Profile,
         set: &'a str,
     },
+    /// To print how many classes are reached from that of the position, by the rules of the profile; where a table's file is named, by
+    /// its rules, and how many of them have which value. A line for each distance where it has levels; and how far it is where it is watched.
+    Reach {
+        profile: Profile,
+        file: Option<&'a str>,
+        has_levels: bool,
+        is_watched: bool,
+        position: &'a str,
+    },
     /// To build the table of the piece set that the text names, by the rules of the profile and by so many nodes, or by as many as
     /// there are processors, and to keep it under the name; and how far that is where it is watched.
     Build {

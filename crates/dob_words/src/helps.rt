@@ -66,6 +66,24 @@ the rules A and B are; by B a set with chicks has fewer positions.
 
 Example: dobutsu count --set 100 prints `positions 4158` and `classes 2124`, and with `--rules B` 3648 and 1864.";
 
+pub(crate) const REACH: &str =
+    "What a game that begins with POSITION can come to. A class is a position with its mirror image, seen by the side to move; it goes
+on from open classes alone, and counts those that have ended too: where the lion can be caught, has arrived, or no move is left.
+That each of the two positions of a class is reached isn't said.
+
+Answers: `classes N`, how many classes are reached, that of POSITION among them; `open N`, how many of them are open; `depth D`,
+in how many plies the furthest is reached. With `--db FILE` also `win N`, `loss N` and `draw N`, how many of them have which value for
+the side to move: the rules are those of the file, and POSITION has to be of its piece set (E7). With `--levels` then a line
+`PLY N` for each distance from POSITION, how many classes are reached in so many plies and in no fewer.
+
+It takes a bit of memory for each class of the piece set, and some 8 bytes for each of the classes of two distances that follow
+each other: 0.5 GB for the whole game, where it runs for minutes.
+
+With `--progress` it says on standard error, before each distance, how many classes it has, as `ply 2: 17 classes`.
+
+Example: dobutsu reach \"gl./.c./.../E.L - -\" prints `classes 443086`, `open 201898` and `depth 26`. `dobutsu value --help`
+says how a position is written and what the rules A and B are.";
+
 pub(crate) const BUILD: &str =
     "A piece set: three digits CEG, as `dobutsu count --help` says. Nodes: 1 to 16. Each works in a thread of
 its own and owns a part of the positions; with more nodes than processors it works too, only slower.
@@ -226,6 +244,7 @@ pub(crate) fn help_of(name: &str) -> &'static str {
     match name {
         "value" => POSITION,
         "count" => SET,
+        "reach" => REACH,
         "build" => BUILD,
         "probe" => PROBE,
         "line" => LINE,

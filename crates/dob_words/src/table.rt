@@ -99,6 +99,27 @@ pub const ROWS: &[Row] = &[
         &[],
     ),
     (
+        "reach",
+        "Prints how many classes a game from a position can reach, and how far they lie",
+        &[
+            (
+                "db",
+                (
+                    "FILE",
+                    Kind::Any,
+                    Need::May,
+                    "A database file, for how many of them are won, lost and drawn; its rules count",
+                ),
+            ),
+            RULES,
+        ],
+        &[
+            ("levels", "A line for each distance, as `2 17`, behind the others"),
+            PROGRESS,
+        ],
+        &[POSITION],
+    ),
+    (
         "build",
         "Builds the database file of a piece set, as `build --set 100 --out 100.db`",
         &[

@@ -58,6 +58,7 @@ pub(super) fn order_named<'a>(name: &str, inner: &ArgMatches<'a>) -> Option<Orde
             profile: profile_named(inner.get_str("PROFILE")),
             set: text(inner, "CEG"),
         }),
+        "reach" => Some(reach_order(inner)),
         "build" => Some(build_order(inner)),
         "probe" => asked_order(inner, false),
         "line" => Some(Order::Line {
@@ -93,6 +94,20 @@ pub(super) fn order_named<'a>(name: &str, inner: &ArgMatches<'a>) -> Option<Orde
             out: text(inner, "OUT"),
         }),
         _ => unreachable!(),
+    }
+}
+
+// What the matches of `reach` ask for.
+fn reach_order<'a>(inner: &ArgMatches<'a>) -> Order<'a>
+    requires { HasFit (form_named (codes "reach")) inner.now }
+    ensures { IsOrder (codes "reach") (texts_in (form_named (codes "reach")) inner.now) result }
+{
+    Order::Reach {
+        profile: profile_named(inner.get_str("PROFILE")),
+        file: inner.get_str("FILE"),
+        has_levels: inner.get_str("levels").is_some(),
+        is_watched: inner.get_str("progress").is_some(),
+        position: text(inner, "POSITION"),
     }
 }
 

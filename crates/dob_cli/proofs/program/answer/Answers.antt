@@ -15,6 +15,9 @@ returns-in-Count g c =
     let shelf = g.S.Shelf.state c.args.shelf.now in
     rw c.in-Count.is (answered_by (shelf_change shelf shelf) _ _ _ c.answer_count.ensures.ok c.answer_count.ensures.err (search rules), unchanged shelf.has)
 
+pub returns-in-Reach : goal.returns-in-Reach
+returns-in-Reach g c = rw c.in-Reach.is (rw c.reach_of-search.ensures at c.answer_reach.ensures)
+
 pub returns-in-Probe : goal.returns-in-Probe
 returns-in-Probe g c = rw c.in-Probe.is c.answer_probe.ensures
 

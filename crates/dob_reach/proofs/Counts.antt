@@ -1,0 +1,219 @@
+-- Counts of numbers with a property: put together, of a list's items, and below a bound.
+use Rattle.std.proofs.Common.{◌≡◌, ◌≢◌, ℕ, zero, suc, ◌+◌, ◌<◌, ◌≤◌, ◌⊎◌, inl, inr, refl, sym, ap, ◌∙◌, subst, arith, List, [], ◌∷◌, ◌++◌, length, get_or, All, AllPairs, Contains, length-append}
+use Rattle.std.specs.List.{range_with_len}
+use Rattle.std.proofs.lemmas.Bool.{cases_eq, cases_lt}
+use Rattle.std.proofs.lemmas.List.{get_or_default}
+use Rattle.std.proofs.lemmas.List.FromFn.{length-range_with_len}
+use Rattle.std.proofs.lemmas.List.Elements.{Contains-append_left, Contains-append_right, Contains-append_cases}
+use Rattle.std.proofs.lemmas.List.Kept.{AllPairs-cons}
+use Rattle.dob_pieces.proofs.Lists.{cons_cases}
+use Rattle.dob_classes.proofs.OfFamilies.Counted.{pairs-head, pairs-tail, no_longer}
+use Rattle.dob_reach.specs.Counts.{Among, HasJust}
+
+-- ---- lists
+
+abbrev pub Apart : ℕ → ℕ → Type 0
+Apart a b = ¬ (a ≡ b)
+
+-- nothing stands in an empty list
+pub none_in : (number : ℕ) → ¬ Contains [] number
+none_in number there = absurd (omega (arith, there.1))
+
+pub first_in : (number : ℕ) (numbers : List ℕ) → Contains (number ∷ numbers) number
+first_in number numbers = (0, omega arith, refl)
+
+pub rest_in : (first number : ℕ) (numbers : List ℕ) → Contains numbers number → Contains (first ∷ numbers) number
+rest_in first number numbers there = Contains-append_right (first ∷ []) numbers number there
+
+-- a number stands in a list or it doesn't
+pub stands_or : (numbers : List ℕ) (number : ℕ) → Contains numbers number ⊎ (¬ Contains numbers number)
+stands_or [] number = inr (none_in number)
+stands_or (first ∷ rest) number = elim (cases_eq first number) [
+  | inl same ↦ inl (subst (Contains (first ∷ rest)) same (first_in first rest))
+  | inr other ↦ elim (stands_or rest number) [
+    | inl there ↦ inl (rest_in first number rest there)
+    | inr absent ↦ inr (λ there. elim (cons_cases first rest number there) [ inl e ↦ other e | inr later ↦ absent later ])
+  ]
+]
+
+-- a number that isn't the first stands behind it, each time
+pub apart_first : (first : ℕ) (rest : List ℕ) → ((number : ℕ) → Contains rest number → ¬ (first ≡ number)) → AllPairs Apart rest → AllPairs Apart (first ∷ rest)
+apart_first first rest others once =
+    AllPairs-cons Apart first rest (λ k d lt. others (get_or rest k d) (k, lt, get_or_default rest k (get_or rest k d) d lt)) once
+
+-- two lists without repeats that have nothing in common
+pub apart_both : (xs ys : List ℕ) → AllPairs Apart xs → AllPairs Apart ys → ((number : ℕ) → Contains xs number → ¬ Contains ys number) → AllPairs Apart (xs ++ ys)
+apart_both [] ys p q across = q
+apart_both (x ∷ xs) ys p q across =
+    apart_first x (xs ++ ys)
+    (λ number there same. elim (Contains-append_cases xs ys number there) [
+      | inl left ↦ first_apart x xs p number left same
+      | inr right ↦ across x (first_in x xs) (subst (Contains ys) (sym same) right)
+    ])
+    (apart_both xs ys (pairs-tail Apart x xs p) q (λ number left. across number (rest_in x number xs left)))
+  where
+    first_apart : (x : ℕ) (xs : List ℕ) → AllPairs Apart (x ∷ xs) → (number : ℕ) → Contains xs number → ¬ (x ≡ number)
+    first_apart x xs p number left same =
+        pairs-head Apart x xs p left.0 number left.1 (same ∙ sym left.2)
+
+pub behind_first : (x : ℕ) (xs : List ℕ) → AllPairs Apart (x ∷ xs) → (number : ℕ) → Contains xs number → ¬ (x ≡ number)
+behind_first x xs p number left same = pairs-head Apart x xs p left.0 number left.1 (same ∙ sym left.2)
+
+-- one more at the end
+pub apart_more : (xs : List ℕ) (x : ℕ) → AllPairs Apart xs → (¬ Contains xs x) → AllPairs Apart (xs ++ x ∷ [])
+apart_more xs x once absent =
+    apart_both xs (x ∷ []) once (apart_first x [] (λ number there. absurd (none_in number there)) (λ i j d lt within. absurd (omega (arith, within))))
+    (λ number left right. elim (cons_cases x [] number right) [
+      | inl same ↦ absent (subst (Contains xs) (sym same) left)
+      | inr no_more ↦ none_in number no_more
+    ])
+
+-- ---- just so many
+
+-- two properties of the same numbers have one count
+pub just_same : (P Q : ℕ → Type 0) (count : ℕ) → ((k : ℕ) → P k → Q k) → ((k : ℕ) → Q k → P k) → HasJust P count → HasJust Q count
+just_same P Q count onward back has = record {
+  list = has.list;
+  sound = λ number there. onward number (has.sound number there);
+  whole = λ number is. has.whole number (back number is);
+  once = has.once;
+  counted = has.counted;
+}
+
+pub just_none : (P : ℕ → Type 0) → ((k : ℕ) → ¬ P k) → HasJust P 0
+just_none P none = record {
+  list = [];
+  sound = λ number there. absurd (none_in number there);
+  whole = λ number is. absurd (none number is);
+  once = λ i j d lt within. absurd (omega (arith, within));
+  counted = refl;
+}
+
+-- of properties that no number has both
+pub just_both : (P Q : ℕ → Type 0) (m n : ℕ) → ((k : ℕ) → P k → ¬ Q k) → HasJust P m → HasJust Q n → HasJust (λ k. P k ⊎ Q k) (m + n)
+just_both P Q m n across p q = record {
+  list = p.list ++ q.list;
+  sound = λ number there. elim (Contains-append_cases p.list q.list number there) [
+    | inl left ↦ inl (p.sound number left)
+    | inr right ↦ inr (q.sound number right)
+  ];
+  whole = λ number is. elim is [
+    | inl left ↦ Contains-append_left p.list q.list number (p.whole number left)
+    | inr right ↦ Contains-append_right p.list q.list number (q.whole number right)
+  ];
+  once = apart_both p.list q.list p.once q.once (λ number left right. across number (p.sound number left) (q.sound number right));
+  counted = (let all = length-append p.list q.list in omega (arith, all, p.counted, q.counted));
+}
+
+-- what stands in a list without repeats
+pub just_list : (numbers : List ℕ) → AllPairs Apart numbers → HasJust (Contains numbers) (length numbers)
+just_list numbers once = record {
+  list = numbers;
+  sound = λ number there. there;
+  whole = λ number there. there;
+  once = once;
+  counted = refl;
+}
+
+-- numbers below a bound are no more than it
+range_has : (count from number : ℕ) → from ≤ number → number < from + count → Contains (range_with_len from count) number
+range_has zero from number low high = absurd (omega arith)
+range_has (suc count) from number low high = elim (cases_eq from number) [
+  | inl same ↦ subst (Contains (from ∷ range_with_len (from + 1) count)) same (first_in from (range_with_len (from + 1) count))
+  | inr other ↦ rest_in from number (range_with_len (from + 1) count) (range_has count (from + 1) number (omega arith) (omega arith))
+]
+
+pub just_few : (P : ℕ → Type 0) (count bound : ℕ) → ((k : ℕ) → P k → k < bound) → HasJust P count → count ≤ bound
+just_few P count bound low has =
+    let fits = no_longer has.list (range_with_len 0 bound) has.once
+    (λ number there. range_has bound 0 number (omega arith) (omega (arith, low number (has.sound number there)))) in
+    let long = length-range_with_len 0 bound in
+    omega (arith, fits, long, has.counted)
+
+-- one number alone
+pub just_one : (number : ℕ) → HasJust (λ k. k ≡ number) 1
+just_one number = record {
+  list = number ∷ [];
+  sound = λ k there. elim (cons_cases number [] k there) [ inl same ↦ sym same | inr more ↦ absurd (none_in k more) ];
+  whole = λ k is. subst (Contains (number ∷ [])) (sym is) (first_in number []);
+  once = apart_first number [] (λ k there. absurd (none_in k there)) (λ i j d lt within. absurd (omega (arith, within)));
+  counted = refl;
+}
+
+-- ---- the numbers below a place that have a property, one place more
+
+abbrev pub Below : (ℕ → Type 0) → ℕ → ℕ → Type 0
+Below P place k = (k < place) × P k
+
+pub below_none : (P : ℕ → Type 0) → HasJust (Below P 0) 0
+below_none P = just_none (Below P 0) (λ k is. absurd (omega (arith, is.0)))
+
+pub below_more : (P : ℕ → Type 0) (place count : ℕ) → P place → HasJust (Below P place) count → HasJust (Below P (place + 1)) (count + 1)
+below_more P place count is has =
+    just_same (λ k. Below P place k ⊎ (k ≡ place)) (Below P (place + 1)) (count + 1)
+    (λ k which. elim which [
+      | inl low ↦ (omega (arith, low.0), low.1)
+      | inr same ↦ (omega (arith, same), subst P (sym same) is)
+    ])
+    (λ k low. elim (cases_lt k place) [
+      | inl less ↦ inl (less, low.1)
+      | inr high ↦ inr (omega (arith, high, low.0))
+    ])
+    (just_both (Below P place) (λ k. k ≡ place) count 1 (λ k low same. absurd (omega (arith, low.0, same))) has (just_one place))
+
+pub below_same : (P : ℕ → Type 0) (place count : ℕ) → (¬ P place) → HasJust (Below P place) count → HasJust (Below P (place + 1)) count
+below_same P place count not_is has =
+    just_same (Below P place) (Below P (place + 1)) count
+    (λ k low. (omega (arith, low.0), low.1))
+    (λ k low. elim (cases_lt k place) [
+      | inl less ↦ (less, low.1)
+      | inr high ↦ let same : k ≡ place = omega (arith, high, low.0) in absurd (not_is (subst P same low.1))
+    ])
+    has
+
+-- ---- so many of a list
+
+pub among_few : (P : ℕ → Type 0) (numbers : List ℕ) (count : ℕ) → Among P numbers count → count ≤ length numbers
+among_few P [] count none = omega (arith, none)
+among_few P (x ∷ xs) count some = elim some [
+  | inl one ↦ let rest = among_few P xs one.1 one.3 in omega (arith, rest, one.2)
+  | inr other ↦ let rest = among_few P xs count other.1 in omega (arith, rest)
+]
+
+pub among_both : (P : ℕ → Type 0) (xs ys : List ℕ) (m n : ℕ) → Among P xs m → Among P ys n → Among P (xs ++ ys) (m + n)
+among_both P [] ys m n p q = let same : n ≡ m + n = omega (arith, p) in subst (Among P ys) same q
+among_both P (x ∷ xs) ys m n p q = elim p [
+  | inl one ↦ inl (one.0, one.1 + n, (let e = one.2 in omega (arith, e)), among_both P xs ys one.1 n one.3 q)
+  | inr other ↦ inr (other.0, among_both P xs ys m n other.1 q)
+]
+
+pub among_one : (P : ℕ → Type 0) (x : ℕ) → P x → Among P (x ∷ []) 1
+among_one P x is = inl (is, 0, refl, refl)
+
+pub among_none : (P : ℕ → Type 0) (x : ℕ) → (¬ P x) → Among P (x ∷ []) 0
+among_none P x not_is = inr (not_is, refl)
+
+-- so many numbers of a list without repeats have the property
+pub among_just : (P : ℕ → Type 0) (numbers : List ℕ) (count : ℕ) → Among P numbers count → AllPairs Apart numbers → HasJust (λ k. Contains numbers k × P k) count
+among_just P [] count none once =
+    subst (HasJust (λ k. Contains [] k × P k)) (sym none) (just_none (λ k. Contains [] k × P k) (λ k is. none_in k is.0))
+among_just P (x ∷ xs) count some once = elim some [
+  | inl one ↦
+      let rest = among_just P xs one.1 one.3 (pairs-tail Apart x xs once) in
+      subst (HasJust (λ k. Contains (x ∷ xs) k × P k)) (sym one.2)
+      (just_same (λ k. (Contains xs k × P k) ⊎ (k ≡ x)) (λ k. Contains (x ∷ xs) k × P k) (one.1 + 1)
+      (λ k which. elim which [
+        | inl later ↦ (rest_in x k xs later.0, later.1)
+        | inr same ↦ (subst (Contains (x ∷ xs)) (sym same) (first_in x xs), subst P (sym same) one.0)
+      ])
+      (λ k is. elim (cons_cases x xs k is.0) [ inl same ↦ inr (sym same) | inr later ↦ inl (later, is.1) ])
+      (just_both (λ k. Contains xs k × P k) (λ k. k ≡ x) one.1 1 (λ k later same. behind_first x xs once k later.0 (sym same)) rest (just_one x)))
+  | inr other ↦
+      just_same (λ k. Contains xs k × P k) (λ k. Contains (x ∷ xs) k × P k) count
+      (λ k later. (rest_in x k xs later.0, later.1))
+      (λ k is. elim (cons_cases x xs k is.0) [
+        | inl same ↦ absurd (other.0 (subst P (sym same) is.1))
+        | inr later ↦ (later, is.1)
+      ])
+      (among_just P xs count other.1 (pairs-tail Apart x xs once))
+]

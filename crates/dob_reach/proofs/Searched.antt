@@ -1,0 +1,220 @@
+-- The search of a family's classes: before its first round, after a round, and at its end.
+use Rattle.std.proofs.Common.{◌≡◌, ℕ, zero, suc, ◌+◌, ◌<◌, ◌≤◌, ◌⊎◌, inl, inr, refl, sym, ap, ◌∙◌, subst, arith, List, [], ◌∷◌, ◌++◌, ◌^◌, length, get_or, Contains, Bool, true, false, ◌==◌}
+use Rattle.std.proofs.lemmas.Bool.{cases_lt, eqb-true, true≢false}
+use Rattle.std.proofs.lemmas.List.{get_or_append_left, get_or_past, length_push}
+use Rattle.std.proofs.Math.Seq.{get_or-append_seam}
+use Rattle.dob_pieces.specs.declared.profile.Family.{Family}
+use Rattle.dob_rank.specs.Families.{classes_of}
+use Rattle.dob_reach.specs.declared.search.Reached.{Reached}
+use Rattle.dob_reach.specs.Counts.{Among, HasJust}
+use Rattle.dob_reach.specs.Distances.{HasDistance, IsReached, Met}
+use Rattle.dob_reach.specs.Leads.{IsOpen, Leads}
+use Rattle.dob_reach.specs.Marks.{HasBits, IsMarked}
+use Rattle.dob_reach.specs.Reached.{AreReachedFrom}
+use Rattle.dob_reach.specs.Rounds.{AreMet, IsMarkedWithin, IsNearer}
+use Rattle.dob_reach.specs.Searches.{IsSearched}
+use Rattle.dob_reach.proofs.Counts.{among_just, just_both, just_few, just_list, just_none, just_same}
+use Rattle.dob_reach.proofs.Rounds.{begun, nearer_reached, one_distance, one_round, reached_marked, reached_nearer}
+use Rattle.dob_reach.proofs.Stepping.{class_low}
+
+module _ (family : Family) (from : ℕ) where
+  abbrev At : ℕ → ℕ → Type 0
+  At = HasDistance (Leads family) from
+
+  abbrev Near : ℕ → ℕ → Type 0
+  Near = IsNearer (Leads family) from
+
+  -- nothing is nearer than the start
+  none_nearer : (number : ℕ) → ¬ Near 0 number
+  none_nearer number near = absurd (omega (arith, near.1))
+
+  -- what is nearer than the next distance
+  nearer_or_at : (d number : ℕ) → Near (d + 1) number → Near d number ⊎ At d number
+  nearer_or_at d number near = elim (cases_lt near.0 d) [
+    | inl less ↦ inl (near.0, less, near.2)
+    | inr last ↦ let same : near.0 ≡ d = omega (arith, near.1, last) in inr (subst (λ k. At k number) same near.2)
+  ]
+
+  nearer_from : (d number : ℕ) → Near d number ⊎ At d number → Near (d + 1) number
+  nearer_from d number which = elim which [
+    | inl near ↦ (near.0, (let lt = near.1 in omega (arith, lt)), near.2)
+    | inr at ↦ (d, omega arith, at)
+  ]
+
+  not_both : (d number : ℕ) → Near d number → ¬ At d number
+  not_both d number near at = let same = one_distance (Leads family) from near.0 d number near.2 at in absurd (omega (arith, same, near.1))
+
+  -- a class that is met is one of the family
+  met_low : from < classes_of family → (n number : ℕ) → Met (Leads family) n from number → number < classes_of family
+  met_low begins zero number met = subst (λ k. k < classes_of family) met begins
+  met_low begins (suc n) number met = class_low family met.0 number met.2
+
+  -- before the first round
+  pub searched_begin : (reached : Reached) (front : List ℕ) → from < classes_of family → classes_of family < 2 ^ 31 → reached.levels.items ≡ [] → reached.classes ≡ 0 → reached.opens ≡ 0
+      → front ≡ from ∷ [] → ((number : ℕ) → IsMarked reached.marks.words.items number → number ≡ from) → IsMarked reached.marks.words.items from
+      → HasBits reached.marks.words.items (classes_of family) → IsSearched family from reached front
+  searched_begin reached front begins few levels classes opens front_is alone marked bits =
+      let none : length reached.levels.items ≡ 0 = ap length levels in
+      record {
+        begins = begins;
+        few = few;
+        marks_are = subst (λ n. IsMarkedWithin (Leads family) from n reached.marks.words.items front) (sym none)
+            (subst (IsMarkedWithin (Leads family) from 0 reached.marks.words.items) (sym front_is) (begun (Leads family) from reached.marks.words.items alone marked));
+        all = subst (λ n. HasJust (Near n) reached.classes) (sym none) (subst (HasJust (Near 0)) (sym classes) (just_none (Near 0) none_nearer));
+        opens_are = subst (λ n. HasJust (λ k. Near n k × IsOpen family k) reached.opens) (sym none)
+            (subst (HasJust (λ k. Near 0 k × IsOpen family k)) (sym opens) (just_none (λ k. Near 0 k × IsOpen family k) (λ k is. none_nearer k is.0)));
+        levels_are = λ distance low. absurd (omega (arith, low, none));
+        each = λ distance low. absurd (omega (arith, low, none));
+        first = λ none_yet. (let one = ap length front_is in omega (arith, one));
+        bits = bits;
+      }
+
+  module _ (reached : Reached) (front : List ℕ) (known : IsSearched family from reached front) where
+    abbrev d : ℕ
+    d = length reached.levels.items
+
+    at_front : HasJust (At d) (length front)
+    at_front = just_same (Contains front) (At d) (length front) known.marks_are.front_sound known.marks_are.front_whole (just_list front known.marks_are.front_once)
+
+    both : HasJust (Near (d + 1)) (reached.classes + length front)
+    both = just_same (λ k. Near d k ⊎ At d k) (Near (d + 1)) (reached.classes + length front) (nearer_from d) (nearer_or_at d)
+        (just_both (Near d) (At d) reached.classes (length front) (not_both d) known.all at_front)
+
+    -- the classes of the front are classes of the family
+    pub front_low : (number : ℕ) → Contains front number → number < classes_of family
+    front_low number there = met_low known.begins d number (known.marks_are.front_sound number there).0
+
+    -- all that were counted, and the front's, are no more than there are
+    pub counted_few : reached.classes + length front ≤ classes_of family
+    counted_few = just_few (Near (d + 1)) (reached.classes + length front) (classes_of family) (λ k near. met_low known.begins near.0 k near.2.0) both
+
+    module _ (opens : ℕ) (open_are : Among (IsOpen family) front opens) where
+      open_front : HasJust (λ k. At d k × IsOpen family k) opens
+      open_front = just_same (λ k. Contains front k × IsOpen family k) (λ k. At d k × IsOpen family k) opens
+          (λ k is. (known.marks_are.front_sound k is.0, is.1)) (λ k is. (known.marks_are.front_whole k is.0, is.1))
+          (among_just (IsOpen family) front opens open_are known.marks_are.front_once)
+
+      open_both : HasJust (λ k. Near (d + 1) k × IsOpen family k) (reached.opens + opens)
+      open_both = just_same (λ k. (Near d k × IsOpen family k) ⊎ (At d k × IsOpen family k)) (λ k. Near (d + 1) k × IsOpen family k) (reached.opens + opens)
+          (λ k which. elim which [ inl near ↦ (nearer_from d k (inl near.0), near.1) | inr at ↦ (nearer_from d k (inr at.0), at.1) ])
+          (λ k is. elim (nearer_or_at d k is.0) [ inl near ↦ inl (near, is.1) | inr at ↦ inr (at, is.1) ])
+          (just_both (λ k. Near d k × IsOpen family k) (λ k. At d k × IsOpen family k) reached.opens opens (λ k near at. not_both d k near.0 at.0) known.opens_are open_front)
+
+      -- and so are those that are open
+      pub opens_few : reached.opens + opens ≤ classes_of family
+      opens_few = just_few (λ k. Near (d + 1) k × IsOpen family k) (reached.opens + opens) (classes_of family) (λ k near. met_low known.begins near.0.0 k near.0.2.0) open_both
+
+    module _ (new : Reached) (next : List ℕ) (opens : ℕ) (some : 0 < length front)
+        (levels_are : new.levels.items ≡ reached.levels.items ++ length front ∷ []) (classes_are : new.classes ≡ reached.classes + length front)
+        (opens_are : new.opens ≡ reached.opens + opens) (met : AreMet (Leads family) reached.marks.words.items new.marks.words.items front next)
+        (open_are : Among (IsOpen family) front opens) where
+      longer : length new.levels.items ≡ d + 1
+      longer = ap length levels_are ∙ length_push reached.levels.items (length front)
+
+      marks_next : IsMarkedWithin (Leads family) from (length new.levels.items) new.marks.words.items next
+      marks_next = subst (λ k. IsMarkedWithin (Leads family) from k new.marks.words.items next) (sym longer)
+          (one_round (Leads family) from d reached.marks.words.items new.marks.words.items front next known.marks_are met)
+
+      all_next : HasJust (Near (length new.levels.items)) new.classes
+      all_next = subst (λ k. HasJust (Near k) new.classes) (sym longer) (subst (HasJust (Near (d + 1))) (sym classes_are) both)
+
+      opens_next : HasJust (λ k. Near (length new.levels.items) k × IsOpen family k) new.opens
+      opens_next = subst (λ n. HasJust (λ k. Near n k × IsOpen family k) new.opens) (sym longer)
+          (subst (HasJust (λ k. Near (d + 1) k × IsOpen family k)) (sym opens_are) (open_both opens open_are))
+
+      level_before : (distance : ℕ) → distance < d → get_or new.levels.items distance 0 ≡ get_or reached.levels.items distance 0
+      level_before distance low = ap (λ xs. get_or xs distance 0) levels_are ∙ get_or_append_left reached.levels.items (length front ∷ []) 0 distance low
+
+      level_last : get_or new.levels.items d 0 ≡ length front
+      level_last = ap (λ xs. get_or xs d 0) levels_are ∙ get_or-append_seam reached.levels.items (length front) [] 0
+
+      levels_next : (distance : ℕ) → distance < length new.levels.items → HasJust (At distance) (get_or new.levels.items distance 0)
+      levels_next distance below = elim (cases_lt distance d) [
+        | inl low ↦ subst (HasJust (At distance)) (sym (level_before distance low)) (known.levels_are distance low)
+        | inr high ↦
+            let same : d ≡ distance = omega (arith, high, below, longer) in
+            subst (λ k. HasJust (At k) (get_or new.levels.items k 0)) same (subst (HasJust (At d)) (sym level_last) at_front)
+      ]
+
+      each_next : (distance : ℕ) → distance < length new.levels.items → 0 < get_or new.levels.items distance 0
+      each_next distance below = elim (cases_lt distance d) [
+        | inl low ↦ subst (λ k. 0 < k) (sym (level_before distance low)) (known.each distance low)
+        | inr high ↦
+            let same : d ≡ distance = omega (arith, high, below, longer) in
+            subst (λ k. 0 < get_or new.levels.items k 0) same (subst (λ k. 0 < k) (sym level_last) some)
+      ]
+
+      pub searched_next : IsSearched family from new next
+      searched_next = record {
+        begins = known.begins;
+        few = known.few;
+        marks_are = marks_next;
+        all = all_next;
+        opens_are = opens_next;
+        levels_are = levels_next;
+        each = each_next;
+        first = λ none. absurd (omega (arith, none, longer));
+        bits = (let long = met.keeps.long in omega (arith, known.bits, long));
+      }
+
+  -- at the end
+  module _ (reached : Reached) (known : IsSearched family from reached []) where
+    abbrev far : ℕ
+    far = length reached.levels.items
+
+    level_beyond : (distance : ℕ) → far ≤ distance → HasJust (At distance) 0
+    level_beyond distance high = just_none (At distance) (λ k at.
+        let near = reached_nearer (Leads family) from far reached.marks.words.items known.marks_are k (distance, at.0) in
+        let same = one_distance (Leads family) from near.0 distance k near.2 at in
+        absurd (omega (arith, same, near.1, high)))
+
+    levels_end : (distance : ℕ) → HasJust (At distance) (get_or reached.levels.items distance 0)
+    levels_end distance = elim (cases_lt distance far) [
+      | inl low ↦ known.levels_are distance low
+      | inr high ↦ subst (HasJust (At distance)) (sym (get_or_past reached.levels.items distance 0 high)) (level_beyond distance high)
+    ]
+
+    some_end : 0 < far
+    some_end = elim (cases_lt 0 far) [
+      | inl some ↦ some
+      | inr none ↦ let first = known.first (omega (arith, none)) in absurd (omega (arith, first))
+    ]
+
+    pub reached_end : AreReachedFrom family from reached
+    reached_end = record {
+      all = just_same (Near far) (IsReached (Leads family) from) reached.classes
+          (nearer_reached (Leads family) from far reached.marks.words.items known.marks_are)
+          (reached_nearer (Leads family) from far reached.marks.words.items known.marks_are) known.all;
+      opens_are = just_same (λ k. Near far k × IsOpen family k) (λ k. IsReached (Leads family) from k × IsOpen family k) reached.opens
+          (λ k is. (nearer_reached (Leads family) from far reached.marks.words.items known.marks_are k is.0, is.1))
+          (λ k is. (reached_nearer (Leads family) from far reached.marks.words.items known.marks_are k is.0, is.1)) known.opens_are;
+      levels_are = levels_end;
+      some = some_end;
+      each = known.each;
+      marked = λ class. (
+        λ is. let near = known.marks_are.sound class is in (near.0, near.2.0),
+        reached_marked (Leads family) from far reached.marks.words.items known.marks_are class,
+      );
+      bits = known.bits;
+    }
+
+-- what is told of each level, with one level more
+pub told_more : (Told : ℕ → ℕ → Type 0) (old new : List ℕ) (count : ℕ) → new ≡ old ++ count ∷ [] → ((distance : ℕ) → distance < length old → Told distance (get_or old distance 0))
+    → Told (length old) count → (distance : ℕ) → distance < length new → Told distance (get_or new distance 0)
+told_more Told old new count is before last distance below =
+    let long = ap length is ∙ length_push old count in
+    subst (λ (xs : List ℕ). Told distance (get_or xs distance 0)) (sym is)
+    (elim (cases_lt distance (length old)) [
+      | inl low ↦ subst (Told distance) (sym (get_or_append_left old (count ∷ []) 0 distance low)) (before distance low)
+      | inr high ↦
+          let same : length old ≡ distance = omega (arith, high, below, long) in
+          subst (λ k. Told k (get_or (old ++ count ∷ []) k 0)) same (subst (Told (length old)) (sym (get_or-append_seam old count [] 0)) last)
+    ])
+
+-- what is left to go on from, by the test of an empty list
+pub some_left : (count : ℕ) (is_empty : Bool) → is_empty ≡ (count == 0) → is_empty ≡ false → 0 < count
+some_left zero is_empty is some = absurd (true≢false (sym is ∙ some))
+some_left (suc count) is_empty is some = omega arith
+
+pub none_left : (count : ℕ) (is_empty : Bool) → is_empty ≡ (count == 0) → is_empty ≡ true → count ≡ 0
+none_left count is_empty is none = eqb-true count 0 (sym is ∙ none)

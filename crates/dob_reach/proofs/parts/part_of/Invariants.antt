@@ -1,0 +1,7 @@
+-- The classes so far are expanded.
+use Rattle.std.proofs.Common.{take}
+use Rattle.dob_reach.specs.Fronts.{AreExpanded}
+use Rattle.dob_reach.proofs.parts.part_of.Given as goal
+
+abbrev pub invariant-loop-class : goal.invariant-loop-class
+invariant-loop-class l = AreExpanded l.classes.family l.marks.words.items (take l.class-index l.part) l.outcomes.items l.opens

@@ -1,0 +1,13 @@
+-- The parts so far are expanded, and what they lead to is marked.
+use Rattle.std.proofs.Common.{◌≡◌, ◌≤◌, ◌-◌, ℕ, List}
+use Rattle.dob_reach.specs.Fronts.{AreExpanded, part_count, parts_before}
+use Rattle.dob_reach.specs.Marks.{AreMarked}
+use Rattle.dob_reach.proofs.search.round.Given as goal
+
+abbrev pub invariant-windows : goal.invariant-windows
+invariant-windows g l =
+    (done : List ℕ) × AreMarked l.initial.marks.words.items l.marks.words.items done l.next.items
+    × AreExpanded l.classes.family l.marks.words.items (parts_before l.front l.first) done l.opens
+
+abbrev pub decreases-windows : goal.decreases-windows
+decreases-windows g l = l.parts - l.first
