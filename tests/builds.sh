@@ -37,6 +37,19 @@ rm -f "$work/alone.db"
 expect 0 'consistent' '' check --progress --db "$built"
 expect 1 '' 'dobutsu: E25 SetText' build --set 003 --nodes 2 --out "$other" --progress
 expect 3 '' "$(failed_at "$work/none.db" "$gone")" check --progress --db "$work/none.db"
+# Lines on how far a build is take each other's place exactly where standard error is a terminal, whatever standard output is. It is stopped for a second, so that a
+# line is due.
+watched() { # REDIRECTION: the build, on a terminal of which one stream goes to a file
+    script -qec "\"$program\" build --set 111 --nodes 1 --progress --out \"$other\" $1 & sleep 0.1; kill -STOP \$!; sleep 1.2; kill -CONT \$!; wait" /dev/null >"$work/shown" </dev/null
+}
+if command -v script >"$work/out"; then
+    watched "2>\"$work/err\""
+    if grep -q ' s, [0-9]* %' "$work/err" && ! grep -q $'\r' "$work/err"; then good=yes; else good=no; fi
+    note "lines in a file, where standard output is a terminal" "$good"
+    watched ">\"$work/out\""
+    if grep -q $'\r[0-9]* s, [0-9]* %.*\033\\[K' "$work/shown" && grep -q 'classes 765360' "$work/out"; then good=yes; else good=no; fi
+    note "lines in place on a terminal, where standard output is a file" "$good"
+fi
 # Without --nodes a build takes a node a processor, 16 at most: of its threads, counted over and over, there are mostly one a node and the main one.
 for processors in 0 0,1 ''; do
     run=()

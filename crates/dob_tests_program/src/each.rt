@@ -206,12 +206,6 @@ fn the_file_before_the_input(rt: HostRuntime) {
     for words in [&WORDS, &LOOK] {
         let none = MemShelf::new(rt.alloc());
         leaves_input(&rt, words, none, 3, b"dobutsu: E24 Io\n");
-        leaves_input(
-            &rt,
-            words,
-            empty_file(&rt),
-            1,
-            b"dobutsu: E15 Truncated\n",
-        );
+        leaves_input(&rt, words, empty_file(&rt), 1, b"dobutsu: E15 Truncated\n");
     }
 }

@@ -1,6 +1,6 @@
 // What the program does over streams that fail, without arguments, and by files with a wrong value. `rows.rt` has what it prints, a
 // line for each list of words, and `./test` asks the built program for the same and more.
-use crate::lions::forged;
+use crate::lions::{file, forged};
 use crate::shelves::put;
 use dob_cli::{Console, MemShelf, Shelf, run_given, run_over, run_words};
 use dob_dbfile::MemSink;
@@ -291,4 +291,40 @@ fn the_first_break_of_a_file(rt: HostRuntime) {
     breaks(&rt, 36, 3, "dobutsu: E21 Inconsistent class 36\n");
     // a draw where the lion can be caught
     breaks(&rt, 1, 0, "dobutsu: E21 Inconsistent class 1\n");
+}
+
+// Positions with a move to play: wins, losses, and one whose lion can be caught.
+const PLAYED: [&str; 5] = [
+    "..l/.../L../... - -",
+    ".../.../..l/L.. - -",
+    LONG,
+    CATCH,
+    ".../l../.../L.. - -",
+];
+
+// What the program prints on standard output for the position, by the file of lions alone.
+fn printed<R: Abort + AllocGlobal + Threads + Wait + Sync + Console>(
+    rt: &R,
+    word: &str,
+    text: &str,
+) -> Vec<u8> {
+    let mut shelf = shelf_with(rt, rt.alloc(), file(rt).as_slice());
+    let told = run_on(rt, rt.alloc(), &mut shelf, &[word, "--db", FILE, text]);
+    assert!(rt; told.status == 0);
+    let mut bytes = Vec::new(rt.alloc());
+    assert!(rt; bytes.extend_from_slice(told.out.bytes()).is_ok());
+    bytes
+}
+
+// Best play begins with the move that is said to be best.
+#[test]
+fn the_best_move_begins_the_line(rt: HostRuntime) {
+    for text in &PLAYED {
+        let best = printed(&rt, "best", *text);
+        let line = printed(&rt, "line", *text);
+        let end = best.iter().position(|byte| *byte == b' ');
+        let end = end.expect(&rt, "a move and its value");
+        assert!(rt; line.starts_with(&best[..end]), "{text}");
+        assert!(rt; matches!(line.get(end), Some(b' ' | b'\n')), "{text}");
+    }
 }
