@@ -11,6 +11,12 @@
     noFile: "No file is open. Moves can be played; values need a file that dobutsu build has made.",
     opening: "Opening…",
     fileInfo: (file) => `set ${file.set}, rules ${file.profile}, ${file.count.toLocaleString("en")} classes, ${file.isTested ? "digest tested" : "digest not tested"}`,
+    certificateInfo: ({ set, profile, isOfStart, checked }, claim) => {
+      const by = { proved: "checked by proved code", plain: "checked by plain JavaScript", not: "not checked: that takes the proved engine" }[checked];
+      return `certificate of set ${set}, rules ${profile}: ${isOfStart ? "the second player wins the game" : "a position"}, ${claim}; ${by}`;
+    },
+    checking: (percent) => `Checking the certificate… ${percent} %`, outside: "This position isn't in the certificate: its value isn't known here.",
+    replied: (reply, value) => `→ ${reply}, ${value}`,
     filesOpen: (number) => `${number} files open`, close: "Close", closeFile: (name) => `Close ${name}`,
     sides: ["Forest", "Sky"], toMove: "to move",
     pieces: { L: "lion", G: "giraffe", E: "elephant", C: "chick", H: "hen" },
@@ -46,7 +52,7 @@
     practise: "Practise", stopPractising: "Stop practising", practiseLabel: "Practise: win from the position on the board against best play",
     practiceTask: (side) => `${side} wins from here. Play its moves; the page answers with best play.`,
     practiceWon: (side, plies) => `${side} has won, in ${plies === 1 ? "1 ply" : `${plies} plies`}.`,
-    practiceLost: (text, value, best) => `${text} loses the win: ${value}; best was ${best}.`, practiceOver: "The win is lost.",
+    practiceLost: (text, value, best) => `${text} loses the win: ${value}; best was ${best}.`, practiceOutside: "The certificate doesn't say whether that keeps the win.",
     practiceNeeds: "Practice needs a position that the side to move wins.",
     worksheet: "Worksheet", worksheetLabel: "Worksheet: print six exercises on one sheet", sheetTitle: "Dobutsu shogi: one move wins",
     sheetTask: (length) => `Forest, below, is to move and wins in ${length}. Which move?`, sheetName: "Name:", sheetMove: "Move:", sheetAnswers: "Answers:",
@@ -65,8 +71,11 @@
     enginePlain: "plain JavaScript, tested and not proved",
     badgeProved: "proved engine", badgePlain: "plain engine",
     looking: "Looking it up…", noPosition: "No position yet.",
-    wins: (plies, inMoves) => (inMoves ? `wins in ${plural(winnersMoves(plies), "move")}` : `win ${plies}`),
-    loses: (plies, inMoves) => (inMoves ? (plies ? `loses in ${plural(winnersMoves(plies), "move")}` : "has lost") : `loss ${plies}`),
+    wins: (plies, inMoves, isWithin) => (inMoves ? `wins ${isWithin ? "within" : "in"} ${plural(winnersMoves(plies), "move")}` : `win ${isWithin ? "within " : ""}${plies}`),
+    loses: (plies, inMoves, isWithin) => {
+      if (!inMoves) return `loss ${isWithin ? "within " : ""}${plies}`;
+      return plies ? `loses ${isWithin ? "within" : "in"} ${plural(winnersMoves(plies), "move")}` : "has lost";
+    },
     draw: "draw", tagWin: (number) => `W ${number}`, tagLoss: (number) => `L ${number}`, tagDraw: "draw",
     told: {
       caught: (side) => `${side}, to move, can catch the lion.`,
@@ -76,10 +85,13 @@
       win: (side, other, length) => `${side}, to move, wins in ${length}.`,
       loss: (side, other, length) => `${side}, to move, loses: ${other} wins in ${length}.`,
     },
-    lengthTold: (plies, inMoves) => (inMoves ? `${plural(winnersMoves(plies), "move")} of its own` : plies === 1 ? "1 ply" : `${plies} plies`),
+    lengthTold: (plies, inMoves, isWithin) => {
+      const length = inMoves ? `${plural(winnersMoves(plies), "move")} of its own` : plies === 1 ? "1 ply" : `${plies} plies`;
+      return isWithin ? `at most ${length}` : length;
+    },
     over: (side) => `${side} caught the lion and has won.`, drawLine: "A draw has no line.",
     ends: { broken: "No move fits here: this file isn't the right table.", caught: "the lion is caught", tried: "the lion is home", stuck: "no move is left",
-    draw: "draw", going: "…" },
+    draw: "draw", outside: "the certificate says no more", going: "…" },
     openSet: (set) => `Open the file of set ${set} to see values.`,
     otherSet: (set, profile, open) => `This position needs a file of set ${set} by rules ${profile}. Open: ${open.join(", ")}.`,
     brokenFile: "its records don't follow from each other: it isn't the right table (dobutsu check says where)",
@@ -95,6 +107,9 @@
       E4: "Each side needs one lion.", E5: "There are more than two pieces of a kind.", E6: "The lion of the side to move stands on its far row: that side has won already.",
       E15: "The file ends too early.", E16: "This is no database file.", E17: "The file names no piece set.", E18: "The number of classes isn't that of the file's set.",
       E19: "The file is longer than its set.", E20: "The file's digest isn't that of its bytes: it is damaged.", E26: "By rules B no chick stands on its own far row.", E27: "The file names no rules.",
+      E30: "An entry of the certificate isn't shown by the others.", E31: "The certificate's entries don't show its claim.", E32: "The certificate is of another version.",
+      E33: "The certificate names no position.", E34: "The certificate's claim is none.", E35: "The certificate has more entries than its set has classes.",
+      E36: "A number in the certificate is none.", E37: "The certificate's entries are out of order.", E38: "An entry of the certificate is of no class.",
     },
   };
 })();

@@ -1,9 +1,11 @@
 // The proved engine: the exports of crates/dobutsu_web, compiled for WebAssembly. What is said of the game is their answer; this puts texts and numbers
-// into the module's memory, puts its calls in order and keeps what they answered. The module stands in the page, since a page of a file may fetch nothing.
+// into the module's memory, puts its calls in order and keeps what they answered. The module stands in the page, packed by gzip, since a page of a file may
+// fetch nothing.
 window.DobutsuWasm = {
   async open(Core) {
     "use strict";
-    const bytes = Uint8Array.from(atob("/*BYTES*/"), (c) => c.charCodeAt(0));
+    const packed = new Blob([Uint8Array.from(atob("/*BYTES*/"), (c) => c.charCodeAt(0))]).stream().pipeThrough(new DecompressionStream("gzip"));
+    const bytes = await new Response(packed).arrayBuffer();
     const { instance: { exports: calls } } = await WebAssembly.instantiate(bytes);
 
     // A page of memory behind the module's own. A memory of 64 bits counts in BigInt; pointers and numbers of 64 bits are BigInt in both.
