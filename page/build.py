@@ -34,14 +34,18 @@ def packed(data):
     return base64.b64encode(gzip.compress(data, 9, mtime=0)).decode("ascii")
 
 
+def file_line(file):
+    """The line of the script that has a file."""
+    return f"window.DobutsuFile = {json.dumps({'name': file.name, 'bytes': packed(file.read_bytes())})};\n"
+
+
 def code(module, file):
     """The scripts in the order in which they stand on each other, the module in its own, and a file in front."""
     texts = [read(name) for name in SCRIPTS]
     if module:
         texts.insert(1, read("wasm.js"))
     joined = "\n".join(shortened(text) for text in texts)
-    given = f"window.DobutsuFile = {json.dumps({'name': file.name, 'bytes': packed(file.read_bytes())})};\n" if file else ""
-    return given + (joined.replace("/*BYTES*/", packed(module)) if module else joined)
+    return (file_line(file) if file else "") + (joined.replace("/*BYTES*/", packed(module)) if module else joined)
 
 
 def build(module=None, file=None):

@@ -67,7 +67,7 @@
     helpKeys: "Keys: arrows on the board, Enter to choose, Escape to let go; u or the left arrow undo, r or the right arrow redo, f flip, e set up, h hide values, n next move of the best line, p play it out, x new exercise.",
     helpPrivate: "The file stays on this device: the page may open no connection, and reads two bytes of the file for each value.",
     helpTrust: "The page tests a file's header and length, and up to 64 MB its digest, not its values. dobutsu check says whether a file is the right table.",
-    engine: (name) => `Moves and class numbers: ${name}.`, engineProved: "proved code, WebAssembly of crates/dobutsu_web",
+    engine: (name, started) => `Moves and class numbers: ${name}${started ? `; ready after ${started} ms` : ""}.`, engineProved: "proved code, WebAssembly of crates/dobutsu_web",
     enginePlain: "plain JavaScript, tested and not proved",
     badgeProved: "proved engine", badgePlain: "plain engine",
     looking: "Looking it up…", noPosition: "No position yet.",

@@ -66,7 +66,7 @@
     helpKeys: "キー: ばんでは やじるし、Enterで えらぶ、Escapeで やめる。uか ひだりやじるしで もどす、rか みぎやじるしで やりなおす、f ばんを はんてん、e きょくめんを つくる、h ひょうかを かくす、n つぎの いって、p じどうで すすめる、x もんだいを だす。",
     helpPrivate: "ファイルは この たんまつから でません。ページは つうしんできず、ひょうか ひとつに つき ファイルの 2バイトを よむだけです。",
     helpTrust: "ページは ファイルの ヘッダーと ながさ、64 MBまでは ダイジェストを しらべますが、ひょうかは しらべません。ファイルが ただしいかどうかは dobutsu check が おしえます。",
-    engine: (name) => `さしてと きょくめんの ばんごう: ${name}。`, engineProved: "しょうめいされた コード(crates/dobutsu_web の WebAssembly)",
+    engine: (name, started) => `さしてと きょくめんの ばんごう: ${name}${started ? `、${started} ミリびょうで じゅんび` : ""}。`, engineProved: "しょうめいされた コード(crates/dobutsu_web の WebAssembly)",
     enginePlain: "ふつうの JavaScript(テストずみ、しょうめいなし)", badgeProved: "しょうめいずみ エンジン", badgePlain: "ふつうの エンジン",
     looking: "しらべています…", noPosition: "まだ きょくめんでは ありません。",
     wins: (plies, inMoves, isWithin) => (inMoves ? `${winnersMoves(plies)}て${isWithin ? "いない" : ""}で かち` : `かち ${plies}て${isWithin ? "いない" : ""}`),

@@ -60,7 +60,7 @@
     helpKeys: "キー: 盤では矢印、Enterで選ぶ、Escapeでやめる。u か左矢印で戻す、r か右矢印でやり直す、f 盤を反転、e 局面編集、h 評価を隠す、n 最善手順の次の一手、p 自動で進める、x 問題を出す。",
     helpPrivate: "ファイルはこの端末から出ません。ページは通信できず、評価ひとつにつきファイルの2バイトを読むだけです。",
     helpTrust: "ページはファイルのヘッダーと長さ、64 MBまではダイジェストを調べますが、評価は調べません。ファイルが正しい表かどうかは dobutsu check が教えます。",
-    engine: (name) => `指し手と局面類の番号: ${name}。`, engineProved: "証明されたコード(crates/dobutsu_web の WebAssembly)", enginePlain: "普通の JavaScript(テスト済み、証明なし)",
+    engine: (name, started) => `指し手と局面類の番号: ${name}${started ? `、${started} ミリ秒で準備完了` : ""}。`, engineProved: "証明されたコード(crates/dobutsu_web の WebAssembly)", enginePlain: "普通の JavaScript(テスト済み、証明なし)",
     badgeProved: "証明済みエンジン", badgePlain: "普通のエンジン",
     looking: "調べています…", noPosition: "まだ局面ではありません。",
     wins: (plies, inMoves, isWithin) => (inMoves ? `${winnersMoves(plies)}手${isWithin ? "以内" : ""}で勝ち` : `勝ち ${plies}手${isWithin ? "以内" : ""}`),

@@ -394,8 +394,8 @@
   // ---- what the reader asks for
 
   function drawLanguage() {
-    const { isProved } = Game.engine();
-    element("engine").textContent = text("engine", text(isProved ? "engineProved" : "enginePlain"));
+    const { isProved, started } = Game.engine();
+    element("engine").textContent = text("engine", text(isProved ? "engineProved" : "enginePlain"), started);
     element("badge").textContent = text(isProved ? "badgeProved" : "badgePlain");
     element("badge").className = isProved ? "proved" : "plain";
     drawFiles();
@@ -477,9 +477,10 @@
   // The proved engine where this page has it and it answers soon; else the plain one goes on.
   async function chooseEngine() {
     if (!window.DobutsuWasm) return;
-    const silence = new Promise((_, fail) => { setTimeout(() => fail(new Error("it doesn't answer")), PATIENCE); });
+    const since = performance.now(), silence = new Promise((_, fail) => { setTimeout(() => fail(new Error("it doesn't answer")), PATIENCE); });
     try {
-      Game.useEngine({ ...Core.engine, ...await Promise.race([window.DobutsuWasm.open(Core), silence]), isProved: true });
+      const proved = await Promise.race([window.DobutsuWasm.open(Core), silence]);
+      Game.useEngine({ ...Core.engine, ...proved, isProved: true, started: Math.ceil(performance.now() - since) });
     } catch (why) {
       console.warn(`The proved engine isn't used: ${why}`);
     }

@@ -6,6 +6,8 @@ import hashlib
 import pathlib
 import struct
 import sys
+from urllib.parse import urlsplit
+from urllib.request import url2pathname
 
 from program import read_db
 
@@ -167,10 +169,11 @@ def wrong(checks, screen, program):
 
 def given(checks, screen, program):
     """A file that stands in the page is open from the beginning."""
-    maker, url = Maker(program), screen.url
+    maker, url, start = Maker(program), screen.url, '<script>"use strict";\n'
+    whole = pathlib.Path(url2pathname(urlsplit(url).path)).read_text(encoding="utf-8")
     for path, name in [(maker.path, "100A.db"), (maker.write("mine.cert", LOSS, "loss", 6), "mine.cert")]:
         page = program.folder / "given.html"
-        page.write_bytes(build.build(None, path))
+        page.write_text(whole.replace(start, start + build.file_line(path)), encoding="utf-8")
         screen.url = page.as_uri()
         screen.open()
         screen.language("en")
