@@ -490,6 +490,7 @@
     Setup.make(setUpChanged);
     View.makeSteps();
     Settings.make(showChoices);
+    drawBoard(); // seen while the engine is made
     await chooseEngine();
     listen();
     await drawLanguage();
