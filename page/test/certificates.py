@@ -6,8 +6,6 @@ import hashlib
 import pathlib
 import struct
 import sys
-from urllib.parse import urlsplit
-from urllib.request import url2pathname
 
 from program import read_db
 
@@ -170,7 +168,7 @@ def wrong(checks, screen, program):
 def given(checks, screen, program):
     """A file that stands in the page is open from the beginning."""
     maker, url, start = Maker(program), screen.url, '<script>"use strict";\n'
-    whole = pathlib.Path(url2pathname(urlsplit(url).path)).read_text(encoding="utf-8")
+    whole = screen.page.read_text(encoding="utf-8")
     for path, name in [(maker.path, "100A.db"), (maker.write("mine.cert", LOSS, "loss", 6), "mine.cert")]:
         page = program.folder / "given.html"
         page.write_text(whole.replace(start, start + build.file_line(path)), encoding="utf-8")
