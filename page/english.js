@@ -6,13 +6,13 @@
 
   Texts.languages.en = {
     title: "Dobutsu shogi: look up a position", heading: "Dobutsu shogi", subheading: "endgame tables",
-    language: "日本語", languageLabel: "日本語: show this page in Japanese", kana: "ひらがな", open: "Open database…", dropHere: "Drop a database file",
+    language: "日本語", languageLabel: "日本語: show this page in Japanese", kana: "ひらがな", open: "Open file…", dropHere: "Drop a file here",
     theme: { system: "Colours: as the system", light: "Colours: light", dark: "Colours: dark" },
     noFile: "No file is open. Moves can be played; values need a file that dobutsu build has made.",
     opening: "Opening…",
     fileInfo: (file) => `set ${file.set}, rules ${file.profile}, ${file.count.toLocaleString("en")} classes, ${file.isTested ? "digest tested" : "digest not tested"}`,
     certificateInfo: ({ set, profile, isOfStart, checked }, claim) => {
-      const by = { proved: "checked by proved code", plain: "checked by plain JavaScript", not: "not checked: that takes the proved engine" }[checked];
+      const by = { proved: "checked by proved code", plain: "checked by plain JavaScript", not: "not checked: a large one takes the proved call" }[checked];
       return `certificate of set ${set}, rules ${profile}: ${isOfStart ? "the second player wins the game" : "a position"}, ${claim}; ${by}`;
     },
     checking: (percent) => `Checking the certificate… ${percent} %`, outside: "This position isn't in the certificate: its value isn't known here.",
@@ -63,10 +63,10 @@
     letterKeys: "Single letters as keys (u, r, f, e, h, n, p, x)",
     help: "Help, rules and what is behind the values",
     helpRules: "A piece goes where its dots are. The lion wins by catching the other lion, or by reaching its far row where it can't be caught at once. A caught piece comes back by a drop. A chick that steps onto its far row becomes a hen. Forest plays upwards and has capital letters, Sky plays downwards and has small ones; the position's text is always seen from the side to move.",
-    helpPlay: "This page is no opponent: you make the moves of both sides, by clicks, by dragging or by keys.",
+    helpPlay: "You make the moves of both sides, by clicks, by dragging or by keys. Practise is for a position that the side to move wins: the page answers with best play.",
     helpKeys: "Keys: arrows on the board, Enter to choose, Escape to let go; u or the left arrow undo, r or the right arrow redo, f flip, e set up, h hide values, n next move of the best line, p play it out, x new exercise.",
-    helpPrivate: "The file stays on this device: the page may open no connection, and reads two bytes of the file for each value.",
-    helpTrust: "The page tests a file's header and length, and up to 64 MB its digest, not its values. dobutsu check says whether a file is the right table.",
+    helpPrivate: "The file stays on this device: the page may open no connection. For each value it reads two bytes of the file.",
+    helpTrust: "The page tests a file's header and length, and up to 64 MB its digest, not its values. dobutsu check says whether a file is the right table. A certificate is a small file that shows who wins one position; beside its name stands by what it was checked.",
     engine: (name, started) => `Moves and class numbers: ${name}${started ? `; ready after ${started} ms` : ""}.`, engineProved: "proved code, WebAssembly of crates/dobutsu_web",
     enginePlain: "plain JavaScript, tested and not proved",
     badgeProved: "proved engine", badgePlain: "plain engine",

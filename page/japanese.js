@@ -11,7 +11,7 @@
     opening: "開いています…",
     fileInfo: (file) => `セット ${file.set}、ルール ${file.profile}、${file.count.toLocaleString("ja")} 局面類、ダイジェスト${file.isTested ? "テスト済み" : "未テスト"}`,
     certificateInfo: ({ set, profile, isOfStart, checked }, claim) => {
-      const by = { proved: "証明されたコードで検査済み", plain: "普通の JavaScript で検査済み", not: "未検査(証明済みエンジンが必要です)" }[checked];
+      const by = { proved: "証明されたコードで検査済み", plain: "普通の JavaScript で検査済み", not: "未検査(大きなものには証明済みの検査が必要です)" }[checked];
       return `証明書、セット ${set}、ルール ${profile}: ${isOfStart ? "このゲームは後手の勝ち" : "ある局面"}、${claim}。${by}`;
     },
     checking: (percent) => `証明書を検査しています… ${percent} %`, outside: "この局面は証明書にないので、評価はわかりません。",
@@ -56,10 +56,10 @@
     letterKeys: "一文字のキーを使う (u, r, f, e, h, n, p, x)",
     help: "使い方、ルール、評価の裏づけ",
     helpRules: "駒は点のある方向に動きます。相手のライオンを取るか(キャッチ)、すぐに取られない形でライオンが一番奥に着けば(トライ)勝ちです。取った駒は空いたマスに打てます。ひよこは一番奥に進むとにわとりになります。もりが先手、そらが後手です。もりは上に進み大文字、そらは下に進み小文字です。局面の文字列はいつも手番側から見たものです。",
-    helpPlay: "このページは対戦相手ではありません。両者の手を、クリック、ドラッグ、キーで指してください。",
+    helpPlay: "両者の手を、クリック、ドラッグ、キーで指してください。手番側が勝てる局面からは、実戦練習でページが最善手で応じます。",
     helpKeys: "キー: 盤では矢印、Enterで選ぶ、Escapeでやめる。u か左矢印で戻す、r か右矢印でやり直す、f 盤を反転、e 局面編集、h 評価を隠す、n 最善手順の次の一手、p 自動で進める、x 問題を出す。",
     helpPrivate: "ファイルはこの端末から出ません。ページは通信できず、評価ひとつにつきファイルの2バイトを読むだけです。",
-    helpTrust: "ページはファイルのヘッダーと長さ、64 MBまではダイジェストを調べますが、評価は調べません。ファイルが正しい表かどうかは dobutsu check が教えます。",
+    helpTrust: "ページはファイルのヘッダーと長さ、64 MBまではダイジェストを調べますが、評価は調べません。ファイルが正しい表かどうかは dobutsu check が教えます。証明書は、ひとつの局面でどちらが勝つかを示す小さなファイルです。何で検査したかは名前の横に出ます。",
     engine: (name, started) => `指し手と局面類の番号: ${name}${started ? `、${started} ミリ秒で準備完了` : ""}。`, engineProved: "証明されたコード(crates/dobutsu_web の WebAssembly)", enginePlain: "普通の JavaScript(テスト済み、証明なし)",
     badgeProved: "証明済みエンジン", badgePlain: "普通のエンジン",
     looking: "調べています…", noPosition: "まだ局面ではありません。",

@@ -6,8 +6,8 @@ PLAIN = ".l./.../.C./.L. - -"
 # (where it stands, English, Japanese, kana)
 SEEN = [
     ("h1 span", "Dobutsu shogi", "どうぶつしょうぎ", "どうぶつしょうぎ"),
-    (".open span", "Open database…", "ファイルを開く…", "ファイルを ひらく…"),
-    ("#drop span", "Drop a database file", "ここにファイルをドロップ", "ここに ファイルを ドロップ"),
+    (".open span", "Open file…", "ファイルを開く…", "ファイルを ひらく…"),
+    ("#drop span", "Drop a file here", "ここにファイルをドロップ", "ここに ファイルを ドロップ"),
     ("#undo .word", "Undo", "戻す", "もどす"),
     ("#redo .word", "Redo", "やり直す", "やりなおす"),
     ("#flip .word", "Flip", "盤を反転", "はんてん"),
