@@ -11,6 +11,7 @@ const Answers = (() => {
   // { status, value, moves, follows }: the moves with their values, best first and equal ones in move order, and whether the position's
   // record follows from those of its moves.
   async function lookUp(table, engine, position) {
+    if (table.isCertificate) return Certificates.lookUp(table, engine, position);
     const { profile } = table, { status, moves } = engine.moves(profile, position);
     const record = await table.record(engine.classOf(profile, position));
     const after = status === "caught" ? [] : await Promise.all(moves.map((move) => table.record(engine.classAfter(profile, position, move))));
@@ -19,8 +20,15 @@ const Answers = (() => {
     return { status, value: engine.valueOf(record), moves: valued, follows: Core.recordOf(record) === Core.recordBy(status, after.map(Core.recordOf)) };
   }
 
+  const isSame = (a, b) => a.letter === b.letter && a.from === b.from && a.to === b.to;
+  // The same by what a certificate says; null where it doesn't say it of the move.
+  function judgeBy({ value: best, moves }, move) {
+    const { value } = moves.find((it) => isSame(it.move, move));
+    return value && best.kind !== "unknown" ? { value, best } : null;
+  }
   // What a move that was played was worth, and what the best one would have been, each for the side that made it.
   async function judge(table, engine, position, move) {
+    if (table.isCertificate) return judgeBy(Certificates.lookUp(table, engine, position), move);
     const { profile } = table, best = engine.valueOf(await table.record(engine.classOf(profile, position)));
     if (engine.moves(profile, position).status === "caught") return { value: best, best };
     return { value: engine.afterMove(await table.record(engine.classAfter(profile, position, move))), best };
@@ -38,6 +46,7 @@ const Answers = (() => {
   // { steps, end }: the winner's shortest and the loser's longest way, each step with its position and move, and how it ends. The best
   // move, of equal ones the first, is the first whose outcome's record is one less. Null where it came too late; `tell` is called on the way.
   async function bestLine(table, engine, position, isLate, tell) {
+    if (table.isCertificate) return Certificates.line(table, engine, position);
     const known = lines.get(keyOf(table, position));
     if (known) return known;
     const steps = [];

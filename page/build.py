@@ -1,19 +1,22 @@
 #!/usr/bin/env python3
-"""Joins the page's sources into one file, dobutsu.html: page/build.py [MODULE [OUT]]
+"""Joins the page's sources into one file, dobutsu.html: page/build.py [--with FILE] [MODULE [OUT]]
 
-MODULE is the engine that is proved, compiled to WebAssembly; without it, or where it is `-`, the page has the engine in plain JavaScript alone. OUT is
-page/out/dobutsu.html unless it is given. The bytes depend on the sources and the module alone. Prints the file's name and its length.
+MODULE is the engine that is proved, compiled to WebAssembly; without it, or where it is `-`, the page has the engine in plain JavaScript alone. FILE is a
+certificate or a small database file that stands in the page and is open from the beginning. OUT is page/out/dobutsu.html unless it is given. The bytes
+depend on the sources, the module, the file and Python's gzip alone. Prints the file's name and its length.
 """
 import base64
+import gzip
+import json
 import pathlib
 import sys
 
 HERE = pathlib.Path(__file__).resolve().parent
 SCRIPTS = [
-    "core.js", "texts.js", "english.js", "japanese.js", "hiragana.js", "pieces.js", "file.js", "answers.js", "game.js", "board.js", "setup.js", "view.js",
+    "core.js", "texts.js", "english.js", "japanese.js", "hiragana.js", "pieces.js", "certificate.js", "file.js", "answers.js", "game.js", "board.js", "setup.js", "view.js",
     "settings.js", "worksheet.js", "exercise.js", "practice.js", "page.js",
 ]
-MOST_BYTES = 200_000
+MOST_BYTES, MOST_WITH_FILE = 200_000, 3_000_000
 
 
 def read(name):
@@ -26,34 +29,48 @@ def shortened(text):
     return "\n".join(line for line in lines if line and not line.startswith("//"))
 
 
-def code(module):
-    """The scripts in the order in which they stand on each other, the module as base64 in its own."""
+def packed(data):
+    """Bytes as a text that wasm.js and page.js unpack."""
+    return base64.b64encode(gzip.compress(data, 9, mtime=0)).decode("ascii")
+
+
+def file_line(file):
+    """The line of the script that has a file."""
+    return f"window.DobutsuFile = {json.dumps({'name': file.name, 'bytes': packed(file.read_bytes())})};\n"
+
+
+def code(module, file):
+    """The scripts in the order in which they stand on each other, the module in its own, and a file in front."""
     texts = [read(name) for name in SCRIPTS]
     if module:
         texts.insert(1, read("wasm.js"))
     joined = "\n".join(shortened(text) for text in texts)
-    return joined.replace("/*BYTES*/", base64.b64encode(module).decode("ascii")) if module else joined
+    return (file_line(file) if file else "") + (joined.replace("/*BYTES*/", packed(module)) if module else joined)
 
 
-def build(module=None):
+def build(module=None, file=None):
     """The page's bytes."""
     page = read("page.html")
-    for mark, text in [("/*STYLE*/", read("style.css")), ("/*CODE*/", code(module))]:
+    for mark, text in [("/*STYLE*/", read("style.css")), ("/*CODE*/", code(module, file))]:
         if page.count(mark) != 1 or "</script" in text or "</style" in text:
             raise SystemExit(f"page/build.py: {mark} can't be put in")
         page = page.replace(mark, text)
     data = page.encode("utf-8")
-    if len(data) > MOST_BYTES:
-        raise SystemExit(f"page/build.py: the page has {len(data)} bytes, more than {MOST_BYTES}")
+    most = MOST_WITH_FILE if file else MOST_BYTES
+    if len(data) > most:
+        raise SystemExit(f"page/build.py: the page has {len(data)} bytes, more than {most}")
     return data
 
 
 def main(words):
+    file = None
+    if words[:1] == ["--with"] and len(words) > 1:
+        file, words = pathlib.Path(words[1]), words[2:]
     if len(words) > 2 or any(word.startswith("--") for word in words):
         raise SystemExit(__doc__)
     module = pathlib.Path(words[0]).read_bytes() if words and words[0] != "-" else None
     out = pathlib.Path(words[1]) if len(words) == 2 else HERE / "out" / "dobutsu.html"
-    data = build(module)
+    data = build(module, file)
     out.parent.mkdir(parents=True, exist_ok=True)
     out.write_bytes(data)
     print(f"{out}: {len(data)} bytes")

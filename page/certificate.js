@@ -7,6 +7,8 @@ const Certificates = (() => {
   const TITLE = "DOBUCERT", HEAD = 28, DIGEST = 32, EVER = 65535, NEVER = 255; // NEVER is the byte of EVER
   const CLAIMS = ["draw", "win", "loss", "winWithin", "lossWithin"];
   const SLICE = 40; // milliseconds of checking, then the page is drawn
+  const MOST_CLASSES = 2 ** 32;
+  const MOST_CHECKED = 20000; // entries that are checked in plain JavaScript, which takes some milliseconds for each
 
   // ---- reading
 
@@ -58,14 +60,14 @@ const Certificates = (() => {
   }
 
   // The head: set, profile, root's class, claim and the lists' lengths; faults in the order of docs/FORMAT.md.
-  function headOf(bytes) {
+  function headOf(bytes, countClasses) {
     if (bytes.length < HEAD) throw new Core.Fault("E15 Truncated");
     if (!isOne(bytes)) throw new Core.Fault("E16 Magic");
     if (bytes[8] !== 1) throw new Core.Fault("E32 Version");
     const pieces = [...bytes.slice(9, 12)], view = new DataView(bytes.buffer, bytes.byteOffset, HEAD);
     if (Math.max(...pieces) > 2 || bytes[12] !== 2) throw new Core.Fault("E17 SetByte");
     if (bytes[13] > 1) throw new Core.Fault("E27 ProfileByte");
-    const profile = "AB"[bytes[13]], classes = Core.countClasses(profile, pieces), root = view.getUint32(14, true);
+    const profile = "AB"[bytes[13]], classes = countClasses(profile, pieces), root = view.getUint32(14, true);
     if (root >= classes) throw new Core.Fault("E33 RootClass");
     const kind = bytes[18], plies = bytes[19];
     if (kind >= CLAIMS.length || plies === NEVER || (kind === 0 && plies)) throw new Core.Fault("E34 ClaimByte");
@@ -74,8 +76,8 @@ const Certificates = (() => {
     return { pieces, profile, classes, root, claim: CLAIMS[kind], plies, lost, held };
   }
   // What a file says: its head with both lists of entries. Its digest is tested where the browser can.
-  async function read(bytes) {
-    const head = headOf(bytes);
+  async function read(bytes, countClasses = Core.countClasses) {
+    const head = headOf(bytes, countClasses);
     const lost = entriesAt(bytes, HEAD, head.lost, head.classes), held = entriesAt(bytes, lost.place, head.held, head.classes), end = held.place;
     if (bytes.length < end + DIGEST) throw new Core.Fault("E15 Truncated");
     if (bytes.length > end + DIGEST) throw new Core.Fault("E19 Trailing");
@@ -152,17 +154,19 @@ const Certificates = (() => {
   // Throws the first entry that isn't shown, E30, or E31 where the lists don't show the claim. `tell` is called with the part that is done.
   async function check(certificate, tell) {
     const checker = new Checker(certificate), { lost, held } = certificate, all = 2 * (lost.classes.length + held.classes.length);
+    const positions = new Map(); // by class
     let before = 0;
     const part = (i) => tell((before + i) / all);
     for (const [list, entries] of Object.entries({ lost, held })) {
       await each(entries, (number, plies) => {
         const position = checker.at(number);
+        positions.set(number, position);
         for (const it of [position, Core.mirrored(position)]) checker.plies[list].set(checker.key(it), plies);
       }, part);
       before += entries.classes.length;
     }
     for (const [entries, isShown] of [[lost, "isLostShown"], [held, "isHeldShown"]]) {
-      await each(entries, (number, plies) => { if (!checker[isShown](checker.at(number), plies)) throw new Core.Fault(`E30 Unsupported class ${number}`); }, part);
+      await each(entries, (number, plies) => { if (!checker[isShown](positions.get(number), plies)) throw new Core.Fault(`E30 Unsupported class ${number}`); }, part);
       before += entries.classes.length;
     }
     if (!checker.isClaimShown(certificate)) throw new Core.Fault("E31 Claim");
@@ -237,18 +241,23 @@ const Certificates = (() => {
   // ---- an open one
 
   class Open {
-    constructor(name, certificate, isProved) {
-      const { pieces, profile } = certificate, set = pieces.join("");
-      Object.assign(this, certificate, { name, set, key: `${set}${profile}.cert`, isCertificate: true, isProved, isTested: true, isBroken: false });
+    // `checked` is "proved", "plain" or "not": by what it was checked.
+    constructor(name, certificate, checked, engine) {
+      const { pieces, profile, root, claim, plies } = certificate, set = pieces.join(""), isLoss = claim.startsWith("loss");
+      const said = { kind: claim.replace("Within", ""), plies, isWithin: claim.endsWith("Within") };
+      Object.assign(this, certificate, { name, set, key: `${set}${profile}.cert`, said, isCertificate: true, checked, isBroken: false });
+      this.isOfStart = isLoss && set === "222" && engine.classOf(profile, Core.readPosition(Game.START)) === root;
     }
     position() { return Core.positionAt(this.profile, this.pieces, this.root); }
   }
-  // Reads and checks a file's bytes: by the engine's proved call, or in plain JavaScript with `tell` for the part that is done.
+  // Reads and checks a file's bytes: by the engine's proved call, or a small one in plain JavaScript with `tell` for the part that is done.
   async function open(name, bytes, engine, tell) {
-    const certificate = await read(bytes);
-    if (engine.verify) engine.verify(bytes);
-    else await check(certificate, tell);
-    return new Open(name, certificate, !!engine.verify);
+    // the proved call counts the classes itself, which takes seconds here
+    const certificate = await read(bytes, engine.verify ? () => MOST_CLASSES : Core.countClasses), entries = certificate.lost.classes.length + certificate.held.classes.length;
+    const checked = engine.verify ? "proved" : entries <= MOST_CHECKED ? "plain" : "not";
+    if (checked === "proved") engine.verify(bytes);
+    if (checked === "plain") await check(certificate, tell);
+    return new Open(name, certificate, checked, engine);
   }
 
   return { isOne, read, check, open, lookUp, line };

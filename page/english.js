@@ -6,11 +6,17 @@
 
   Texts.languages.en = {
     title: "Dobutsu shogi: look up a position", heading: "Dobutsu shogi", subheading: "endgame tables",
-    language: "日本語", languageLabel: "日本語: show this page in Japanese", kana: "ひらがな", open: "Open database…", dropHere: "Drop a database file",
+    language: "日本語", languageLabel: "日本語: show this page in Japanese", kana: "ひらがな", open: "Open file…", dropHere: "Drop a file here",
     theme: { system: "Colours: as the system", light: "Colours: light", dark: "Colours: dark" },
     noFile: "No file is open. Moves can be played; values need a file that dobutsu build has made.",
     opening: "Opening…",
     fileInfo: (file) => `set ${file.set}, rules ${file.profile}, ${file.count.toLocaleString("en")} classes, ${file.isTested ? "digest tested" : "digest not tested"}`,
+    certificateInfo: ({ set, profile, isOfStart, checked }, claim) => {
+      const by = { proved: "checked by proved code", plain: "checked by plain JavaScript", not: "not checked: a large one takes the proved call" }[checked];
+      return `certificate of set ${set}, rules ${profile}: ${isOfStart ? "the second player wins the game" : "a position"}, ${claim}; ${by}`;
+    },
+    checking: (percent) => `Checking the certificate… ${percent} %`, outside: "This position isn't in the certificate: its value isn't known here.",
+    replied: (reply, value) => `→ ${reply}, ${value}`,
     filesOpen: (number) => `${number} files open`, close: "Close", closeFile: (name) => `Close ${name}`,
     sides: ["Forest", "Sky"], toMove: "to move",
     pieces: { L: "lion", G: "giraffe", E: "elephant", C: "chick", H: "hen" },
@@ -46,7 +52,7 @@
     practise: "Practise", stopPractising: "Stop practising", practiseLabel: "Practise: win from the position on the board against best play",
     practiceTask: (side) => `${side} wins from here. Play its moves; the page answers with best play.`,
     practiceWon: (side, plies) => `${side} has won, in ${plies === 1 ? "1 ply" : `${plies} plies`}.`,
-    practiceLost: (text, value, best) => `${text} loses the win: ${value}; best was ${best}.`, practiceOver: "The win is lost.",
+    practiceLost: (text, value, best) => `${text} loses the win: ${value}; best was ${best}.`, practiceOutside: "The certificate doesn't say whether that keeps the win.",
     practiceNeeds: "Practice needs a position that the side to move wins.",
     worksheet: "Worksheet", worksheetLabel: "Worksheet: print six exercises on one sheet", sheetTitle: "Dobutsu shogi: one move wins",
     sheetTask: (length) => `Forest, below, is to move and wins in ${length}. Which move?`, sheetName: "Name:", sheetMove: "Move:", sheetAnswers: "Answers:",
@@ -57,16 +63,19 @@
     letterKeys: "Single letters as keys (u, r, f, e, h, n, p, x)",
     help: "Help, rules and what is behind the values",
     helpRules: "A piece goes where its dots are. The lion wins by catching the other lion, or by reaching its far row where it can't be caught at once. A caught piece comes back by a drop. A chick that steps onto its far row becomes a hen. Forest plays upwards and has capital letters, Sky plays downwards and has small ones; the position's text is always seen from the side to move.",
-    helpPlay: "This page is no opponent: you make the moves of both sides, by clicks, by dragging or by keys.",
+    helpPlay: "You make the moves of both sides, by clicks, by dragging or by keys. Practise is for a position that the side to move wins: the page answers with best play.",
     helpKeys: "Keys: arrows on the board, Enter to choose, Escape to let go; u or the left arrow undo, r or the right arrow redo, f flip, e set up, h hide values, n next move of the best line, p play it out, x new exercise.",
-    helpPrivate: "The file stays on this device: the page may open no connection, and reads two bytes of the file for each value.",
-    helpTrust: "The page tests a file's header and length, and up to 64 MB its digest, not its values. dobutsu check says whether a file is the right table.",
-    engine: (name) => `Moves and class numbers: ${name}.`, engineProved: "proved code, WebAssembly of crates/dobutsu_web",
+    helpPrivate: "The file stays on this device: the page may open no connection. For each value it reads two bytes of the file.",
+    helpTrust: "The page tests a file's header and length, and up to 64 MB its digest, not its values. dobutsu check says whether a file is the right table. A certificate is a small file that shows who wins one position; beside its name stands by what it was checked.",
+    engine: (name, started) => `Moves and class numbers: ${name}${started ? `; ready after ${started} ms` : ""}.`, engineProved: "proved code, WebAssembly of crates/dobutsu_web",
     enginePlain: "plain JavaScript, tested and not proved",
     badgeProved: "proved engine", badgePlain: "plain engine",
     looking: "Looking it up…", noPosition: "No position yet.",
-    wins: (plies, inMoves) => (inMoves ? `wins in ${plural(winnersMoves(plies), "move")}` : `win ${plies}`),
-    loses: (plies, inMoves) => (inMoves ? (plies ? `loses in ${plural(winnersMoves(plies), "move")}` : "has lost") : `loss ${plies}`),
+    wins: (plies, inMoves, isWithin) => (inMoves ? `wins ${isWithin ? "within" : "in"} ${plural(winnersMoves(plies), "move")}` : `win ${isWithin ? "within " : ""}${plies}`),
+    loses: (plies, inMoves, isWithin) => {
+      if (!inMoves) return `loss ${isWithin ? "within " : ""}${plies}`;
+      return plies ? `loses ${isWithin ? "within" : "in"} ${plural(winnersMoves(plies), "move")}` : "has lost";
+    },
     draw: "draw", tagWin: (number) => `W ${number}`, tagLoss: (number) => `L ${number}`, tagDraw: "draw",
     told: {
       caught: (side) => `${side}, to move, can catch the lion.`,
@@ -76,10 +85,13 @@
       win: (side, other, length) => `${side}, to move, wins in ${length}.`,
       loss: (side, other, length) => `${side}, to move, loses: ${other} wins in ${length}.`,
     },
-    lengthTold: (plies, inMoves) => (inMoves ? `${plural(winnersMoves(plies), "move")} of its own` : plies === 1 ? "1 ply" : `${plies} plies`),
+    lengthTold: (plies, inMoves, isWithin) => {
+      const length = inMoves ? `${plural(winnersMoves(plies), "move")} of its own` : plies === 1 ? "1 ply" : `${plies} plies`;
+      return isWithin ? `at most ${length}` : length;
+    },
     over: (side) => `${side} caught the lion and has won.`, drawLine: "A draw has no line.",
     ends: { broken: "No move fits here: this file isn't the right table.", caught: "the lion is caught", tried: "the lion is home", stuck: "no move is left",
-    draw: "draw", going: "…" },
+    draw: "draw", outside: "the certificate says no more", going: "…" },
     openSet: (set) => `Open the file of set ${set} to see values.`,
     otherSet: (set, profile, open) => `This position needs a file of set ${set} by rules ${profile}. Open: ${open.join(", ")}.`,
     brokenFile: "its records don't follow from each other: it isn't the right table (dobutsu check says where)",
@@ -95,6 +107,9 @@
       E4: "Each side needs one lion.", E5: "There are more than two pieces of a kind.", E6: "The lion of the side to move stands on its far row: that side has won already.",
       E15: "The file ends too early.", E16: "This is no database file.", E17: "The file names no piece set.", E18: "The number of classes isn't that of the file's set.",
       E19: "The file is longer than its set.", E20: "The file's digest isn't that of its bytes: it is damaged.", E26: "By rules B no chick stands on its own far row.", E27: "The file names no rules.",
+      E30: "An entry of the certificate isn't shown by the others.", E31: "The certificate's entries don't show its claim.", E32: "The certificate is of another version.",
+      E33: "The certificate names no position.", E34: "The certificate's claim is none.", E35: "The certificate has more entries than its set has classes.",
+      E36: "A number in the certificate is none.", E37: "The certificate's entries are out of order.", E38: "An entry of the certificate is of no class.",
     },
   };
 })();

@@ -10,7 +10,7 @@ const Exercise = (() => {
   let notice = null; // the name of a text where there is no exercise
   let right = 0, asked = 0, turn = 0;
 
-  const table = () => Files.all()[element("exercise-file").selectedIndex] || Files.last();
+  const table = () => Files.withRecords()[element("exercise-file").selectedIndex] || Files.withRecords().pop();
   const isAsked = () => !!open && !open.isSolved && Game.state.start === open.start && Game.state.cursor === 0 && !Setup.isOn();
 
   function fill(select, names, values) {
@@ -29,7 +29,7 @@ const Exercise = (() => {
   // Offers the open files and the lengths of the chosen one.
   async function offer() {
     element("exercise-card").setAttribute("aria-busy", true);
-    const files = Files.all(), names = files.map((it) => it.name), select = element("exercise-file");
+    const files = Files.withRecords(), names = files.map((it) => it.name), select = element("exercise-file");
     fill(select, names, files.map((it) => it.set + it.profile));
     select.hidden = files.length < 2;
     const chosen = table();
@@ -44,7 +44,7 @@ const Exercise = (() => {
     element("exercise-card").setAttribute("aria-busy", false);
   }
   function chooseLast() {
-    element("exercise-file").selectedIndex = Files.all().length - 1;
+    element("exercise-file").selectedIndex = Files.withRecords().length - 1;
   }
 
   const plies = () => +element("exercise-length").value;
@@ -110,7 +110,7 @@ const Exercise = (() => {
   function draw() {
     if (open && Game.state.start !== open.start && notice !== "drawing") open = null;
     const isThere = !!open && notice !== "drawing";
-    element("task").textContent = isThere ? task() : notice ? text(notice) : Files.last() ? "" : text("needFile");
+    element("task").textContent = isThere ? task() : notice ? text(notice) : table() ? "" : text("needFile");
     element("verdict").textContent = isThere && open.verdict ? open.verdict() : "";
     element("verdict").className = isThere && open.isSolved ? "good" : "fault";
     element("exercise-card").classList.toggle("asked", isThere);

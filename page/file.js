@@ -1,4 +1,4 @@
-// Database files: which are open, what is wrong with those that aren't, and records read by slices. A header is tested as `dobutsu look`
+// Database files and certificates: which are open, what is wrong with those that aren't, and records read by slices. A header is tested as `dobutsu look`
 // tests it, and the length too; of a file that isn't large the digest as well.
 const Files = (() => {
   "use strict";
@@ -48,9 +48,13 @@ const Files = (() => {
     return true;
   }
 
-  async function open(file, engine) {
+  // Opens a table, or a certificate: `tell` is called with the part of one that is checked.
+  async function open(file, engine, tell) {
+    if (Certificates.isOne(new Uint8Array(await file.slice(0, 8).arrayBuffer()))) {
+      return Certificates.open(file.name, new Uint8Array(await file.arrayBuffer()), engine, tell);
+    }
     const header = engine.readHeader(new Uint8Array(await file.slice(0, 21).arrayBuffer()), file.size);
-    if (header.classes !== Core.countClasses(header.profile, header.set)) throw new Core.Fault("E18 ClassCount");
+    if (!engine.isProved && header.classes !== Core.countClasses(header.profile, header.set)) throw new Core.Fault("E18 ClassCount");
     const whole = header.first + 2 * header.classes + DIGEST;
     if (file.size < whole) throw new Core.Fault("E15 Truncated");
     if (file.size > whole) throw new Core.Fault("E19 Trailing");
@@ -58,12 +62,12 @@ const Files = (() => {
   }
 
   // Opens those files that are whole, a later one of the same set and rules in place of an earlier; gives the last that was opened.
-  async function openAll(files, engine) {
+  async function openAll(files, engine, tell) {
     let last = null;
     refused = [];
     for (const file of files) {
       try {
-        last = await open(file, engine);
+        last = await open(file, engine, tell);
         tables.delete(last.key);
         tables.set(last.key, last);
       } catch (fault) {
@@ -73,10 +77,14 @@ const Files = (() => {
     return last;
   }
 
-  const tableFor = (profile, position) => tables.get(Core.setOf(position).join("") + profile) || null;
+  // The table of a position's set by those rules, else the certificate.
+  const tableFor = (profile, position) => {
+    const key = Core.setOf(position).join("") + profile;
+    return tables.get(key) || tables.get(`${key}.cert`) || null;
+  };
   const all = () => [...tables.values()];
 
   const close = (table) => tables.delete(table.key);
 
-  return { openAll, close, tableFor, all, refused: () => refused, last: () => all().pop() || null };
+  return { openAll, close, tableFor, all, withRecords: () => all().filter((it) => !it.isCertificate), refused: () => refused, last: () => all().pop() || null };
 })();

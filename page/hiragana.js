@@ -10,6 +10,12 @@
     noFile: "ファイルは ひらかれていません。こまは うごかせます。ひょうかを みるには dobutsu build で つくった ファイルを ひらいてください。",
     opening: "ひらいています…",
     fileInfo: (file) => `セット ${file.set}、ルール ${file.profile}、${file.count.toLocaleString("ja")} きょくめん、ダイジェスト ${file.isTested ? "テストずみ" : "みテスト"}`,
+    certificateInfo: ({ set, profile, isOfStart, checked }, claim) => {
+      const by = { proved: "しょうめいされた コードで けんさずみ", plain: "ふつうの JavaScript で けんさずみ", not: "けんさしていません(おおきな ものには しょうめいずみの けんさが いります)" }[checked];
+      return `しょうめいしょ、セット ${set}、ルール ${profile}: ${isOfStart ? "この ゲームは ごての かち" : "ある きょくめん"}、${claim}。${by}`;
+    },
+    checking: (percent) => `しょうめいしょを けんさしています… ${percent} %`, outside: "この きょくめんは しょうめいしょに ないので、ひょうかは わかりません。",
+    replied: (reply, value) => `→ ${reply}、${value}`,
     filesOpen: (number) => `${number}この ファイル`, close: "とじる", closeFile: (name) => `${name} を とじる`,
     sides: ["もり", "そら"], toMove: "てばん",
     pieces: { L: "らいおん", G: "きりん", E: "ぞう", C: "ひよこ", H: "にわとり" },
@@ -45,7 +51,7 @@
     practise: "じっせん れんしゅう", stopPractising: "れんしゅうを やめる", practiseLabel: "じっせん れんしゅう: この きょくめんから つよい あいてに かつ",
     practiceTask: (side) => `ここから ${side}が かてます。${side}の てを さしてください。あいては いちばん よい てで こたえます。`,
     practiceWon: (side, plies) => `${side}が ${plies}てで かちました。`,
-    practiceLost: (text, value, best) => `${text} で かちを のがしました(${value})。いちばん よいのは ${best} でした。`, practiceOver: "かちを のがしました。",
+    practiceLost: (text, value, best) => `${text} で かちを のがしました(${value})。いちばん よいのは ${best} でした。`, practiceOutside: "それで かちが つづくかどうか、しょうめいしょからは わかりません。",
     practiceNeeds: "じっせん れんしゅうには、てばんの ほうが かてる きょくめんが いります。",
     worksheet: "プリント", worksheetLabel: "プリント: れんしゅう もんだい 6もんを 1まいに いんさつ", sheetTitle: "どうぶつしょうぎ: かつ ては ひとつ",
     sheetTask: (length) => `したの もりの ばんで、${length}で かちます。その ては?`, sheetName: "なまえ:", sheetMove: "こたえ:", sheetAnswers: "こたえあわせ:",
@@ -56,15 +62,18 @@
     letterKeys: "ひともじの キーを つかう (u, r, f, e, h, n, p, x)",
     help: "つかいかた、ルール、ひょうかの うらづけ",
     helpRules: "こまは てんの ある ほうに うごきます。あいての らいおんを とるか(キャッチ)、すぐに とられない かたちで らいおんが いちばん おくに つけば(トライ)かちです。とった こまは あいた マスに うてます。ひよこは いちばん おくに すすむと にわとりに なります。もりが せんて、そらが ごてです。もりは うえに すすみ おおもじ、そらは したに すすみ こもじです。きょくめんの もじは いつも てばんから みたものです。",
-    helpPlay: "この ページは たいせん あいてでは ありません。ふたりの てを、クリック、ドラッグ、キーで さしてください。",
+    helpPlay: "ふたりの てを、クリック、ドラッグ、キーで さしてください。てばんの ほうが かてる きょくめんからは、じっせん れんしゅうで ページが いちばん よい てで こたえます。",
     helpKeys: "キー: ばんでは やじるし、Enterで えらぶ、Escapeで やめる。uか ひだりやじるしで もどす、rか みぎやじるしで やりなおす、f ばんを はんてん、e きょくめんを つくる、h ひょうかを かくす、n つぎの いって、p じどうで すすめる、x もんだいを だす。",
     helpPrivate: "ファイルは この たんまつから でません。ページは つうしんできず、ひょうか ひとつに つき ファイルの 2バイトを よむだけです。",
-    helpTrust: "ページは ファイルの ヘッダーと ながさ、64 MBまでは ダイジェストを しらべますが、ひょうかは しらべません。ファイルが ただしいかどうかは dobutsu check が おしえます。",
-    engine: (name) => `さしてと きょくめんの ばんごう: ${name}。`, engineProved: "しょうめいされた コード(crates/dobutsu_web の WebAssembly)",
+    helpTrust: "ページは ファイルの ヘッダーと ながさ、64 MBまでは ダイジェストを しらべますが、ひょうかは しらべません。ファイルが ただしいかどうかは dobutsu check が おしえます。しょうめいしょは、ひとつの きょくめんで どちらが かつかを しめす ちいさな ファイルです。なにで けんさしたかは なまえの よこに でます。",
+    engine: (name, started) => `さしてと きょくめんの ばんごう: ${name}${started ? `、${started} ミリびょうで じゅんび` : ""}。`, engineProved: "しょうめいされた コード(crates/dobutsu_web の WebAssembly)",
     enginePlain: "ふつうの JavaScript(テストずみ、しょうめいなし)", badgeProved: "しょうめいずみ エンジン", badgePlain: "ふつうの エンジン",
     looking: "しらべています…", noPosition: "まだ きょくめんでは ありません。",
-    wins: (plies, inMoves) => (inMoves ? `${winnersMoves(plies)}てで かち` : `かち ${plies}て`),
-    loses: (plies, inMoves) => (inMoves ? (plies ? `${winnersMoves(plies)}てで まけ` : "まけ") : `まけ ${plies}て`),
+    wins: (plies, inMoves, isWithin) => (inMoves ? `${winnersMoves(plies)}て${isWithin ? "いない" : ""}で かち` : `かち ${plies}て${isWithin ? "いない" : ""}`),
+    loses: (plies, inMoves, isWithin) => {
+      const within = isWithin ? "いない" : "";
+      return inMoves ? (plies ? `${winnersMoves(plies)}て${within}で まけ` : "まけ") : `まけ ${plies}て${within}`;
+    },
     draw: "ひきわけ", tagWin: (number) => `かち ${number}`, tagLoss: (number) => `まけ ${number}`, tagDraw: "わけ",
     told: {
       caught: (side) => `${side}の ばんで、らいおんを キャッチできます。`,
@@ -74,9 +83,9 @@
       win: (side, other, length) => `${side}の ばんで、${length}で かちます。`,
       loss: (side, other, length) => `${side}の ばんですが、${other}が ${length}で かちます。`,
     },
-    lengthTold: (plies, inMoves) => (inMoves ? `じぶんの てで ${winnersMoves(plies)}て` : `${plies}て`),
+    lengthTold: (plies, inMoves, isWithin) => `${inMoves ? `じぶんの てで ${winnersMoves(plies)}て` : `${plies}て`}${isWithin ? "いない" : ""}`,
     over: (side) => `${side}が らいおんを キャッチして かちました。`, drawLine: "ひきわけには てじゅんが ありません。",
-    ends: { broken: "あう てが ありません。この ファイルは ただしく ありません。", caught: "キャッチ", tried: "トライ", stuck: "させる てが ない", draw: "ひきわけ", going: "…" },
+    ends: { broken: "あう てが ありません。この ファイルは ただしく ありません。", caught: "キャッチ", tried: "トライ", stuck: "させる てが ない", draw: "ひきわけ", outside: "しょうめいしょは ここまで", going: "…" },
     openSet: (set) => `ひょうかを みるには セット ${set} の ファイルを ひらいてください。`,
     otherSet: (set, profile, open) => `この きょくめんには セット ${set}、ルール ${profile} の ファイルが いります。ひらいているのは ${open.join("、")} です。`,
     brokenFile: "なかみの つじつまが あいません。ただしい ファイルでは ありません(ばしょは dobutsu check が おしえます)",
@@ -93,6 +102,9 @@
       E6: "てばんの らいおんが いちばん おくに います。もう かっています。", E15: "ファイルが とちゅうで おわっています。", E16: "データベース ファイルでは ありません。",
       E17: "こまの セットが かかれていません。", E18: "きょくめんの かずが セットと あいません。", E19: "ファイルが セットより ながすぎます。",
       E20: "ファイルの ダイジェストが なかみと あいません。こわれています。", E26: "ルールBでは、ひよこは じぶんの いちばん おくに いられません。", E27: "ルールが かかれていません。",
+      E30: "しょうめいしょに、ほかの ものから わからない ものが あります。", E31: "しょうめいしょから いいたい ことが わかりません。", E32: "しょうめいしょの はんが ちがいます。",
+      E33: "しょうめいしょに きょくめんが ありません。", E34: "しょうめいしょの いいたい ことの かたちが ちがいます。", E35: "しょうめいしょの かずが きょくめんより おおいです。",
+      E36: "しょうめいしょの かずの かたちが ちがいます。", E37: "しょうめいしょの じゅんが ちがいます。", E38: "しょうめいしょに、きょくめんではない ものが あります。",
     },
   };
 })();

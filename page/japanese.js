@@ -10,6 +10,12 @@
     noFile: "ファイルは開かれていません。駒は動かせます。評価を見るには dobutsu build で作ったファイルを開いてください。",
     opening: "開いています…",
     fileInfo: (file) => `セット ${file.set}、ルール ${file.profile}、${file.count.toLocaleString("ja")} 局面類、ダイジェスト${file.isTested ? "テスト済み" : "未テスト"}`,
+    certificateInfo: ({ set, profile, isOfStart, checked }, claim) => {
+      const by = { proved: "証明されたコードで検査済み", plain: "普通の JavaScript で検査済み", not: "未検査(大きなものには証明済みの検査が必要です)" }[checked];
+      return `証明書、セット ${set}、ルール ${profile}: ${isOfStart ? "このゲームは後手の勝ち" : "ある局面"}、${claim}。${by}`;
+    },
+    checking: (percent) => `証明書を検査しています… ${percent} %`, outside: "この局面は証明書にないので、評価はわかりません。",
+    replied: (reply, value) => `→ ${reply}、${value}`,
     filesOpen: (number) => `${number}個のファイル`, close: "閉じる", closeFile: (name) => `${name} を閉じる`,
     sides: ["もり", "そら"], toMove: "手番",
     pieces: { L: "ライオン", G: "きりん", E: "ぞう", C: "ひよこ", H: "にわとり" },
@@ -40,7 +46,7 @@
     practise: "実戦練習", stopPractising: "練習をやめる", practiseLabel: "実戦練習: この局面から最善の相手に勝つ",
     practiceTask: (side) => `ここから${side}が勝てます。${side}の手を指してください。相手は最善手で応じます。`,
     practiceWon: (side, plies) => `${side}が${plies}手で勝ちました。`,
-    practiceLost: (text, value, best) => `${text} で勝ちを逃しました(${value})。最善は ${best} でした。`, practiceOver: "勝ちを逃しました。",
+    practiceLost: (text, value, best) => `${text} で勝ちを逃しました(${value})。最善は ${best} でした。`, practiceOutside: "それで勝ちが続くかどうか、証明書からはわかりません。",
     practiceNeeds: "実戦練習には、手番側が勝てる局面が必要です。",
     worksheet: "プリント", worksheetLabel: "プリント: 練習問題6問を1枚に印刷", sheetTitle: "どうぶつしょうぎ: 勝つ手はひとつ",
     sheetTask: (length) => `下のもりの番で、${length}で勝ちます。その手は?`, sheetName: "名前:", sheetMove: "答え:", sheetAnswers: "解答:",
@@ -50,15 +56,18 @@
     letterKeys: "一文字のキーを使う (u, r, f, e, h, n, p, x)",
     help: "使い方、ルール、評価の裏づけ",
     helpRules: "駒は点のある方向に動きます。相手のライオンを取るか(キャッチ)、すぐに取られない形でライオンが一番奥に着けば(トライ)勝ちです。取った駒は空いたマスに打てます。ひよこは一番奥に進むとにわとりになります。もりが先手、そらが後手です。もりは上に進み大文字、そらは下に進み小文字です。局面の文字列はいつも手番側から見たものです。",
-    helpPlay: "このページは対戦相手ではありません。両者の手を、クリック、ドラッグ、キーで指してください。",
+    helpPlay: "両者の手を、クリック、ドラッグ、キーで指してください。手番側が勝てる局面からは、実戦練習でページが最善手で応じます。",
     helpKeys: "キー: 盤では矢印、Enterで選ぶ、Escapeでやめる。u か左矢印で戻す、r か右矢印でやり直す、f 盤を反転、e 局面編集、h 評価を隠す、n 最善手順の次の一手、p 自動で進める、x 問題を出す。",
     helpPrivate: "ファイルはこの端末から出ません。ページは通信できず、評価ひとつにつきファイルの2バイトを読むだけです。",
-    helpTrust: "ページはファイルのヘッダーと長さ、64 MBまではダイジェストを調べますが、評価は調べません。ファイルが正しい表かどうかは dobutsu check が教えます。",
-    engine: (name) => `指し手と局面類の番号: ${name}。`, engineProved: "証明されたコード(crates/dobutsu_web の WebAssembly)", enginePlain: "普通の JavaScript(テスト済み、証明なし)",
+    helpTrust: "ページはファイルのヘッダーと長さ、64 MBまではダイジェストを調べますが、評価は調べません。ファイルが正しい表かどうかは dobutsu check が教えます。証明書は、ひとつの局面でどちらが勝つかを示す小さなファイルです。何で検査したかは名前の横に出ます。",
+    engine: (name, started) => `指し手と局面類の番号: ${name}${started ? `、${started} ミリ秒で準備完了` : ""}。`, engineProved: "証明されたコード(crates/dobutsu_web の WebAssembly)", enginePlain: "普通の JavaScript(テスト済み、証明なし)",
     badgeProved: "証明済みエンジン", badgePlain: "普通のエンジン",
     looking: "調べています…", noPosition: "まだ局面ではありません。",
-    wins: (plies, inMoves) => (inMoves ? `${winnersMoves(plies)}手で勝ち` : `勝ち ${plies}手`),
-    loses: (plies, inMoves) => (inMoves ? (plies ? `${winnersMoves(plies)}手で負け` : "負け") : `負け ${plies}手`),
+    wins: (plies, inMoves, isWithin) => (inMoves ? `${winnersMoves(plies)}手${isWithin ? "以内" : ""}で勝ち` : `勝ち ${plies}手${isWithin ? "以内" : ""}`),
+    loses: (plies, inMoves, isWithin) => {
+      const within = isWithin ? "以内" : "";
+      return inMoves ? (plies ? `${winnersMoves(plies)}手${within}で負け` : "負け") : `負け ${plies}手${within}`;
+    },
     draw: "引き分け", tagWin: (number) => `勝 ${number}`, tagLoss: (number) => `負 ${number}`, tagDraw: "分",
     told: {
       caught: (side) => `${side}の番で、ライオンをキャッチできます。`,
@@ -68,9 +77,9 @@
       win: (side, other, length) => `${side}の番で、${length}で勝ちます。`,
       loss: (side, other, length) => `${side}の番ですが、${other}が${length}で勝ちます。`,
     },
-    lengthTold: (plies, inMoves) => (inMoves ? `自分の手で${winnersMoves(plies)}手` : `${plies}手`),
+    lengthTold: (plies, inMoves, isWithin) => `${inMoves ? `自分の手で${winnersMoves(plies)}手` : `${plies}手`}${isWithin ? "以内" : ""}`,
     over: (side) => `${side}がライオンをキャッチして勝ちました。`, drawLine: "引き分けには手順がありません。",
-    ends: { broken: "合う手がありません。このファイルは正しい表ではありません。", caught: "キャッチ", tried: "トライ", stuck: "指せる手がない", draw: "引き分け", going: "…" },
+    ends: { broken: "合う手がありません。このファイルは正しい表ではありません。", caught: "キャッチ", tried: "トライ", stuck: "指せる手がない", draw: "引き分け", outside: "証明書はここまで", going: "…" },
     openSet: (set) => `評価を見るにはセット ${set} のファイルを開いてください。`,
     otherSet: (set, profile, open) => `この局面にはセット ${set}、ルール ${profile} のファイルが必要です。開いているのは ${open.join("、")} です。`,
     brokenFile: "記録のつじつまが合いません。正しい表ではありません(場所は dobutsu check が教えます)",
@@ -86,6 +95,9 @@
       E4: "ライオンは両者に1枚ずつ必要です。", E5: "同じ種類の駒が2枚を超えています。", E6: "手番側のライオンが一番奥にいます。すでに勝っています。",
       E15: "ファイルが途中で終わっています。", E16: "データベースファイルではありません。", E17: "駒のセットが書かれていません。", E18: "局面類の数がセットと合いません。",
       E19: "ファイルがセットより長すぎます。", E20: "ファイルのダイジェストが中身と合いません。壊れています。", E26: "ルールBでは、ひよこは自分の一番奥にいられません。", E27: "ルールが書かれていません。",
+      E30: "証明書に、ほかの項目から導けない項目があります。", E31: "証明書の項目から主張が導けません。", E32: "証明書の版が違います。", E33: "証明書に局面がありません。",
+      E34: "証明書の主張が正しい形ではありません。", E35: "証明書の項目が局面類より多いです。", E36: "証明書の数が正しい形ではありません。", E37: "証明書の項目の順序が違います。",
+      E38: "証明書に、局面類ではない項目があります。",
     },
   };
 })();

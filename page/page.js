@@ -191,7 +191,8 @@
     if (options.isHidden) {
       View.tellNone(Exercise.isAsked() ? Exercise.told() : Practice.told() || text("hidden"));
       View.tellLine(text("hiddenShort"));
-    } else {
+    } else if (found.value.kind === "unknown") tellNothing(text("outside"));
+    else {
       View.drawValue(found, side);
       await tellLine(table, position, side, isLate);
     }
@@ -203,7 +204,8 @@
     let position = Core.readPosition(start);
     for (const ply of plies) {
       const table = Files.tableFor(profile, position);
-      if (!ply.judged || ply.judged.table !== table) ply.judged = table && { ...await Answers.judge(table, Game.engine(), position, ply.move), table };
+      if (ply.judgedBy !== table) ply.judged = table && await Answers.judge(table, Game.engine(), position, ply.move);
+      ply.judgedBy = table;
       if (isLate()) return;
       ({ position } = ply);
     }
@@ -335,16 +337,21 @@
     await refresh();
     await Exercise.offer();
   }
+  // A first position of a file: of a certificate that of its claim, unless it is the starting layout's or its mirror image's.
+  function startOf(file) {
+    const start = Game.startOf(file.pieces);
+    return file.isCertificate && Game.engine().classOf(file.profile, Core.readPosition(start)) !== file.root ? Core.writePosition(file.position()) : start;
+  }
   async function openFiles(files) {
     if (!files.length) return;
     stopPlaying();
     View.tellOpening();
     await new Promise((done) => setTimeout(done, SLOW / 6)); // so that this is seen while classes are counted
-    const last = await Files.openAll(files, Game.engine()), isUntouched = Game.state.start === Game.START && !Game.state.plies.length && !Setup.isOn();
+    const last = await Files.openAll(files, Game.engine(), View.tellChecking), isUntouched = Game.state.start === Game.START && !Game.state.plies.length && !Setup.isOn();
     if (last) {
       Answers.forget();
       Game.state.profile = last.profile;
-      if (isUntouched && !Files.tableFor(last.profile, Game.now().position)) Game.load(Game.startOf(last.pieces));
+      if (isUntouched && !Files.tableFor(last.profile, Game.now().position)) Game.load(startOf(last));
     }
     drawFiles();
     await refresh();
@@ -387,8 +394,8 @@
   // ---- what the reader asks for
 
   function drawLanguage() {
-    const { isProved } = Game.engine();
-    element("engine").textContent = text("engine", text(isProved ? "engineProved" : "enginePlain"));
+    const { isProved, started } = Game.engine();
+    element("engine").textContent = text("engine", text(isProved ? "engineProved" : "enginePlain"), started);
     element("badge").textContent = text(isProved ? "badgeProved" : "badgePlain");
     element("badge").className = isProved ? "proved" : "plain";
     drawFiles();
@@ -404,7 +411,7 @@
     redo: () => goTo(Game.state.cursor + 1),
     flip: () => { Board.flip(); drawBoard(); },
     edit: toggleSetUp,
-    start: () => { Setup.end(); begin(Files.last() ? Game.startOf(Files.last().pieces) : Game.START); },
+    start: () => { Setup.end(); begin(Files.last() ? startOf(Files.last()) : Game.START); },
     hide: () => { stopPlaying(); Settings.hideValues(!options.isHidden); if (!options.isHidden) Exercise.count(); refresh(); },
     next: () => { stopPlaying(); step(); },
     play: () => { if (playing) stopPlaying(); else { playing = true; step(); } },
@@ -461,12 +468,19 @@
     element("text-fault").textContent = told;
   }
 
+  // The file that stands in the page itself, packed.
+  async function openGiven() {
+    const { name, bytes } = window.DobutsuFile;
+    const packed = new Blob([Uint8Array.from(atob(bytes), (c) => c.charCodeAt(0))]).stream().pipeThrough(new DecompressionStream("gzip"));
+    await openFiles([new File([await new Response(packed).arrayBuffer()], name)]);
+  }
   // The proved engine where this page has it and it answers soon; else the plain one goes on.
   async function chooseEngine() {
     if (!window.DobutsuWasm) return;
-    const silence = new Promise((_, fail) => { setTimeout(() => fail(new Error("it doesn't answer")), PATIENCE); });
+    const since = performance.now(), silence = new Promise((_, fail) => { setTimeout(() => fail(new Error("it doesn't answer")), PATIENCE); });
     try {
-      Game.useEngine({ ...Core.engine, ...await Promise.race([window.DobutsuWasm.open(Core), silence]), isProved: true });
+      const proved = await Promise.race([window.DobutsuWasm.open(Core), silence]);
+      Game.useEngine({ ...Core.engine, ...proved, isProved: true, started: Math.ceil(performance.now() - since) });
     } catch (why) {
       console.warn(`The proved engine isn't used: ${why}`);
     }
@@ -476,10 +490,12 @@
     Setup.make(setUpChanged);
     View.makeSteps();
     Settings.make(showChoices);
+    drawBoard(); // seen while the engine is made
     await chooseEngine();
     listen();
     await drawLanguage();
     await readAddress(location.hash);
+    if (window.DobutsuFile) await openGiven();
     document.documentElement.dataset.ready = "1";
   }
   begun();

@@ -36,7 +36,7 @@ const Practice = (() => {
     if (isWon) end(() => text("practiceWon", sideName(winner), plies));
     else if (now.side === winner) return null;
     else if (found.value.kind === "loss") return found.moves[0].move;
-    else end(() => View.lostWords(last));
+    else end(() => (found.value.kind === "unknown" ? text("practiceOutside") : View.lostWords(last)));
     return null;
   }
 

@@ -25,7 +25,7 @@ const Texts = (() => {
   };
 
   // A value in words, and the same in few letters for a square.
-  const value = ({ kind, plies }, inMoves) => (kind === "draw" ? text("draw") : text(kind === "win" ? "wins" : "loses", plies, inMoves));
+  const value = ({ kind, plies, isWithin }, inMoves) => (kind === "draw" ? text("draw") : text(kind === "win" ? "wins" : "loses", plies, inMoves, isWithin));
   const tag = ({ kind, plies }, inMoves) => (kind === "draw" ? text("tagDraw") : text(kind === "win" ? "tagWin" : "tagLoss", inMoves ? winnersMoves(plies) : plies));
 
   // Writes the texts that stand in the page from the beginning.

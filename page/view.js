@@ -38,7 +38,8 @@ const View = (() => {
   }
   // The open files with a button to close each, more than one as a menu, and those that were refused; `close` is called with a file.
   function drawFiles(close) {
-    const lineOf = (table) => fileLine(table.name, text(table.isBroken ? "brokenFile" : "fileInfo", table), table.isBroken, () => close(table));
+    const words = (table) => (table.isBroken ? text("brokenFile") : table.isCertificate ? text("certificateInfo", table, Texts.value(table.said, options.inMoves)) : text("fileInfo", table));
+    const lineOf = (table) => fileLine(table.name, words(table), table.isBroken, () => close(table));
     const open = Files.all(), lines = open.map(lineOf), refused = Files.refused().map(({ name, fault }) => fileLine(name, Texts.wrong(fault), true));
     if (lines.length > 1) {
       const menu = document.createElement("details"), wasOpen = !!element("files").querySelector("details[open]");
@@ -49,7 +50,9 @@ const View = (() => {
     }
     element("files").replaceChildren(...(lines.length + refused.length ? [...lines, ...refused] : [node("p", text("noFile"))]));
   }
-  const tellOpening = () => element("files").replaceChildren(node("p", text("opening")));
+  const tellFiles = (words) => element("files").replaceChildren(node("p", words));
+  const tellOpening = () => tellFiles(text("opening"));
+  const tellChecking = (part) => tellFiles(text("checking", Math.floor(100 * part)));
 
   // ---- the value
 
@@ -60,7 +63,7 @@ const View = (() => {
   }
   const tellNone = (words) => tellValue("none", "", words);
   function drawValue({ status, value, follows }, side) {
-    const length = text("lengthTold", value.plies, options.inMoves), words = text("told")[status] || text("told")[value.kind];
+    const length = text("lengthTold", value.plies, options.inMoves, value.isWithin), words = text("told")[status] || text("told")[value.kind];
     const told = words(...sides(side), length);
     tellValue(value.kind, Texts.value(value, options.inMoves), follows ? told : `${told} ${text("ends").broken}`);
   }
@@ -98,12 +101,18 @@ const View = (() => {
     if (from < 0) return text("dropped", piece, name(to));
     return text("step", piece, name(from), name(to), position.squares[to] !== ".", Core.grows({ letter, from, to }));
   }
-  // The moves of { move, order, value }, by value where it is shown and else in move order; `play` is called with the move.
+  // A move's value in words, behind the reply that keeps the win where a certificate has one.
+  function valueWords(value, reply, other) {
+    const words = Texts.value(value, options.inMoves);
+    return reply ? text("replied", Game.moveText(reply.position, reply.move, other), words) : words;
+  }
+  // The moves of { move, order, value, reply }, by value where it is shown and else in move order; `play` is called with the move.
   function drawMoves(list, { position, side }, play) {
     const shown = options.isHidden ? [...list].sort((a, b) => a.order - b.order) : list;
     element("moves-head").textContent = text("moves", list.length);
-    replace(element("moves"), shown.map(({ move, value }) => {
-      const words = Game.moveText(position, move, side), told = value && !options.isHidden ? Texts.value(value, options.inMoves) : "";
+    element("moves").classList.toggle("replied", list.some(({ reply }) => reply));
+    replace(element("moves"), shown.map(({ move, value, reply }) => {
+      const words = Game.moveText(position, move, side), told = value && !options.isHidden ? valueWords(value, reply, 1 - side) : "";
       const made = button("", "", [words, moveWords(position, move, side), told].filter(Boolean).join(", "), () => play(move));
       made.append(moveNode(words));
       if (told) made.append(node("span", told, `told ${value.kind}`));
@@ -181,5 +190,5 @@ const View = (() => {
     drawSteps("record", plies.length ? [first, ...rest] : [node("span", text("noneYet"), "end")], cursor);
   }
 
-  return { options, makeSteps, drawFiles, tellOpening, tellNone, drawValue, drawJudged, lostWords, drawMoves, drawLine, tellLine, drawRecord };
+  return { options, makeSteps, drawFiles, tellOpening, tellChecking, tellNone, drawValue, drawJudged, lostWords, drawMoves, drawLine, tellLine, drawRecord };
 })();

@@ -1,15 +1,17 @@
 // The proved engine: the exports of crates/dobutsu_web, compiled for WebAssembly. What is said of the game is their answer; this puts texts and numbers
-// into the module's memory, puts its calls in order and keeps what they answered. The module stands in the page, since a page of a file may fetch nothing.
+// into the module's memory, puts its calls in order and keeps what they answered. The module stands in the page, packed by gzip, since a page of a file may
+// fetch nothing.
 window.DobutsuWasm = {
   async open(Core) {
     "use strict";
-    const bytes = Uint8Array.from(atob("/*BYTES*/"), (c) => c.charCodeAt(0));
+    const packed = new Blob([Uint8Array.from(atob("/*BYTES*/"), (c) => c.charCodeAt(0))]).stream().pipeThrough(new DecompressionStream("gzip"));
+    const bytes = await new Response(packed).arrayBuffer();
     const { instance: { exports: calls } } = await WebAssembly.instantiate(bytes);
 
     // A page of memory behind the module's own. A memory of 64 bits counts in BigInt; pointers and numbers of 64 bits are BigInt in both.
-    let pages;
-    try { pages = calls.memory.grow(1); } catch { pages = calls.memory.grow(1n); }
-    const BASE = Number(pages) * 65536, TEXT = 0, OUT = 512, ROW = 1024, ROW_LEN = 101;
+    const PAGE = 65536;
+    const grow = (pages) => { try { return PAGE * calls.memory.grow(pages); } catch { return PAGE * Number(calls.memory.grow(BigInt(pages))); } };
+    const BASE = grow(1), TEXT = 0, OUT = 512, ROW = 1024, ROW_LEN = 101;
     const at = (place) => BigInt(BASE + place);
     const view = () => new DataView(calls.memory.buffer, BASE, 2048); // made anew each time: it dies where the memory grows
     const bytesAt = (place, length) => new Uint8Array(calls.memory.buffer, BASE + place, length);
@@ -17,7 +19,7 @@ window.DobutsuWasm = {
     const give = (data) => { bytesAt(TEXT, data.length).set(data); return [at(TEXT), BigInt(data.length)]; };
     const OUT_AT = at(OUT), ROW_ARGS = [at(ROW), BigInt(ROW_LEN)];
 
-    const NAMES = { 1: "Shape", 2: "Letter", 3: "Hand", 4: "Lions", 5: "Count", 6: "FarLion", 15: "Truncated", 16: "Magic", 17: "SetByte", 18: "ClassCount", 19: "Trailing", 26: "FarChick", 27: "ProfileByte" };
+    const NAMES = { 1: "Shape", 2: "Letter", 3: "Hand", 4: "Lions", 5: "Count", 6: "FarLion", 15: "Truncated", 16: "Magic", 17: "SetByte", 18: "ClassCount", 19: "Trailing", 20: "Digest", 23: "Memory", 26: "FarChick", 27: "ProfileByte", 30: "Unsupported", 31: "Claim" };
     const NO_MOVE = 28, PLACES = 180, NO_SQUARE = 12, MOST_CLASSES = (1n << 64n) - 1n;
     const STATUSES = ["open", "caught", "tried", "stuck"], KINDS = ["draw", "win", "loss"], LETTERS = "CEGHL";
     const accept = (answer) => { if (answer) throw new Core.Fault(`E${answer} ${NAMES[answer] || "Call"}`); };
@@ -107,10 +109,18 @@ window.DobutsuWasm = {
       return { set, profile, classes: Number(long(0)), first: Number(long(8)) };
     }
 
+    // Throws why the bytes are no certificate that shows what it claims. They lie behind the module's memory while it checks them.
+    function verify(data) {
+      const place = grow(Math.ceil(data.length / PAGE));
+      new Uint8Array(calls.memory.buffer, place, data.length).set(data);
+      accept(calls.dobutsu_verify(BigInt(place), BigInt(data.length), OUT_AT, OUT_AT + 32n));
+    }
+
     // Once, against the other engine: a module that doesn't run here as it should isn't taken.
     const lions = Core.readPosition("..l/.../.C./.L. - -");
     if (classOf("A", lions) !== Core.classNumber("A", lions)) throw new Error("another class number");
     const valueOf = (record) => told(calls.dobutsu_value, record), afterMove = (record) => told(calls.dobutsu_value_of_move, record);
-    return { name: "proved code (WebAssembly of crates/dobutsu_web)", isProved: true, moves, classOf, classAfter, apply, moveText, valueOf, afterMove, readHeader };
+    const engine = { isProved: true, moves, classOf, classAfter, apply, moveText, valueOf, afterMove, readHeader };
+    return calls.dobutsu_verify ? { ...engine, verify } : engine;
   },
 };

@@ -33,6 +33,16 @@ cmp -s "$work/dobutsu.html" "$work/again.html" || same=no
 rm -rf "$work/elsewhere"
 note "page/build.py makes one file of less than 200 KB here and at another path: $(tail -1 "$work/out")" "$same"
 
+# A page with a file in it.
+same=yes
+python3 page/build.py --with testdata/one_chick_2.db - "$work/with.html" >"$work/out" 2>&1 || same=no
+grep -q '^window.DobutsuFile = {"name": "one_chick_2.db"' "$work/with.html" || same=no
+note "page/build.py --with puts a file into the page: $(tail -1 "$work/out")" "$same"
+
+# The list of wrong edits fits the sources; tools/page-mutants tries them.
+if tools/page-mutants --check >"$work/out" 2>&1; then good=yes; else good=no; fi
+note "tools/page-mutants --check: $(tail -1 "$work/out")" "$good"
+
 # The engine in plain JavaScript against tools/read_db.py, in Node where it is there.
 if command -v node >/dev/null; then
     if node page/test/core.test.js 1500 >"$work/out" 2>&1; then good=yes; else good=no; fi
@@ -49,7 +59,7 @@ if tools/have chromium chromium 2>"$work/apt"; then
         if tools/page "$work/proved.html" >"$work/out" 2>&1; then good=yes; else good=no; fi
         note "tools/page makes the page with the proved engine: $(tail -1 "$work/out")" "$good"
         if grep -q '^window.DobutsuWasm = ' "$work/proved.html"; then
-            add_counts python3 page/test/page_test.py "$work/proved.html" "$program" told faults
+            add_counts python3 page/test/page_test.py "$work/proved.html" "$program" told faults opening certificates
             if command -v node >/dev/null; then
                 if node page/test/told.test.js page/out/dobutsu_web.wasm "$program" 2000 >"$work/out" 2>&1; then good=yes; else good=no; fi
                 note "page/test/told.test.js: $(tail -1 "$work/out")" "$good"

@@ -12,6 +12,8 @@ import time
 FLAGS = [
     "--headless", "--remote-debugging-pipe", "--no-sandbox", "--disable-gpu", "--disable-dev-shm-usage", "--no-first-run", "--disable-background-networking",
     "--disable-component-update", "--disable-sync", "--disable-extensions", "--hide-scrollbars", "--lang=en-US", "--host-resolver-rules=MAP * ~NOTFOUND",
+    # A mouse, as at a desk: fine, and it hovers.
+    "--blink-settings=primaryHoverType=2,availableHoverTypes=2,primaryPointerType=4,availablePointerTypes=4",
     # A test changes the address more often than a browser bears of a page.
     "--disable-ipc-flooding-protection",
 ]

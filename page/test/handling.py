@@ -172,7 +172,8 @@ def setting(checks, screen, program):
         checks.expect(f"a click on a hand gives {number}", [screen.js(f"Setup.board().hands[0][0]"), screen.js(f"document.querySelector(\"{hand('C')} .number\").textContent")],
                       [number, shown])
     screen.press("undo")
-    checks.expect("nothing is undone while a position is set up", screen.position(), ".l./.../.../.L. C -")
+    screen.press("next")
+    checks.expect("nothing is undone or played while a position is set up", screen.position(), ".l./.../.../.L. C -")
     screen.browser.click(tool("L"))
     screen.browser.click(square("c1"))
     screen.settle()

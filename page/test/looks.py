@@ -1,6 +1,8 @@
 """Both languages, widths, sizes, contrasts, what is heard, what is printed; and that nothing leaves the page."""
 import json
 
+from browser import Browser
+
 PLAIN = ".l./.../.C./.L. - -"
 WIDTHS = (320, 360, 480, 768, 1024, 1280, 1600)
 
@@ -70,6 +72,47 @@ def contrasts(checks, screen, program):
     screen.press("theme")
 
 
+def hover(checks, screen, program):
+    """A pointer marks what it is over, but not above the last move or a chosen piece, and not where nothing can hover. A browser of its own, since one
+    that once had fingers hovers no more."""
+    browser = Browser()
+    try:
+        own = screen.another(browser)
+        own.afresh()
+        own.give(program.build("100", "A"))
+        own.enter(PLAIN)
+        own.play("Lb1-a2")
+        shadow = lambda selector: own.js(f"getComputedStyle(document.querySelector({selector!r})).boxShadow")
+        plain, last = shadow("#start"), shadow("[data-square='3']")
+
+        def over(selector):
+            x, y = own.seen("middle", selector)
+            browser.call("Input.dispatchMouseEvent", type="mouseMoved", x=x, y=y)
+            return shadow(selector)
+
+        checks.expect("a button under the pointer is marked", over("#start") != plain)
+        checks.expect("a square of the last move looks as it did", over("[data-square='3']"), last)
+        browser.size(1180, 1000, 1, True)
+        checks.expect("nothing is marked where nothing hovers", over("#start"), plain)
+    finally:
+        browser.close()
+
+
+def no_script(checks, screen, program):
+    """Without JavaScript the page says what is needed, in both languages."""
+    screen.browser.call("Emulation.setScriptExecutionDisabled", value=True)
+    try:
+        screen.browser.call("Page.navigate", url="about:blank")
+        screen.browser.call("Page.navigate", url=screen.url)
+        screen.browser.wait("document.readyState === 'complete' && !!document.querySelector('main')")
+        told = screen.js("[...document.querySelectorAll('noscript p')].filter(it => it.checkVisibility()).map(it => it.textContent)")
+    finally:
+        screen.browser.call("Emulation.setScriptExecutionDisabled", value=False)
+        screen.open()
+    checks.expect("what is needed", told, ["This page needs JavaScript: allow it for this file, then load the page again. It sends nothing.",
+                                           "このページには JavaScript が必要です。このファイルで許可してから、もう一度読み込んでください。通信はしません。"])
+
+
 def heard(checks, screen, program):
     screen.give(program.build("100", "A"))
     screen.enter(PLAIN)
@@ -130,4 +173,4 @@ def private(checks, screen, program):
         checks.expect(f"{what} is refused by the page's policy", screen.seen("refused", what), rule)
 
 
-PARTS = {"languages": languages, "widths": widths, "contrasts": contrasts, "heard": heard, "paper": printed, "privacy": private}
+PARTS = {"languages": languages, "widths": widths, "contrasts": contrasts, "hover": hover, "no_script": no_script, "heard": heard, "paper": printed, "privacy": private}

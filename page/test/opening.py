@@ -54,7 +54,8 @@ def ends_early(checks, screen, program):
     whole = bytearray(program.build("100", "A").read_bytes())
     number = lambda text: screen.seen("classNumber", "A", text)
     screen.enter(TRIED)
-    for text, record in [(TRIED, 4)] + [(it, 3) for it in screen.seen("outcomes", TRIED)]:
+    tried = [it for it in screen.seen("outcomes", TRIED) if screen.js(f"Game.engine().moves('A', DobutsuCore.readPosition({it!r})).status") == "tried"]
+    for text, record in [(TRIED, 4)] + [(it, 3) for it in tried]:
         at = 21 + 2 * number(text)
         whole[at : at + 2] = record.to_bytes(2, "little")
     screen.give(program.spoilt("early.db", whole))

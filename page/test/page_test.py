@@ -14,6 +14,7 @@ import tempfile
 sys.dont_write_bytecode = True
 sys.path.insert(0, str(pathlib.Path(__file__).resolve().parent))
 import board
+import certificates
 import classroom
 import faults
 import handling
@@ -29,8 +30,8 @@ from program import Program
 from screen import Screen
 
 TOPICS = {
-    "told": told, "words": words, "opening": opening, "board": board, "links": links, "classroom": classroom, "faults": faults, "handling": handling,
-    "layout": layout, "looks": looks,
+    "told": told, "words": words, "opening": opening, "board": board, "links": links, "certificates": certificates, "classroom": classroom,
+    "faults": faults, "handling": handling, "layout": layout, "looks": looks,
 }
 
 

@@ -10,8 +10,12 @@ SETTLED = "document.documentElement.dataset.busy === ''"
 
 class Screen:
     def __init__(self, browser, page):
-        self.browser, self.url = browser, page.as_uri()
+        self.browser, self.page, self.url = browser, page, page.as_uri()
         self.js = browser.js
+
+    def another(self, browser):
+        """The same page in another browser."""
+        return Screen(browser, self.page)
 
     def open(self, fragment=""):
         self.browser.open(self.url + fragment)

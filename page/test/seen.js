@@ -158,7 +158,8 @@ globalThis.Seen = (() => {
       if (between(mark, it) < 3) found.push(`${mark} on ${it}`);
     }
     for (const side of ["forest", "sky"]) {
-      if (between(`--${side}-dot`, `--${side}-tile`) < 3) found.push(`dots of ${side}`);
+      const fill = (part) => numbers(getComputedStyle(document.querySelector(`.piece.${side} ${part}`)).fill);
+      if (ratio(fill(".dot"), fill(".tile")) < 3) found.push(`dots of ${side}`);
       if (Math.max(between(`--${side}`, `--${side}-land`), between(`--${side}-tile`, `--${side}-land`)) < 3) found.push(side);
     }
     return found;

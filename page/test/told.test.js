@@ -2,11 +2,11 @@
 // each and of all that its moves lead to, read from files that the program builds at the class numbers that the engine tells, against the program's `probe --each`; and
 // the moves with their values of one position in forty against its `moves`.
 "use strict";
-const fs = require("fs"), os = require("os"), path = require("path"), { spawnSync } = require("child_process");
+const fs = require("fs"), os = require("os"), path = require("path"), zlib = require("zlib"), { spawnSync } = require("child_process");
 const [module_, program, count = "2000", core = path.join(__dirname, "..", "core.js")] = process.argv.slice(2);
 const Core = require(path.resolve(core));
 global.window = {};
-eval(fs.readFileSync(path.join(__dirname, "..", "wasm.js"), "utf8").replace("/*BYTES*/", fs.readFileSync(module_).toString("base64")));
+eval(fs.readFileSync(path.join(__dirname, "..", "wasm.js"), "utf8").replace("/*BYTES*/", zlib.gzipSync(fs.readFileSync(module_)).toString("base64")));
 
 let seed = 54;
 const random = (below) => { seed = (seed * 1103515245 + 12345) % 2147483648; return Math.floor(seed / 65536) % below; };

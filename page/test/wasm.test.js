@@ -1,11 +1,11 @@
 // node page/test/wasm.test.js MODULE [N [CORE]]: the proved engine against the one in plain JavaScript (page/core.js unless it is named), on N random positions of
 // set 111 and others in both profiles, with each of their moves, and on headers that are spoilt.
 "use strict";
-const fs = require("fs"), path = require("path");
+const fs = require("fs"), path = require("path"), zlib = require("zlib");
 const [module_, count = "2000", core = path.join(__dirname, "..", "core.js")] = process.argv.slice(2);
 const Core = require(path.resolve(core)), page = path.join(__dirname, "..");
 global.window = {};
-eval(fs.readFileSync(path.join(page, "wasm.js"), "utf8").replace("/*BYTES*/", fs.readFileSync(module_).toString("base64")));
+eval(fs.readFileSync(path.join(page, "wasm.js"), "utf8").replace("/*BYTES*/", zlib.gzipSync(fs.readFileSync(module_)).toString("base64")));
 
 let seed = 5;
 const random = (below) => { seed = (seed * 1103515245 + 12345) % 2147483648; return Math.floor(seed / 65536) % below; };

@@ -1,11 +1,13 @@
 """What the page says, by texts that stand here in English, Japanese and kana: buttons, headings, values of each kind, moves that are heard, endings."""
+import re
+
 PLAIN = ".l./.../.C./.L. - -"
 
 # (where it stands, English, Japanese, kana)
 SEEN = [
     ("h1 span", "Dobutsu shogi", "どうぶつしょうぎ", "どうぶつしょうぎ"),
-    (".open span", "Open database…", "ファイルを開く…", "ファイルを ひらく…"),
-    ("#drop span", "Drop a database file", "ここにファイルをドロップ", "ここに ファイルを ドロップ"),
+    (".open span", "Open file…", "ファイルを開く…", "ファイルを ひらく…"),
+    ("#drop span", "Drop a file here", "ここにファイルをドロップ", "ここに ファイルを ドロップ"),
     ("#undo .word", "Undo", "戻す", "もどす"),
     ("#redo .word", "Redo", "やり直す", "やりなおす"),
     ("#flip .word", "Flip", "盤を反転", "はんてん"),
@@ -73,6 +75,9 @@ def controls(checks, screen, program):
             if selector in ("#badge", "#engine") and screen.js("Game.engine().isProved"):
                 continue
             checks.expect(f"{selector}, {language}", screen.js(f"document.querySelector({selector!r}).textContent"), wanted[number])
+    if screen.js("Game.engine().isProved"):
+        found = screen.js("document.getElementById('badge').textContent + ' ' + document.getElementById('engine').textContent")
+        checks.expect("the proved engine", bool(re.fullmatch(r"しょうめいずみ エンジン さしてと きょくめんの ばんごう: しょうめいされた コード.*、\d+ ミリびょうで じゅんび。", found)))
     screen.press("edit")
     checks.expect("characters that aren't kana", screen.js(r"[...document.body.innerText.matchAll(/\p{Script=Han}/gu)].map(it => it[0])"), [])
     checks.expect("nor in what is heard", screen.js(r"[...document.querySelectorAll('[aria-label]')].filter(it => /\p{Script=Han}/u.test(it.ariaLabel)).map(it => it.id)"), [])

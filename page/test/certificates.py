@@ -1,0 +1,185 @@
+"""Certificates: what one says of its position and of others, replies, claims of each kind, wrong ones, and a file that stands in the page itself.
+
+The files are made here of all values of a small set, by docs/FORMAT.md: a lost class is lost within its plies, and one that isn't is held.
+"""
+import hashlib
+import pathlib
+import struct
+import sys
+
+from program import read_db
+
+sys.path.insert(0, str(pathlib.Path(__file__).resolve().parents[1]))
+import build
+
+LOSS, WON, DRAWN = ".../..l/.../L.. - c", ".l./.../.C./.L. - -", ".../l../.../L.C - -"
+KINDS = {"draw": 0, "win": 1, "loss": 2, "win within": 3, "loss within": 4}
+
+
+def values_of(path):
+    """The value of each class of a file."""
+    db = read_db.open_db(path)
+    return [value for _, value in db.positions()]
+
+
+def number(entry):
+    """A number in groups of seven bits, the lowest first."""
+    out = bytearray()
+    while entry >= 128:
+        out.append(entry % 128 + 128)
+        entry //= 128
+    return bytes([*out, entry])
+
+
+def listed(entries):
+    out, last = b"", -1
+    for of, plies in entries:
+        out += number(of - last) + bytes([plies])
+        last = of
+    return out
+
+
+def made(values, root, claim, plies, change=lambda head, lost, held: None):
+    """A certificate of set 100 by rules A; `change` may spoil its head and lists."""
+    parts = [value.split() for value in values]
+    lost = [(of, int(part[1])) for of, part in enumerate(parts) if part[0] == "loss" and part[1] != "0"]
+    held = [(of, 255 if part[0] != "loss" else int(part[1]) - 1) for of, part in enumerate(parts) if part != ["loss", "0"]]
+    head = bytearray(b"DOBUCERT" + bytes([1, 1, 0, 0, 2, 0]) + struct.pack("<IBB", root, KINDS[claim], plies))
+    change(head, lost, held)
+    body = bytes(head) + struct.pack("<II", len(lost), len(held)) + listed(lost) + listed(held)
+    return body + hashlib.sha256(body).digest()
+
+
+class Maker:
+    def __init__(self, program):
+        self.program, self.path = program, program.build("100", "A")
+        self.values = values_of(self.path)
+
+    def number(self, text):
+        return read_db.class_number("A", read_db.read_position(text))
+
+    def write(self, name, root, claim, plies, change=lambda head, lost, held: None):
+        path = self.program.folder / name
+        path.write_bytes(made(self.values, self.number(root), claim, plies, change))
+        return path
+
+
+def claims(checks, screen, program):
+    """Each kind of claim: what is said of the file and of its position."""
+    maker, by = Maker(program), "checked by proved code" if screen.js("!!Game.engine().verify") else "checked by plain JavaScript"
+    for root, claim, plies, value, words in [
+        (LOSS, "loss", 6, "loss 6", "Forest, to move, loses: Sky wins in 6 plies."),
+        (LOSS, "loss within", 8, "loss within 6", "Forest, to move, loses: Sky wins in at most 6 plies."),
+        (WON, "win", 5, "win 5", "Forest, to move, wins in 5 plies."),
+        (WON, "win within", 5, "win within 5", "Forest, to move, wins in at most 5 plies."),
+        (DRAWN, "draw", 0, "draw", "Neither Forest, to move, nor Sky can force a win."),
+    ]:
+        screen.afresh()
+        screen.give(maker.write("a.cert", root, claim, plies))
+        said = f"{claim} {plies}" if plies else claim
+        checks.expect(f"{claim}: the file", screen.files(), [[f"a.cert certificate of set 100, rules A: a position, {said}; {by}", False]])
+        checks.expect(f"{claim}: its position is on the board", maker.number(screen.position()), maker.number(root))
+        screen.enter(root)
+        checks.expect(f"{claim}: its value", [screen.value(), screen.told()], [value, words])
+
+
+def solution(checks, screen, program):
+    """Each move of the side that loses has a reply that keeps the win; a position outside says so."""
+    maker = Maker(program)
+
+    def only_lost(head, lost, held):
+        held.clear()
+
+    screen.give(maker.write("lost.cert", LOSS, "loss within", 6, only_lost))
+    screen.enter(LOSS)
+    db, position = read_db.open_db(maker.path), read_db.read_position(LOSS)
+    wanted = {}
+    for move in read_db.status_and_moves("A", position)[1]:
+        after = read_db.write_position(read_db.apply(position, move))
+        plies = int(db.value(after).split()[1])
+        best = {text for text, value in db.moves(after) if value == f"win {plies}"}
+        wanted[read_db.move_text(position, move)] = (best, plies + 1)
+    shown = {line.split(" → ")[0]: line.split(" → ")[1].split(", ") for line in screen.moves()}
+    checks.expect("each move has a reply", sorted(shown), sorted(wanted))
+    turned = lambda text: text[0].upper() + text[1:].translate(str.maketrans("abc1234", "cba4321"))
+    for text, (best, plies) in wanted.items():
+        reply, value = shown[text]
+        checks.expect(f"the reply to {text} keeps the win", [turned(reply) in best, value], [True, f"loss within {plies}"])
+    screen.in_both(checks, "what is said of a win", lambda: screen.moves()[0].split(" → ")[1][6:], ", loss within 6", "、負け 6手以内")
+    screen.play(screen.moves()[0].split(" → ")[0])
+    checks.expect("the other side wins", [screen.value(), screen.told()], ["win within 5", "Sky, to move, wins in at most 5 plies."])
+    outside = "This position isn't in the certificate: its value isn't known here.", "この局面は証明書にないので、評価はわかりません。"
+    screen.enter(DRAWN)
+    screen.in_both(checks, "outside", screen.told, *outside)
+    checks.expect("no value there", screen.value(), "")
+    screen.enter(WON)
+    screen.choose("speed", "fast")
+    screen.press("practise")
+    screen.play("Lb1-a2")
+    screen.settle("Game.state.cursor === 2")
+    checks.expect("practice by a certificate", len(screen.record()), 3)
+    screen.enter(DRAWN)
+    screen.give(maker.path)
+    screen.press("hide")
+    checks.expect("a table of the same set comes first", screen.value(), "draw")
+
+
+def spoil(place, byte):
+    def change(head, lost, held):
+        head[place] = byte
+    return change
+
+
+def shorter(head, lost, held):
+    lost[200] = (lost[200][0], lost[200][1] - 2)
+
+
+def backwards(head, lost, held):
+    lost[10], lost[11] = lost[11], lost[10]
+
+
+def wrong(checks, screen, program):
+    """Wrong certificates are refused by their faults, and what was open stays."""
+    maker = Maker(program)
+    screen.give(maker.path)
+    good = made(maker.values, maker.number(LOSS), "loss", 6)
+    cut = lambda whole, to: whole[:to] + hashlib.sha256(whole[:to]).digest()
+    spoilt = [
+        ("version", spoil(8, 2), "The certificate is of another version. (E32)"), ("set", spoil(9, 3), "The file names no piece set. (E17)"),
+        ("rules", spoil(13, 2), "The file names no rules. (E27)"), ("root", spoil(17, 1), "The certificate names no position. (E33)"),
+        ("claim", spoil(18, 5), "The certificate's claim is none. (E34)"), ("a shorter loss", spoil(19, 4), "The certificate's entries don't show its claim. (E31)"),
+        ("an entry", shorter, "An entry of the certificate isn't shown by the others. (E30)"),
+    ]
+    for name, change, words in spoilt:
+        screen.give(maker.write("wrong.cert", LOSS, "loss", 6, change))
+        checks.expect(f"a wrong {name}", screen.files()[-1], [f"wrong.cert {words}", True])
+    raw = [
+        ("nothing", good[:20], "The file ends too early. (E15)"), ("half", cut(good, 900), "The file ends too early. (E15)"), ("a byte more", good + b"x", "The file is longer than its set. (E19)"),
+        ("a digest", good[:-1] + bytes([good[-1] ^ 1]), "The file's digest isn't that of its bytes: it is damaged. (E20)"),
+    ]
+    for name, whole, words in raw:
+        path = program.folder / "wrong.cert"
+        path.write_bytes(whole)
+        screen.give(path)
+        checks.expect(name, screen.files()[-1], [f"wrong.cert {words}", True])
+    checks.expect("the table is open still", screen.files()[0][0].split()[0], "100A.db")
+
+
+def given(checks, screen, program):
+    """A file that stands in the page is open from the beginning."""
+    maker, url, start = Maker(program), screen.url, '<script>"use strict";\n'
+    whole = screen.page.read_text(encoding="utf-8")
+    for path, name in [(maker.path, "100A.db"), (maker.write("mine.cert", LOSS, "loss", 6), "mine.cert")]:
+        page = program.folder / "given.html"
+        page.write_text(whole.replace(start, start + build.file_line(path)), encoding="utf-8")
+        screen.url = page.as_uri()
+        screen.open()
+        screen.language("en")
+        checks.expect(f"{name} is open", [screen.files()[0][0].split()[0], screen.value() != ""], [name, True])
+    checks.expect("its position is on the board", maker.number(screen.position()), maker.number(LOSS))
+    screen.open("#.l./.../.C./.L._-_-")
+    checks.expect("a link to another position", [screen.position(), screen.value()], [WON, "win within 5"])
+    screen.url = url
+
+
+PARTS = {"claims": claims, "solution": solution, "wrong": wrong, "given": given}
