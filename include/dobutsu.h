@@ -17,6 +17,11 @@
 extern "C" {
 #endif
 
+/* The version that this header is of; dobutsu_version says the library's. Until 1.0 a program should compare them. */
+#define DOBUTSU_VERSION_MAJOR 0
+#define DOBUTSU_VERSION_MINOR 1
+#define DOBUTSU_VERSION_PATCH 0
+
 /* Faults, by the numbers that the program prints behind an E. A call that answers one has written nothing; only dobutsu_check writes at 21, a class. */
 enum {
     DOBUTSU_OK = 0,

@@ -14,6 +14,21 @@ cc -O2 examples/probe.c -D_POSIX_C_SOURCE=200809L -I"$release" -L"$release" -ldo
 [ "$(echo "$position" | "$work/probe_so" testdata/lions_alone.db)" = 'win 3' ] || same=no
 echo '#include "dobutsu.h"' | cc -x c++ -fsyntax-only -Wall -Wextra -Werror -I"$release" - >"$work/out" 2>&1 || same=no
 note "the shared object, and the header in C++: $(head -1 "$work/out")" "$same"
+# The header's version is the library's, and the program's.
+cat >"$work/version.c" <<'C'
+#include "dobutsu.h"
+#include <stdio.h>
+int main(void)
+{
+    DobutsuVersion found = dobutsu_version();
+    printf("dobutsu %d.%d.%d\n", DOBUTSU_VERSION_MAJOR, DOBUTSU_VERSION_MINOR, DOBUTSU_VERSION_PATCH);
+    return found.major != DOBUTSU_VERSION_MAJOR || found.minor != DOBUTSU_VERSION_MINOR || found.patch != DOBUTSU_VERSION_PATCH;
+}
+C
+same=yes
+compile "$work/version.c" -o "$work/version" || same=no
+"$work/version" >"$work/out" 2>&1 && [ "$(cat "$work/out")" = "$("$program" --version)" ] || same=no
+note "the version of dobutsu.h is that of the library and the program: $(head -1 "$work/out")" "$same"
 same=yes
 compile -O2 examples/hostile.c -o "$work/hostile" || same=no
 for name in lions_alone one_chick lions_alone_2; do "$work/hostile" "testdata/$name.db" "$position" >"$work/out" 2>&1 || same=no; done

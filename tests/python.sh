@@ -11,7 +11,7 @@ for name in ("dobutsu", "dobutsu.certificate", "dobutsu.library", "dobutsu.plain
     ran = doctest.testmod(importlib.import_module(name))
     assert ran.failed == 0, name
     tried += ran.attempted
-assert tried >= 25, tried
+assert tried >= 20, tried
 PYTHON
 note "the examples in python/dobutsu: $(tail -1 "$work/out")" "$good"
 

@@ -105,10 +105,14 @@ fn run_order<S: Shelf, O: Sink, E: Sink>(
         (ended result (change (O.state out.old) (O.state out.new)) (change (E.state err.old) (E.state err.new)))) }
 {
     match answers_for(rt, alloc, order, shelf) {
-        Ok(answers) => {
-            let status = answers.status();
-            tell(alloc, status, answers.lines.as_str(), shelf, out, err)
-        }
+        Ok(answers) => tell(
+            alloc,
+            answers.status(),
+            answers.lines.as_str(),
+            shelf,
+            out,
+            err,
+        ),
         Err(fault) => tell_fault(alloc, fault, shelf, err),
     }
 }
