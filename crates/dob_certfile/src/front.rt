@@ -133,7 +133,10 @@ pub(crate) fn front_of(bytes: &[u8]) -> Result<(Front, u64), Defect>
     let claim = claim_of(bytes[18], bytes[19])?;
     let lost_count = word_of(&bytes[20..24]);
     let held_count = word_of(&bytes[24..28]);
-    if lost_count as u64 > classes || held_count as u64 > classes {
+    if lost_count as u64 > classes {
+        return Err(Defect::EntryCount);
+    }
+    if held_count as u64 > classes {
         return Err(Defect::EntryCount);
     }
     let front = Front {
