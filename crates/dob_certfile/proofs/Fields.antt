@@ -67,8 +67,7 @@ step_by false made x e = (refl, ok_is made x e)
 
 step_ok : (low : ℕ) (high x : ℕ × List ℕ) → step low high ≡ Ok x → (0 < high.0) × (x ≡ (low - 128 + 128 * high.0, high.1))
 step_ok low high x e =
-    let s = step_by (eqb high.0 0) (low - 128 + 128 * high.0, high.1) x e in
-    (
+    let s = step_by (eqb high.0 0) (low - 128 + 128 * high.0, high.1) x e in (
       (elim (cases_lt 0 high.0) [
         | inl lt ↦ lt
         | inr le ↦ absurd (eqb-false high.0 0 s.0 (omega (arith, le)))
