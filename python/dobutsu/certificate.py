@@ -4,6 +4,7 @@ from __future__ import annotations
 import os
 
 from . import plain
+from .library import Verifier, paths
 from .value import Fault
 
 
@@ -22,15 +23,31 @@ class Certificate:
     dobutsu.value.Fault: E16 Magic
 
     Raises OSError where the file can't be opened, and `Fault` where it is no certificate's, by all the tests of docs/FORMAT.md. What it claims is true
-    only where `verify` says nothing. Both go by plain Python, which is a second opinion to `dobutsu verify`, and unproved: small ones take a moment,
-    that of the starting layout some minutes.
+    only where `verify` says nothing. That goes by the proved library where it is found, in a second for the starting layout. Else, or with `library=""`, it
+    goes by plain Python, a second opinion that is unproved: small ones take a moment, that of the starting layout some minutes.
     """
 
-    def __init__(self, path: str | os.PathLike[str]) -> None:
+    #: Which code verifies: `libdobutsu`, the proved library, or `plain Python`, where none was found.
+    engine: str
+
+    def __init__(self, path: str | os.PathLike[str], library: str | None = None) -> None:
+        with open(path, "rb") as file:
+            self._data = file.read()
         try:
-            self._plain = plain.open_certificate(path)
+            self._plain = plain.Certificate(self._data)
         except plain.Wrong as wrong:
             raise Fault(str(wrong)) from None
+        self._library = self._load(paths() if library is None else [library] if library else [], must=bool(library))
+        self.engine = "libdobutsu" if self._library else "plain Python"
+
+    def _load(self, found: list[str], must: bool) -> Verifier | None:
+        for path in found:
+            try:
+                return Verifier(path)
+            except (OSError, AttributeError):
+                if must:
+                    raise
+        return None
 
     @property
     def set(self) -> str:
@@ -61,6 +78,9 @@ class Certificate:
 
     def verify(self) -> None:
         """Raises `Fault` where the lists don't show the claim: E30 with the first entry that the others don't show, or E31. Else the claim is true."""
+        if self._library:
+            self._library.verify(self._data)
+            return
         try:
             self._plain.verify()
         except plain.Wrong as wrong:

@@ -11,6 +11,7 @@ from .value import Fault, Move, Value
 NAMES = {
     1: "Shape", 2: "Letter", 3: "Hand", 4: "Lions", 5: "Count", 6: "FarLion", 7: "OtherSet", 15: "Truncated", 16: "Magic", 17: "SetByte",
     18: "ClassCount", 19: "Trailing", 20: "Digest", 21: "Inconsistent", 23: "Memory", 25: "SetText", 26: "FarChick", 27: "ProfileByte",
+    31: "Claim", 32: "Version", 33: "RootClass", 34: "ClaimByte", 35: "EntryCount", 36: "EntryNumber", 37: "EntryOrder", 38: "EntryClass",
 }  # fmt: skip
 KINDS = "CEGHL"
 VALUES = "draw", "win", "loss"
@@ -37,6 +38,10 @@ class CMove(ctypes.Structure):
 
 class CVersion(ctypes.Structure):
     _fields_ = [(name, ctypes.c_uint32) for name in ("major", "minor", "patch")]
+
+
+class CClaim(ctypes.Structure):
+    _fields_ = [(name, ctypes.c_uint32) for name in ("chicks", "elephants", "giraffes", "profile", "root", "kind", "plies", "within")]
 
 
 def square(number: int) -> str:
@@ -98,6 +103,23 @@ class Library:
 
     def close(self) -> None:
         del self.held
+
+
+class Verifier:
+    """The library's check of certificates. Raises OSError where the library can't be loaded, AttributeError where it lacks the call."""
+
+    def __init__(self, path: str) -> None:
+        self.call = ctypes.CDLL(path).dobutsu_verify
+        self.call.argtypes = [ctypes.c_char_p, ctypes.c_size_t, ctypes.POINTER(CClaim), ctypes.POINTER(ctypes.c_uint64)]
+        self.call.restype = ctypes.c_uint32
+
+    def verify(self, data: bytes) -> None:
+        """Raises `Fault` where the bytes are no certificate's file that proves its claim."""
+        claim, unsupported = CClaim(), ctypes.c_uint64()
+        fault = self.call(data, len(data), claim, unsupported)
+        if fault == 30:
+            raise Fault(f"E30 Unsupported class {unsupported.value}")
+        refuse(fault)
 
 
 def text_bytes(text: str) -> bytes:
