@@ -1,23 +1,20 @@
 -- A file that is read is the one that was written, and what was written is read again.
-use Rattle.std.proofs.Common.{◌≡◌, ℕ, zero, suc, ◌+◌, ◌-◌, ◌<◌, ◌≤◌, Bool, true, false, cond, ltb, leb, eqb, List, [], ◌∷◌, ◌++◌, length, get_or, take, drop, All, Result, Ok, Err, refl, sym, ap, subst, ◌∙◌, append_assoc, arith, inl, inr}
-use Rattle.std.proofs.lemmas.Bool.{leb-true, le-leb, lt-ltb}
-use Rattle.std.proofs.lemmas.List.{length-append, take_at, drop_at, append-nil}
-use Rattle.byteorder.specs.Endian.{little_bytes, little_number}
-use Rattle.byteorder.specs.Numbers.{little_number-reads_back}
+use Rattle.std.proofs.Common.{◌≡◌, ℕ, ◌-◌, ◌<◌, ◌≤◌, Bool, true, false, leb, List, ◌∷◌, ◌++◌, length, take, drop, Ok, Err, refl, sym, ap, subst, ◌∙◌, append_assoc, arith}
+use Rattle.std.proofs.lemmas.Bool.{leb-true, le-leb}
+use Rattle.std.proofs.lemmas.List.{length-append, take_at}
+use Rattle.byteorder.specs.Endian.{little_bytes}
 use Rattle.sha2.specs.Sha256.{sha256}
 use Rattle.sha2.proofs.Facts256.{length-sha256}
 use Rattle.dob_rank.specs.Families.{classes_of}
 use Rattle.dob_rank.proofs.OfFamilies.ClassBounds.{classes_of-below}
 use Rattle.dob_dbfile.specs.Format.{set_bytes, profile_byte}
-use Rattle.dob_pieces.specs.declared.profile.Family.{Family}
 use Rattle.dob_certificate.specs.declared.entry.Entry.{Entry}
-use Rattle.dob_certfile.specs.declared.defect.Defect.{Defect}
 use Rattle.dob_certfile.specs.declared.defect.Defect.TheVariants.{Truncated, Trailing, Digest}
 use Rattle.dob_certfile.specs.Format.{Content, Fits, FitEntries, bytes_of, claim_bytes, contents_of, entries_bytes, head_bytes, title}
 use Rattle.dob_certfile.specs.Reading.{◌>>=◌, wants, FrontContent, front_at, entries_at, seal_at, file_at, are_same}
-use Rattle.dob_certfile.proofs.Fields.{IsBytes, IsBytes-drop, bind_ok, wants_ok, ok_is, Takes}
+use Rattle.dob_certfile.proofs.Fields.{IsBytes, IsBytes-drop, bind_ok, wants_ok, ok_is}
 use Rattle.dob_certfile.proofs.Same.{same_is, is_same, not_same}
-use Rattle.dob_certfile.proofs.Lists.{Rise, StartsFrom, entries_take, entries_again, rise_fit, rise_count, rise_ascends, fit_rises, starts_anywhere}
+use Rattle.dob_certfile.proofs.Lists.{entries_take, entries_again, rise_fit, rise_count, rise_ascends, fit_rises, starts_anywhere}
 use Rattle.dob_certfile.proofs.Fronts.{FitsFront, front_text, front_takes, front_again}
 
 -- ---- the digest

@@ -1,5 +1,5 @@
 -- The front that is read is the one that was written, and what was written is read again.
-use Rattle.std.proofs.Common.{◌≡◌, ◌≢◌, ℕ, zero, suc, ◌+◌, ◌-◌, ◌*◌, ◌/◌, ◌%◌, ◌<◌, ◌≤◌, Bool, true, false, cond, ltb, leb, eqb, List, [], ◌∷◌, ◌++◌, length, get_or, take, drop, slice_index, Result, Ok, Err, refl, sym, ap, subst, ◌∙◌, append_assoc, arith, inl, inr}
+use Rattle.std.proofs.Common.{◌≡◌, ◌≢◌, ℕ, zero, suc, ◌+◌, ◌*◌, ◌/◌, ◌%◌, ◌<◌, ◌≤◌, true, ltb, leb, eqb, List, [], ◌∷◌, ◌++◌, length, get_or, take, drop, slice_index, Result, Ok, Err, refl, sym, ap, subst, ◌∙◌, arith, inl, inr}
 use Rattle.std.proofs.lemmas.Bool.{cases_lt, cases_Bool, ltb-true, lt-ltb, leb-true, le-leb, eqb-true, eq-eqb}
 use Rattle.std.proofs.lemmas.List.{take-append-drop, drop-drop, length-drop, length-take-le, get_or-drop, get_or-take}
 use Rattle.byteorder.specs.Endian.{little_bytes, little_number}
@@ -19,7 +19,7 @@ use Rattle.dob_certfile.specs.declared.defect.Defect.{Defect}
 use Rattle.dob_certfile.specs.declared.defect.Defect.TheVariants.{Truncated, Magic, Version, SetByte, RootClass, ClaimByte, EntryCount}
 use Rattle.dob_certfile.specs.Format.{FitsClaim, claim_bytes, title}
 use Rattle.dob_certfile.specs.Reading.{◌>>=◌, wants, part, word, few_at, set_at, profile_at, family_at, claim_of_kind, claim_at, FrontContent, front_at, are_same}
-use Rattle.dob_certfile.proofs.Fields.{IsBytes, IsBytes-drop, bind_ok, wants_ok, ok_is}
+use Rattle.dob_certfile.proofs.Fields.{IsBytes, bind_ok, wants_ok, ok_is}
 use Rattle.dob_certfile.proofs.Same.{same_is, is_same}
 
 -- ---- the set

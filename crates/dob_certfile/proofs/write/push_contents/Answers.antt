@@ -1,5 +1,5 @@
 -- Each list has few entries, and the pieces are the contents.
-use Rattle.std.proofs.Common.{◌≡◌, ◌≤◌, ◌<◌, ◌^◌, length, ap, arith}
+use Rattle.std.proofs.Common.{length, ap, arith}
 use Rattle.dob_rank.specs.Families.{classes_of}
 use Rattle.dob_rank.proofs.OfFamilies.ClassBounds.{classes_of-below}
 use Rattle.dob_certfile.specs.Format.{content}
