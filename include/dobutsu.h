@@ -1,8 +1,8 @@
 /* Dobutsu shogi: values and moves by a database's file, its check, and the sizes of families. C99, and C++ too.
 
    Link with libdobutsu.a or libdobutsu.so. A call keeps nothing, starts no thread and touches no file: the bytes of a database's file are the caller's, read
-   or mapped as a whole. Only dobutsu_moves, dobutsu_moves_by and dobutsu_check take memory, by malloc and realloc, and give all back by free. No call makes
-   a move, which examples/solve.c shows how to do, and none gives the position of a class. Files of both formats are read. Calls may be made by several
+   or mapped as a whole. Only dobutsu_moves, dobutsu_moves_by, dobutsu_check and dobutsu_verify take memory, by malloc and realloc, and give all back by free.
+   No call makes a move, which examples/solve.c shows how to do, and none gives the position of a class. Files of both formats are read. Calls may be made by several
    threads at once, and none from a signal handler. Each pointer must be valid for as many items as its length says, aligned as its type is, and none may be
    null, also where a length is 0; what is written to is read and written by nobody else meanwhile, and a file's bytes stay as they are: where a mapped file
    is cut the system ends the program. */
@@ -43,7 +43,16 @@ enum {
     DOBUTSU_SET_TEXT = 25,    /* a number of pieces is above 2 */
     DOBUTSU_FAR_CHICK = 26,   /* the file's rules let no chick stand where one of the position does */
     DOBUTSU_PROFILE_BYTE = 27, /* the number is that of no profile of the rules */
-    DOBUTSU_INDEX = 29 /* the numbers are no index of the family, or too few */
+    DOBUTSU_INDEX = 29, /* the numbers are no index of the family, or too few */
+    DOBUTSU_UNSUPPORTED = 30, /* the other entries of a certificate don't show one of them */
+    DOBUTSU_CLAIM = 31,       /* its entries don't show what it claims */
+    DOBUTSU_VERSION = 32,     /* a certificate is of another version */
+    DOBUTSU_ROOT_CLASS = 33,  /* the family has no class of the root's number */
+    DOBUTSU_CLAIM_BYTE = 34,  /* it claims nothing known */
+    DOBUTSU_ENTRY_COUNT = 35, /* it counts more entries than the family has classes */
+    DOBUTSU_ENTRY_NUMBER = 36, /* an entry doesn't begin with a number in its fewest bytes */
+    DOBUTSU_ENTRY_ORDER = 37, /* an entry's class isn't above the one before it */
+    DOBUTSU_ENTRY_CLASS = 38  /* the family has no class of an entry's number */
 };
 
 enum { DOBUTSU_DRAW = 0, DOBUTSU_WIN = 1, DOBUTSU_LOSS = 2 };
@@ -72,6 +81,19 @@ typedef struct {
     DobutsuValue value;
 } DobutsuMove;
 
+/* What a certificate claims: of the first position of class `root` of the family of so many chicks, elephants and giraffes by profile 0 (A) or 1 (B), a
+   value's kind in so many plies, or where `within` is 1 within so many; 0 plies for a draw. */
+typedef struct {
+    uint32_t chicks;
+    uint32_t elephants;
+    uint32_t giraffes;
+    uint32_t profile;
+    uint32_t root;
+    uint32_t kind;
+    uint32_t plies;
+    uint32_t within;
+} DobutsuClaim;
+
 typedef struct {
     uint32_t major;
     uint32_t minor;
@@ -94,6 +116,11 @@ uint32_t dobutsu_moves(const uint8_t *file, size_t file_len, const uint8_t *text
    21 where the table isn't consistent, and writes the least class whose value doesn't follow from those of its successors; or 15 to 20, 27 or 23, and
    writes nothing. It takes 2 bytes of memory a class and some millions more, and time: it looks at all moves, by one thread. */
 uint32_t dobutsu_check(const uint8_t *file, size_t file_len, uint64_t *broken);
+
+/* Whether the bytes are a certificate's file whose lists prove what it claims, whoever made it: they need no database. Answers 0 where they are, and writes
+   what is claimed, which then holds; 30 where an entry isn't supported, and writes the class of the first one; 31 where all are and don't show the claim; or
+   15 to 17, 19, 20, 27, 32 to 38 or 23, and writes nothing. It takes 8 bytes of memory an entry and some millions for two pieces of each kind. */
+uint32_t dobutsu_verify(const uint8_t *file, size_t file_len, DobutsuClaim *claim, uint64_t *unsupported);
 
 /* How many positions and how many classes (positions with their mirror images) a family has: so many chicks, elephants and giraffes, 0 to 2 each, by
    profile 0 (A) or 1 (B, where no chick is dropped on its far row). Answers 0 and writes both, or 25 or else 27. The two places are different. */

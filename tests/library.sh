@@ -128,3 +128,42 @@ PYTHON
 "$program" check --db "$work/wrong.db" >"$work/printed" 2>&1
 cmp -s "$work/printed" "$work/printed_c" || same=no
 note "dobutsu_check answers what check does of a wrong value: $(cat "$work/printed_c")" "$same"
+# A certificate, and that with each byte changed, with the digest that then belongs there: the library says what the reader in Python does.
+same=yes
+compile -O2 examples/verify.c -o "$work/verify_c" || same=no
+[ "$("$work/verify_c" testdata/one_chick.cert)" = '100 A class 686 loss 8' ] || same=no
+python3 - "$work/verify_c" testdata/one_chick.cert "$work" >"$work/out" 2>&1 <<'PYTHON' || same=no
+import hashlib
+import pathlib
+import subprocess
+import sys
+sys.path.insert(0, "python")
+from dobutsu import plain
+
+
+def said(data):
+    try:
+        certificate = plain.Certificate(data)
+        certificate.verify()
+    except plain.Wrong as wrong:
+        number, _name, *more = str(wrong).split()
+        return " ".join([number, *more])
+    claim = certificate.claim + (f" {certificate.plies}" if certificate.claim != "draw" else "")
+    return f"{''.join(map(str, certificate.pieces))} {certificate.profile} class {certificate.root} {claim}"
+
+
+data, paths, wanted = pathlib.Path(sys.argv[2]).read_bytes(), [], []
+for place in range(len(data) - 32):
+    for byte in data[place] ^ 1, (data[place] + 254) % 256:
+        changed = data[:place] + bytes([byte]) + data[place + 1 : -32]
+        for spoilt in changed + data[-32:], changed + hashlib.sha256(changed).digest(), changed[:place] + hashlib.sha256(changed[:place]).digest():
+            paths.append(f"{sys.argv[3]}/{len(paths)}.cert")
+            pathlib.Path(paths[-1]).write_bytes(spoilt)
+            wanted.append(said(spoilt))
+found = subprocess.run([sys.argv[1], *paths], capture_output=True, text=True, check=True).stdout.splitlines()
+assert len(found) == len(paths), len(found)
+for path, right, answer in zip(paths, wanted, found):
+    assert right == answer, (path, right, answer)
+print(len(paths), "changed certificates,", sum(" class " in answer and answer[0] != "E" for answer in found), "accepted")
+PYTHON
+note "dobutsu_verify answers what plain Python does: $(tail -1 "$work/out")" "$same"

@@ -2,8 +2,10 @@
 from __future__ import annotations
 
 import os
+from collections.abc import Iterable
 
 from . import plain
+from .library import Verifier, paths
 
 
 class Certificate:
@@ -21,12 +23,28 @@ class Certificate:
     dobutsu.plain.Fault: E16 Magic
 
     Raises OSError where the file can't be opened, and `Fault` where it is no certificate's, by all the tests of docs/FORMAT.md. What it claims is true
-    only where `verify` says nothing. Both go by plain Python, which is a second opinion to `dobutsu verify`, and unproved: small ones take a moment,
-    that of the starting layout some minutes.
+    only where `verify` says nothing. That goes by the proved library where it is found, in a second for the starting layout. Else, or with `library=""`, it
+    goes by plain Python, a second opinion that is unproved: small ones take a moment, that of the starting layout some minutes.
     """
 
-    def __init__(self, path: str | os.PathLike[str]) -> None:
-        self._plain = plain.open_certificate(path)
+    #: Which code verifies: `libdobutsu`, the proved library, or `plain Python`, where none was found.
+    engine: str
+
+    def __init__(self, path: str | os.PathLike[str], library: str | None = None) -> None:
+        with open(path, "rb") as file:
+            self._data = file.read()
+        self._plain = plain.Certificate(self._data)
+        self._library = self._load(paths() if library is None else [library] if library else [], must=bool(library))
+        self.engine = "libdobutsu" if self._library else "plain Python"
+
+    def _load(self, found: Iterable[str], must: bool) -> Verifier | None:
+        for path in found:
+            try:
+                return Verifier(path)
+            except (OSError, AttributeError):
+                if must:
+                    raise
+        return None
 
     @property
     def set(self) -> str:
@@ -57,7 +75,10 @@ class Certificate:
 
     def verify(self) -> None:
         """Raises `Fault` where the lists don't show the claim: E30 with the first entry that the others don't show, or E31. Else the claim is true."""
-        self._plain.verify()
+        if self._library:
+            self._library.verify(self._data)
+        else:
+            self._plain.verify()
 
     def reply(self, text: str) -> tuple[str, int] | None:
         """The move of the position by which its side wins soonest, by the lost classes, and within how many plies; none where no move leads there.

@@ -14,6 +14,7 @@ from .value import Move, Value
 NAMES = {
     1: "Shape", 2: "Letter", 3: "Hand", 4: "Lions", 5: "Count", 6: "FarLion", 7: "OtherSet", 15: "Truncated", 16: "Magic", 17: "SetByte",
     18: "ClassCount", 19: "Trailing", 20: "Digest", 21: "Inconsistent", 23: "Memory", 25: "SetText", 26: "FarChick", 27: "ProfileByte",
+    31: "Claim", 32: "Version", 33: "RootClass", 34: "ClaimByte", 35: "EntryCount", 36: "EntryNumber", 37: "EntryOrder", 38: "EntryClass",
 }  # fmt: skip
 KINDS = "CEGHL"
 VALUES = "draw", "win", "loss"
@@ -52,6 +53,10 @@ class CVersion(ctypes.Structure):
 @functools.cache
 def value_of(kind: int, plies: int) -> Value:
     return Value(VALUES[kind], plies)
+
+
+class CClaim(ctypes.Structure):
+    _fields_ = [(name, ctypes.c_uint32) for name in ("chicks", "elephants", "giraffes", "profile", "root", "kind", "plies", "within")]
 
 
 def square(number: int) -> str:
@@ -142,6 +147,23 @@ class LibraryFile:
 
     def close(self) -> None:
         del self.held
+
+
+class Verifier:
+    """The library's check of certificates. Raises OSError where the library can't be loaded, AttributeError where it lacks the call."""
+
+    def __init__(self, path: str) -> None:
+        self.call = ctypes.CDLL(path).dobutsu_verify
+        self.call.argtypes = [ctypes.c_char_p, ctypes.c_size_t, ctypes.POINTER(CClaim), ctypes.POINTER(ctypes.c_uint64)]
+        self.call.restype = ctypes.c_uint32
+
+    def verify(self, data: bytes) -> None:
+        """Raises `Fault` where the bytes are no certificate's file that proves its claim."""
+        claim, unsupported = CClaim(), ctypes.c_uint64()
+        fault = self.call(data, len(data), claim, unsupported)
+        if fault == 30:
+            raise Fault(f"E30 Unsupported class {unsupported.value}")
+        refuse(fault)
 
 
 def refuse(fault: int) -> None:

@@ -1,5 +1,5 @@
 -- The front that is read is the one that was written, and what was written is read again.
-use Rattle.std.proofs.Common.{◌≡◌, ◌≢◌, ℕ, zero, suc, ◌+◌, ◌-◌, ◌*◌, ◌/◌, ◌%◌, ◌<◌, ◌≤◌, Bool, true, false, cond, ltb, leb, eqb, List, [], ◌∷◌, ◌++◌, length, get_or, take, drop, slice_index, Result, Ok, Err, refl, sym, ap, subst, ◌∙◌, append_assoc, arith, inl, inr}
+use Rattle.std.proofs.Common.{◌≡◌, ◌≢◌, ℕ, zero, suc, ◌+◌, ◌*◌, ◌/◌, ◌%◌, ◌<◌, ◌≤◌, true, ltb, leb, eqb, List, [], ◌∷◌, ◌++◌, length, get_or, take, drop, slice_index, Result, Ok, Err, refl, sym, ap, subst, ◌∙◌, arith, inl, inr}
 use Rattle.std.proofs.lemmas.Bool.{cases_lt, cases_Bool, ltb-true, lt-ltb, leb-true, le-leb, eqb-true, eq-eqb}
 use Rattle.std.proofs.lemmas.List.{take-append-drop, drop-drop, length-drop, length-take-le, get_or-drop, get_or-take}
 use Rattle.byteorder.specs.Endian.{little_bytes, little_number}
@@ -19,7 +19,7 @@ use Rattle.dob_certfile.specs.declared.defect.Defect.{Defect}
 use Rattle.dob_certfile.specs.declared.defect.Defect.TheVariants.{Truncated, Magic, Version, SetByte, RootClass, ClaimByte, EntryCount}
 use Rattle.dob_certfile.specs.Format.{FitsClaim, claim_bytes, title}
 use Rattle.dob_certfile.specs.Reading.{◌>>=◌, wants, part, word, few_at, set_at, profile_at, family_at, claim_of_kind, claim_at, FrontContent, front_at, are_same}
-use Rattle.dob_certfile.proofs.Fields.{IsBytes, IsBytes-drop, bind_ok, wants_ok, ok_is}
+use Rattle.dob_certfile.proofs.Fields.{IsBytes, bind_ok, wants_ok, ok_is}
 use Rattle.dob_certfile.proofs.Same.{same_is, is_same}
 
 -- ---- the set
@@ -45,6 +45,11 @@ few_again (suc (suc (suc n))) few = absurd (omega (arith, few))
 abbrev set_from : (x y z : (m : ℕ) × (m ≤ 2)) → PieceSet
 set_from x y z = record { chicks = x.0; elephants = y.0; giraffes = z.0; few_chicks = x.1; few_elephants = y.1; few_giraffes = z.1 }
 
+four : (a b c d w x y z : ℕ) → w ≡ a → x ≡ b → y ≡ c → z ≡ d → a ∷ b ∷ c ∷ d ∷ [] ≡ w ∷ x ∷ y ∷ z ∷ []
+four a b c d w x y z ea eb ec ed =
+    ap (λ (n : ℕ). n ∷ b ∷ c ∷ d ∷ []) (sym ea) ∙ ap (λ (n : ℕ). w ∷ n ∷ c ∷ d ∷ []) (sym eb) ∙ ap (λ (n : ℕ). w ∷ x ∷ n ∷ d ∷ []) (sym ec)
+    ∙ ap (λ (n : ℕ). w ∷ x ∷ y ∷ n ∷ []) (sym ed)
+
 set_of_cells : (a b c d : ℕ) (set : PieceSet) → set_at (a ∷ b ∷ c ∷ d ∷ []) ≡ Ok set → a ∷ b ∷ c ∷ d ∷ [] ≡ set_bytes set
 unfolding set_at
 set_of_cells a b c d set e =
@@ -52,9 +57,7 @@ set_of_cells a b c d set e =
     let y = bind_ok (few_at b) (λ elephants. few_at c >>= λ giraffes. wants (eqb d 2) SetByte >>= λ two. Ok (set_from x.0 elephants giraffes)) set x.2 in
     let z = bind_ok (few_at c) (λ giraffes. wants (eqb d 2) SetByte >>= λ two. Ok (set_from x.0 y.0 giraffes)) set y.2 in
     let w = wants_ok (eqb d 2) SetByte (Ok (set_from x.0 y.0 z.0)) set z.2 in
-    let cells : a ∷ b ∷ c ∷ d ∷ [] ≡ x.0.0 ∷ y.0.0 ∷ z.0.0 ∷ 2 ∷ [] =
-    rw (few_ok a x.0 x.1, few_ok b y.0 y.1, few_ok c z.0 z.1, eqb-true d 2 w.0) refl in
-    cells ∙ ap set_bytes (ok_is (set_from x.0 y.0 z.0) set w.1)
+    four a b c d x.0.0 y.0.0 z.0.0 2 (few_ok a x.0 x.1) (few_ok b y.0 y.1) (few_ok c z.0 z.1) (sym (eqb-true d 2 w.0)) ∙ ap set_bytes (ok_is (set_from x.0 y.0 z.0) set w.1)
 
 pub set_takes : (bytes : List ℕ) (set : PieceSet) → length bytes ≡ 4 → set_at bytes ≡ Ok set → bytes ≡ set_bytes set
 set_takes [] set long e = absurd (omega (arith, long))
@@ -70,7 +73,7 @@ set_cells a b c few_a few_b few_c =
     let x = few_again a few_a in
     let y = few_again b few_b in
     let z = few_again c few_c in
-    (set_from x.0 y.0 z.0, rw (x.1, y.1, z.1) refl, rw (x.2, y.2, z.2) refl)
+    (set_from x.0 y.0 z.0, rw (x.1, y.1, z.1) refl, sym (four a b c 2 x.0.0 y.0.0 z.0.0 2 x.2 y.2 z.2 refl))
 
 -- the set of its bytes is that set
 pub set_again : (set : PieceSet) → set_at (set_bytes set) ≡ Ok set

@@ -3,9 +3,7 @@ use Rattle.std.proofs.Common.{◌≡◌, ℕ, suc, ◌-◌, ◌+◌, ◌≤◌, 
 use Rattle.std.proofs.lemmas.List.{append-nil}
 use Rattle.dob_certificate.specs.declared.entry.Entry.{Entry}
 use Rattle.dob_certfile.specs.declared.defect.Defect.{Defect}
-use Rattle.dob_certfile.specs.declared.defect.ReadFault.{ReadFault}
-use Rattle.dob_certfile.specs.declared.defect.ReadFault.TheVariants as faults
-use Rattle.dob_certfile.specs.Reading.{◌>>=◌, Fails, entry_at, entries_at}
+use Rattle.dob_certfile.specs.Reading.{◌>>=◌, entry_at, entries_at}
 
 -- what was read before, and what is still read
 abbrev pub with_front : List Entry → Result (List Entry × List ℕ) Defect → Result (List Entry × List ℕ) Defect

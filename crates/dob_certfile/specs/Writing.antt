@@ -1,5 +1,5 @@
 -- What a sink has of a file where writing stops.
-use Rattle.std.specs.Prelude.{ℕ, Bool, true, false, Result, Ok, Err}
+use Rattle.std.specs.Prelude.{Bool, true, false, Result, Ok, Err}
 use Rattle.dob_dbfile.specs.Sinks.{Change, IsUntouched, StopsAfter}
 use Rattle.dob_certfile.specs.declared.defect.WriteFault.{WriteFault}
 use Rattle.dob_certfile.specs.declared.defect.WriteFault.TheVariants.{Memory, Unfit, Io}

@@ -3,3 +3,4 @@ mod Exact  -- one fault holds at most, and none where a value is answered
 mod ByFile  -- by the file of a value table the moves answered are right
 mod Indexed  -- what is held and asked by an index
 mod IndexedMoves  -- the moves that are listed by an index
+mod Certified  -- a certificate's file whose claim isn't proved

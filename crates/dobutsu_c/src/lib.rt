@@ -4,6 +4,7 @@
 
 mod asked;
 mod by_index;
+mod certificates;
 mod checks;
 mod class_by;
 mod counts;

@@ -14,3 +14,9 @@ pub(crate) const PROFILE_BYTE: u32 = 27;
 
 /// E29: the numbers are no index of the family, or too few.
 pub(crate) const INDEX: u32 = 29;
+
+/// E30: an entry of a certificate isn't supported.
+pub(crate) const UNSUPPORTED: u32 = 30;
+
+/// E31: the lists of a certificate don't show its claim.
+pub(crate) const CLAIM: u32 = 31;

@@ -1,5 +1,5 @@
 -- By one byte, and the number that the bytes after it stand for.
-use Rattle.std.proofs.Common.{◌≡◌, ◌-◌, ◌<◌, ◌≤◌, arith}
+use Rattle.std.proofs.Common.{◌-◌, arith}
 use Rattle.std.proofs.lemmas.Result.{err_from_is_err_and}
 use Rattle.dob_certfile.proofs.Digits.{number_err, number_low, number_last, number_more_err, number_zero, number_more, low_room, high_room, limit_small}
 use Rattle.dob_certfile.proofs.numbers.+number_of.Goals as goal
@@ -31,7 +31,7 @@ pub overflow_mul-result : goal.overflow_mul-result
 overflow_mul-result t c = omega (arith, limit_small (c.args.more - 1) (omega (arith, c.requires)), c.in_ok-high.ensures.small)
 
 pub overflow_add-result : goal.overflow_add-result
-overflow_add-result t c = omega (arith, limit_small (c.args.more - 1) (omega (arith, c.requires)), c.in_ok-high.ensures.small)
+overflow_add-result t c = omega (arith, limit_small (c.args.more - 1) (omega (arith, c.requires)), c.in_ok-high.ensures.small, c.in_ok-low.ensures.small)
 
 pub returns-clause-read : goal.returns-clause-read
 returns-clause-read t c =

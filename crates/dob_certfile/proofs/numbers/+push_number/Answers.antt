@@ -1,5 +1,5 @@
 -- By one byte, and the bytes of the rest.
-use Rattle.std.proofs.Common.{◌≡◌, ◌++◌, ◌∙◌, ℕ, List, ap, sym, arith}
+use Rattle.std.proofs.Common.{◌++◌, ◌∙◌, ℕ, List, ap, sym}
 use Rattle.dob_certfile.proofs.Digits.{leb_low, push_more}
 use Rattle.dob_certfile.proofs.numbers.+push_number.Goals as goal
 
