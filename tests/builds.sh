@@ -37,10 +37,11 @@ rm -f "$work/alone.db"
 expect 0 'consistent' '' check --progress --db "$built"
 expect 1 '' 'dobutsu: E25 SetText' build --set 003 --nodes 2 --out "$other" --progress
 expect 3 '' 'dobutsu: E24 Io' check --progress --db "$work/none.db"
-# Lines on how far a build is take each other's place exactly where standard error is a terminal, whatever standard output is. It is stopped for a second, so that a
-# line is due.
+# Lines on how far a build is take each other's place exactly where standard error is a terminal, whatever standard output is. It is
+# stopped for a second, so that a line is due.
 watched() { # REDIRECTION: the build, on a terminal of which one stream goes to a file
-    script -qec "\"$program\" build --set 111 --nodes 1 --progress --out \"$other\" $1 & sleep 0.1; kill -STOP \$!; sleep 1.2; kill -CONT \$!; wait" /dev/null >"$work/shown" </dev/null
+    local build="\"$program\" build --set 111 --nodes 1 --progress --out \"$other\" $1"
+    script -qec "$build & sleep 0.1; kill -STOP \$!; sleep 1.2; kill -CONT \$!; wait" /dev/null >"$work/shown" </dev/null
 }
 if command -v script >"$work/out"; then
     watched "2>\"$work/err\""
