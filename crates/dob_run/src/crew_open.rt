@@ -18,7 +18,7 @@ use dob_classes::Classes;
 use dob_lists::{SegmentLength, Segments};
 use dob_node::{Node, Opening, opening};
 use dob_pieces::{Family, Memory};
-use dob_runner::{Endpoint, Inlet, Outlet, Runner};
+use dob_runner::{Endpoint, Inlet, Outlet, Pace, Runner};
 use dob_safra::NodeCount;
 use dob_stops::Fault;
 use dob_update::{BatchSize, Capacity};
@@ -85,6 +85,8 @@ fn runners_of(
     requires new { (capacity : ℕ) × AreNewEndpoints capacity endpoints.items }
     ensures { IfOk result (λ runners. AllZip (IsRunnerOf family batch_size) endpoints.items runners.items) }
 {
+    let pace = Pace::open(alloc, endpoints.len())?;
+    let pace = &pace;
     endpoints
         .into_par_iter()
         .with_min_len(1)
@@ -93,18 +95,19 @@ fn runners_of(
                 requires openings { AreOpenings family openings.now }
                 requires new { (capacity : ℕ) × IsNewEndpoint capacity endpoint }
                 ensures { IfOk result (IsRunnerOf family batch_size endpoint) }
-            { open_runner(alloc, family, openings, endpoint, batch_size) },
+            { open_runner(alloc, family, openings, endpoint, batch_size, pace) },
         )
         .collect::<Result<Vec<Runner>, Memory>>(rt, alloc)?
 }
 
-// The runner of an endpoint, with a node that is opened for its seat.
+// The runner of an endpoint, with a node that is opened for its seat, which keeps the pace of its crew.
 fn open_runner(
     alloc: Global,
     family: Family,
     openings: &Segments<Opening>,
     endpoint: Endpoint,
     batch_size: BatchSize,
+    pace: &Pace,
 ) -> Result<Runner, Memory>
     requires openings { AreOpenings family openings.now }
     requires new { (capacity : ℕ) × IsNewEndpoint capacity endpoint }
@@ -113,8 +116,11 @@ fn open_runner(
     let Some(nodes) = NodeCount::new(endpoint.seat.nodes) else {
         unreachable!()
     };
+    let pace = pace.of(endpoint.seat.node)?;
     let node = Node::open(alloc, openings, family, endpoint.seat.node, nodes)?;
-    Ok(Runner::new(node, endpoint, family, batch_size))
+    let mut runner = Runner::new(node, endpoint, family, batch_size);
+    runner.keep_pace(pace);
+    Ok(runner)
 }
 
 /// A board of so many nodes and the endpoint of each of them, in order, with inboxes that hold at most `capacity` batches.

@@ -5,7 +5,7 @@ use Rattle.std.specs.Prelude.{slice_get, slice_set}
 use Rattle.std.proofs.lemmas.List.{append-nil, take-append-drop, length-take}
 use Rattle.std.specs.List.{All}
 use Rattle.std.proofs.lemmas.Bool.{cases_Bool, cases_lt, cases_eq, true≢false}
-use Rattle.std.proofs.lemmas.List.Elements.{All-head}
+use Rattle.std.proofs.lemmas.List.Elements.{All-head, All-drop}
 use Rattle.std.proofs.lemmas.Option.{slice_get_within}
 use Rattle.dob_pieces.specs.declared.profile.Family.{Family}
 use Rattle.dob_unmove.specs.Edges.{predecessors}
@@ -17,9 +17,12 @@ use Rattle.dob_update.specs.Batches.{BatchView, OutboxView, empty_outbox, items_
 use Rattle.dob_update.proofs.BatchItems.{items_in_more}
 use Rattle.dob_node.specs.Stores.{HistoryView}
 use Rattle.dob_node.specs.declared.node.Node.{Node}
-use Rattle.dob_node.specs.TakenItems.{HasItemEntries, listed}
-use Rattle.dob_node.specs.Nodes.{outbox_to, IsSound, IsIdle, IsExpanded, HasApplied, HasTaken, HasCut, IsUnchanged}
+use Rattle.dob_node.specs.NodeViews.{NodeView}
+use Rattle.dob_node.specs.TakenItems.{HasItemEntries, IsTaken, listed}
+use Rattle.dob_node.specs.Nodes.{outbox_to, IsSound, IsIdle, IsExpanded, HasApplied, HasAppliedItems, HasTaken, HasCut, IsUnchanged}
 use Rattle.dob_node.proofs.Settles.{emitted_more, emitted_grown}
+use Rattle.dob_node.proofs.Kepts.{kept_still}
+use Rattle.dob_node.proofs.Sounds.{emitted_still}
 use Rattle.dob_node.proofs.Nodes.{outbox_same}
 use Rattle.dob_runner.specs.declared.slots.Outlet.{Outlet}
 use Rattle.dob_runner.specs.declared.slots.Inlet.{Inlet}
@@ -198,6 +201,36 @@ applied_own family size old new endpoint law step sound =
 
     nothing_first : (own : List Item) (item : Item) (rest : List Item) → own ≡ [] → own ≡ item ∷ rest → ⊥
     nothing_first own item rest none some = absurd (cc)
+
+-- a node stays sound where it takes the first of its own items
+sound_next : (old : NodeView) (item : Item) (rest : List Item) (between : Share) (longer : HistoryView) → IsSound old → old.own ≡ item ∷ rest →
+    IsTaken item old.share between old.history longer → IsSound (record old { share = between; history = longer; own = rest })
+sound_next old item rest between longer sound first taken =
+    let entries = subst (λ xs. All HasItemEntries xs) first sound.entries in
+    let settled = taken.settled in
+    record {
+      kept = kept_still old.family old.n old.id old.share between old.history item sound.kept (All-head HasItemEntries item rest entries)
+          taken.classes taken.fits taken.cell taken.others settled.0 settled.1 longer settled.2;
+      emitted = emitted_still item old.share between old.history longer old.expanded taken sound.emitted;
+      entries = All-drop HasItemEntries 1 (item ∷ rest) entries;
+      receivers = sound.receivers;
+      addressed = sound.addressed;
+      nothing_to_self = sound.nothing_to_self;
+    }
+
+-- and its first so many
+pub applied_items : (family : Family) (size : ℕ) (items : List Item) (old new : NodeView) (endpoint : Endpoint) → IsLawfulRunner family size old endpoint →
+    HasAppliedItems items old new → IsSound new → IsLawfulRunner family size new endpoint
+applied_items family size [] old new endpoint law step sound = unchanged_node family size old new endpoint law
+    (record { same = step.same; kept = (step.taken.0, step.taken.1, sym step.first); outboxes = step.outboxes }) sound
+applied_items family size (item ∷ items) old new endpoint law step sound =
+    let rest : List Item = items ++ new.own in
+    let mid : NodeView = record old { share = step.taken.0; history = step.taken.1; own = rest } in
+    applied_items family size items mid new endpoint
+    (applied_own family size old mid endpoint law
+    (record { item = item; first = step.first; taken = step.taken.2; same = (refl, refl, refl, refl); outboxes = refl })
+    (sound_next old item rest step.taken.0 step.taken.1 law.sound step.first step.taken.2))
+    (record { first = refl; taken = step.taken.3; same = step.same; outboxes = step.outboxes }) sound
 
 -- a batch of another node was counted as worked in, which blackens the seat, and applied
 pub applied_batch : (family : Family) (size from : ℕ) (batch : BatchView) (node after : Node) (old new : Endpoint) → IsLawfulRunner family size node old →

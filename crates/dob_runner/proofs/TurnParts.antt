@@ -1,12 +1,18 @@
 -- What the parts of a turn do, by what their steps do.
-use Rattle.std.proofs.Common.{◌≡◌, ◌≢◌, ◌↔◌, ℕ, ◌+◌, ◌-◌, ◌<◌, length, Bool, IsTrue, true, false, Result, Ok, None}
-use Rattle.std.proofs.Common.{refl, sym, ap, subst, inl, inr, arith}
-use Rattle.std.proofs.lemmas.Bool.{cases_Bool, both_ways}
+use Rattle.std.proofs.Common.{◌≡◌, ◌≢◌, ◌↔◌, ◌⊎◌, ℕ, ◌+◌, ◌-◌, ◌<◌, ◌≤◌, length, Bool, IsTrue, not, true, false, Option, MatchOption, Result, Ok, None}
+use Rattle.std.proofs.Common.{refl, sym, ap, ◌∙◌, subst, inl, inr, arith, Some, slice_get}
+use Rattle.std.proofs.lemmas.Bool.{cases_Bool, cases_eq, cases_lt, both_ways}
+use Rattle.std.proofs.lemmas.Option.{same_Some, slice_get_within}
+use Rattle.dob_share.specs.declared.news.Settlement.{Settlement}
 use Rattle.dob_node.specs.declared.node.Node.{Node}
+use Rattle.dob_node.specs.NodeViews.{NodeView}
+use Rattle.dob_node.specs.Stores.{HistoryView}
+use Rattle.dob_node.specs.Levels.{level_of, HasLevel}
+use Rattle.dob_node.specs.Nodes.{IsExpanded}
 use Rattle.dob_board.specs.declared.seat.NodeSeat.{NodeSeat}
 use Rattle.dob_stops.specs.declared.cause.Cause.{Cause}
 use Rattle.dob_runner.specs.declared.runner.Runner.{Runner}
-use Rattle.dob_runner.specs.TurnRounds.{IsHeldUp, ExpandsOne, ExpandsSome, AppliesOne}
+use Rattle.dob_runner.specs.TurnRounds.{IsHeldUp, IsLevel, IsAbove, IsWithin, SendsSmall, ExpandsOne, ExpandsSome}
 use Rattle.dob_runner.specs.Runners.{GoesOn}
 use Rattle.dob_runner.specs.TurnToken.{HasLooked, HandsOn, MovesToken}
 use Rattle.dob_runner.specs.Turns.{HasSameWork, SeeksToken, EndsTurn, GateIsTold}
@@ -56,32 +62,142 @@ more_expanded old new did first one low = elim (cases_Bool did) [
   | inr none ↦ (let same = ap (λ (n : Node). n.expanded) (one.nothing none) in omega (arith, same, low))
 ]
 
--- some are, where nothing held the runner up and there was one
-pub some_expanded : (old new : Runner) (held any : Bool) → GoesOn old new → new.endpoint ≡ old.endpoint → old.node.expanded < new.node.expanded → held ≡ false → (IsHeldUp old → held ≡ true) →
-    any ≡ true → (old.node.expanded ≡ length old.node.history.settlements → any ≡ false) → ExpandsSome old new true
-some_expanded old new held any goes endpoint more free up is none_left = record {
+-- none is above the level where none is expanded
+within_none : (limit : ℕ) (node : NodeView) → IsWithin limit node node
+within_none limit node = λ number s from below there. absurd (omega (arith, from, below))
+
+-- nor where the next isn't
+within_more : (limit : ℕ) (old mid new : NodeView) → IsWithin limit old mid → (IsAbove limit mid → ⊥) → IsExpanded mid new → IsWithin limit old new
+within_more limit old mid new so_far low step = λ number s from below there.
+    let here : slice_get mid.history.settlements number ≡ Some s = ap (λ (h : HistoryView). slice_get h.settlements number) (sym step.same.4) ∙ there in
+    elim (cases_eq number mid.expanded) [
+      | inl is ↦ elim (cases_lt limit (level_of s)) [
+        | inl above ↦ absurd (low (level_of s, (s, subst (λ (k : ℕ). slice_get mid.history.settlements k ≡ Some s) is here, refl), above))
+        | inr fine ↦ fine
+      ]
+      | inr other ↦ so_far number s from (omega (arith, below, step.expanded, other)) here
+    ]
+
+pub within_one : (limit : ℕ) (old : NodeView) (mid new : Runner) (did above : Bool) → IsWithin limit old mid.node → above ≡ false →
+    (IsAbove limit mid.node → above ≡ true) → ExpandsOne mid new did → IsWithin limit old new.node
+within_one limit old mid new did above so_far low is_above one = elim (cases_Bool did) [
+  | inl is ↦ within_more limit old mid.node new.node so_far (λ it. both_ways above low (is_above it)) (one.expanded is)
+  | inr none ↦ subst (λ (n : NodeView). IsWithin limit old n) (sym (one.nothing none)) so_far
+]
+
+pub within_first : (limit : ℕ) (old new : Runner) (did above : Bool) → above ≡ false → (IsAbove limit old.node → above ≡ true) → ExpandsOne old new did →
+    IsWithin limit old.node new.node
+within_first limit old new did above low is_above one = within_one limit old.node old new did above (within_none limit old.node) low is_above one
+
+-- none is expanded, for some reason
+pub none_expanded : (limit : ℕ) (old new : Runner) → GoesOn old new → new.endpoint ≡ old.endpoint → new.node ≡ old.node →
+    IsHeldUp old ⊎ IsAbove limit old.node ⊎ (old.node.expanded ≡ length old.node.history.settlements) → ExpandsSome limit old new false
+none_expanded limit old new goes endpoint same why = record {
+  goes = goes;
+  endpoint = endpoint;
+  done = (λ _. why, λ _. refl);
+  expanded = λ never. absurd (cc);
+  within = subst (λ (n : NodeView). IsWithin limit old.node n) (sym same) (within_none limit old.node);
+  nothing = λ _. same;
+}
+
+-- some are, where nothing held the runner up, the next wasn't above the level and there was one
+pub some_expanded : (limit : ℕ) (old new : Runner) (held above any : Bool) → GoesOn old new → new.endpoint ≡ old.endpoint → old.node.expanded < new.node.expanded →
+    IsWithin limit old.node new.node → held ≡ false → (IsHeldUp old → held ≡ true) → above ≡ false → (IsAbove limit old.node → above ≡ true) →
+    any ≡ true → (old.node.expanded ≡ length old.node.history.settlements → any ≡ false) → ExpandsSome limit old new true
+some_expanded limit old new held above any goes endpoint more within free up low is_above is none_left = record {
   goes = goes;
   endpoint = endpoint;
   done = (
     λ never. absurd (cc),
     λ why. elim why [
       | inl holds ↦ absurd (both_ways held free (up holds))
-      | inr all ↦ absurd (both_ways any (none_left all) is)
+      | inr rest ↦ elim rest [
+        | inl over ↦ absurd (both_ways above low (is_above over))
+        | inr all ↦ absurd (both_ways any (none_left all) is)
+      ]
     ],
   );
   expanded = λ did. more;
+  within = within;
   nothing = λ never. absurd (cc);
 }
 
--- ---- own items
+-- ---- levels
 
--- one more is applied of those that are left
-pub one_applied : (old new : Runner) (did : Bool) (k all : ℕ) → AppliesOne old new did → length old.node.own + k ≡ all → k < all →
-    length new.node.own + (k + 1) ≡ all
-one_applied old new did k all one count low = elim (cases_Bool did) [
-  | inl is ↦ (let more = one.applied is in omega (arith, ap length more.first, count))
-  | inr none ↦ absurd (let nothing = ap length (one.done.0 none) in omega (arith, nothing, count, low))
-]
+-- a node is on one level
+level_once : (node : NodeView) (a b : ℕ) → HasLevel node a → HasLevel node b → a ≡ b
+level_once node a b here there = here.2 ∙ ap level_of (same_Some here.0 there.0 (sym here.1 ∙ there.1)) ∙ sym there.2
+
+-- and on none where all are expanded
+level_none : (node : NodeView) (level : ℕ) → node.expanded ≡ length node.history.settlements → HasLevel node level → ⊥
+level_none node level all here = (let within = slice_get_within node.history.settlements node.expanded here.0 here.1 in absurd (omega (arith, all, within)))
+
+pub above_is : (node : NodeView) (level limit : ℕ) (above : Bool) → HasLevel node level → (above ≡ true → limit < level) → (limit < level → above ≡ true) →
+    IsTrue above ↔ IsAbove limit node
+above_is node level limit above here if_so so = (
+  λ yes. (level, here, if_so yes),
+  λ it. so (subst (λ (k : ℕ). limit < k) (level_once node it.0 level it.1 here) it.2),
+)
+
+pub above_none : (node : NodeView) (limit : ℕ) → node.expanded ≡ length node.history.settlements → IsTrue false ↔ IsAbove limit node
+above_none node limit all = (λ never. absurd (cc), λ it. absurd (level_none node it.0 all it.1))
+
+-- ---- which batches are due
+
+-- nothing is left to expand
+pub small_idle : (took : Bool) (limit : ℕ) (before node : NodeView) → node.expanded ≡ length node.history.settlements →
+    IsTrue (not took) ↔ SendsSmall took limit before node
+small_idle false limit before node all = (λ _. inl (refl, all), λ _. refl)
+small_idle true limit before node all = (
+  λ never. absurd (cc),
+  λ it. elim it [
+    | inl idle ↦ absurd (let no = idle.0 in cc)
+    | inr rest ↦ elim rest [
+      | inl above ↦ absurd (level_none node above.0 all above.1)
+      | inr risen ↦ absurd (level_none node risen.2.0 all risen.2.1)
+    ]
+  ],
+)
+
+-- what is left is above the limit
+pub small_above : (took : Bool) (limit level : ℕ) (before node : NodeView) → HasLevel node level → limit < level → IsTrue true ↔ SendsSmall took limit before node
+small_above took limit level before node here above = (λ _. inr (inl (level, here, above)), λ _. refl)
+
+-- what is left isn't, and the node was on a level
+small_risen : (took small : Bool) (limit was level : ℕ) (before node : NodeView) → HasLevel node level → level ≤ limit → HasLevel before was →
+    (small ≡ true → was < level) → (was < level → small ≡ true) → IsTrue small ↔ SendsSmall took limit before node
+small_risen took small limit was level before node here low then if_so so = (
+  λ yes. inr (inr (was, then, (level, here, if_so yes))),
+  λ it. elim it [
+    | inl idle ↦ absurd (level_none node level idle.1 here)
+    | inr rest ↦ elim rest [
+      | inl above ↦ (let is = level_once node above.0 level above.1 here in let more = above.2 in absurd (omega (arith, is, more, low)))
+      | inr risen ↦ (let old = level_once before risen.0 was risen.1 then in let new = level_once node risen.2.0 level risen.2.1 here in
+          let more = risen.2.2 in so (omega (arith, old, new, more)))
+    ]
+  ],
+)
+
+-- and it was on none
+small_first : (took : Bool) (limit level : ℕ) (before node : NodeView) → HasLevel node level → level ≤ limit →
+    before.expanded ≡ length before.history.settlements → IsTrue false ↔ SendsSmall took limit before node
+small_first took limit level before node here low none = (
+  λ never. absurd (cc),
+  λ it. elim it [
+    | inl idle ↦ absurd (level_none node level idle.1 here)
+    | inr rest ↦ elim rest [
+      | inl above ↦ (let is = level_once node above.0 level above.1 here in let more = above.2 in absurd (omega (arith, is, more, low)))
+      | inr risen ↦ absurd (level_none before risen.0 none risen.1)
+    ]
+  ],
+)
+
+pub small_later : (took small : Bool) (limit level : ℕ) (was : Option ℕ) (before node : NodeView) → HasLevel node level → level ≤ limit → IsLevel before was →
+    MatchOption was (small ≡ false) (λ b. IsTrue small ↔ (b < level)) → IsTrue small ↔ SendsSmall took limit before node
+small_later took small limit level None before node here low none is =
+    subst (λ (b : Bool). IsTrue b ↔ SendsSmall took limit before node) (sym is) (small_first took limit level before node here low none)
+small_later took small limit level (Some was) before node here low then is = small_risen took small limit was level before node here low then is.0 is.1
 
 -- ---- what a gate is told
 

@@ -1,9 +1,12 @@
 -- What the parts of a runner's turn do, and when each has something to do.
-use Rattle.std.specs.Prelude.{◌≡◌, ◌≢◌, ◌↔◌, ◌⊎◌, ℕ, ◌+◌, ◌<◌, ◌≤◌, List, [], ◌∷◌, ◌++◌, Bool, IsTrue, ◌||◌, true, false, None, Some, length, slice_get}
+use Rattle.std.specs.Prelude.{◌≡◌, ◌≢◌, ◌↔◌, ◌⊎◌, ℕ, ◌+◌, ◌<◌, ◌≤◌, List, [], ◌∷◌, ◌++◌, Bool, IsTrue, ◌||◌, true, false, Option, None, Some, MatchOption, length, slice_get}
 use Rattle.dob_update.specs.Batches.{BatchView}
 use Rattle.dob_board.specs.Seats.{TakesNone}
 use Rattle.dob_chan.specs.Ends.{sent_by, taken_by, take_told, WasEmpty}
-use Rattle.dob_node.specs.Nodes.{outbox_to, IsExpanded, HasApplied, IsUnchanged}
+use Rattle.dob_share.specs.declared.news.Settlement.{Settlement}
+use Rattle.dob_node.specs.NodeViews.{NodeView}
+use Rattle.dob_node.specs.Levels.{level_of, HasLevel}
+use Rattle.dob_node.specs.Nodes.{outbox_to, IsExpanded, IsUnchanged}
 use Rattle.dob_runner.specs.declared.slots.Outlet.{Outlet}
 use Rattle.dob_runner.specs.declared.slots.Inlet.{Inlet}
 use Rattle.dob_runner.specs.declared.endpoint.Endpoint.{Endpoint}
@@ -31,20 +34,26 @@ pub record ExpandsOne (old new : Runner) (did : Bool) : Type 0 where
   pub expanded : did ≡ true → IsExpanded old.node new.node
   pub nothing : did ≡ false → new.node ≡ old.node
 
--- It has expanded settlements, just where it isn't held up and there is one.
-pub record ExpandsSome (old new : Runner) (did : Bool) : Type 0 where
-  pub goes : GoesOn old new
-  pub endpoint : new.endpoint ≡ old.endpoint
-  pub done : (did ≡ false) ↔ (IsHeldUp old ⊎ (old.node.expanded ≡ length old.node.history.settlements))
-  pub expanded : did ≡ true → old.node.expanded < new.node.expanded
-  pub nothing : did ≡ false → new.node ≡ old.node
+-- on which level the next settlement of the node is, where it has one
+abbrev pub IsLevel : NodeView → Option ℕ → Type 0
+IsLevel node level = MatchOption level (node.expanded ≡ length node.history.settlements) (λ some. HasLevel node some)
 
--- It has applied the first of its own items, just where there is one.
-pub record AppliesOne (old new : Runner) (did : Bool) : Type 0 where
+-- the next settlement of the node is above that level
+abbrev pub IsAbove : ℕ → NodeView → Type 0
+IsAbove limit node = (level : ℕ) × HasLevel node level × (limit < level)
+
+-- those that the node has expanded in between aren't
+abbrev pub IsWithin : ℕ → NodeView → NodeView → Type 0
+IsWithin limit old new = (number : ℕ) (s : Settlement) → old.expanded ≤ number → number < new.expanded →
+    slice_get new.history.settlements number ≡ Some s → level_of s ≤ limit
+
+-- It has expanded settlements, none above that level, just where it isn't held up and the next one isn't above it.
+pub record ExpandsSome (limit : ℕ) (old new : Runner) (did : Bool) : Type 0 where
   pub goes : GoesOn old new
   pub endpoint : new.endpoint ≡ old.endpoint
-  pub done : (did ≡ false) ↔ (old.node.own ≡ [])
-  pub applied : did ≡ true → HasApplied old.node new.node
+  pub done : (did ≡ false) ↔ (IsHeldUp old ⊎ IsAbove limit old.node ⊎ (old.node.expanded ≡ length old.node.history.settlements))
+  pub expanded : did ≡ true → old.node.expanded < new.node.expanded
+  pub within : IsWithin limit old.node new.node
   pub nothing : did ≡ false → new.node ≡ old.node
 
 -- It has applied all its own items, and none is left; whether there was any.
@@ -175,8 +184,15 @@ pub record AddsFew (count : ℕ) (old new : Endpoint) : Type 0 where
       length (offered after) ≤ length (offered before) + count
   pub into : length (taken_by new.inlet.end) ≤ length (taken_by old.inlet.end) + count
 
--- It has done a turn's work: it took from its inbox, expanded settlements, applied all its own items and sent, and also batches
--- that aren't whole just where it took nothing and has nothing to expand; and it did something just where one of these did.
+-- Batches that aren't whole are due too: the node took nothing and has nothing left to expand; or what it has is above the level up to
+-- which it expands, or above that of the node before.
+abbrev pub SendsSmall : Bool → ℕ → NodeView → NodeView → Type 0
+SendsSmall took limit before node =
+    ((took ≡ false) × (node.expanded ≡ length node.history.settlements)) ⊎ IsAbove limit node
+    ⊎ ((level : ℕ) × HasLevel before level × IsAbove level node)
+
+-- It has done a turn's work: it took from its inbox, expanded settlements up to some level, applied all its own items and sent, and
+-- also batches that aren't whole just where these are due; and it did something just where one of these did.
 -- So none of its own items is left, and over each link at most one batch more went.
 pub record Works (old new : Runner) (did : Bool) : Type 0 where
   pub goes : GoesOn old new
@@ -187,12 +203,13 @@ pub record Works (old new : Runner) (did : Bool) : Type 0 where
   pub applied : Bool
   pub sent : Bool
   pub small : Bool
+  pub limit : ℕ
   pub taker : Runner
   pub expander : Runner
   pub sender : Runner
   pub takes : RunnerTakesBatch old taker took
-  pub expands : ExpandsSome taker expander expanded
+  pub expands : ExpandsSome limit taker expander expanded
   pub applies : AppliesAllOwn expander sender applied
   pub sends : SendsAll small sender new sent
-  pub is_small : IsTrue small ↔ ((took ≡ false) × (sender.node.expanded ≡ length sender.node.history.settlements))
+  pub is_small : IsTrue small ↔ SendsSmall took limit taker.node sender.node
   pub is_done : did ≡ (took || expanded || applied || sent)

@@ -8,6 +8,8 @@
 mod batches;
 mod endpoint;
 mod gate;
+mod pace;
+mod pause;
 mod runner;
 mod slot_steps;
 mod slots;
@@ -20,6 +22,7 @@ mod turn_words;
 
 pub use endpoint::Endpoint;
 pub use gate::{Free, Gate};
+pub use pace::Pace;
 pub use runner::Runner;
 pub use slots::{Inlet, Outlet};
 pub use turn_loop::Until;

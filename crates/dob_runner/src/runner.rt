@@ -7,13 +7,14 @@ ghost use Rattle.dob_runner.specs.LawfulRunners.{IsLawfulRunner, IsSpared};
 ghost use Rattle.dob_runner.specs.Props.{IsLawfulRunner-prop};
 
 use crate::endpoint::Endpoint;
-use crossbeam_utils::Backoff;
+use crate::pace::Pace;
+use crate::pause::Pause;
 use dob_node::{Cause, Node};
 use dob_pieces::Family;
 use dob_update::BatchSize;
 
 /// A runner of a build by nodes that own the classes of a family: its node, its seat with its ends of the inboxes, and
-/// the greatest size of a batch. It is lawful at every moment, unless an item of another node's batch made it fail before the end
+/// the greatest size of a batch; and, where it waits for slower ones, the pace of its crew. It is lawful at every moment, unless an item of another node's batch made it fail before the end
 /// was announced: where it failed for another cause, as for lack of memory, it has changed nothing. The board says that its
 /// node failed only where it has, and where its node has failed it has failed for the same cause.
 #[derive(Drop)]
@@ -23,7 +24,8 @@ pub struct Runner {
     pub family: Family,
     pub batch_size: BatchSize,
     pub failed: Option<Cause>,
-    pub(crate) backoff: Backoff,
+    pub(crate) pace: Option<Pace>,
+    pub(crate) pause: Pause,
     pub ghost going: { endpoint.seat.halt ≡ Running → failed ≡ None },
     pub ghost own: { endpoint.seat.halt ≡ Failed endpoint.seat.node → failed ≢ None },
     pub ghost agrees: { (why : Cause) → node.failed ≡ Some why → failed ≡ Some why },

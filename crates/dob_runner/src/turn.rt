@@ -1,16 +1,18 @@
 // A turn of a runner.
-ghost use Rattle.std.specs.Prelude.{◌≡◌, ◌≢◌, ◌↔◌, ◌-◌, IsTrue, Err, None, IfErr, MatchResult, length, true, false};
+ghost use Rattle.std.specs.Prelude.{◌≡◌, ◌≢◌, ◌↔◌, ◌-◌, ◌<◌, IsTrue, Err, None, IfErr, MatchOption, MatchResult, length, true, false};
 ghost use Rattle.dob_board.specs.declared.halt.Halt.TheVariants.{Running};
 ghost use Rattle.dob_board.specs.Seats.{MovesNothing};
 ghost use Rattle.dob_stops.specs.declared.cause.Cause.TheVariants.{Held};
 ghost use Rattle.dob_runner.specs.Runners.{StepsBy, GoesRound, HasFailed, IsHeldBack, IsTurnedAway, IsNew, GateIsAsked, IsReasonFor, says_no};
-ghost use Rattle.dob_runner.specs.TurnRounds.{Works};
+ghost use Rattle.dob_node.specs.NodeViews.{NodeView};
+ghost use Rattle.dob_runner.specs.TurnRounds.{IsLevel, IsAbove, SendsSmall, Works};
 ghost use Rattle.dob_runner.specs.Turns.{HasTurned, HasSeen, EndsTurn, GateIsTold};
 
 use crate::endpoint::Endpoint;
 use crate::gate::Gate;
+use crate::pace::Pace;
+use crate::pause::Pause;
 use crate::runner::Runner;
-use crossbeam_utils::Backoff;
 use dob_board::Halt;
 use dob_classes::Classes;
 use dob_node::{Cause, Node};
@@ -35,8 +37,20 @@ impl Runner {
             family,
             batch_size,
             failed: None,
-            backoff: Backoff::new(),
+            pace: None,
+            pause: Pause::new(),
         }
+    }
+
+    /// From now on the runner waits for the slower ones of its crew: it expands nothing on a level that the pace doesn't allow.
+    pub fn keep_pace(&mut self, pace: Pace)
+        ensures node { self.new.node ≡ self.old.node }
+        ensures endpoint { self.new.endpoint ≡ self.old.endpoint }
+        ensures family { self.new.family ≡ self.old.family }
+        ensures batch_size { self.new.batch_size ≡ self.old.batch_size }
+        ensures failed { self.new.failed ≡ self.old.failed }
+    {
+        self.pace = Some(pace);
     }
 
     /// Whether the runner's seat has seen that the run ended or failed.
@@ -96,7 +110,7 @@ impl Runner {
             return Ok(halt);
         };
         let did = self.work_and_tell(rt, classes, gate)?;
-        self.ends_turn(did);
+        self.ends_turn(rt, did);
         Ok(self.endpoint.seat.halt)
     }
 
@@ -124,20 +138,25 @@ impl Runner {
         self.endpoint.halted()
     }
 
-    // What is left of a turn: one that did nothing looks for the token, and pauses where the runner isn't idle or hasn't got it.
-    fn ends_turn(&mut self, did: bool)
+    // What is left of a turn: one that did nothing looks for the token, and pauses where the runner isn't idle or hasn't got it. It
+    // doesn't sleep while a batch lies in a slot.
+    fn ends_turn<R: Wait>(&mut self, rt: &R, did: bool)
         requires { self.old.failed ≡ None }
         ensures goes { GoesRound self.old self.new }
         ensures ends { EndsTurn did self.old self.new }
     {
         if did {
-            self.backoff.reset();
+            self.pause.reset();
             return;
         }
         if self.seeks_token() {
-            self.backoff.reset();
+            self.pause.reset();
+            return;
+        }
+        if self.endpoint.has_empty_slots() {
+            self.pause.rest(rt);
         } else {
-            self.backoff.snooze();
+            self.pause.snooze();
         }
     }
 
@@ -161,27 +180,73 @@ impl Runner {
     }
 
     /// A turn's work: at most one batch is applied; settlements are expanded until as many items are made as
-    /// a batch holds, and the own items are applied; and at most one batch is sent to each node. Whether anything was done.
+    /// a batch holds, none on a level that the pace doesn't allow, and the own items are applied; and at most one batch is sent to
+    /// each node. Whether anything was done.
     pub(crate) fn work<R: Wait>(&mut self, rt: &R, classes: &Classes) -> Result<bool, Cause>
         requires unfailed { self.old.failed ≡ None }
         requires family { classes.now.family ≡ self.old.family }
         ensures { StepsBy Works self.old self.new result }
     {
         let took = self.take_one(rt)?;
-        let expanded = self.expand_all(classes)?;
+        let level = self.level();
+        let limit = self.limit(level);
+        let expanded = self.expand_all(classes, limit)?;
         let applied = self.apply_all()?;
-        let small = self.sends_small(took);
+        let small = self.sends_small(took, level, limit);
         let sent = self.send_all(rt, small)?;
         Ok(took | expanded | applied | sent)
     }
 
-    // Whether batches that aren't whole are sent too: where nothing was taken, and nothing is left to expand.
-    fn sends_small(&self, took: bool) -> bool
-        ensures { IsTrue result ↔ ((took ≡ false) × (self.now.node.expanded ≡ length self.now.node.history.settlements)) }
+    // On which level the next settlement is, if one is left to expand.
+    fn level(&self) -> Option<u16>
+        requires { self.now.failed ≡ None }
+        ensures { IsLevel self.now.node result }
     {
-        if took {
-            return false;
+        self.node.level()
+    }
+
+    // The highest level that it may expand now, where its own is that one.
+    fn limit(&self, level: Option<u16>) -> u16 {
+        match &self.pace {
+            Some(pace) => pace.limit(level),
+            None => u16::MAX,
         }
-        self.node.is_expanded()
+    }
+
+    // Whether batches that aren't whole are sent too: where nothing was taken and nothing is left to expand; where what is left is
+    // above the limit; and where it is above the level that the node was on.
+    fn sends_small(&self, took: bool, was: Option<u16>, limit: u16) -> bool
+        requires unfailed { self.now.failed ≡ None }
+        requires was { (node : NodeView) × IsLevel node was }
+        ensures { (node : NodeView) → IsLevel node was → IsTrue result ↔ SendsSmall took limit node self.now.node }
+    {
+        let Some(now) = self.level() else {
+            return !took;
+        };
+        if now > limit {
+            return true;
+        }
+        has_risen(was, now)
+    }
+
+    /// Whether the next settlement is above that level.
+    pub(crate) fn is_above(&self, limit: u16) -> bool
+        requires { self.now.failed ≡ None }
+        ensures { IsTrue result ↔ IsAbove limit self.now.node }
+    {
+        match self.level() {
+            Some(level) => level > limit,
+            None => false,
+        }
+    }
+}
+
+// Whether the level is above another, if there is one.
+fn has_risen(was: Option<u16>, now: u16) -> bool
+    ensures { MatchOption was (result ≡ false) (λ before. IsTrue result ↔ (before < now)) }
+{
+    match was {
+        Some(before) => now > before,
+        None => false,
     }
 }

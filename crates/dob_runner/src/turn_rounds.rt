@@ -9,14 +9,17 @@ use dob_node::Cause;
 use std::sync::Wait;
 
 impl Runner {
-    /// Expands settlements until as many items are made as a batch holds, or nothing is left to expand; none where a batch
-    /// can't be sent and another whole one is left for the same node. Whether any was expanded.
-    pub(crate) fn expand_all(&mut self, classes: &Classes) -> Result<bool, Cause>
+    /// Expands settlements up to that level until as many items are made as a batch holds, or the next one is above it, or nothing is
+    /// left to expand; none where a batch can't be sent and another whole one is left for the same node. Whether any was expanded.
+    pub(crate) fn expand_all(&mut self, classes: &Classes, limit: u16) -> Result<bool, Cause>
         requires unfailed { self.old.failed ≡ None }
         requires family { classes.now.family ≡ self.old.family }
-        ensures { StepsBy ExpandsSome self.old self.new result }
+        ensures { StepsBy (ExpandsSome limit) self.old self.new result }
     {
         if self.is_held_up() {
+            return Ok(false);
+        }
+        if self.is_above(limit) {
             return Ok(false);
         }
         let enough = self.left().saturating_add(self.batch_size.get());
@@ -26,6 +29,9 @@ impl Runner {
         }
         for _ in 0..u64::MAX {
             if self.left() >= enough {
+                return Ok(true);
+            }
+            if self.is_above(limit) {
                 return Ok(true);
             }
             let more = self.expand_one(classes)?;
@@ -42,10 +48,14 @@ impl Runner {
         ensures { StepsBy AppliesAllOwn self.old self.new result }
     {
         let count = self.node.left_for_itself();
-        for _ in 0..count {
-            self.apply_one()?;
+        match self.node.apply_every_own() {
+            Ok(()) => Ok(count > 0),
+            Err(why) => {
+                self.failed = Some(why);
+                self.endpoint.fail();
+                Err(why)
+            }
         }
-        Ok(count > 0)
     }
 
     /// Sends at most one batch to each node, also one that isn't whole where small ones are asked for. Whether any was sent.

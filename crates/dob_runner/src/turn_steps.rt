@@ -4,7 +4,7 @@
 ghost use Rattle.std.specs.Prelude.{◌≡◌, ◌≢◌, ◌↔◌, ◌<◌, IsTrue, Err, None};
 ghost use Rattle.dob_stops.specs.declared.cause.Cause.TheVariants.{Memory};
 ghost use Rattle.dob_runner.specs.Runners.{StepsBy};
-ghost use Rattle.dob_runner.specs.TurnRounds.{RunnerTakesBatch, LeavesBatch, ExpandsOne, AppliesOne, HasToSend, FillsFor, SendsTo};
+ghost use Rattle.dob_runner.specs.TurnRounds.{RunnerTakesBatch, LeavesBatch, ExpandsOne, HasToSend, FillsFor, SendsTo};
 
 use crate::runner::Runner;
 use dob_classes::Classes;
@@ -62,21 +62,6 @@ impl Runner {
     {
         match self.node.expand(classes) {
             Ok(expanded) => Ok(expanded),
-            Err(why) => {
-                self.failed = Some(why);
-                self.endpoint.fail();
-                Err(why)
-            }
-        }
-    }
-
-    /// Applies the first of the node's own items. False where there is none.
-    pub(crate) fn apply_one(&mut self) -> Result<bool, Cause>
-        requires { self.old.failed ≡ None }
-        ensures { StepsBy AppliesOne self.old self.new result }
-    {
-        match self.node.apply_own() {
-            Ok(applied) => Ok(applied),
             Err(why) => {
                 self.failed = Some(why);
                 self.endpoint.fail();

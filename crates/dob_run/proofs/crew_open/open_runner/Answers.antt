@@ -1,5 +1,5 @@
 -- The runner has the endpoint and a node just opened, which has made no step, and nothing has gone over its links.
-use Rattle.std.proofs.Common.{ℕ, sym, subst, arith}
+use Rattle.std.proofs.Common.{ℕ, sym, subst, ◌∙◌, arith}
 use Rattle.dob_node.specs.declared.node.Node.{Node}
 use Rattle.dob_node.specs.Nodes.{IsOpened}
 use Rattle.dob_runner.specs.declared.endpoint.Endpoint.{Endpoint}
@@ -26,13 +26,16 @@ unreachable-requires c =
     let seat = c.args.endpoint.seat in
     c.in_default.ensures (omega (arith, seat.within), seat.size)
 
-pub new-requires-2 : goal.new-requires-2
-new-requires-2 c = is_new (goal.at.new-requires-2 c).In_ok-node
+pub new-runner-requires : goal.new-runner-requires
+new-runner-requires c = is_new (goal.at.new-runner-requires c).In_ok-node
 
 pub returns : goal.returns
 returns c =
-    let made = c.new-2.ensures in (
-      made.endpoint,
-      record { family_is = made.family; size_is = made.batch_size; unfailed = made.unfailed },
-      subst (λ (p : Node × Endpoint). IsNew c.args.family p.0 p.1) (λ i. ((sym made.node) i, (sym made.endpoint) i)) (is_new (goal.at.returns c).In_ok-node),
+    let made = c.new-runner.ensures in
+    let kept = c.keep_pace.ensures in
+    let endpoint = kept.endpoint ∙ made.endpoint in
+    let node = kept.node ∙ made.node in (
+      endpoint,
+      record { family_is = kept.family ∙ made.family; size_is = kept.batch_size ∙ made.batch_size; unfailed = kept.failed ∙ made.unfailed },
+      subst (λ (p : Node × Endpoint). IsNew c.args.family p.0 p.1) (λ i. ((sym node) i, (sym endpoint) i)) (is_new (goal.at.returns c).In_ok-node),
     )

@@ -1,29 +1,76 @@
 -- The settlements expanded so far and the next make one step, over classes of the same family, or a failed one.
-use Rattle.std.proofs.Common.{refl, ◌∙◌}
+use Rattle.std.proofs.Common.{refl, ◌∙◌, inl, inr, arith}
 use Rattle.dob_runner.specs.TurnRounds.{ExpandsSome}
 use Rattle.dob_runner.proofs.Keeping.{runner_same, goes_trans, broken_on}
-use Rattle.dob_runner.proofs.TurnParts.{more_expanded, some_expanded}
+use Rattle.dob_runner.proofs.TurnParts.{more_expanded, within_first, within_one, none_expanded, some_expanded}
 use Rattle.dob_runner.proofs.runner.Runner.expand_all.Goals as goal
 
+pub returns-then-is_held_up : goal.returns-then-is_held_up
+returns-then-is_held_up c =
+    let r = c.args.self.now in
+    none_expanded c.args.limit r r (record { keeps = runner_same r; unfailed = c.requires.unfailed; halt = refl; still = refl }) refl refl
+    (inl (c.is_held_up.ensures.0 c.if-is_held_up.true))
+
+pub returns-then-is_above : goal.returns-then-is_above
+returns-then-is_above c =
+    let r = c.args.self.now in
+    none_expanded c.args.limit r r (record { keeps = runner_same r; unfailed = c.requires.unfailed; halt = refl; still = refl }) refl refl
+    (inr (inl (c.is_above.ensures.0 c.if-is_above.true)))
+
 pub returns-in_err-any : goal.returns-in_err-any
-returns-in_err-any c = broken_on ExpandsSome c.args.self.now c.args.self.now c.expand_one.new.self c.from_residual.result c.in_err-any.field-0.0
+returns-in_err-any c = broken_on (ExpandsSome c.args.limit) c.args.self.now c.args.self.now c.expand_one.new.self c.from_residual.result c.in_err-any.field-0.0
     c.from_residual.ensures.1 (runner_same c.args.self.now) refl c.in_err-any.ensures
 
+pub returns-then-not-any : goal.returns-then-not-any
+returns-then-not-any c =
+    let one = c.in_ok-any.ensures in
+    none_expanded c.args.limit c.args.self.now c.expand_one.new.self one.goes one.endpoint (one.nothing c.if-not-any.true) (inr (inr (one.done.0 c.if-not-any.true)))
+
+pub loop-init : goal.loop-init
+loop-init c =
+    let one = c.in_ok-any.ensures in (
+      one.goes,
+      (let more = (one.expanded c.if-not-any.false).expanded in omega (arith, more)),
+      one.endpoint,
+      within_first c.args.limit c.args.self.now c.expand_one.new.self c.in_ok-any.any c.is_above.result c.if-is_above.false c.is_above.ensures.1 one,
+    )
+
 pub returns-in_err-more : goal.returns-in_err-more
-returns-in_err-more c = broken_on ExpandsSome c.args.self.now c.loop.self c.expand_one-in-loop.new.self c.from_residual-in_err-more.result c.in_err-more.field-0.0
+returns-in_err-more c = broken_on (ExpandsSome c.args.limit) c.args.self.now c.loop.self c.expand_one-in-loop.new.self c.from_residual-in_err-more.result c.in_err-more.field-0.0
     c.from_residual-in_err-more.ensures.1 c.loop.invariant.0.keeps c.loop.invariant.0.still c.in_err-more.ensures
 
 pub returns-then-not-more : goal.returns-then-not-more
 returns-then-not-more c =
-    some_expanded c.args.self.now c.expand_one-in-loop.new.self c.is_held_up.result c.in_ok-any.any
-    (goes_trans c.args.self.now c.loop.self c.expand_one-in-loop.new.self c.loop.invariant.0 c.in_ok-more.ensures.goes)
-    (c.in_ok-more.ensures.endpoint ∙ c.loop.invariant.2)
-    (more_expanded c.loop.self c.expand_one-in-loop.new.self c.in_ok-more.more c.args.self.now.node.expanded c.in_ok-more.ensures c.loop.invariant.1)
-    c.if-is_held_up.false c.is_held_up.ensures.1 c.if-not-any.false c.in_ok-any.ensures.done.1
+    let one = c.in_ok-more.ensures in
+    some_expanded c.args.limit c.args.self.now c.expand_one-in-loop.new.self c.is_held_up.result c.is_above.result c.in_ok-any.any
+    (goes_trans c.args.self.now c.loop.self c.expand_one-in-loop.new.self c.loop.invariant.0 one.goes)
+    (one.endpoint ∙ c.loop.invariant.2)
+    (more_expanded c.loop.self c.expand_one-in-loop.new.self c.in_ok-more.more c.args.self.now.node.expanded one c.loop.invariant.1)
+    (within_one c.args.limit c.args.self.now.node c.loop.self c.expand_one-in-loop.new.self c.in_ok-more.more c.is_above-in-loop.result c.loop.invariant.3
+    c.if-is_above-2.false c.is_above-in-loop.ensures.1 one)
+    c.if-is_held_up.false c.is_held_up.ensures.1 c.if-is_above.false c.is_above.ensures.1 c.if-not-any.false c.in_ok-any.ensures.done.1
 
 pub loop-preserved : goal.loop-preserved
-loop-preserved c = (
-  goes_trans c.args.self.now c.loop.self c.expand_one-in-loop.new.self c.loop.invariant.0 c.in_ok-more.ensures.goes,
-  more_expanded c.loop.self c.expand_one-in-loop.new.self c.in_ok-more.more c.args.self.now.node.expanded c.in_ok-more.ensures c.loop.invariant.1,
-  c.in_ok-more.ensures.endpoint ∙ c.loop.invariant.2,
-)
+loop-preserved c =
+    let one = c.in_ok-more.ensures in (
+      goes_trans c.args.self.now c.loop.self c.expand_one-in-loop.new.self c.loop.invariant.0 one.goes,
+      more_expanded c.loop.self c.expand_one-in-loop.new.self c.in_ok-more.more c.args.self.now.node.expanded one c.loop.invariant.1,
+      one.endpoint ∙ c.loop.invariant.2,
+      within_one c.args.limit c.args.self.now.node c.loop.self c.expand_one-in-loop.new.self c.in_ok-more.more c.is_above-in-loop.result c.loop.invariant.3
+          c.if-is_above-2.false c.is_above-in-loop.ensures.1 one,
+    )
+
+pub returns-then-left-enough : goal.returns-then-left-enough
+returns-then-left-enough c = some_expanded c.args.limit c.args.self.now c.loop.self c.is_held_up.result c.is_above.result c.in_ok-any.any
+    c.loop.invariant.0 c.loop.invariant.2 c.loop.invariant.1 c.loop.invariant.3 c.if-is_held_up.false c.is_held_up.ensures.1 c.if-is_above.false
+    c.is_above.ensures.1 c.if-not-any.false c.in_ok-any.ensures.done.1
+
+pub returns-then-is_above-2 : goal.returns-then-is_above-2
+returns-then-is_above-2 c = some_expanded c.args.limit c.args.self.now c.loop.self c.is_held_up.result c.is_above.result c.in_ok-any.any
+    c.loop.invariant.0 c.loop.invariant.2 c.loop.invariant.1 c.loop.invariant.3 c.if-is_held_up.false c.is_held_up.ensures.1 c.if-is_above.false
+    c.is_above.ensures.1 c.if-not-any.false c.in_ok-any.ensures.done.1
+
+pub returns : goal.returns
+returns c = some_expanded c.args.limit c.args.self.now c.loop.self c.is_held_up.result c.is_above.result c.in_ok-any.any
+    c.loop.invariant.0 c.loop.invariant.2 c.loop.invariant.1 c.loop.invariant.3 c.if-is_held_up.false c.is_held_up.ensures.1 c.if-is_above.false
+    c.is_above.ensures.1 c.if-not-any.false c.in_ok-any.ensures.done.1

@@ -21,6 +21,9 @@ returns-in_err-expanded g c =
     broken_on Works c.args.self.now c.take_one.new.self c.expand_all.new.self c.from_residual-in_err-expanded.result c.in_err-expanded.field-0.0
     c.from_residual-in_err-expanded.ensures.1 took.keeps took.still c.in_err-expanded.ensures
 
+pub sends_small-small-requires-clause-was : goal.sends_small-small-requires-clause-was
+sends_small-small-requires-clause-was g c = (c.take_one.new.self.node, c.level-level.ensures)
+
 pub returns-in_err-applied : goal.returns-in_err-applied
 returns-in_err-applied g c =
     let expanded : GoesOn c.args.self.now c.expand_all.new.self =
@@ -53,6 +56,7 @@ returns g c =
       applied = c.in_ok-applied.applied;
       sent = c.in_ok-sent.sent;
       small = _;
+      limit = c.limit-limit.result;
       taker = c.take_one.new.self;
       expander = c.expand_all.new.self;
       sender = c.apply_all.new.self;
@@ -60,6 +64,6 @@ returns g c =
       expands = c.in_ok-expanded.ensures;
       applies = c.in_ok-applied.ensures;
       sends = c.in_ok-sent.ensures;
-      is_small = c.sends_small-small.ensures;
+      is_small = c.sends_small-small.ensures c.take_one.new.self.node c.level-level.ensures;
       is_done = refl;
     }

@@ -1,0 +1,52 @@
+// How a runner that has nothing to do pauses: it spins and yields at first, and then sleeps, longer each time.
+
+use crossbeam_utils::Backoff;
+use std::sync::Wait;
+use std::sync::atomic::{AtomicU64, Ordering};
+use std::time::Duration;
+
+// How many microseconds the first sleep takes.
+const SHORTEST: u64 = 50;
+
+// How many the longest takes, so that a batch or the token never waits longer for who sleeps.
+const LONGEST: u64 = 1_000;
+
+/// The pauses of one runner. They change nothing that contracts speak of.
+#[derive(Drop)]
+pub(crate) struct Pause {
+    backoff: Backoff,
+    // How many microseconds the next sleep takes, on which nobody calls to wake the sleeper.
+    sleep: AtomicU64,
+}
+
+impl Pause {
+    pub(crate) fn new() -> Pause {
+        Pause {
+            backoff: Backoff::new(),
+            sleep: AtomicU64::new(SHORTEST),
+        }
+    }
+
+    /// The next pause is as short as the first one.
+    pub(crate) fn reset(&self) {
+        self.backoff.reset();
+        self.sleep.store(SHORTEST, Ordering::SeqCst);
+    }
+
+    /// Pauses for a moment, without sleep.
+    pub(crate) fn snooze(&self) {
+        self.backoff.snooze();
+    }
+
+    /// Pauses for a moment, and sleeps where the pauses before it were too short.
+    pub(crate) fn rest<R: Wait>(&self, rt: &R) {
+        if !self.backoff.is_completed() {
+            self.backoff.snooze();
+            return;
+        }
+        let micros = self.sleep.load(Ordering::SeqCst).min(LONGEST);
+        self.sleep
+            .park_timeout(rt, micros as u32, Duration::from_micros(micros));
+        self.sleep.store(2 * micros, Ordering::SeqCst);
+    }
+}
