@@ -30,6 +30,16 @@ fn the_same_table_by_any_number_of_nodes(rt: HostRuntime) {
     builds(&rt, rt.alloc(), 16, 2);
 }
 
+// By 2, 3 and 16 nodes, whose runners wait for each other's levels and sleep in between, with batches of one item.
+#[test]
+fn builds_in_a_row_end(rt: HostRuntime) {
+    for _ in 0..200 {
+        builds(&rt, rt.alloc(), 2, 1);
+        builds(&rt, rt.alloc(), 3, 1);
+        builds(&rt, rt.alloc(), 16, 1);
+    }
+}
+
 // Adds up what is reported to it.
 #[derive(Drop)]
 struct Adding {
