@@ -43,7 +43,9 @@ const View = (() => {
     const open = Files.all(), lines = open.map(lineOf), refused = Files.refused().map(({ name, fault }) => fileLine(name, Texts.wrong(fault), true));
     if (lines.length > 1) {
       const menu = document.createElement("details"), wasOpen = !!element("files").querySelector("details[open]");
-      menu.append(node("summary", text("filesOpen", lines.length)), ...lines);
+      const list = document.createElement("div");
+      list.append(...lines);
+      menu.append(node("summary", text("filesOpen", lines.length)), list);
       menu.open = wasOpen;
       if (open.some((table) => table.isBroken)) menu.className = "bad";
       lines.splice(0, lines.length, menu);

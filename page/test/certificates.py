@@ -7,7 +7,9 @@ import pathlib
 import struct
 import sys
 
+from browser import Browser
 from program import read_db
+from screen import Screen
 
 sys.path.insert(0, str(pathlib.Path(__file__).resolve().parents[1]))
 import build
@@ -166,20 +168,21 @@ def wrong(checks, screen, program):
 
 
 def given(checks, screen, program):
-    """A file that stands in the page is open from the beginning."""
-    maker, url, start = Maker(program), screen.url, '<script>"use strict";\n'
-    whole = screen.page.read_text(encoding="utf-8")
-    for path, name in [(maker.path, "100A.db"), (maker.write("mine.cert", LOSS, "loss", 6), "mine.cert")]:
-        page = program.folder / "given.html"
-        page.write_text(whole.replace(start, start + build.file_line(path)), encoding="utf-8")
-        screen.url = page.as_uri()
-        screen.open()
-        screen.language("en")
-        checks.expect(f"{name} is open", [screen.files()[0][0].split()[0], screen.value() != ""], [name, True])
-    checks.expect("its position is on the board", maker.number(screen.position()), maker.number(LOSS))
-    screen.open("#.l./.../.C./.L._-_-")
-    checks.expect("a link to another position", [screen.position(), screen.value()], [WON, "win within 5"])
-    screen.url = url
+    """A file that stands in the page is open from the beginning. In a browser of its own, whose log is of other pages."""
+    maker, start = Maker(program), '<script>"use strict";\n'
+    whole, browser = screen.page.read_text(encoding="utf-8"), Browser()
+    try:
+        for path, name in [(maker.path, "100A.db"), (maker.write("mine.cert", LOSS, "loss", 6), "mine.cert")]:
+            page = program.folder / "given.html"
+            page.write_text(whole.replace(start, start + build.file_line(path)), encoding="utf-8")
+            own = Screen(browser, page)
+            own.afresh()
+            checks.expect(f"{name} is open", [own.files()[0][0].split()[0], own.value() != ""], [name, True])
+        checks.expect("its position is on the board", maker.number(own.position()), maker.number(LOSS))
+        own.open("#.l./.../.C./.L._-_-")
+        checks.expect("a link to another position", [own.position(), own.value()], [WON, "win within 5"])
+    finally:
+        browser.close()
 
 
 PARTS = {"claims": claims, "solution": solution, "wrong": wrong, "given": given}
