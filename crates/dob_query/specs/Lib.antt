@@ -13,3 +13,5 @@ pub mod Migrations
 pub mod Stats
 pub mod Puzzles
 pub mod LooksEach
+pub mod Certificates
+pub mod Replying

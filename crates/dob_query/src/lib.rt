@@ -1,6 +1,9 @@
 // What the program answers by database files and by definition: the lines of each query, over shelves of files.
 #![tactic(auto)]
 
+mod certificate_fault;
+mod certificates;
+mod certifying;
 mod counts;
 mod each;
 mod fault;
@@ -12,6 +15,7 @@ mod migrations;
 mod positions;
 mod progress;
 mod puzzles;
+mod replying;
 mod shows;
 mod stats;
 mod tables;
@@ -19,6 +23,9 @@ mod tally;
 mod valued_moves;
 mod values;
 
+pub use certificate_fault::CertificateFault;
+pub use certificates::answer_verify;
+pub use certifying::answer_certify;
 pub use counts::answer_count;
 pub use dob_shelf::{DiskFile, DiskShelf, MemShelf, Shelf, ShelfFault};
 pub use each::{LineAnswers, answer_each};
@@ -29,6 +36,7 @@ pub use looks_each::answer_look_each;
 pub use migrations::answer_migrate;
 pub use progress::{Console, Progress, tell_need};
 pub use puzzles::{PuzzleSearch, answer_puzzles};
+pub use replying::answer_reply;
 pub use shows::answer_show;
 pub use stats::answer_stats;
 pub use tables::{answer_check, answer_line, answer_probe};

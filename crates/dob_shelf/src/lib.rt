@@ -6,4 +6,5 @@ mod inputs;
 mod shelf;
 
 pub use disk::{DiskFile, DiskShelf};
+pub use inputs::read_all;
 pub use shelf::{MemShelf, Shelf, ShelfFault};
