@@ -7,7 +7,7 @@ if PYTHONPATH=python python3 - >"$work/out" 2>&1 <<'PYTHON'; then good=yes; fi
 import doctest
 import importlib
 tried = 0
-for name in ("dobutsu", "dobutsu.library", "dobutsu.plain", "dobutsu.table", "dobutsu.value"):
+for name in ("dobutsu", "dobutsu.certificate", "dobutsu.library", "dobutsu.plain", "dobutsu.table", "dobutsu.value"):
     ran = doctest.testmod(importlib.import_module(name))
     assert ran.failed == 0, name
     tried += ran.attempted

@@ -11,8 +11,9 @@
 
 Positions are read by the proved library where it is found, else by plain Python: `table.engine` says which.
 """
+from .certificate import Certificate
 from .table import Table, after_move
 from .value import Fault, Move, Stats, Value
 
-__all__ = ["Fault", "Move", "Stats", "Table", "Value", "after_move"]
+__all__ = ["Certificate", "Fault", "Move", "Stats", "Table", "Value", "after_move"]
 __version__ = "0.1.0"

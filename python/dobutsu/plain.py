@@ -5,6 +5,8 @@
     db.value("..l/.../L../... C EG")   # "win 3", "loss 8" or "draw"
     db.moves("..l/.../L../... C EG")   # [("La2-a3", "win 3"), ..], best first
     db.stats()                          # how many classes have which value, and the longest ends
+    certificate = plain.open_certificate("222.cert")
+    certificate.verify()                # raises what is wrong; else what `str(certificate)` claims is true
 
 Written from docs/FORMAT.md and docs/RULES.md alone, with the standard library alone. The file is mapped into memory and
 class numbers are computed, so that a value of a file of any set takes milliseconds. Files of both formats and both profiles
@@ -573,11 +575,12 @@ class Certificate:
         return position_at(self.profile, self.pieces, number)
 
     def positions_of(self, entries):
-        """The plies of each position whose class is listed, of mirror images too."""
+        """The plies of each position whose class is listed, of mirror images too, where the game goes on: others show by themselves."""
         listed = {}
         for number, plies in entries.items():
             position = self.position_at(number)
-            listed[position] = listed[mirrored(position)] = plies
+            if status(self.profile, position) == "open":
+                listed[position] = listed[mirrored(position)] = plies
         return listed
 
     @functools.cached_property
@@ -660,6 +663,10 @@ class Certificate:
     def reply(self, text):
         """The move of the position that wins within the fewest plies by the lost ones, and these plies; none where there is no such move."""
         position = read_position(text)
+        if not all(may_stand(self.profile, letter, square) for square, letter in enumerate(position[0])):
+            raise Wrong("E26 FarChick")
+        if set_of(position) != self.pieces:
+            raise Wrong("E7 OtherSet")
         found, moves = self.asked(position)
         if found == "caught":
             return move_text(position, moves[0]), 1
