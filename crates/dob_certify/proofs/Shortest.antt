@@ -1,13 +1,13 @@
 -- The shortest lead among the moves so far, and what a reply comes to.
 use Rattle.std.proofs.Common.{◌≡◌, ℕ, ◌+◌, ◌<◌, ◌≤◌, suc, inl, inr, sym, subst, ap, ◌∙◌, arith, cond, Bool, true, false, refl, List, length, Option, Some, None, slice_get, nat_lt}
-use Rattle.std.proofs.lemmas.Bool.{cases_eq}
+use Rattle.std.proofs.lemmas.Bool.{cases_Bool}
 use Rattle.std.proofs.lemmas.Bool.Decides.{nat_tests}
 use Rattle.dob_pieces.specs.declared.profile.Family.{Family}
 use Rattle.dob_pieces.specs.declared.setup.Setup.{Setup}
 use Rattle.dob_moves.specs.declared.game_move.Move.{Move}
 use Rattle.dob_moves.specs.declared.position_status.Status.TheVariants.{Open}
 use Rattle.dob_moves.specs.Moves.{Goes}
-use Rattle.dob_moves.specs.Statuses.{AreMoves, HasStatus}
+use Rattle.dob_moves.specs.Statuses.{AreMoves, CanCatch, HasStatus}
 use Rattle.dob_certificate.specs.declared.entry.Entry.{Entry}
 use Rattle.dob_certificate.specs.Lost.{IsSaidLost, SupportsAllLost}
 use Rattle.dob_certificate.proofs.Bounds.{said_lost}
@@ -15,7 +15,7 @@ use Rattle.dob_certificate.proofs.Replies.{AllBelow, all_done, all_more, all_non
 use Rattle.dob_certify.specs.declared.replies.Lead.{Lead}
 use Rattle.dob_certify.specs.declared.replies.Reply.{Reply}
 use Rattle.dob_certify.specs.declared.replies.Reply.TheVariants.{Win, Loss}
-use Rattle.dob_certify.specs.Replies.{IsReply, IsRight, IsShortest, Leads, SaysLost, shorter}
+use Rattle.dob_certify.specs.Replies.{IsReply, IsRight, IsShortest, Leads, NoneLeads, SaysLost, loss, shorter}
 
 module _ (family : Family) (lost : List Entry) (p : Setup) (the_moves : List Move) where
   -- the same of the moves below an index
@@ -49,7 +49,7 @@ module _ (family : Family) (lost : List Entry) (p : Setup) (the_moves : List Mov
       lead_here plies says.0,
       least_more plies says.1 (λ index other q within there goes n said. absurd (below index other q within there goes n said)),
     )
-    shortest_more (Some lead) (Some plies) says below = elim (cases_eq (nat_lt plies lead.plies)) [
+    shortest_more (Some lead) (Some plies) says below = elim (cases_Bool (nat_lt plies lead.plies)) [
       | inl yes ↦
           let less : plies < lead.plies = grind (arith, nat_tests, yes) in
           subst (λ (b : Bool). IsShortestBelow (upto + 1) (cond b (Some (record { the_move = move; plies = plies })) (Some lead))) (sym yes) (
@@ -75,6 +75,12 @@ module _ (family : Family) (lost : List Entry) (p : Setup) (the_moves : List Mov
     λ goes_on move q goes. all_done family.profile (λ (r : Setup). (n : ℕ) → IsSaidLost family lost n r → lead.plies ≤ n) p the_moves upto all are_moves
         below.1 goes_on move q goes,
   )
+
+-- where no move leads to what is said to be lost, what is said of the position itself is the reply
+pub loss_reply : (family : Family) (lost : List Entry) (p : Setup) (found : Option ℕ) → ¬ CanCatch p → NoneLeads family lost p → SaysLost family lost p found
+    → IsReply family lost p (loss found)
+loss_reply family lost p None free none says = (free, none, says)
+loss_reply family lost p (Some plies) free none says = (free, none, says)
 
 -- what a list says that supports its entries is right
 pub reply_right : (family : Family) (lost : List Entry) (p : Setup) → SupportsAllLost family lost → (found : Option Reply) → IsReply family lost p found

@@ -12,3 +12,5 @@ pub mod Showing  -- the faults of drawing a position, and of keeping its picture
 pub mod Migrating  -- the faults of reading a file and of keeping its table are those of migrating it
 pub mod Puzzling  -- the lines of puzzles, and which classes they are of
 pub mod Placed  -- what lines come to by the records of a source is what is owed for looking for each
+pub mod Proven  -- the faults of a certificate's file and of its lists are those of verifying it, and of asking it for a reply
+pub mod MadeFaults  -- the faults of reading a file, of making a certificate and of keeping its bytes are those of certifying

@@ -12,8 +12,9 @@ ghost use Rattle.dob_query.specs.Sizes.{count_line};
 use crate::certificate_fault::CertificateFault;
 use crate::certificates::claim_line;
 use crate::fault::{Fault, Lines};
-use crate::positions::file_and_position;
+use crate::positions::position_named;
 use crate::progress::{Console, Progress};
+use crate::tables::open;
 use dob_certfile::{CertificateFile, WriteFault, certificate_bytes};
 use dob_certify::{Certified, certify, rounds_of};
 use dob_classes::Classes;
@@ -41,7 +42,8 @@ pub fn answer_certify<S: Shelf>(
 ) -> Lines
     ensures { Leaving (SameOthers out.now) S.state shelf.old shelf.new (GivesCertify file.now out.now is_exact most text.now result) }
 {
-    let (table, position) = file_and_position(alloc, shelf, file, text)?;
+    let position = position_named(text)?;
+    let table = open(alloc, shelf, file)?;
     let most = most_entries(most);
     let certificate = made_file(rt, alloc, &table, &position, most, is_exact, is_watched)?;
     let bytes = bytes_of(alloc, &certificate)?;

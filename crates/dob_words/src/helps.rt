@@ -4,7 +4,7 @@ pub(crate) const PROGRAM: &str =
     "`dobutsu value --help` says how a position is written and what the rules A and B are, `dobutsu count --help` how a
 piece set is.
 
-A fault is one line on standard error. The status is 1, and 3 for E12, E14, E23 and E24:
+A fault is one line on standard error. The status is 1, and 3 for E12, E14, E23, E24 and E40:
 
   E1 Shape         the text isn't fifteen bytes with `/` at 3, 7 and 11, then twice a space and a word
   E2 Letter        a square is none of `.LGECHlgech`
