@@ -22,14 +22,14 @@ number_low (suc more) bytes low rest e small = (let is : ltb low 128 ≡ true = 
 pub number_last : (more : ℕ) (bytes : List ℕ) (low : ℕ) (rest : List ℕ) → byte_at bytes ≡ Ok (low, rest) → 128 ≤ low → more ≡ 0 → number_at more bytes ≡ Err EntryNumber
 unfolding number_at
 number_last more bytes low rest e large none =
-    let no : ltb low 128 ≡ false = le-ltb low 128 large in
-    let at_none : number_at 0 bytes ≡ Err EntryNumber = rw (e, no) refl in
+    let not_so : ltb low 128 ≡ false = le-ltb low 128 large in
+    let at_none : number_at 0 bytes ≡ Err EntryNumber = rw (e, not_so) refl in
     subst (λ (n : ℕ). number_at n bytes ≡ Err EntryNumber) (sym none) at_none
 
 -- the bytes after a byte that isn't the last
 module _ (more : ℕ) (bytes : List ℕ) (low : ℕ) (rest : List ℕ) (e : byte_at bytes ≡ Ok (low, rest)) (large : 128 ≤ low) (some : 0 < more) where
-  no : ltb low 128 ≡ false
-  no = le-ltb low 128 large
+  not_so : ltb low 128 ≡ false
+  not_so = le-ltb low 128 large
 
   one_less : more ≡ suc (more - 1)
   one_less = omega (arith, some)
@@ -37,21 +37,21 @@ module _ (more : ℕ) (bytes : List ℕ) (low : ℕ) (rest : List ℕ) (e : byte
   pub number_more_err : (d : Defect) → number_at (more - 1) rest ≡ Err d → number_at more bytes ≡ Err d
   unfolding number_at
   number_more_err d h =
-      let at_more : number_at (suc (more - 1)) bytes ≡ Err d = rw (e, no, h) refl in
+      let at_more : number_at (suc (more - 1)) bytes ≡ Err d = rw (e, not_so, h) refl in
       subst (λ (n : ℕ). number_at n bytes ≡ Err d) (sym one_less) at_more
 
   pub number_zero : (high : ℕ) (after : List ℕ) → number_at (more - 1) rest ≡ Ok (high, after) → high ≡ 0 → number_at more bytes ≡ Err EntryNumber
   unfolding number_at
   number_zero high after h none =
       let is : eqb high 0 ≡ true = eq-eqb high 0 none in
-      let at_more : number_at (suc (more - 1)) bytes ≡ Err EntryNumber = rw (e, no, h, is) refl in
+      let at_more : number_at (suc (more - 1)) bytes ≡ Err EntryNumber = rw (e, not_so, h, is) refl in
       subst (λ (n : ℕ). number_at n bytes ≡ Err EntryNumber) (sym one_less) at_more
 
   pub number_more : (high : ℕ) (after : List ℕ) → number_at (more - 1) rest ≡ Ok (high, after) → (high ≡ 0 → ⊥) → number_at more bytes ≡ Ok (low - 128 + 128 * high, after)
   unfolding number_at
   number_more high after h above =
       let not : eqb high 0 ≡ false = ne_eqb high 0 above in
-      let at_more : number_at (suc (more - 1)) bytes ≡ Ok (low - 128 + 128 * high, after) = rw (e, no, h, not) refl in
+      let at_more : number_at (suc (more - 1)) bytes ≡ Ok (low - 128 + 128 * high, after) = rw (e, not_so, h, not) refl in
       subst (λ (n : ℕ). number_at n bytes ≡ Ok (low - 128 + 128 * high, after)) (sym one_less) at_more
 
 -- ---- how large they are
@@ -88,8 +88,8 @@ pub leb_more : (more number : ℕ) (old now new : List ℕ) → 128 ≤ number �
 unfolding leb128
 leb_more zero number old now new large fits first rest = absurd (omega (arith, large, fits))
 leb_more (suc more) number old now new large fits first rest =
-    let no : ltb number 128 ≡ false = le-ltb number 128 large in
-    let text : leb128 (suc more) number ≡ (128 + number % 128) ∷ leb128 more (number / 128) = rw no refl in
+    let not_so : ltb number 128 ≡ false = le-ltb number 128 large in
+    let text : leb128 (suc more) number ≡ (128 + number % 128) ∷ leb128 more (number / 128) = rw not_so refl in
     rest more (omega (arith, fits))
     ∙ ap (λ (x : List ℕ). x ++ leb128 more (number / 128)) first
     ∙ append_assoc old ((128 + number % 128) ∷ []) (leb128 more (number / 128))

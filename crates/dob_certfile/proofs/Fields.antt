@@ -61,28 +61,32 @@ more_ok : (b : Bool) (low : ℕ × List ℕ) (other : Result (ℕ × List ℕ) D
 more_ok true low other x e is = absurd cc
 more_ok false low other x e is = e
 
+step_by : (b : Bool) (made x : ℕ × List ℕ) → cond b (Err EntryNumber) (Ok made) ≡ Ok x → (b ≡ false) × (made ≡ x)
+step_by true made x e = absurd cc
+step_by false made x e = (refl, ok_is made x e)
+
 step_ok : (low : ℕ) (high x : ℕ × List ℕ) → step low high ≡ Ok x → (0 < high.0) × (x ≡ (low - 128 + 128 * high.0, high.1))
-step_ok low high x e = elim (cases_Bool (eqb high.0 0)) [
-  | inl is ↦ let bad : cond (eqb high.0 0) (Err EntryNumber) (Ok (low - 128 + 128 * high.0, high.1)) ≡ Err EntryNumber = rw is refl in absurd (cc)
-  | inr no ↦
-      let some : 0 < high.0 = (elim (cases_lt 0 high.0) [ | inl lt ↦ lt | inr le ↦ absurd (eqb-false high.0 0 no (omega (arith, le))) ]) in
-      let good : cond (eqb high.0 0) (Err EntryNumber) (Ok (low - 128 + 128 * high.0, high.1)) ≡ Ok (low - 128 + 128 * high.0, high.1) = rw no refl in
-      (some, ok_is x (low - 128 + 128 * high.0, high.1) (sym e ∙ good))
-]
+step_ok low high x e =
+    let s = step_by (eqb high.0 0) (low - 128 + 128 * high.0, high.1) x e in (
+      (elim (cases_lt 0 high.0) [
+        | inl lt ↦ lt
+        | inr le ↦ absurd (eqb-false high.0 0 s.0 (omega (arith, le)))
+      ]),
+      sym s.1,
+    )
 
 limit_some : (more : ℕ) → 0 < leb128_limit more
 limit_some zero = omega arith
 limit_some (suc more) = let some = limit_some more in omega (arith, some)
 
 pub number_takes : (more : ℕ) (bytes : List ℕ) (x : ℕ × List ℕ) → IsBytes bytes → number_at more bytes ≡ Ok x → Takes bytes (leb128 more x.0) x.1 × (x.0 < leb128_limit more)
-unfolding number_at
-unfolding leb128
+unfolding number_at leb128
 number_takes zero bytes x fits e =
     let a = bind_ok (byte_at bytes) (λ low. cond (ltb low.0 128) (Ok low) (Err EntryNumber)) x e in
     let t = byte_takes bytes a.0 fits a.1 in
     elim (cases_Bool (ltb a.0.0 128)) [
       | inl is ↦ subst (λ (y : ℕ × List ℕ). Takes bytes (y.0 ∷ []) y.1 × (y.0 < 128)) (last_ok (ltb a.0.0 128) a.0 (Err EntryNumber) x a.2 is) (t.0, ltb-true a.0.0 128 is)
-      | inr no ↦ let never = more_ok (ltb a.0.0 128) a.0 (Err EntryNumber) x a.2 no in absurd (cc)
+      | inr not_so ↦ let never = more_ok (ltb a.0.0 128) a.0 (Err EntryNumber) x a.2 not_so in absurd (cc)
     ]
 number_takes (suc more) bytes x fits e =
     let a = bind_ok (byte_at bytes) (λ low. cond (ltb low.0 128) (Ok low) (number_at more low.1 >>= λ high. step low.0 high)) x e in
@@ -94,11 +98,11 @@ number_takes (suc more) bytes x fits e =
           let room : a.0.0 < 128 * leb128_limit more = omega (arith, low, limit_some more) in
           subst (λ (y : ℕ × List ℕ). Takes bytes (leb128 (suc more) y.0) y.1 × (y.0 < leb128_limit (suc more))) (last_ok (ltb a.0.0 128) a.0 (number_at more a.0.1 >>= λ high. step a.0.0 high) x a.2 is)
           (subst (λ (text : List ℕ). Takes bytes text a.0.1) (sym one) t.0, room)
-      | inr no ↦
-          let b = bind_ok (number_at more a.0.1) (λ high. step a.0.0 high) x (more_ok (ltb a.0.0 128) a.0 (number_at more a.0.1 >>= λ high. step a.0.0 high) x a.2 no) in
+      | inr not_so ↦
+          let b = bind_ok (number_at more a.0.1) (λ high. step a.0.0 high) x (more_ok (ltb a.0.0 128) a.0 (number_at more a.0.1 >>= λ high. step a.0.0 high) x a.2 not_so) in
           let u = number_takes more a.0.1 b.0 t.0.rest_fits b.1 in
           let s = step_ok a.0.0 b.0 x b.2 in
-          let low : 128 ≤ a.0.0 = ltb-false a.0.0 128 no in
+          let low : 128 ≤ a.0.0 = ltb-false a.0.0 128 not_so in
           let number : ℕ = a.0.0 - 128 + 128 * b.0.0 in
           let big : ltb number 128 ≡ false = le-ltb number 128 (omega (arith, s.0, low)) in
           let first : 128 + number % 128 ≡ a.0.0 = omega (arith, low, t.1) in
@@ -111,16 +115,15 @@ number_takes (suc more) bytes x fits e =
     ]
 
 pub number_again : (more number : ℕ) (rest : List ℕ) → number < leb128_limit more → number_at more (leb128 more number ++ rest) ≡ Ok (number, rest)
-unfolding number_at
-unfolding leb128
+unfolding number_at leb128
 number_again zero number rest fits = let is : ltb number 128 ≡ true = lt-ltb number 128 fits in rw is refl
 number_again (suc more) number rest fits = elim (cases_lt number 128) [
   | inl low ↦ let is : ltb number 128 ≡ true = lt-ltb number 128 low in rw (is, is) refl
   | inr high ↦
-      let no : ltb number 128 ≡ false = le-ltb number 128 high in
+      let not_so : ltb number 128 ≡ false = le-ltb number 128 high in
       let no_last : ltb (128 + number % 128) 128 ≡ false = le-ltb (128 + number % 128) 128 (omega arith) in
       let again : number_at more (leb128 more (number / 128) ++ rest) ≡ Ok (number / 128, rest) = number_again more (number / 128) rest (omega (arith, fits)) in
       let some : eqb (number / 128) 0 ≡ false = ne_eqb (number / 128) 0 (λ none. let e : number / 128 ≡ 0 = none in omega (arith, e, high)) in
       let back : 128 + number % 128 - 128 + 128 * (number / 128) ≡ number = omega arith in
-      rw (no, no_last, again, some, back) refl
+      rw (not_so, no_last, again, some, back) refl
 ]

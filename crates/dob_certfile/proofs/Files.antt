@@ -16,7 +16,7 @@ use Rattle.dob_certfile.specs.declared.defect.Defect.TheVariants.{Truncated, Tra
 use Rattle.dob_certfile.specs.Format.{Content, Fits, FitEntries, bytes_of, claim_bytes, contents_of, entries_bytes, head_bytes, title}
 use Rattle.dob_certfile.specs.Reading.{◌>>=◌, wants, FrontContent, front_at, entries_at, seal_at, file_at, are_same}
 use Rattle.dob_certfile.proofs.Fields.{IsBytes, IsBytes-drop, bind_ok, wants_ok, ok_is, Takes}
-use Rattle.dob_certfile.proofs.Same.{same_is, is_same}
+use Rattle.dob_certfile.proofs.Same.{same_is, is_same, not_same}
 use Rattle.dob_certfile.proofs.Lists.{Rise, StartsFrom, entries_take, entries_again, rise_fit, rise_count, rise_ascends, fit_rises, starts_anywhere}
 use Rattle.dob_certfile.proofs.Fronts.{FitsFront, front_text, front_takes, front_again}
 
@@ -45,6 +45,30 @@ seal_again contents rest long is =
     let same : are_same rest (sha256 (take (length (contents ++ rest) - 32) (contents ++ rest))) ≡ true = is_same rest _ (is ∙ ap sha256 (sym cut)) in
     rw (whole, ends, same) refl
 
+regroup : (o a b c d e : List ℕ) → ((((o ++ a) ++ b) ++ c) ++ d) ++ e ≡ o ++ (a ++ (b ++ (c ++ (d ++ e))))
+regroup o a b c d e =
+    append_assoc (((o ++ a) ++ b) ++ c) d e ∙ append_assoc ((o ++ a) ++ b) c (d ++ e) ∙ append_assoc (o ++ a) b (c ++ (d ++ e)) ∙ append_assoc o a (b ++ (c ++ (d ++ e)))
+
+-- what is found of the digest that stands there
+pub seal_right : (bytes rest digest : List ℕ) (n : ℕ) → n ≡ length bytes - 32 → digest ≡ sha256 (take n bytes) → 32 ≤ length rest → length rest ≤ 32 → rest ≡ digest
+    → Ok tt ≡ seal_at bytes rest
+unfolding seal_at
+seal_right bytes rest digest n at is low high same =
+    let whole : leb 32 (length rest) ≡ true = le-leb 32 (length rest) low in
+    let ends : leb (length rest) 32 ≡ true = le-leb (length rest) 32 high in
+    let right : are_same rest (sha256 (take (length bytes - 32) bytes)) ≡ true = is_same rest _ (same ∙ is ∙ ap (λ (k : ℕ). sha256 (take k bytes)) at) in
+    rw (whole, ends, right) refl
+
+pub seal_wrong : (bytes rest digest : List ℕ) (n : ℕ) → n ≡ length bytes - 32 → digest ≡ sha256 (take n bytes) → 32 ≤ length rest → length rest ≤ 32 → (rest ≡ digest → ⊥)
+    → Err Digest ≡ seal_at bytes rest
+unfolding seal_at
+seal_wrong bytes rest digest n at is low high other =
+    let whole : leb 32 (length rest) ≡ true = le-leb 32 (length rest) low in
+    let ends : leb (length rest) 32 ≡ true = le-leb (length rest) 32 high in
+    let wrong : are_same rest (sha256 (take (length bytes - 32) bytes)) ≡ false =
+    not_same rest (sha256 (take (length bytes - 32) bytes)) (λ same. other (same ∙ sym (is ∙ ap (λ (k : ℕ). sha256 (take k bytes)) at))) in
+    rw (whole, ends, wrong) refl
+
 -- ---- the whole file
 
 abbrev filed : FrontContent → List Entry → List Entry → Content
@@ -59,11 +83,11 @@ joined c rest =
     let held : List ℕ = entries_bytes 0 c.held in
     let more : List ℕ = little_bytes 4 (length c.lost) ++ (little_bytes 4 (length c.held) ++ (lost ++ held)) in
     ap (λ (x : List ℕ). title ++ 1 ∷ (set_bytes c.family.set ++ profile_byte c.family.profile ∷ (little_bytes 4 c.root ++ x)))
-    (ap (λ (x : List ℕ). x ++ rest) (refl) ∙ append_assoc (claim_bytes c.claim) more rest)
+    (append_assoc (claim_bytes c.claim) more rest)
 
 -- ---- reading again
 
-few_entries : (classes : ℕ) (entries : List Entry) → FitEntries classes entries → length entries ≤ classes
+pub few_entries : (classes : ℕ) (entries : List Entry) → FitEntries classes entries → length entries ≤ classes
 few_entries classes entries fits = (let few = rise_count classes 0 entries (fit_rises classes 0 entries fits (starts_anywhere entries)) (omega arith) in omega (arith, few))
 
 pub file_again : (c : Content) → Fits c → file_at (bytes_of c) ≡ Ok c
@@ -89,8 +113,7 @@ file_again c fits =
     rw (front_is, rest_is, lost, held, seal) refl
 
 pub file_takes : (bytes : List ℕ) (c : Content) → IsBytes bytes → file_at bytes ≡ Ok c → Fits c × (bytes ≡ bytes_of c)
-unfolding file_at
-unfolding contents_of
+unfolding file_at contents_of
 file_takes bytes c fits e =
     let a = bind_ok (front_at bytes) (λ front. entries_at (classes_of front.family) 0 front.lost_count (drop 28 bytes) >>= λ lost. entries_at (classes_of front.family) 0 front.held_count lost.1 >>= λ held. seal_at bytes held.1 >>= λ sealed. Ok (filed front lost.0 held.0)) c e in
     let f : FrontContent = a.0 in
@@ -122,3 +145,19 @@ file_takes bytes c fits e =
       held = (rise_ascends classes 0 h.0.0 held.2, rise_fit classes 0 h.0.0 held.2);
     } in
     subst (λ (d : Content). Fits d × (bytes ≡ bytes_of d)) (ok_is made c s.2) (right, whole)
+
+-- ---- what is written, piece by piece
+
+pub pieces : (c : Content) (lost held : List Entry) (old n1 n2 n3 n4 n5 : List ℕ) → lost ≡ c.lost → held ≡ c.held → n1 ≡ old ++ head_bytes c
+    → n2 ≡ n1 ++ little_bytes 4 (length lost) → n3 ≡ n2 ++ little_bytes 4 (length held) → n4 ≡ n3 ++ entries_bytes 0 lost → n5 ≡ n4 ++ entries_bytes 0 held
+    → n5 ≡ old ++ contents_of c
+unfolding contents_of
+pieces c lost held old n1 n2 n3 n4 n5 is_lost is_held e1 e2 e3 e4 e5 =
+    let a : List ℕ = head_bytes c in
+    let b : List Entry → List ℕ = λ xs. little_bytes 4 (length xs) in
+    let d : List Entry → List ℕ = λ xs. entries_bytes 0 xs in
+    e5
+    ∙ ap (λ (x : List ℕ). x ++ d held) (e4 ∙ ap (λ (x : List ℕ). x ++ d lost) (e3 ∙ ap (λ (x : List ℕ). x ++ b held) (e2 ∙ ap (λ (x : List ℕ). x ++ b lost) e1)))
+    ∙ regroup old a (b lost) (b held) (d lost) (d held)
+    ∙ ap (λ (xs : List Entry). old ++ (a ++ (b xs ++ (b held ++ (d xs ++ d held))))) is_lost
+    ∙ ap (λ (xs : List Entry). old ++ (a ++ (b c.lost ++ (b xs ++ (d c.lost ++ d xs))))) is_held

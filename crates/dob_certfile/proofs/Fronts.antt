@@ -45,6 +45,11 @@ few_again (suc (suc (suc n))) few = absurd (omega (arith, few))
 abbrev set_from : (x y z : (m : ℕ) × (m ≤ 2)) → PieceSet
 set_from x y z = record { chicks = x.0; elephants = y.0; giraffes = z.0; few_chicks = x.1; few_elephants = y.1; few_giraffes = z.1 }
 
+four : (a b c d w x y z : ℕ) → w ≡ a → x ≡ b → y ≡ c → z ≡ d → a ∷ b ∷ c ∷ d ∷ [] ≡ w ∷ x ∷ y ∷ z ∷ []
+four a b c d w x y z ea eb ec ed =
+    ap (λ (n : ℕ). n ∷ b ∷ c ∷ d ∷ []) (sym ea) ∙ ap (λ (n : ℕ). w ∷ n ∷ c ∷ d ∷ []) (sym eb) ∙ ap (λ (n : ℕ). w ∷ x ∷ n ∷ d ∷ []) (sym ec)
+    ∙ ap (λ (n : ℕ). w ∷ x ∷ y ∷ n ∷ []) (sym ed)
+
 set_of_cells : (a b c d : ℕ) (set : PieceSet) → set_at (a ∷ b ∷ c ∷ d ∷ []) ≡ Ok set → a ∷ b ∷ c ∷ d ∷ [] ≡ set_bytes set
 unfolding set_at
 set_of_cells a b c d set e =
@@ -52,9 +57,7 @@ set_of_cells a b c d set e =
     let y = bind_ok (few_at b) (λ elephants. few_at c >>= λ giraffes. wants (eqb d 2) SetByte >>= λ two. Ok (set_from x.0 elephants giraffes)) set x.2 in
     let z = bind_ok (few_at c) (λ giraffes. wants (eqb d 2) SetByte >>= λ two. Ok (set_from x.0 y.0 giraffes)) set y.2 in
     let w = wants_ok (eqb d 2) SetByte (Ok (set_from x.0 y.0 z.0)) set z.2 in
-    let cells : a ∷ b ∷ c ∷ d ∷ [] ≡ x.0.0 ∷ y.0.0 ∷ z.0.0 ∷ 2 ∷ [] =
-    rw (few_ok a x.0 x.1, few_ok b y.0 y.1, few_ok c z.0 z.1, eqb-true d 2 w.0) refl in
-    cells ∙ ap set_bytes (ok_is (set_from x.0 y.0 z.0) set w.1)
+    four a b c d x.0.0 y.0.0 z.0.0 2 (few_ok a x.0 x.1) (few_ok b y.0 y.1) (few_ok c z.0 z.1) (sym (eqb-true d 2 w.0)) ∙ ap set_bytes (ok_is (set_from x.0 y.0 z.0) set w.1)
 
 pub set_takes : (bytes : List ℕ) (set : PieceSet) → length bytes ≡ 4 → set_at bytes ≡ Ok set → bytes ≡ set_bytes set
 set_takes [] set long e = absurd (omega (arith, long))
@@ -70,7 +73,7 @@ set_cells a b c few_a few_b few_c =
     let x = few_again a few_a in
     let y = few_again b few_b in
     let z = few_again c few_c in
-    (set_from x.0 y.0 z.0, rw (x.1, y.1, z.1) refl, rw (x.2, y.2, z.2) refl)
+    (set_from x.0 y.0 z.0, rw (x.1, y.1, z.1) refl, sym (four a b c 2 x.0.0 y.0.0 z.0.0 2 x.2 y.2 z.2 refl))
 
 -- the set of its bytes is that set
 pub set_again : (set : PieceSet) → set_at (set_bytes set) ≡ Ok set

@@ -8,3 +8,4 @@ pub mod Fronts  -- the front that is read and written
 pub mod Files  -- the whole file that is read and written
 pub mod Verdicts  -- what a reader's answer says
 pub mod Writes  -- entries that are written one after the other
+pub mod Refused  -- a refusal of what is claimed of the root

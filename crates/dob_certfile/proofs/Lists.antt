@@ -16,16 +16,16 @@ use Rattle.dob_certfile.proofs.Fields.{IsBytes, bind_ok, wants_ok, ok_is, Takes,
 plies_fit : (byte : ℕ) → FitsPlies (plies_of byte)
 plies_fit byte = elim (cases_lt byte 255) [
   | inl lt ↦ let is : ltb byte 255 ≡ true = lt-ltb byte 255 lt in rw is (inl lt)
-  | inr le ↦ let no : ltb byte 255 ≡ false = le-ltb byte 255 le in rw no (inr refl)
+  | inr le ↦ let not_so : ltb byte 255 ≡ false = le-ltb byte 255 le in rw not_so (inr refl)
 ]
 
 plies_back : (byte : ℕ) → byte < 256 → plies_byte (plies_of byte) ≡ byte
 plies_back byte fits = elim (cases_lt byte 255) [
   | inl lt ↦ let is : ltb byte 255 ≡ true = lt-ltb byte 255 lt in rw (is, is) refl
   | inr le ↦
-      let no : ltb byte 255 ≡ false = le-ltb byte 255 le in
+      let not_so : ltb byte 255 ≡ false = le-ltb byte 255 le in
       let same : 255 ≡ byte = omega (arith, fits, le) in
-      rw no same
+      rw not_so same
 ]
 
 plies_again : (plies : ℕ) → FitsPlies plies → plies_of (plies_byte plies) ≡ plies
@@ -87,8 +87,7 @@ Rise classes least (entry ∷ entries) = IsEntryFrom classes least entry × Rise
 
 pub entries_take : (classes least count : ℕ) (bytes : List ℕ) (x : List Entry × List ℕ) → IsBytes bytes → entries_at classes least count bytes ≡ Ok x
     → Takes bytes (entries_bytes least x.0) x.1 × (length x.0 ≡ count) × Rise classes least x.0
-unfolding entries_at
-unfolding entries_bytes
+unfolding entries_at entries_bytes
 entries_take classes least zero bytes x fits e =
     subst (λ (y : List Entry × List ℕ). Takes bytes (entries_bytes least y.0) y.1 × (length y.0 ≡ 0) × Rise classes least y.0) (ok_is ([], bytes) x e)
     (record { parts = refl; rest_fits = fits }, refl, tt)
@@ -104,8 +103,7 @@ entries_take classes least (suc count) bytes x fits e =
 
 pub entries_again : (classes least : ℕ) (entries : List Entry) (rest : List ℕ) → classes < 2147483648 → Rise classes least entries
     → entries_at classes least (length entries) (entries_bytes least entries ++ rest) ≡ Ok (entries, rest)
-unfolding entries_at
-unfolding entries_bytes
+unfolding entries_at entries_bytes
 entries_again classes least [] rest few rises = refl
 entries_again classes least (entry ∷ entries) rest few rises =
     let regrouped : entries_bytes least (entry ∷ entries) ++ rest ≡ entry_bytes least entry ++ (entries_bytes (entry.class + 1) entries ++ rest) =
@@ -115,13 +113,14 @@ entries_again classes least (entry ∷ entries) rest few rises =
 
 -- ---- the order by places, and how many there are
 
+-- what holds of the first and of each other holds of all
+all_at : {X : Type 0} (P : X → Type 0) (x : X) (xs : List X) → P x → All P xs → (k : ℕ) (d : X) → k < length (x ∷ xs) → P (slice_index_or (x ∷ xs) k d)
+all_at P x xs first others zero d lt = first
+all_at P x xs first others (suc k) d lt = others k d (omega (arith, lt))
+
 pub rise_fit : (classes least : ℕ) (entries : List Entry) → Rise classes least entries → All (FitEntry classes) entries
 rise_fit classes least [] rises = λ k d lt. absurd (omega (arith, lt))
-rise_fit classes least (entry ∷ entries) rises = λ k d lt. fit_at k d lt
-  where
-    fit_at : (k : ℕ) (d : Entry) → k < length (entry ∷ entries) → FitEntry classes (slice_index_or (entry ∷ entries) k d)
-    fit_at zero d lt = rises.0.fits
-    fit_at (suc k) d lt = rise_fit classes (entry.class + 1) entries rises.1 k d (omega (arith, lt))
+rise_fit classes least (entry ∷ entries) rises = all_at (FitEntry classes) entry entries rises.0.fits (rise_fit classes (entry.class + 1) entries rises.1)
 
 pub rise_count : (classes least : ℕ) (entries : List Entry) → Rise classes least entries → least ≤ classes → length entries + least ≤ classes
 rise_count classes least [] rises from = omega (arith, from)
@@ -131,29 +130,31 @@ rise_count classes least (entry ∷ entries) rises from =
     let rest : length entries + (entry.class + 1) ≤ classes = rise_count classes (entry.class + 1) entries rises.1 (omega (arith, below)) in
     omega (arith, rest, start)
 
+ascends_at : (entry next : Entry) (entries : List Entry) → entry.class < next.class → AreAscending (next ∷ entries)
+    → (place : ℕ) → place + 1 < length (entry ∷ next ∷ entries) → class_at (entry ∷ next ∷ entries) place < class_at (entry ∷ next ∷ entries) (place + 1)
+ascends_at entry next entries first others zero lt = first
+ascends_at entry next entries first others (suc place) lt =
+    let moved : suc place + 1 ≡ suc (place + 1) = omega arith in
+    subst (λ (n : ℕ). class_at (next ∷ entries) place < class_at (entry ∷ next ∷ entries) n) (sym moved) (others place (omega (arith, lt)))
+
 pub rise_ascends : (classes least : ℕ) (entries : List Entry) → Rise classes least entries → AreAscending entries
 rise_ascends classes least [] rises = λ place lt. absurd (omega (arith, lt))
 rise_ascends classes least (entry ∷ []) rises = λ place lt. absurd (omega (arith, lt))
-rise_ascends classes least (entry ∷ next ∷ entries) rises = λ place lt. ascends_at place lt
-  where
-    ascends_at : (place : ℕ) → place + 1 < length (entry ∷ next ∷ entries) → class_at (entry ∷ next ∷ entries) place < class_at (entry ∷ next ∷ entries) (place + 1)
-    ascends_at zero lt = (let from : entry.class + 1 ≤ next.class = rises.1.0.from in omega (arith, from))
-    ascends_at (suc place) lt =
-        let moved : suc place + 1 ≡ suc (place + 1) = omega arith in
-        let later : class_at (next ∷ entries) place < class_at (next ∷ entries) (place + 1) = rise_ascends classes (entry.class + 1) (next ∷ entries) rises.1 place (omega (arith, lt)) in
-        subst (λ (n : ℕ). class_at (next ∷ entries) place < class_at (entry ∷ next ∷ entries) n) (sym moved) later
+rise_ascends classes least (entry ∷ next ∷ entries) rises =
+    let from : entry.class + 1 ≤ next.class = rises.1.0.from in
+    ascends_at entry next entries (omega (arith, from)) (rise_ascends classes (entry.class + 1) (next ∷ entries) rises.1)
 
 -- the first is from the least
 abbrev pub StartsFrom : ℕ → List Entry → Type 0
 StartsFrom least [] = Unit {0}
 StartsFrom least (entry ∷ entries) = least ≤ entry.class
 
-tail_ascends : (entry : Entry) (entries : List Entry) → AreAscending (entry ∷ entries) → AreAscending entries
+pub tail_ascends : (entry : Entry) (entries : List Entry) → AreAscending (entry ∷ entries) → AreAscending entries
 tail_ascends entry entries ascending = λ place lt.
     let moved : suc place + 1 ≡ suc (place + 1) = omega arith in
     subst (λ (n : ℕ). class_at entries place < class_at (entry ∷ entries) n) moved (ascending (suc place) (omega (arith, lt)))
 
-tail_starts : (entry : Entry) (entries : List Entry) → AreAscending (entry ∷ entries) → StartsFrom (entry.class + 1) entries
+pub tail_starts : (entry : Entry) (entries : List Entry) → AreAscending (entry ∷ entries) → StartsFrom (entry.class + 1) entries
 tail_starts entry [] ascending = tt
 tail_starts entry (next ∷ entries) ascending = (let lt : entry.class < next.class = ascending 0 (omega arith) in omega (arith, lt))
 

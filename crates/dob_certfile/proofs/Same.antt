@@ -27,5 +27,11 @@ pub same_by : (b : Bool) (xs ys : List ℕ) → (IsTrue b ↔ (xs ≡ ys)) → b
 same_by true xs ys h = sym (is_same xs ys (h.0 refl))
 same_by false xs ys h = elim (cases_Bool (are_same xs ys)) [
   | inl is ↦ absurd (let e : false ≡ true = h.1 (same_is xs ys is) in cc)
-  | inr no ↦ sym no
+  | inr other ↦ sym other
+]
+
+pub not_same : (xs ys : List ℕ) → (xs ≡ ys → ⊥) → are_same xs ys ≡ false
+not_same xs ys other = elim (cases_Bool (are_same xs ys)) [
+  | inl is ↦ absurd (other (same_is xs ys is))
+  | inr apart ↦ apart
 ]

@@ -28,9 +28,9 @@ written_more entries i least d now next total lt ascending more written =
     let left : entries_bytes least (drop i entries) ≡ entry_bytes least x ++ entries_bytes (x.class + 1) (drop (i + 1) entries) = ap (entries_bytes least) (drop_more entries i d lt) in
     record {
       parts = ap (λ (t : List ℕ). t ++ entries_bytes (x.class + 1) (drop (i + 1) entries)) more
-      ∙ append_assoc now (entry_bytes least x) (entries_bytes (x.class + 1) (drop (i + 1) entries))
-      ∙ ap (λ (t : List ℕ). now ++ t) (sym left)
-      ∙ written.parts;
+          ∙ append_assoc now (entry_bytes least x) (entries_bytes (x.class + 1) (drop (i + 1) entries))
+          ∙ ap (λ (t : List ℕ). now ++ t) (sym left)
+          ∙ written.parts;
       starts = subst (λ (n : ℕ). StartsFrom (x.class + 1) (drop n entries)) one (starts_after entries i d ascending lt);
     }
 

@@ -53,12 +53,11 @@ entries_bytes least (entry ∷ entries) = entry_bytes least entry ++ entries_byt
 
 -- what stands before the counts of entries
 abbrev pub head_bytes : Content → List ℕ
-head_bytes c = title ++ 1 ∷ set_bytes c.family.set ++ profile_byte c.family.profile ∷ little_bytes 4 c.root ++ claim_bytes c.claim
+head_bytes c = title ++ (1 ∷ (set_bytes c.family.set ++ (profile_byte c.family.profile ∷ (little_bytes 4 c.root ++ claim_bytes c.claim))))
 
 -- all that stands before the digest
 unfoldable pub contents_of : Content → List ℕ
-contents_of c = head_bytes c ++ little_bytes 4 (length c.lost) ++ little_bytes 4 (length c.held)
-    ++ entries_bytes 0 c.lost ++ entries_bytes 0 c.held
+contents_of c = head_bytes c ++ (little_bytes 4 (length c.lost) ++ (little_bytes 4 (length c.held) ++ (entries_bytes 0 c.lost ++ entries_bytes 0 c.held)))
 
 -- the contents and their digest
 abbrev pub bytes_of : Content → List ℕ

@@ -1,5 +1,6 @@
 // Entries as they stand in a file.
 ghost use Rattle.std.specs.Prelude.{◌≡◌, ◌<◌, ◌≤◌, ◌++◌, ◌^◌, length, IfOk, OnOk};
+ghost use Rattle.dob_certificate.specs.Ascending.{AreAscending};
 ghost use Rattle.dob_certfile.specs.Reading.{Gives, MayGive, entry_at, entries_at, plies_of};
 
 use crate::defect::{Defect, ReadFault};
@@ -54,7 +55,8 @@ pub(crate) fn entries_of(
     classes: u64,
 ) -> Result<(Vec<Entry>, &[u8]), ReadFault>
     requires { classes < 2 ^ 31 }
-    ensures { MayGive (λ x. (x.0.items, x.1.now)) result (entries_at classes 0 count bytes.now) }
+    ensures read { MayGive (λ x. (x.0.items, x.1.now)) result (entries_at classes 0 count bytes.now) }
+    ensures ascending { IfOk result (λ x. AreAscending x.0.items) }
 {
     let mut entries = Vec::new(alloc);
     let mut rest = bytes;

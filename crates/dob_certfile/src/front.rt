@@ -1,5 +1,5 @@
 // What stands before the entries of a certificate's file.
-ghost use Rattle.std.specs.Prelude.{◌≡◌, ◌≤◌, ◌++◌, ◌↔◌, ◌∷◌, [], length, take, drop, get_or, IfOk, IsTrue, OnOk};
+ghost use Rattle.std.specs.Prelude.{◌≡◌, ◌<◌, ◌≤◌, ◌^◌, ◌++◌, ◌↔◌, ◌∷◌, [], length, take, drop, get_or, IfOk, IsTrue, OnOk};
 ghost use Rattle.byteorder.specs.Endian.{little_number};
 ghost use Rattle.dob_rank.specs.Families.{classes_of};
 ghost use Rattle.dob_certfile.specs.Format.{title};
@@ -122,6 +122,7 @@ fn word_of(bytes: &[u8]) -> u32
 pub(crate) fn front_of(bytes: &[u8]) -> Result<(Front, u64), Defect>
     ensures front { Gives (λ x. front_content x.0) result (front_at bytes.now) }
     ensures classes { IfOk result (λ x. x.1 ≡ classes_of x.0.family) }
+    ensures few { IfOk result (λ x. x.1 < 2 ^ 31) }
     ensures long { OnOk result (28 ≤ length bytes.now) }
 {
     let family = family_of(bytes)?;
@@ -133,7 +134,10 @@ pub(crate) fn front_of(bytes: &[u8]) -> Result<(Front, u64), Defect>
     let claim = claim_of(bytes[18], bytes[19])?;
     let lost_count = word_of(&bytes[20..24]);
     let held_count = word_of(&bytes[24..28]);
-    if lost_count as u64 > classes || held_count as u64 > classes {
+    if lost_count as u64 > classes {
+        return Err(Defect::EntryCount);
+    }
+    if held_count as u64 > classes {
         return Err(Defect::EntryCount);
     }
     let front = Front {

@@ -1,6 +1,7 @@
 // Certificates as files.
 #![tactic(auto)]
 
+mod check;
 mod defect;
 mod entries;
 mod file;
@@ -9,6 +10,7 @@ mod numbers;
 mod read;
 mod write;
 
+pub use check::verify_file;
 pub use defect::{Defect, ReadFault, WriteFault};
 pub use file::CertificateFile;
 pub use read::read_certificate;

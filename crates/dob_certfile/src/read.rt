@@ -1,5 +1,5 @@
 // Reading a certificate's file from its bytes.
-ghost use Rattle.std.specs.Prelude.{◌≡◌, ◌↔◌, ◌≤◌, ◌⊎◌, length, take, IfOk, IfErr, Ok, IsTrue};
+ghost use Rattle.std.specs.Prelude.{◌≡◌, ◌↔◌, ◌<◌, ◌≤◌, ◌⊎◌, ◌^◌, length, take, IfOk, IfErr, Ok, IsTrue};
 ghost use Rattle.sha2.specs.Sha256.{sha256};
 ghost use Rattle.dob_rank.specs.Families.{classes_of};
 ghost use Rattle.dob_certificate.specs.Ascending.{AreAscending};
@@ -84,8 +84,9 @@ fn check_seal(bytes: &[u8], rest: &[u8]) -> Result<(), Defect>
         return Err(Defect::Trailing);
     }
     let digest = Sha256::digest(&bytes[..bytes.len().saturating_sub(DIGEST_LEN)]);
-    if !are_same(rest, &digest) {
-        return Err(Defect::Digest);
+    if are_same(rest, &digest) {
+        Ok(())
+    } else {
+        Err(Defect::Digest)
     }
-    Ok(())
 }

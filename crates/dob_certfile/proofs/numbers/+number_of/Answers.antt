@@ -31,7 +31,7 @@ pub overflow_mul-result : goal.overflow_mul-result
 overflow_mul-result t c = omega (arith, limit_small (c.args.more - 1) (omega (arith, c.requires)), c.in_ok-high.ensures.small)
 
 pub overflow_add-result : goal.overflow_add-result
-overflow_add-result t c = omega (arith, limit_small (c.args.more - 1) (omega (arith, c.requires)), c.in_ok-high.ensures.small)
+overflow_add-result t c = omega (arith, limit_small (c.args.more - 1) (omega (arith, c.requires)), c.in_ok-high.ensures.small, c.in_ok-low.ensures.small)
 
 pub returns-clause-read : goal.returns-clause-read
 returns-clause-read t c =
