@@ -50,17 +50,17 @@ module _ (family : Family) (lost : List Entry) (p : Setup) (the_moves : List Mov
       least_more plies says.1 (λ index other q within there goes n said. absurd (below index other q within there goes n said)),
     )
     shortest_more (Some lead) (Some plies) says below = elim (cases_Bool (nat_lt plies lead.plies)) [
-      | inl yes ↦
-          let less : plies < lead.plies = grind (arith, nat_tests, yes) in
-          subst (λ (b : Bool). IsShortestBelow (upto + 1) (cond b (Some (record { the_move = move; plies = plies })) (Some lead))) (sym yes) (
+      | inl is ↦
+          let less : plies < lead.plies = grind (arith, nat_tests, is) in
+          subst (λ (b : Bool). IsShortestBelow (upto + 1) (cond b (Some (record { the_move = move; plies = plies })) (Some lead))) (sym is) (
             lead_here plies says.0,
             least_more plies says.1 (λ index other q within there goes n said.
                 let least = below.1 index other q within there goes n said in
                 omega (arith, less, least)),
           )
-      | inr no ↦
-          let more : lead.plies ≤ plies = grind (arith, nat_tests, no) in
-          subst (λ (b : Bool). IsShortestBelow (upto + 1) (cond b (Some (record { the_move = move; plies = plies })) (Some lead))) (sym no) (
+      | inr isnt ↦
+          let more : lead.plies ≤ plies = grind (arith, nat_tests, isnt) in
+          subst (λ (b : Bool). IsShortestBelow (upto + 1) (cond b (Some (record { the_move = move; plies = plies })) (Some lead))) (sym isnt) (
             below.0,
             least_more lead.plies (λ n said. let least = says.1 n said in omega (arith, more, least)) below.1,
           )
@@ -87,7 +87,7 @@ pub reply_right : (family : Family) (lost : List Entry) (p : Setup) → Supports
     → IsRight family.profile p found
 reply_right family lost p supported None is = tt
 reply_right family lost p supported (Some (Loss plies)) is = said_lost family lost supported plies p is.2.0
-reply_right family lost p supported (Some (Win move plies)) (inl catches) = (inl (catches.0.is_catch), inl catches)
+reply_right family lost p supported (Some (Win move plies)) (inl catches) = (inl ((move, catches.0.catches)), inl catches)
 reply_right family lost p supported (Some (Win move plies)) (inr leads) =
     let after = said_lost family lost supported plies leads.1.outcome leads.1.said in
     (inr (leads.1.goes_on, move, leads.1.outcome, leads.1.goes, after), inr (leads.1.outcome, leads.1.goes, after))
