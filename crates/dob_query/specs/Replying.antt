@@ -31,9 +31,12 @@ use Rattle.dob_shelf.specs.Shelves.{ShelfChange}
 abbrev pub win_line : Move → ℕ → List ℕ
 win_line move plies = move_text move false ++ (codes " win within " ++ (decimal plies ++ line_feed ∷ []))
 
+abbrev pub loss_line : ℕ → List ℕ
+loss_line plies = codes "loss within " ++ decimal plies ++ line_feed ∷ []
+
 abbrev pub reply_line : Reply → List ℕ
 reply_line (Win move plies) = win_line move (plies + 1)
-reply_line (Loss plies) = codes "loss within " ++ decimal plies ++ line_feed ∷ []
+reply_line (Loss plies) = loss_line plies
 
 -- ---- what a certificate says of a position
 

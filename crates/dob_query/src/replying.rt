@@ -4,7 +4,7 @@ ghost use Rattle.std.specs.Fmt.{decimal};
 ghost use Rattle.dob_pieces.specs.Bytes.{line_feed};
 ghost use Rattle.dob_certfile.specs.Format.{content};
 ghost use Rattle.dob_shelf.specs.Shelves.{Leaving, SameFiles};
-ghost use Rattle.dob_query.specs.Replying.{GivesReply, IsReplyFault, IsReplyOf, IsToldReply, reply_line, win_line};
+ghost use Rattle.dob_query.specs.Replying.{GivesReply, IsReplyFault, IsReplyOf, IsToldReply, loss_line, win_line};
 
 use crate::certificate_fault::CertificateFault;
 use crate::certificates::open_certificate;
@@ -37,7 +37,8 @@ fn told_reply(alloc: Global, certificate: &CertificateFile, position: &Position)
     ensures err { IfErr result (IsReplyFault (content certificate.now) position.now.setup) }
 {
     match proved_reply(alloc, certificate, position)? {
-        Some(found) => Ok(reply_line(alloc, found)?),
+        Some(Reply::Win { the_move, plies }) => Ok(win_line(alloc, the_move, plies as u64 + 1)?),
+        Some(Reply::Loss { plies }) => Ok(loss_line(alloc, plies)?),
         None => Err(Fault::Certificate(CertificateFault::Unlisted)),
     }
 }
@@ -58,14 +59,11 @@ fn proved_reply(
     Ok(reply_to(alloc, &classes, lost, position)?)
 }
 
-// The line of a reply.
-fn reply_line(alloc: Global, found: Reply) -> Result<String, Memory>
-    ensures { IfOk result (λ line. string_bytes line ≡ reply_line found) }
+// The line of a position that is lost within so many plies.
+fn loss_line(alloc: Global, plies: u16) -> Result<String, Memory>
+    ensures { IfOk result (λ line. string_bytes line ≡ loss_line plies) }
 {
-    match found {
-        Reply::Win { the_move, plies } => win_line(alloc, the_move, plies as u64 + 1),
-        Reply::Loss { plies } => Ok(format!(in alloc; "loss within {plies}\n")?),
-    }
+    Ok(format!(in alloc; "loss within {plies}\n")?)
 }
 
 // The line of a move that wins within so many plies.
