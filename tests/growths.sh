@@ -22,6 +22,11 @@ cp testdata/one_chick.db "$work/kept.db"
 ./dobutsu show --svg "$work/first.svg" "$position" >"$work/out"
 refuse --keeps "$work/kept.db" build --set 000 --nodes 2 --out "$work/kept.db"
 refuse --keeps "$work/kept.db" migrate --db "$lions" --out "$work/kept.db"
+# and so does a certificate; and one is read
+./dobutsu certify --db "$lions" --out "$work/kept.cert" --exact "$position" >"$work/out"
+refuse --keeps "$work/kept.cert" certify --db "$lions" --out "$work/kept.cert" --exact "$position"
+refuse verify --cert "$work/kept.cert"
+refuse reply --cert "$work/kept.cert" "$position"
 refuse --keeps "$work/first.svg" show --db "$lions" --svg "$work/first.svg" '.../.l./.L./... - -'
 # worlds and crews, whose answers print all that they hold, and a share whose lists have segments of four items
 answers=crates/dob_answers/out/dob_answers

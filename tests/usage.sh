@@ -2,7 +2,7 @@
 
 # Help, each text whole, and the version.
 for words in '--help' '-h' 'help'; do helps dobutsu "$words"; done
-for form in value count reach build probe line check look show moves best stats puzzles migrate; do
+for form in value count reach build probe line check look show moves best stats puzzles migrate certify verify reply; do
     helps "$form" "$form" --help
     helps "$form" "$form" -h
     helps "$form" help "$form"
@@ -105,6 +105,16 @@ misused "'--set'" reach --set 000 "$position"
 misused '--out <OUT>' migrate --db x
 misused '--db <FILE>' migrate --out x
 misused "'a'" migrate --db x --out y a
+misused '--out <CERT>' certify --db x "$position"
+misused '--db <FILE>' certify --out x "$position"
+misused '<POSITION>' certify --db x --out y
+misused "'b'" certify --db x --out y --most b "$position"
+misused "'--exact'" certify --db x --out y --exact --exact "$position"
+misused '--cert <CERT>' verify
+misused "'a'" verify --cert x a
+misused '--cert <CERT>' reply "$position"
+misused '<POSITION>' reply --cert x
+misused "'--progress'" reply --cert x --progress "$position"
 misused "'b'" check --db a b
 
 # Words that aren't UTF-8.

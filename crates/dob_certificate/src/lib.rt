@@ -19,7 +19,7 @@ pub use claim::Claim;
 pub use entries::Entries;
 pub use entry::{EVER, Entry};
 pub use list_kind::ListKind;
-pub use lists::check_entry;
+pub use lists::{check_entry, check_list};
 pub use lookup::entry_for;
 pub use refusal::Refusal;
 pub use room::Room;

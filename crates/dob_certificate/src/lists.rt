@@ -61,7 +61,7 @@ pub fn check_entry(
 /// # Errors
 ///
 /// `Unsupported` with the class of the first entry that it doesn't support; `Memory`.
-pub(crate) fn check_list(
+pub fn check_list(
     room: &mut Room,
     classes: &Classes,
     kind: ListKind,

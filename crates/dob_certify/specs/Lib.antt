@@ -1,3 +1,4 @@
 -- The definitions.
 pub mod Made  -- what is made of a position
 pub mod Faults  -- why nothing is made
+pub mod Replies  -- the move that a list gives

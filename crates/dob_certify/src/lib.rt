@@ -7,6 +7,8 @@ mod lost;
 mod making;
 mod members;
 mod outcomes;
+mod replies;
 
 pub use fault::Fault;
 pub use making::{Certified, certify, claim_of, rounds_of};
+pub use replies::{Reply, reply_to};

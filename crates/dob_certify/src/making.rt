@@ -11,12 +11,13 @@ use crate::fault::{Fault, Stop};
 use crate::held::held_entries;
 use crate::lost::lost_entries;
 use crate::outcomes::{Listed, Outcomes, number_of};
-use dob_certificate::{Certificate, Claim, EVER, Entries, verify};
-use dob_check::Watch;
+use dob_certificate::{Certificate, Claim, EVER, Entries};
+use dob_check::{Watch, verify};
 use dob_pieces::Position;
 use dob_probe::probe;
 use dob_value::{Table, Value};
 use std::alloc::Global;
+use std::thread::Threads;
 
 /// A certificate with what it proves of a position.
 #[derive(Debug, Drop)]
@@ -59,7 +60,8 @@ pub fn rounds_of(value: Value, is_exact: bool) -> u64 {
 ///
 /// `Table` where the position isn't one of the table's (E7, E26); `TooMany` where a list would have more than `most` entries; `Unproved` where the
 /// lists that were found don't prove the claim, as where the table isn't right; `Memory`.
-pub fn certify<W: Watch>(
+pub fn certify<R: Threads + Sync, W: Watch>(
+    rt: &R,
     alloc: Global,
     table: &Table,
     position: &Position,
@@ -79,7 +81,7 @@ pub fn certify<W: Watch>(
         Err(Stop::Memory) => return Err(Fault::Memory),
         Err(Stop::Full) => return Err(Fault::TooMany(most)),
     };
-    verify(alloc, table.classes(), &certificate, position, claim)?;
+    verify(rt, alloc, table.classes(), &certificate, position, claim)?;
     Ok(Certified { claim, certificate })
 }
 

@@ -1,6 +1,8 @@
 // A table of values with the classes to which the moves of a class lead.
+ghost use Rattle.std.specs.Prelude.{◌≡◌};
+ghost use Rattle.dob_pieces.specs.declared.setup.Setup.{Setup};
 ghost use Rattle.dob_moves.specs.declared.position_status.Status.{Status};
-ghost use Rattle.dob_moves.specs.Moves.{CanGo};
+ghost use Rattle.dob_moves.specs.Moves.{CanGo, Goes};
 ghost use Rattle.dob_moves.specs.Statuses.{AreMoves, HasStatus};
 ghost use Rattle.dob_rank.specs.Families.{IsPositionOf};
 
@@ -93,11 +95,13 @@ fn push_outcomes(
     Ok(())
 }
 
-// The position of the family to which the move leads.
-fn outcome_of(classes: &Classes, position: &Position, the_move: Move) -> Position
+/// The position of the family to which the move leads.
+pub(crate) fn outcome_of(classes: &Classes, position: &Position, the_move: Move) -> Position
     requires member { IsPositionOf classes.now.family position.now.setup }
     requires the_move { HasStatus classes.now.family.profile position.now.setup Status.Open × CanGo classes.now.family.profile position.now.setup the_move }
-    ensures { IsPositionOf classes.now.family result.setup }
+    ensures member { IsPositionOf classes.now.family result.setup }
+    ensures goes { Goes classes.now.family.profile position.now.setup the_move result.setup }
+    ensures alone { (q : Setup) → Goes classes.now.family.profile position.now.setup the_move q → result.setup ≡ q }
 {
     apply(position, the_move)
 }

@@ -10,7 +10,7 @@ use Rattle.dob_run.specs.declared.build_end.Built.{Built}
 use Rattle.dob_run.specs.Built.{IsBuilt}
 use Rattle.dob_run.specs.Faults.{AreWithin}
 use Rattle.dob_query.specs.declared.fault.Fault.{Fault}
-use Rattle.dob_query.specs.declared.fault.Fault.TheVariants.{Text, SetText, TooDeep, Run, File, Table, PuzzlePlies, Memory, Io}
+use Rattle.dob_query.specs.declared.fault.Fault.TheVariants.{Text, SetText, TooDeep, Run, File, Table, PuzzlePlies, Certificate, Memory, Io}
 use Rattle.dob_shelf.specs.Shelves.{ShelfChange}
 use Rattle.dob_cli.specs.Builds.{AreNodes, IsBuildFault, IsTableFor}
 use Rattle.dob_query.specs.Keeping.{IsKeepingFault}
@@ -41,5 +41,6 @@ module _ (c : ShelfChange) (name : List ℕ) (table : ClassTable) where
   keeping_holds profile text number SetText built holds = absurd holds
   keeping_holds profile text number TooDeep built holds = absurd holds
   keeping_holds profile text number PuzzlePlies built holds = absurd holds
+  keeping_holds profile text number (Certificate f) built holds = absurd holds
   keeping_holds profile text number (Run f) built holds = absurd holds
   keeping_holds profile text number (Table f) built holds = absurd holds

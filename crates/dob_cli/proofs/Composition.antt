@@ -8,7 +8,7 @@ use Rattle.dob_dbfile.specs.Sinks.{Change}
 use Rattle.dob_probe.specs.declared.fault.Fault.TheVariants as table_fault
 use Rattle.dob_query.specs.declared.fault.Fault.{Fault}
 use Rattle.dob_query.specs.declared.fault.Fault.TheVariants as fault
-use Rattle.dob_query.specs.declared.fault.Fault.TheVariants.{SetText, TooDeep, Run, File, Table, PuzzlePlies, Memory, Io}
+use Rattle.dob_query.specs.declared.fault.Fault.TheVariants.{SetText, TooDeep, Run, File, Table, PuzzlePlies, Certificate, Memory, Io}
 use Rattle.dob_query.specs.Faults.{status_of}
 use Rattle.dob_query.specs.Endings.{AnswersOver, Ending, TellsOneFault}
 use Rattle.dob_query.specs.Program.{AnswersValue}
@@ -50,6 +50,7 @@ not_done (Table table_fault.OtherSet) e = omega (arith, e)
 not_done (Table (table_fault.Inconsistent class)) e = omega (arith, e)
 not_done (Table table_fault.Memory) e = omega (arith, e)
 not_done PuzzlePlies e = omega (arith, e)
+not_done (Certificate f) e = omega (arith, e)
 not_done Memory e = omega (arith, e)
 not_done Io e = omega (arith, e)
 

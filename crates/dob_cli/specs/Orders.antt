@@ -3,7 +3,7 @@ use Rattle.std.specs.Prelude.{◌≡◌, ℕ, Bool, false, List, Option, Result,
 use Rattle.dob_pieces.specs.declared.profile.Profile.{Profile}
 use Rattle.dob_query.specs.declared.fault.Fault.{Fault}
 use Rattle.dob_words.specs.declared.command.Order.{Order}
-use Rattle.dob_words.specs.declared.command.Order.TheVariants.{Value, Count, Reach, Build, Probe, Each, Line, Check, Look, LookEach, Show, Moves, Best, Stats, Puzzles, Migrate}
+use Rattle.dob_words.specs.declared.command.Order.TheVariants.{Value, Count, Reach, Build, Probe, Each, Line, Check, Look, LookEach, Show, Moves, Best, Stats, Puzzles, Migrate, Certify, Verify, Reply}
 use Rattle.dob_query.specs.declared.each.LineAnswers.{LineAnswers}
 use Rattle.dob_query.specs.Endings.{Ending, GivesLines}
 use Rattle.dob_shelf.specs.Shelves.{Files, SameFiles, SameOthers, ShelfChange}
@@ -17,6 +17,8 @@ use Rattle.dob_query.specs.LooksEach.{AnswersLookEachRight, ArePlaceLines, IsLoo
 use Rattle.dob_query.specs.Migrations.{AreMigrateLines, IsMigrateFault}
 use Rattle.dob_query.specs.Reaches.{AnswersReachRight, AreReachLinesFor, IsReachFaultFor}
 use Rattle.dob_query.specs.declared.reaches.ReachSearch.{ReachSearch}
+use Rattle.dob_query.specs.Certificates.{AreCertifyLines, IsCertifyFault, IsVerifyFault, IsVerifyLine, most_entries}
+use Rattle.dob_query.specs.Replying.{IsReplyFaultOf, IsReplyLine}
 use Rattle.dob_query.specs.Puzzles.{AnswersPuzzlesRight, ArePuzzleLines, IsPuzzlesFault}
 use Rattle.dob_query.specs.declared.puzzles.PuzzleSearch.{PuzzleSearch}
 use Rattle.dob_words.specs.Readings.{text_given}
@@ -52,6 +54,9 @@ AreLinesFor c (Stats file is_csv) = AreStatsLines (IsFileOf (c.before.has file.n
 AreLinesFor c (Puzzles file plies count from seed is_numbered) =
     ArePuzzleLines (IsFileOf (c.before.has file.now)) (search_of plies count from seed is_numbered)
 AreLinesFor c (Migrate file out) = AreMigrateLines c file.now out.now
+AreLinesFor c (Certify file out most is_exact is_watched position) = AreCertifyLines c file.now out.now is_exact position.now
+AreLinesFor c (Verify file is_watched) = IsVerifyLine (c.before.has file.now)
+AreLinesFor c (Reply file position) = IsReplyLine (c.before.has file.now) position.now
 
 -- the fault holds of the order
 abbrev pub IsFaultFor : ShelfChange → Order → Fault → Type 0
@@ -71,11 +76,15 @@ IsFaultFor c (Best file position) = IsPositionFault (c.before.has file.now) posi
 IsFaultFor c (Stats file is_csv) = IsStatsFault (c.before.has file.now)
 IsFaultFor c (Puzzles file plies count from seed is_numbered) = IsPuzzlesFault (c.before.has file.now) plies
 IsFaultFor c (Migrate file out) = IsMigrateFault c file.now out.now
+IsFaultFor c (Certify file out most is_exact is_watched position) = IsCertifyFault c file.now out.now is_exact (most_entries most) position.now
+IsFaultFor c (Verify file is_watched) = IsVerifyFault (c.before.has file.now)
+IsFaultFor c (Reply file position) = IsReplyFaultOf (c.before.has file.now) position.now
 
 -- the order leaves each file what it had, but for the one that it names to be made
 abbrev pub KeepsFiles : Order → Files → Files → Type 0
 KeepsFiles (Build profile set nodes file is_watched) = SameOthers file.now
 KeepsFiles (Migrate file out) = SameOthers out.now
+KeepsFiles (Certify file out most is_exact is_watched position) = SameOthers out.now
 KeepsFiles (Show file picture position) = KeepsButPicture (text_given picture)
 KeepsFiles _ = SameFiles
 

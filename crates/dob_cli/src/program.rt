@@ -17,9 +17,9 @@ use dob_pieces::Profile;
 use dob_probe::Walk;
 use dob_query::{
     Console, Fault, LineAnswers, Lines, PuzzleSearch, ReachSearch, Shelf, answer_best,
-    answer_check, answer_count, answer_each, answer_line, answer_look, answer_look_each,
-    answer_migrate, answer_moves, answer_probe, answer_puzzles, answer_reach, answer_show,
-    answer_stats, answer_value,
+    answer_certify, answer_check, answer_count, answer_each, answer_line, answer_look,
+    answer_look_each, answer_migrate, answer_moves, answer_probe, answer_puzzles, answer_reach,
+    answer_reply, answer_show, answer_stats, answer_value, answer_verify,
 };
 use dob_words::command::{Order, Reading, read_words};
 use std::alloc::{AllocError, Global};
@@ -199,6 +199,18 @@ fn answer<S: Shelf>(
             answer_puzzles(alloc, shelf, file, search)
         }
         Order::Migrate { file, out } => answer_migrate(alloc, shelf, file, out),
+        Order::Certify {
+            file,
+            out,
+            most,
+            is_exact,
+            is_watched,
+            position,
+        } => answer_certify(
+            rt, alloc, shelf, file, out, most, is_exact, is_watched, position,
+        ),
+        Order::Verify { file, is_watched } => answer_verify(rt, alloc, shelf, file, is_watched),
+        Order::Reply { file, position } => answer_reply(alloc, shelf, file, position),
     }
 }
 

@@ -18,7 +18,7 @@ use Rattle.dob_probe.specs.Faults.{IsRefusal}
 use Rattle.dob_probe.specs.declared.fault.Fault as probing
 use Rattle.dob_probe.specs.declared.fault.Fault.TheVariants as table_fault
 use Rattle.dob_query.specs.declared.fault.Fault.{Fault}
-use Rattle.dob_query.specs.declared.fault.Fault.TheVariants.{Text, SetText, TooDeep, Run, File, Table, PuzzlePlies, Memory, Io}
+use Rattle.dob_query.specs.declared.fault.Fault.TheVariants.{Text, SetText, TooDeep, Run, File, Table, PuzzlePlies, Certificate, Memory, Io}
 use Rattle.dob_query.specs.Faults.{fault_of_shelf}
 use Rattle.dob_shelf.specs.declared.shelf.ShelfFault.{ShelfFault}
 use Rattle.dob_shelf.specs.declared.shelf.ShelfFault.TheVariants as shelf_fault
@@ -85,6 +85,7 @@ fault_holds Has Gives words position (Text fault) named gives holds = absurd hol
 fault_holds Has Gives words position SetText named gives holds = absurd holds
 fault_holds Has Gives words position TooDeep named gives holds = absurd holds
 fault_holds Has Gives words position PuzzlePlies named gives holds = absurd holds
+fault_holds Has Gives words position (Certificate f) named gives holds = absurd holds
 fault_holds Has Gives words position (Run fault) named gives holds = absurd holds
 fault_holds Has Gives words position Memory named gives holds = absurd holds
 fault_holds Has Gives words position Io named gives holds = absurd holds

@@ -9,7 +9,7 @@ use Rattle.dob_value.specs.Follows.{ClassTable}
 use Rattle.dob_dbfile.specs.Sinks.{Change, SinkState, change}
 use Rattle.dob_pieces.specs.declared.profile.Profile.{Profile}
 use Rattle.dob_query.specs.declared.fault.Fault.{Fault}
-use Rattle.dob_query.specs.declared.fault.Fault.TheVariants.{Text, SetText, TooDeep, Run, File, Table, PuzzlePlies, Memory, Io}
+use Rattle.dob_query.specs.declared.fault.Fault.TheVariants.{Text, SetText, TooDeep, Run, File, Table, PuzzlePlies, Certificate, Memory, Io}
 use Rattle.dob_shelf.specs.declared.shelf.ShelfFault.{ShelfFault}
 use Rattle.dob_shelf.specs.declared.shelf.ShelfFault.TheVariants as shelf_fault
 use Rattle.dob_query.specs.Each.{AnswersEach, AnswersEachRight, AnswersLines, AreAnswers, AreEachLines, IsAnswer, IsEachFault, IsGivenTo, TellsLinesOf, answer_line, status_of_lines}
@@ -91,6 +91,7 @@ opening_ends c file (Text fault) holds = absurd holds
 opening_ends c file SetText holds = absurd holds
 opening_ends c file TooDeep holds = absurd holds
 opening_ends c file PuzzlePlies holds = absurd holds
+opening_ends c file (Certificate f) holds = absurd holds
 opening_ends c file (Run fault) holds = absurd holds
 opening_ends c file (Table fault) holds = absurd holds
 

@@ -13,3 +13,5 @@ pub mod Migrating  -- the faults of reading a file and of keeping its table are 
 pub mod Puzzling  -- the lines of puzzles, and which classes they are of
 pub mod Reaching  -- what can be reached, by rules or by a file, and how the lines tell it
 pub mod Placed  -- what lines come to by the records of a source is what is owed for looking for each
+pub mod Proven  -- the faults of a certificate's file and of its lists are those of verifying it, and of asking it for a reply
+pub mod MadeFaults  -- the faults of reading a file, of making a certificate and of keeping its bytes are those of certifying

@@ -4,7 +4,7 @@ use Rattle.std.specs.Prelude.{IsTrue}
 use Rattle.dob_value.specs.Follows.{ClassTable}
 use Rattle.dob_dbfile.specs.declared.fault.Fault.TheVariants as file_fault
 use Rattle.dob_query.specs.declared.fault.Fault.{Fault}
-use Rattle.dob_query.specs.declared.fault.Fault.TheVariants.{Text, SetText, TooDeep, Run, File, Table, PuzzlePlies, Memory, Io}
+use Rattle.dob_query.specs.declared.fault.Fault.TheVariants.{Text, SetText, TooDeep, Run, File, Table, PuzzlePlies, Certificate, Memory, Io}
 use Rattle.dob_shelf.specs.Shelves.{SameFiles, ShelfChange, ShelfState}
 use Rattle.dob_query.specs.Keeping.{IsKeepingFault}
 use Rattle.dob_query.specs.Migrations.{IsMigrateFault}
@@ -21,6 +21,7 @@ module _ (c : ShelfChange) (file out : List ℕ) where
   opening_migrates SetText same holds = absurd holds
   opening_migrates TooDeep same holds = absurd holds
   opening_migrates PuzzlePlies same holds = absurd holds
+  opening_migrates (Certificate f) same holds = absurd holds
   opening_migrates (Run f) same holds = absurd holds
   opening_migrates (Table f) same holds = absurd holds
 
@@ -53,5 +54,6 @@ module _ (c : ShelfChange) (file out : List ℕ) where
     keeping_migrates SetText holds = absurd holds
     keeping_migrates TooDeep holds = absurd holds
     keeping_migrates PuzzlePlies holds = absurd holds
+    keeping_migrates (Certificate f) holds = absurd holds
     keeping_migrates (Run f) holds = absurd holds
     keeping_migrates (Table f) holds = absurd holds

@@ -10,7 +10,7 @@ use Rattle.dob_dbfile.specs.Faults.{CountsClasses}
 use Rattle.dob_dbfile.specs.declared.fault.Fault.TheVariants as file_fault
 use Rattle.dob_probe.specs.declared.fault.Fault.TheVariants as table_fault
 use Rattle.dob_query.specs.declared.fault.Fault.{Fault}
-use Rattle.dob_query.specs.declared.fault.Fault.TheVariants.{Text, SetText, TooDeep, Run, File, Table, PuzzlePlies, Memory, Io}
+use Rattle.dob_query.specs.declared.fault.Fault.TheVariants.{Text, SetText, TooDeep, Run, File, Table, PuzzlePlies, Certificate, Memory, Io}
 use Rattle.dob_query.specs.Endings.{Ending}
 use Rattle.dob_query.specs.Faults.{fault_of_shelf, is_io}
 use Rattle.dob_shelf.specs.declared.shelf.ShelfFault.{ShelfFault}
@@ -52,6 +52,7 @@ module _ (Has : List ℕ → Type 0) (Gives Shows : Stream → Type 0) (gives : 
     place_answer line (Err TooDeep) is = absurd is
     place_answer line (Err (Run fault)) is = absurd is
     place_answer line (Err PuzzlePlies) is = absurd is
+    place_answer line (Err (Certificate f)) is = absurd is
     place_answer line (Err Memory) is = absurd is
     place_answer line (Err Io) is = absurd is
 
@@ -77,6 +78,7 @@ module _ (c : ShelfChange) (name : List ℕ) (Gives Shows : Stream → Type 0) (
   places_ended SetText ends = absurd ends
   places_ended TooDeep ends = absurd ends
   places_ended PuzzlePlies ends = absurd ends
+  places_ended (Certificate f) ends = absurd ends
   places_ended (Run fault) ends = absurd ends
   places_ended (Table fault) ends = absurd ends
 
@@ -91,6 +93,7 @@ record_weaker Shows Fewer shows format family line (Err SetText) is = is
 record_weaker Shows Fewer shows format family line (Err TooDeep) is = is
 record_weaker Shows Fewer shows format family line (Err (Run fault)) is = is
 record_weaker Shows Fewer shows format family line (Err PuzzlePlies) is = is
+record_weaker Shows Fewer shows format family line (Err (Certificate f)) is = is
 record_weaker Shows Fewer shows format family line (Err Memory) is = is
 record_weaker Shows Fewer shows format family line (Err Io) is = is
 
@@ -124,6 +127,7 @@ device_ends Shows format family line SetText is io = absurd is
 device_ends Shows format family line TooDeep is io = absurd is
 device_ends Shows format family line (Run fault) is io = absurd is
 device_ends Shows format family line PuzzlePlies is io = absurd is
+device_ends Shows format family line (Certificate f) is io = absurd is
 device_ends Shows format family line Memory is io = absurd is
 device_ends Shows format family line Io is io = absurd is
 
@@ -146,6 +150,7 @@ ends_all Gives Shows Later later known SetText ends = absurd ends
 ends_all Gives Shows Later later known TooDeep ends = absurd ends
 ends_all Gives Shows Later later known (Run fault) ends = absurd ends
 ends_all Gives Shows Later later known PuzzlePlies ends = absurd ends
+ends_all Gives Shows Later later known (Certificate f) ends = absurd ends
 ends_all Gives Shows Later later known Io ends = absurd ends
 
 -- ---- by the file of a value table

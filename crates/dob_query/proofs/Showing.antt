@@ -8,7 +8,7 @@ use Rattle.dob_probe.specs.declared.fault.Fault as probing
 use Rattle.dob_probe.specs.declared.fault.Fault.TheVariants as table_fault
 use Rattle.dob_probe.specs.Faults.{IsFaultOfLine}
 use Rattle.dob_query.specs.declared.fault.Fault.{Fault}
-use Rattle.dob_query.specs.declared.fault.Fault.TheVariants.{Text, SetText, TooDeep, Run, File, Table, PuzzlePlies, Memory, Io}
+use Rattle.dob_query.specs.declared.fault.Fault.TheVariants.{Text, SetText, TooDeep, Run, File, Table, PuzzlePlies, Certificate, Memory, Io}
 use Rattle.dob_shelf.specs.Shelves.{Files, SameFiles, SameOthers, ShelfChange, ShelfState}
 use Rattle.dob_query.specs.Shows.{IsDrawingFault, IsFaultBy, IsPictureFault, IsShowFault}
 use Rattle.dob_query.specs.Tables.{IsFileOf, IsOpeningFault, IsProbingFault, IsTextOf}
@@ -34,6 +34,7 @@ module _ (Has : List ℕ → Type 0) (position : Setup) where
   opening_probes SetText holds = absurd holds
   opening_probes TooDeep holds = absurd holds
   opening_probes PuzzlePlies holds = absurd holds
+  opening_probes (Certificate f) holds = absurd holds
   opening_probes (Run f) holds = absurd holds
   opening_probes (Table f) holds = absurd holds
 
@@ -53,6 +54,7 @@ probing_draws Has file position (Text f) holds = absurd holds
 probing_draws Has file position SetText holds = absurd holds
 probing_draws Has file position TooDeep holds = absurd holds
 probing_draws Has file position PuzzlePlies holds = absurd holds
+probing_draws Has file position (Certificate f) holds = absurd holds
 probing_draws Has file position (Run f) holds = absurd holds
 probing_draws Has file position (Table f) holds = holds
 
@@ -74,6 +76,7 @@ module _ (c : ShelfChange) (file : Option (List ℕ)) (words : List ℕ) (positi
   drawing_shows picture SetText same holds = (position, named, holds, same)
   drawing_shows picture TooDeep same holds = (position, named, holds, same)
   drawing_shows picture PuzzlePlies same holds = (position, named, holds, same)
+  drawing_shows picture (Certificate f) same holds = (position, named, holds, same)
 
   pub picture_shows : (mid : ShelfState) (name : List ℕ) (fault : Fault) → SameFiles c.before.has mid.has → mid.tells ≡ c.before.tells
       → IsPictureFault (record c { before = mid }) name fault → IsShowFault c file (Some name) words fault
@@ -90,6 +93,7 @@ module _ (c : ShelfChange) (file : Option (List ℕ)) (words : List ℕ) (positi
   picture_shows mid name SetText same told holds = absurd holds
   picture_shows mid name TooDeep same told holds = absurd holds
   picture_shows mid name PuzzlePlies same told holds = absurd holds
+  picture_shows mid name (Certificate f) same told holds = absurd holds
   picture_shows mid name (Run f) same told holds = absurd holds
   picture_shows mid name (File f) same told holds = absurd holds
   picture_shows mid name (Table f) same told holds = absurd holds

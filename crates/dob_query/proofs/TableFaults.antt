@@ -14,7 +14,7 @@ use Rattle.dob_probe.specs.ValuedMoves.{AreValuedMoves}
 use Rattle.dob_probe.proofs.ByValue.{valued_rightly}
 use Rattle.dob_probe.specs.Faults.{IsFaultOfCheck, IsFaultOfLine, IsFaultOfMoves, IsRefusal}
 use Rattle.dob_query.specs.declared.fault.Fault.{Fault}
-use Rattle.dob_query.specs.declared.fault.Fault.TheVariants.{Text, SetText, TooDeep, Run, File, Table, PuzzlePlies, Memory, Io}
+use Rattle.dob_query.specs.declared.fault.Fault.TheVariants.{Text, SetText, TooDeep, Run, File, Table, PuzzlePlies, Certificate, Memory, Io}
 use Rattle.dob_shelf.specs.Shelves.{FailsWhere, ShelfChange, is_failed}
 use Rattle.dob_query.specs.Faults.{fault_of_shelf, is_io}
 use Rattle.dob_shelf.specs.declared.shelf.ShelfFault.{ShelfFault}
@@ -83,6 +83,7 @@ opening_fault_holds Has words position (Text fault) named holds = absurd holds
 opening_fault_holds Has words position SetText named holds = absurd holds
 opening_fault_holds Has words position TooDeep named holds = absurd holds
 opening_fault_holds Has words position PuzzlePlies named holds = absurd holds
+opening_fault_holds Has words position (Certificate f) named holds = absurd holds
 opening_fault_holds Has words position (Run fault) named holds = absurd holds
 opening_fault_holds Has words position (Table fault) named holds = absurd holds
 opening_fault_holds Has words position Memory named holds = tt

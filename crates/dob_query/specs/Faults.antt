@@ -15,8 +15,23 @@ use Rattle.dob_probe.specs.declared.fault.Fault.TheVariants as table_fault
 use Rattle.dob_pieces.specs.Bytes.{line_feed}
 use Rattle.dob_shelf.specs.declared.shelf.ShelfFault as shelf
 use Rattle.dob_shelf.specs.declared.shelf.ShelfFault.TheVariants as shelf_fault
+use Rattle.dob_certificate.specs.Refusals as lists
+use Rattle.dob_certificate.specs.declared.refusal.Refusal.TheVariants as refusal
+use Rattle.dob_certfile.specs.Faults as certificate_file
+use Rattle.dob_certfile.specs.declared.defect.WriteFault.TheVariants as write_fault
+use Rattle.dob_certify.specs.Faults as making
+use Rattle.dob_certify.specs.declared.fault.Fault.TheVariants as making_fault
+use Rattle.dob_query.specs.declared.certificate_fault.CertificateFault.{CertificateFault}
+use Rattle.dob_query.specs.declared.certificate_fault.CertificateFault.TheVariants.{Defect, Unproved, TooMany, Unfit, Unlisted}
 use Rattle.dob_query.specs.declared.fault.Fault.{Fault}
-use Rattle.dob_query.specs.declared.fault.Fault.TheVariants.{Text, SetText, TooDeep, Run, File, Table, PuzzlePlies, Memory, Io}
+use Rattle.dob_query.specs.declared.fault.Fault.TheVariants.{Text, SetText, TooDeep, Run, File, Table, PuzzlePlies, Certificate, Memory, Io}
+
+abbrev pub certificate_fault_text : CertificateFault → List ℕ
+certificate_fault_text (Defect defect) = certificate_file.defect_text defect
+certificate_fault_text (Unproved refusal) = lists.fault_text refusal
+certificate_fault_text (TooMany most) = making.fault_text (making_fault.TooMany most)
+certificate_fault_text Unfit = certificate_file.write_fault_text write_fault.Unfit
+certificate_fault_text Unlisted = codes "E41 Unlisted"
 
 abbrev pub fault_text : Fault → List ℕ
 fault_text (Text fault) = position.fault_text fault
@@ -26,6 +41,7 @@ fault_text (Run fault) = run.fault_text fault
 fault_text (File fault) = file.fault_text fault
 fault_text (Table fault) = table.fault_text fault
 fault_text PuzzlePlies = codes "--plies is an odd number of at least 3"
+fault_text (Certificate fault) = certificate_fault_text fault
 fault_text Memory = memory_text
 fault_text Io = file.fault_text (file_fault.Io 0)
 
@@ -51,6 +67,12 @@ abbrev pub is_io_error : {X : Type 0} → Result X Fault → Bool
 is_io_error (Ok x) = false
 is_io_error (Err fault) = is_io fault
 
+-- 3 where no memory was left or a distance is above what a file says, 1 where the certificate is refused, or is none
+abbrev pub status_of_certificate : CertificateFault → ℕ
+status_of_certificate (Unproved refusal.Memory) = 3
+status_of_certificate Unfit = 3
+status_of_certificate _ = 1
+
 -- 1 where what was asked is refused, 2 where the words make no sense, 3 where the program failed
 abbrev pub status_of : Fault → ℕ
 status_of (Text _) = 1
@@ -65,6 +87,7 @@ status_of (File _) = 1
 status_of (Table table_fault.Memory) = 3
 status_of (Table _) = 1
 status_of PuzzlePlies = 2
+status_of (Certificate fault) = status_of_certificate fault
 status_of Memory = 3
 status_of Io = 3
 

@@ -14,3 +14,5 @@ pub mod Stats
 pub mod Puzzles
 pub mod Reaches
 pub mod LooksEach
+pub mod Certificates
+pub mod Replying

@@ -2,6 +2,7 @@
 ghost use Rattle.std.specs.Prelude.{◌≡◌, Some};
 ghost use Rattle.dob_query.specs.declared.fault.Fault.TheVariants as fault;
 
+use crate::certificate_fault::CertificateFault;
 use dob_pieces::{Memory, SetText};
 use dob_shelf::ShelfFault;
 use dob_text::TextFault;
@@ -25,6 +26,8 @@ pub enum Fault {
     Table(dob_probe::Fault),
     /// No puzzle has so many plies: an even number, or less than 3.
     PuzzlePlies,
+    /// E15 to E20, E27, E30 to E41: the certificate proves nothing, there is none, or it says nothing of the position.
+    Certificate(CertificateFault),
     /// E23: a growth was refused for lack of memory.
     Memory,
     /// E24: standard output failed, or the file couldn't be opened or made.
@@ -44,6 +47,7 @@ impl Fault {
         match self {
             Fault::Text(_) | Fault::SetText => 1,
             Fault::PuzzlePlies => 2,
+            Fault::Certificate(fault) => fault.status(),
             Fault::TooDeep | Fault::Memory | Fault::Io => 3,
             Fault::Run(dob_stops::Fault::Stopped { .. } | dob_stops::Fault::Memory) => 3,
             Fault::Run(_) => 1,
@@ -63,7 +67,7 @@ impl Fault {
             Fault::File(_) => false,
             Fault::Text(_) | Fault::SetText | Fault::TooDeep | Fault::Run(_) | Fault::Table(_) =>
                 false,
-            Fault::PuzzlePlies | Fault::Memory => false,
+            Fault::PuzzlePlies | Fault::Certificate(_) | Fault::Memory => false,
         }
     }
 }
@@ -82,6 +86,7 @@ impl fmt::Display for Fault {
             Fault::File(fault) => write!(f, "{fault}"),
             Fault::Table(fault) => write!(f, "{fault}"),
             Fault::PuzzlePlies => write!(f, "--plies is an odd number of at least 3"),
+            Fault::Certificate(fault) => write!(f, "{fault}"),
             Fault::Memory => write!(f, "{Memory}"),
             Fault::Io => write!(f, "{}", dob_dbfile::Fault::Io(0)),
         }

@@ -1,6 +1,9 @@
 // What the program answers by database files and by definition: the lines of each query, over shelves of files.
 #![tactic(auto)]
 
+mod certificate_fault;
+mod certificates;
+mod certifying;
 mod counts;
 mod each;
 mod fault;
@@ -13,6 +16,7 @@ mod positions;
 mod progress;
 mod puzzles;
 mod reaches;
+mod replying;
 mod shows;
 mod stats;
 mod tables;
@@ -20,6 +24,9 @@ mod tally;
 mod valued_moves;
 mod values;
 
+pub use certificate_fault::CertificateFault;
+pub use certificates::answer_verify;
+pub use certifying::answer_certify;
 pub use counts::answer_count;
 pub use dob_shelf::{DiskFile, DiskShelf, Heard, MemShelf, Note, Place, Shelf, ShelfFault};
 pub use each::{LineAnswers, answer_each};
@@ -31,6 +38,7 @@ pub use migrations::answer_migrate;
 pub use progress::{Console, Progress, tell_need};
 pub use puzzles::{PuzzleSearch, answer_puzzles};
 pub use reaches::{ReachSearch, answer_reach};
+pub use replying::answer_reply;
 pub use shows::answer_show;
 pub use stats::answer_stats;
 pub use tables::{answer_check, answer_line, answer_probe};

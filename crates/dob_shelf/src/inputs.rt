@@ -15,7 +15,7 @@ const ROOM: usize = 4096;
 /// # Errors
 ///
 /// The source failed before its end; or memory for the bytes was refused.
-pub(crate) fn read_all<R: Source>(alloc: Global, source: &mut R) -> Result<Vec<u8>, ShelfFault>
+pub fn read_all<R: Source>(alloc: Global, source: &mut R) -> Result<Vec<u8>, ShelfFault>
     ensures given { (bytes : List ℕ) → R.gives source.old (whole bytes)
         → MatchResult result (λ read. read.items ≡ bytes) (λ fault. fault ≡ ShelfFault.Memory) }
     ensures failed { R.has_failed source.new ≡ (R.has_failed source.old || is_failed result) }

@@ -7,5 +7,6 @@ mod said;
 mod shelf;
 
 pub use disk::{DiskFile, DiskShelf};
+pub use inputs::read_all;
 pub use said::{Heard, Note, Place};
 pub use shelf::{MemShelf, Shelf, ShelfFault};

@@ -29,6 +29,9 @@ name_of_order (order.Best _ _) = codes "best"
 name_of_order (order.Stats _ _) = codes "stats"
 name_of_order (order.Puzzles _ _ _ _ _ _) = codes "puzzles"
 name_of_order (order.Migrate _ _) = codes "migrate"
+name_of_order (order.Certify _ _ _ _ _ _) = codes "certify"
+name_of_order (order.Verify _ _) = codes "verify"
+name_of_order (order.Reply _ _) = codes "reply"
 
 -- the text that may be left out
 abbrev pub text_given : Option (Bor Text) → Option Text
@@ -62,6 +65,11 @@ HasTexts texts (order.Puzzles file plies count from seed is_numbered) =
     × (plies ≡ number_in d) × (is_number n ≡ true) × (count ≡ number_in n) × (from ≡ option_map number_in f) × (seed ≡ option_map number_in s)
     × (is_numbered ≡ is_some flag)
 HasTexts texts (order.Migrate file out) = Some file.now ∷ Some out.now ∷ [] ≡ texts
+HasTexts texts (order.Certify file out most is_exact is_watched position) =
+    (n exact flag : Option Text) × (Some file.now ∷ Some out.now ∷ n ∷ exact ∷ flag ∷ Some position.now ∷ [] ≡ texts) × IfSome n (λ t. is_number t ≡ true)
+    × (most ≡ option_map number_in n) × (is_exact ≡ is_some exact) × (is_watched ≡ is_some flag)
+HasTexts texts (order.Verify file is_watched) = (flag : Option Text) × (Some file.now ∷ flag ∷ [] ≡ texts) × (is_watched ≡ is_some flag)
+HasTexts texts (order.Reply file position) = Some file.now ∷ Some position.now ∷ [] ≡ texts
 
 -- the order is for this subcommand and these texts
 abbrev pub IsOrder : Text → List (Option Text) → Order → Type 0

@@ -118,6 +118,26 @@ pub enum Order<'a> {
         file: &'a str,
         out: &'a str,
     },
+    /// To make a certificate of the position by the table of the file, exact where that is asked for and of so many entries at most where a
+    /// number is given, and to keep it under the other name; and to say how far that is where it is watched.
+    Certify {
+        file: &'a str,
+        out: &'a str,
+        most: Option<u64>,
+        is_exact: bool,
+        is_watched: bool,
+        position: &'a str,
+    },
+    /// To say what the certificate of the file proves, and how far that is where it is watched.
+    Verify {
+        file: &'a str,
+        is_watched: bool,
+    },
+    /// To print the move that the certificate of the file gives for the position.
+    Reply {
+        file: &'a str,
+        position: &'a str,
+    },
 }
 
 /// What the words come to.

@@ -4,7 +4,7 @@ pub(crate) const PROGRAM: &str =
     "`dobutsu value --help` says how a position is written and what the rules A and B are, `dobutsu count --help` how a
 piece set is.
 
-A fault is one line on standard error. The status is 1, and 3 for E12, E14, E23 and E24:
+A fault is one line on standard error. The status is 1, and 3 for E12, E14, E23, E24 and E40:
 
   E1 Shape         the text isn't fifteen bytes with `/` at 3, 7 and 11, then twice a space and a word
   E2 Letter        a square is none of `.LGECHlgech`
@@ -32,6 +32,7 @@ A fault is one line on standard error. The status is 1, and 3 for E12, E14, E23 
   E26 FarChick     by rules B, or of a file of rules B: a chick stands on its own far row. So
                    `dobutsu value --rules B \"C.l/.../.../L.. - -\"` is refused
   E27 ProfileByte  byte 12 of the file says other rules than A and B
+  E30 to E41       of `certify`, `verify` and `reply`: `dobutsu verify --help` has them
 
 A usage error ends with status 2.";
 
@@ -239,6 +240,59 @@ Answers: `classes N`, where a class is a position with its mirror image.
 
 Example: dobutsu migrate --db old.db --out new.db prints `classes 54` for lions alone.";
 
+pub(crate) const CERTIFY: &str =
+    "A certificate is a small file that proves a position's value without the database file: `dobutsu verify` checks it, and trusts no one who made
+it. It lists classes that are lost, each within so many plies: every move of a listed class is answered by one to a class that is listed with two
+plies less, or has lost. What is made has passed that check before it is written, so that it is right even where FILE isn't.
+
+Without `--exact` it claims a win or a loss within so many plies. With `--exact` it claims so many and no fewer, by a second list, of classes that
+aren't lost sooner: for a long win or loss of a set with six pieces that has tens of millions of entries, and takes minutes and a gigabyte. A draw
+is always exact.
+
+With `--most N` it gives up with E39 as soon as there would be more than N entries. With `--progress` it says on standard error, a line a second at
+most, how far it is, as `dobutsu build --help` says.
+
+CERT is written with `.part` behind its name first, as `dobutsu build --help` says of its file.
+
+Answers: the line of `dobutsu verify`, for the position as it is given, then `lost N` and `held N`, the entries of the two lists.
+
+Example: dobutsu certify --db 000.db --out 000.cert \"..l/.../L../... - -\" prints `..l/.../L../... - - win within 3`, `lost 1` and `held 0`.";
+
+pub(crate) const VERIFY: &str =
+    "What it prints is proved by the file alone and the rules of the game, whoever made it: each entry is tested by its moves, and then what is claimed
+of the position by the entries. No database file is read. A position is printed as the first of itself and its mirror image.
+
+With `--progress` it says on standard error, a line a second at most, how far it is, as `dobutsu check --help` says.
+
+Answers: `POSITION loss within D` or `POSITION win within D`, where an exact certificate has no `within`, or `POSITION draw`.
+
+A file that proves nothing is refused, with status 1, by the first fault that it has: E15 to E20 and E27 as `dobutsu --help` says of database files, or
+
+  E30 Unsupported class N   the entry of class N isn't shown by the moves of its class
+  E31 Claim                 the entries don't show what is claimed of the position
+  E32 Version               the file is of another version
+  E33 RootClass             its piece set has no class of the position's number
+  E34 ClaimByte             its claim is none
+  E35 EntryCount            it counts more entries than there are classes
+  E36 EntryNumber           an entry's number isn't in its fewest bytes
+  E37 EntryOrder            an entry's class isn't above the one before it
+  E38 EntryClass            its piece set has no class of an entry's number
+
+`dobutsu certify` may end with E39 TooMany, where there would be more entries than `--most` allows, or E40 Unfit, where a distance is above 254
+plies; and `dobutsu reply` with E41 Unlisted, where the certificate says nothing of the position.
+
+Example: dobutsu verify --cert testdata/222_A.cert prints `gle/.c./.C./ELG - - loss within 78`: the second player wins.";
+
+pub(crate) const REPLY: &str =
+    "A certificate is a book for the winner: for each position that can come up while the loser plays anything, it has a winning move. The lost
+list of CERT is checked first, as `dobutsu verify` checks it; so the move is a winning one, whoever made the file.
+
+Answers: `MOVE win within D`, the move and in how many plies it wins at most; `loss within D` where the side to move is the one that is lost. Where
+the other side's lion can be caught that catch, `MOVE win within 1`. Of a position of which the certificate says nothing it says E41 Unlisted, with
+status 1. `dobutsu line --help` says how a move is written.
+
+Example: dobutsu reply --cert 000.cert \"..l/.../L../... - -\" prints `La2-a3 win within 3`.";
+
 /// What the subcommand of that name says of itself.
 pub(crate) fn help_of(name: &str) -> &'static str {
     match name {
@@ -256,6 +310,9 @@ pub(crate) fn help_of(name: &str) -> &'static str {
         "stats" => STATS,
         "puzzles" => PUZZLES,
         "migrate" => MIGRATE,
+        "certify" => CERTIFY,
+        "verify" => VERIFY,
+        "reply" => REPLY,
         _ => PROGRAM,
     }
 }

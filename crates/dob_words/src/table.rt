@@ -66,6 +66,8 @@ const SET: Choice = (
 
 const DB: Choice = ("db", ("FILE", Kind::Any, Need::Must, "The database file"));
 
+const CERT: Choice = ("cert", ("CERT", Kind::Any, Need::Must, "The certificate"));
+
 const PROGRESS: Flag = ("progress", "Says on standard error how far it is");
 
 const POSITION: Place = ("POSITION", Kind::Any, Need::Must, "The position, as text");
@@ -285,5 +287,52 @@ pub const ROWS: &[Row] = &[
         ],
         &[],
         &[],
+    ),
+    (
+        "certify",
+        "Makes a certificate of a position's value by a database file",
+        &[
+            DB,
+            (
+                "out",
+                (
+                    "CERT",
+                    Kind::Any,
+                    Need::Must,
+                    "The certificate, made anew or overwritten",
+                ),
+            ),
+            (
+                "most",
+                (
+                    "N",
+                    Kind::Number,
+                    Need::May,
+                    "How many entries the certificate has at most; as many as it takes, where it is left out",
+                ),
+            ),
+        ],
+        &[
+            (
+                "exact",
+                "Claims a win or a loss in so many plies and no fewer, not only within so many",
+            ),
+            PROGRESS,
+        ],
+        &[POSITION],
+    ),
+    (
+        "verify",
+        "Checks that a certificate proves what it claims, and prints that",
+        &[CERT],
+        &[PROGRESS],
+        &[],
+    ),
+    (
+        "reply",
+        "Prints the winning move that a certificate gives",
+        &[CERT],
+        &[],
+        &[POSITION],
     ),
 ];

@@ -93,6 +93,15 @@ pub(super) fn order_named<'a>(name: &str, inner: &ArgMatches<'a>) -> Option<Orde
             file: text(inner, "FILE"),
             out: text(inner, "OUT"),
         }),
+        "certify" => Some(certify_order(inner)),
+        "verify" => Some(Order::Verify {
+            file: text(inner, "CERT"),
+            is_watched: inner.get_str("progress").is_some(),
+        }),
+        "reply" => Some(Order::Reply {
+            file: text(inner, "CERT"),
+            position: text(inner, "POSITION"),
+        }),
         _ => unreachable!(),
     }
 }
@@ -137,6 +146,21 @@ fn puzzles_order<'a>(inner: &ArgMatches<'a>) -> Order<'a>
         from: number_given(inner.get_str("CLASS")),
         seed: number_given(inner.get_str("SEED")),
         is_numbered: inner.get_str("numbered").is_some(),
+    }
+}
+
+// What the matches of `certify` ask for.
+fn certify_order<'a>(inner: &ArgMatches<'a>) -> Order<'a>
+    requires { HasFit (form_named (codes "certify")) inner.now }
+    ensures { IsOrder (codes "certify") (texts_in (form_named (codes "certify")) inner.now) result }
+{
+    Order::Certify {
+        file: text(inner, "FILE"),
+        out: text(inner, "CERT"),
+        most: number_given(inner.get_str("N")),
+        is_exact: inner.get_str("exact").is_some(),
+        is_watched: inner.get_str("progress").is_some(),
+        position: text(inner, "POSITION"),
     }
 }
 

@@ -50,3 +50,12 @@ returns-in-Migrate g c = rw c.in-Migrate.is c.answer_migrate.ensures
 
 pub returns-in-Puzzles : goal.returns-in-Puzzles
 returns-in-Puzzles g c = rw c.in-Puzzles.is (rw c.search_of-search.ensures at c.answer_puzzles.ensures)
+
+pub returns-in-Certify : goal.returns-in-Certify
+returns-in-Certify g c = rw c.in-Certify.is c.answer_certify.ensures
+
+pub returns-in-Verify : goal.returns-in-Verify
+returns-in-Verify g c = rw c.in-Verify.is c.answer_verify.ensures
+
+pub returns-in-Reply : goal.returns-in-Reply
+returns-in-Reply g c = rw c.in-Reply.is c.answer_reply.ensures

@@ -1,0 +1,162 @@
+-- The faults of reading a certificate and of its lists are those of verifying it, of making one, and of asking one for a reply.
+use Rattle.std.proofs.Common.{◌≡◌, ◌∙◌, ◌||◌, ◌⊎◌, ℕ, Bool, false, List, inl, inr, refl, subst, sym}
+use Rattle.std.specs.Prelude.{Err, IfErr, IfOk, IsTrue, Ok, Result, String, string_bytes}
+use Rattle.dob_pieces.specs.declared.setup.Setup.{Setup}
+use Rattle.dob_certificate.specs.declared.refusal.Refusal.{Refusal}
+use Rattle.dob_certificate.specs.declared.refusal.Refusal.TheVariants as refusal
+use Rattle.dob_certfile.specs.declared.defect.Defect.{Defect as AnyDefect}
+use Rattle.dob_certfile.specs.declared.defect.ReadFault.{ReadFault}
+use Rattle.dob_certfile.specs.declared.defect.ReadFault.TheVariants as reading
+use Rattle.dob_certfile.specs.Format.{Content}
+use Rattle.dob_certfile.specs.Reading.{HasCertFault}
+use Rattle.dob_query.specs.declared.certificate_fault.CertificateFault.TheVariants.{Defect, Unproved, TooMany, Unfit, Unlisted}
+use Rattle.dob_query.specs.declared.fault.Fault.{Fault}
+use Rattle.dob_query.specs.declared.fault.Fault.TheVariants.{Text, SetText, TooDeep, Run, File, Table, PuzzlePlies, Certificate, Memory, Io}
+use Rattle.dob_query.specs.Certificates.{AreBytes, GivesVerify, IsBytesFault, IsCertificateFile, IsDisproved, IsReadingFault, IsVerdict, IsVerdictFault, IsVerifyFault, fault_of_reading}
+use Rattle.dob_query.specs.Faults.{fault_of_shelf, is_io}
+use Rattle.dob_query.specs.Replying.{GivesReply, IsReplyFault, IsReplyFaultOf, IsToldReply}
+use Rattle.dob_query.specs.Tables.{IsShut, IsTextOf}
+use Rattle.dob_query.proofs.TableFaults.{is_shut}
+use Rattle.dob_shelf.specs.Shelves.{FailsWhere, ShelfChange}
+use Rattle.dob_shelf.specs.declared.shelf.ShelfFault.{ShelfFault}
+use Rattle.dob_shelf.specs.declared.shelf.ShelfFault.TheVariants as shelf_fault
+
+-- ---- the file
+
+module _ (Has : List ℕ → Type 0) where
+  -- a file that a shelf has isn't read only for lack of memory
+  pub shelf_bytes : (lower : ShelfFault) → ((bytes : List ℕ) → Has bytes → lower ≡ shelf_fault.Memory) → IsBytesFault Has (fault_of_shelf lower)
+  shelf_bytes shelf_fault.Memory found = tt
+  shelf_bytes shelf_fault.Failed found = is_shut Has found
+
+  pub bytes_read : (fault : Fault) → IsBytesFault Has fault → IsReadingFault Has fault
+  bytes_read Memory holds = tt
+  bytes_read Io holds = holds
+  bytes_read (Text f) holds = absurd holds
+  bytes_read SetText holds = absurd holds
+  bytes_read TooDeep holds = absurd holds
+  bytes_read PuzzlePlies holds = absurd holds
+  bytes_read (Certificate f) holds = absurd holds
+  bytes_read (Run f) holds = absurd holds
+  bytes_read (File f) holds = absurd holds
+  bytes_read (Table f) holds = absurd holds
+
+  -- the defect of the bytes is the file's
+  pub defect_read : (found : List ℕ) → AreBytes Has found → (given : ReadFault)
+      → (given ≡ reading.Memory) ⊎ ((defect : AnyDefect) × (given ≡ reading.Defect defect) × HasCertFault found defect)
+      → IsReadingFault Has (fault_of_reading given)
+  defect_read found are reading.Memory why = tt
+  defect_read found are (reading.Defect defect) (inl memory) = absurd (cc)
+  defect_read found are (reading.Defect defect) (inr why) = λ bytes has.
+      let same : why.0 ≡ defect = cc in
+      subst (λ (b : List ℕ). HasCertFault b defect) (are bytes has) (subst (λ (d : AnyDefect). HasCertFault found d) same why.2)
+
+  -- ---- verifying
+
+  pub read_verifies : (fault : Fault) → IsReadingFault Has fault → IsVerifyFault Has fault
+  read_verifies (Certificate (Defect d)) holds = holds
+  read_verifies (Certificate (Unproved r)) holds = absurd holds
+  read_verifies (Certificate (TooMany n)) holds = absurd holds
+  read_verifies (Certificate Unfit) holds = absurd holds
+  read_verifies (Certificate Unlisted) holds = absurd holds
+  read_verifies Memory holds = tt
+  read_verifies Io holds = holds
+  read_verifies (Text f) holds = absurd holds
+  read_verifies SetText holds = absurd holds
+  read_verifies TooDeep holds = absurd holds
+  read_verifies PuzzlePlies holds = absurd holds
+  read_verifies (Run f) holds = absurd holds
+  read_verifies (File f) holds = absurd holds
+  read_verifies (Table f) holds = absurd holds
+
+  pub verdict_verifies : (said : Content) → IsCertificateFile Has said → (fault : Fault) → IsVerdictFault said fault → IsVerifyFault Has fault
+  verdict_verifies said is (Certificate (Unproved r)) holds = (said, is, holds)
+  verdict_verifies said is (Certificate (Defect d)) holds = absurd holds
+  verdict_verifies said is (Certificate (TooMany n)) holds = absurd holds
+  verdict_verifies said is (Certificate Unfit) holds = absurd holds
+  verdict_verifies said is (Certificate Unlisted) holds = absurd holds
+  verdict_verifies said is Memory holds = tt
+  verdict_verifies said is Io holds = absurd holds
+  verdict_verifies said is (Text f) holds = absurd holds
+  verdict_verifies said is SetText holds = absurd holds
+  verdict_verifies said is TooDeep holds = absurd holds
+  verdict_verifies said is PuzzlePlies holds = absurd holds
+  verdict_verifies said is (Run f) holds = absurd holds
+  verdict_verifies said is (File f) holds = absurd holds
+  verdict_verifies said is (Table f) holds = absurd holds
+
+-- a defect of a file is no device's
+pub read_fails : (before after : Bool) (given : ReadFault) → after ≡ (before || false) → after ≡ (before || is_io (fault_of_reading given))
+read_fails before after reading.Memory failed = failed
+read_fails before after (reading.Defect defect) failed = failed
+
+verdict_fails : (said : Content) (before after : Bool) (fault : Fault) → IsVerdictFault said fault → after ≡ (before || false)
+    → after ≡ (before || is_io fault)
+verdict_fails said before after (Certificate f) holds failed = failed
+verdict_fails said before after Memory holds failed = failed
+verdict_fails said before after Io holds failed = absurd holds
+verdict_fails said before after (Text f) holds failed = failed
+verdict_fails said before after SetText holds failed = failed
+verdict_fails said before after TooDeep holds failed = failed
+verdict_fails said before after PuzzlePlies holds failed = failed
+verdict_fails said before after (Run f) holds failed = failed
+verdict_fails said before after (File f) holds failed = absurd holds
+verdict_fails said before after (Table f) holds failed = failed
+
+-- what is given for a certificate is given for its file
+pub verified : {X : Type 0} (c : ShelfChange) (file : List ℕ) (result : Result (String X) Fault) (said : Content) → IsCertificateFile (c.before.has file) said
+    → FailsWhere c false → IfOk result (λ line. IsVerdict said (string_bytes line)) → IfErr result (IsVerdictFault said) → GivesVerify file result c
+verified c file (Ok line) said is failed ok err = ((said, is, ok), failed)
+verified c file (Err fault) said is failed ok err =
+    (verdict_verifies (c.before.has file) said is fault err, verdict_fails said c.before.has_failed c.after.has_failed fault err failed)
+
+-- ---- asking for a reply
+
+reply_fails : (said : Content) (p : Setup) (before after : Bool) (fault : Fault) → IsReplyFault said p fault → after ≡ (before || false)
+    → after ≡ (before || is_io fault)
+reply_fails said p before after (Certificate f) holds failed = failed
+reply_fails said p before after Memory holds failed = failed
+reply_fails said p before after Io holds failed = absurd holds
+reply_fails said p before after (Text f) holds failed = failed
+reply_fails said p before after SetText holds failed = failed
+reply_fails said p before after TooDeep holds failed = failed
+reply_fails said p before after PuzzlePlies holds failed = failed
+reply_fails said p before after (Run f) holds failed = failed
+reply_fails said p before after (File f) holds failed = absurd holds
+reply_fails said p before after (Table f) holds failed = failed
+
+module _ (Has : List ℕ → Type 0) (words : List ℕ) (position : Setup) (named : IsTextOf words position) where
+  pub read_replies : (fault : Fault) → IsReadingFault Has fault → IsReplyFaultOf Has words fault
+  read_replies (Text f) holds = absurd holds
+  read_replies (Certificate f) holds = (position, named, inl holds)
+  read_replies Memory holds = (position, named, inl tt)
+  read_replies Io holds = (position, named, inl holds)
+  read_replies SetText holds = absurd holds
+  read_replies TooDeep holds = absurd holds
+  read_replies PuzzlePlies holds = absurd holds
+  read_replies (Run f) holds = absurd holds
+  read_replies (File f) holds = absurd holds
+  read_replies (Table f) holds = absurd holds
+
+  told_replies : (said : Content) → IsCertificateFile Has said → (fault : Fault) → IsReplyFault said position fault → IsReplyFaultOf Has words fault
+  told_replies said is (Text f) holds = absurd holds
+  told_replies said is (Certificate f) holds = (position, named, inr (said, is, holds))
+  told_replies said is Memory holds = (position, named, inl tt)
+  told_replies said is Io holds = absurd holds
+  told_replies said is SetText holds = absurd holds
+  told_replies said is TooDeep holds = absurd holds
+  told_replies said is PuzzlePlies holds = absurd holds
+  told_replies said is (Run f) holds = absurd holds
+  told_replies said is (File f) holds = absurd holds
+  told_replies said is (Table f) holds = (position, named, inr (said, is, holds))
+
+-- what is given for a certificate is given for its file
+pub replied : {X : Type 0} (c : ShelfChange) (file words : List ℕ) (position : Setup) → IsTextOf words position → (result : Result (String X) Fault)
+    → (said : Content) → IsCertificateFile (c.before.has file) said → FailsWhere c false
+    → IfOk result (λ line. IsToldReply said position (string_bytes line)) → IfErr result (IsReplyFault said position) → GivesReply file words result c
+replied c file words position named (Ok line) said is failed ok err =
+    (record { said = said; read = is; position = position; named = named; told = ok }, failed)
+replied c file words position named (Err fault) said is failed ok err = (
+  told_replies (c.before.has file) words position named said is fault err,
+  reply_fails said position c.before.has_failed c.after.has_failed fault err failed,
+)

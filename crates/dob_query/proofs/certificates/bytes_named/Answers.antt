@@ -1,0 +1,17 @@
+-- A file that the shelf has isn't opened, and isn't read, only for lack of memory.
+use Rattle.std.proofs.Common.{rules}
+use Rattle.std.proofs.lemmas.Result.{err_from_is_err_and}
+use Rattle.dob_query.proofs.Proven.{shelf_bytes}
+use Rattle.dob_query.proofs.TableFaults.{shelf_fails}
+use Rattle.dob_query.proofs.certificates.bytes_named.Goals as goal
+
+pub returns-in_err-source : goal.returns-in_err-source
+returns-in_err-source g c =
+    let p = err_from_is_err_and c.from_residual.result c.from_residual.ensures.1 in
+    rw (p.1, p.2) (
+      (
+        shelf_bytes ((g.S.Shelf.state c.args.shelf.now).has c.args.file.now) c.in_err-source.field-0.0 c.in_err-source.ensures.found,
+        shelf_fails _ _ c.in_err-source.field-0.0 c.in_err-source.ensures.failed,
+      ),
+      c.find.ensures.kept,
+    )

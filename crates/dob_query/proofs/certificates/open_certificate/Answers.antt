@@ -1,0 +1,36 @@
+-- The bytes that were read are the file's.
+use Rattle.std.proofs.Common.{◌∙◌, ℕ, List, subst, sym}
+use Rattle.std.specs.Prelude.{◌≡◌, ◌⊎◌}
+use Rattle.std.proofs.lemmas.Result.{err_from_is_err_and}
+use Rattle.dob_certfile.specs.declared.defect.Defect.{Defect as AnyDefect}
+use Rattle.dob_certfile.specs.declared.defect.ReadFault.TheVariants as reading
+use Rattle.dob_certfile.specs.Reading.{HasCertFault}
+use Rattle.dob_query.proofs.Proven.{bytes_read, defect_read, read_fails}
+use Rattle.dob_query.proofs.certificates.open_certificate.Goals as goal
+
+pub returns-in_err-bytes : goal.returns-in_err-bytes
+returns-in_err-bytes g c =
+    let p = err_from_is_err_and c.from_residual.result c.from_residual.ensures.1 in
+    let opened = c.in_err-bytes.ensures in
+    rw (p.1, p.2) ((bytes_read ((g.S.Shelf.state c.args.shelf.now).has c.args.file.now) _ opened.0.0, opened.0.1), opened.1)
+
+pub returns-in_err-read_certificate : goal.returns-in_err-read_certificate
+returns-in_err-read_certificate g c =
+    let p = err_from_is_err_and c.from_residual-in_err-read_certificate.result c.from_residual-in_err-read_certificate.ensures.1 in
+    let opened = c.in_ok-bytes.ensures in
+    let given = c.in_err-read_certificate.field-0.0 in
+    rw (p.1, p.2) (
+      (
+        defect_read ((g.S.Shelf.state c.args.shelf.now).has c.args.file.now) c.in_ok-bytes.bytes.items opened.0.0 given
+            (subst (λ (b : List ℕ). (given ≡ reading.Memory) ⊎ ((defect : AnyDefect) × (given ≡ reading.Defect defect) × HasCertFault b defect))
+            c.deref.ensures.value c.in_err-read_certificate.ensures.fault),
+        read_fails _ _ given opened.0.1,
+      ),
+      opened.1,
+    )
+
+pub returns : goal.returns
+returns g c =
+    let opened = c.in_ok-bytes.ensures in
+    let found = c.in_ok-read_certificate.ensures.found in
+    ((record { fits = found.0; same = λ bytes has. sym (opened.0.0 bytes has) ∙ sym c.deref.ensures.value ∙ found.1 }, opened.0.1), opened.1)

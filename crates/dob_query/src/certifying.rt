@@ -1,0 +1,169 @@
+// Making a certificate's file by the table of a database file.
+ghost use Rattle.std.specs.Prelude.{◌≡◌, ◌++◌, IfOk, IfErr, OnOk, codes, string_bytes};
+ghost use Rattle.dob_rank.specs.Families.{IsInClass, IsPositionOf};
+ghost use Rattle.dob_certificate.specs.Claims.{Holds};
+ghost use Rattle.dob_certfile.specs.Format.{bytes_of, content};
+ghost use Rattle.dob_certify.specs.Made.{IsMade};
+ghost use Rattle.dob_certify.specs.Faults.{IsFault};
+ghost use Rattle.dob_shelf.specs.Shelves.{Leaving, SameOthers};
+ghost use Rattle.dob_query.specs.Certificates.{GivesCertify, IsSaidOf, IsUnfit, KeepsBytes, made_lines, most_entries};
+ghost use Rattle.dob_query.specs.Sizes.{count_line};
+
+use crate::certificate_fault::CertificateFault;
+use crate::certificates::claim_line;
+use crate::fault::{Fault, Lines};
+use crate::positions::position_named;
+use crate::progress::{Console, Progress};
+use crate::tables::open;
+use dob_certfile::{CertificateFile, WriteFault, certificate_bytes};
+use dob_certify::{Certified, certify, rounds_of};
+use dob_classes::Classes;
+use dob_dbfile::{Failed, put_all};
+use dob_pieces::{Memory, Position};
+use dob_probe::probe;
+use dob_shelf::Shelf;
+use dob_value::Table;
+use std::alloc::Global;
+use std::thread::Threads;
+
+/// Keeps under the other name a certificate of what the table of the file says of the position that the text names, exact where that is asked for and
+/// of so many entries at most where a number is given. Gives the lines that say what it proves and how many entries it has. Where it is watched, lines
+/// on the console say how far that is.
+pub fn answer_certify<S: Shelf>(
+    rt: &(impl Threads + Sync + Console),
+    alloc: Global,
+    shelf: &mut S,
+    file: &str,
+    out: &str,
+    most: Option<u64>,
+    is_exact: bool,
+    is_watched: bool,
+    text: &str,
+) -> Lines
+    ensures { Leaving (SameOthers out.now) S.state shelf.old shelf.new (GivesCertify file.now out.now is_exact most text.now result) }
+{
+    let position = position_named(text)?;
+    let table = open(alloc, shelf, file)?;
+    let most = most_entries(most);
+    let certificate = made_file(rt, alloc, &table, &position, most, is_exact, is_watched)?;
+    let bytes = bytes_of(alloc, &certificate)?;
+    let lines = made_lines(alloc, &position, &certificate)?;
+    keep_bytes(shelf, out, &bytes)?;
+    Ok(lines)
+}
+
+// The greatest number of entries.
+fn most_entries(most: Option<u64>) -> u64
+    ensures { result ≡ most_entries most }
+{
+    most.unwrap_or(u64::MAX)
+}
+
+// What the file of a certificate of the position by the table says.
+fn made_file(
+    rt: &(impl Threads + Sync + Console),
+    alloc: Global,
+    table: &Table,
+    position: &Position,
+    most: u64,
+    is_exact: bool,
+    is_watched: bool,
+) -> Result<CertificateFile, dob_certify::Fault>
+    ensures made { IfOk result (λ file. IsSaidOf table.now is_exact position.now.setup (content file)) }
+    ensures fault { IfErr result (IsFault table.now is_exact position.now.setup most) }
+{
+    let made = watched(rt, alloc, table, position, most, is_exact, is_watched)?;
+    let root = root_of(table.classes(), position);
+    Ok(CertificateFile {
+        family: table.family(),
+        root,
+        claim: made.claim,
+        certificate: made.certificate,
+    })
+}
+
+// A certificate of the position by the table. Where it is watched, the console says how far that is.
+fn watched(
+    rt: &(impl Threads + Sync + Console),
+    alloc: Global,
+    table: &Table,
+    position: &Position,
+    most: u64,
+    is_exact: bool,
+    is_watched: bool,
+) -> Result<Certified, dob_certify::Fault>
+    ensures made { IfOk result (IsMade table.now is_exact position.now.setup) }
+    ensures holds { IfOk result (λ made. Holds table.now.family.profile position.now.setup made.claim) }
+    ensures member { OnOk result (IsPositionOf table.now.family position.now.setup) }
+    ensures fault { IfErr result (IsFault table.now is_exact position.now.setup most) }
+{
+    let rounds = rounds_at(table, position, is_exact);
+    let progress = Progress::new(rt, is_watched, rounds);
+    let made = certify(rt, alloc, table, position, is_exact, most, &progress);
+    progress.end();
+    made
+}
+
+// Of how many rounds the console is told, where the position is one of the table's.
+fn rounds_at(table: &Table, position: &Position, is_exact: bool) -> u64 {
+    match probe(table, position) {
+        Ok(value) => rounds_of(value, is_exact),
+        Err(_) => 0,
+    }
+}
+
+// The number of the position's class.
+fn root_of(classes: &Classes, position: &Position) -> u32
+    requires { IsPositionOf classes.now.family position.now.setup }
+    ensures { IsInClass classes.now.family position.now.setup result }
+{
+    let _count = classes.class_count();
+    classes.class_of(position) as u32
+}
+
+// The lines that say what is proved of the position, and by how many entries.
+fn made_lines(alloc: Global, position: &Position, file: &CertificateFile) -> Result<String, Memory>
+    ensures { IfOk result (λ lines. string_bytes lines ≡ made_lines position.now.setup (content file.now)) }
+{
+    let claimed = claim_line(alloc, position, file.claim)?;
+    let lost = file.certificate.lost.as_slice().len();
+    let held = file.certificate.held.as_slice().len();
+    counted_lines(alloc, claimed.as_str(), lost, held)
+}
+
+// The line with the counts of two lists behind it.
+fn counted_lines(alloc: Global, line: &str, lost: usize, held: usize) -> Result<String, Memory>
+    ensures { IfOk result (λ lines. string_bytes lines ≡ line.now ++ (count_line (codes "lost ") lost ++ count_line (codes "held ") held)) }
+{
+    Ok(format!(in alloc; "{line}lost {lost}\nheld {held}\n")?)
+}
+
+// The bytes of the file.
+fn bytes_of(alloc: Global, file: &CertificateFile) -> Result<Vec<u8>, Fault>
+    ensures bytes { IfOk result (λ bytes. bytes.items ≡ bytes_of (content file.now)) }
+    ensures fault { IfErr result (IsUnfit (content file.now)) }
+{
+    match certificate_bytes(alloc, file) {
+        Ok(bytes) => Ok(bytes),
+        Err(WriteFault::Unfit) => Err(Fault::Certificate(CertificateFault::Unfit)),
+        Err(WriteFault::Memory | WriteFault::Io(_)) => Err(Fault::Memory),
+    }
+}
+
+// Keeps a file of these bytes under the name. Where it can't be written its sink is given up.
+fn keep_bytes<S: Shelf>(shelf: &mut S, name: &str, bytes: &[u8]) -> Result<(), Fault>
+    ensures { Leaving (SameOthers name.now) S.state shelf.old shelf.new (KeepsBytes name.now bytes.now result) }
+{
+    let mut sink = shelf.make(name)?;
+    match put_all(&mut sink, bytes) {
+        Ok(()) => {}
+        Err(_) => {
+            shelf.discard(name, sink);
+            return Err(Fault::Io);
+        }
+    }
+    match shelf.keep(name, sink) {
+        Ok(()) => Ok(()),
+        Err(Failed) => Err(Fault::Io),
+    }
+}

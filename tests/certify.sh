@@ -1,0 +1,97 @@
+# Certificates: what is made of a table verifies and says the value that the table gives, and what is refused.
+# Takes minutes.
+
+# 300 of them, of three sets by both rules: wins, losses and draws, each within so many plies and exact. `ask.py PROGRAM FOLDER TABLE..` takes the
+# positions from a reader in Python, and prints how many of each kind were claimed.
+cat >"$work/ask.py" <<'PYTHON'
+import collections
+import pathlib
+import subprocess
+import sys
+sys.path.insert(0, "python")
+from dobutsu import plain
+
+
+def lines(*words):
+    return subprocess.run(words, capture_output=True, text=True, check=True).stdout.splitlines()
+
+
+program, folder = sys.argv[1], pathlib.Path(sys.argv[2])
+certificate = folder / "one.cert"
+kinds = collections.Counter()
+for path in sys.argv[3:]:
+    db = plain.open_db(path)
+    by_kind = collections.defaultdict(list)
+    for number in range(db.count):
+        by_kind[plain.value_text(db.record_at(number)).split()[0]].append(number)
+    for kind, count in ("win", 9), ("loss", 9), ("draw", 7):
+        found = by_kind[kind]
+        for number in found[:: max(1, len(found) // count)][:count]:
+            text = plain.write_position(plain.position_at(db.profile, db.pieces, number))
+            (value,) = lines(program, "probe", "--db", path, text)
+            for exact in (), ("--exact",):
+                made = lines(program, "certify", "--db", path, "--out", certificate, *exact, text)
+                claim = f"{text} {value if exact or value == 'draw' else value.replace(' ', ' within ')}"
+                assert made[0] == claim and made[1].startswith("lost ") and made[2].startswith("held ") and len(made) == 3, made
+                assert lines(program, "verify", "--cert", certificate) == [claim], (text, claim)
+                if value.startswith("win"):
+                    (reply,) = lines(program, "reply", "--cert", certificate, text)
+                    move, _, plies = reply.partition(" win within ")
+                    assert 1 <= int(plies) <= int(value.split()[1]), (text, reply)
+                    assert any(line.split()[:2] == [move, "win"] for line in lines(program, "moves", "--db", path, text)), (text, reply)
+                if value.startswith("loss"):
+                    assert lines(program, "reply", "--cert", certificate, text) == [value.replace(" ", " within ")], text
+                kinds[value.split()[0] + " exactly" * bool(exact)] += 1
+print(sum(kinds.values()), dict(sorted(kinds.items())))
+PYTHON
+good=no
+tables=()
+made=yes
+for rules in A B; do
+    for set in 100 110 111; do
+        "$program" build --rules "$rules" --set "$set" --out "$work/${set}_$rules.db" >"$work/out" 2>&1 || made=no
+        tables+=("$work/${set}_$rules.db")
+    done
+done
+note "tables of three sets by both rules" "$made"
+if python3 "$work/ask.py" "$program" "$work" "${tables[@]}" >"$work/out" 2>&1 && grep -q '^300 ' "$work/out"; then good=yes; fi
+note "300 certificates verify and say the table's value: $(tail -1 "$work/out")" "$good"
+
+# One that is made by hand: the lions alone, where a step beside the other lion wins in 3.
+expect 0 "$position win within 3
+lost 1
+held 0" '' certify --db "$lions_2" --out "$work/one.cert" "$position"
+expect 0 "$position win within 3" '' verify --cert "$work/one.cert"
+expect 0 "$position win within 3" '' verify --cert "$work/one.cert" --progress
+expect 0 'La2-a3 win within 3' '' reply --cert "$work/one.cert" "$position"
+expect 0 '~ win 3$' '' certify --db "$lions_2" --out "$work/exact.cert" --exact "$position"
+expect 0 "$position win 3" '' verify --cert "$work/exact.cert"
+expect 1 '' 'dobutsu: E41 Unlisted' reply --cert "$work/one.cert" "$long"
+
+# What is refused leaves the file that was there.
+cp "$work/one.cert" "$work/kept.cert"
+expect 1 '' 'dobutsu: E39 TooMany more than 0 entries' certify --db "$lions_2" --out "$work/kept.cert" --most 0 "$position"
+expect 1 '' 'dobutsu: E7 OtherSet' certify --db "$chick" --out "$work/kept.cert" "$position"
+expect 1 '' 'dobutsu: E2 Letter' certify --db "$lions_2" --out "$work/kept.cert" 'x.l/.../L../... - -'
+expect 3 '' 'dobutsu: E24 Io' certify --db "$work/none.db" --out "$work/kept.cert" "$position"
+expect 3 '' 'dobutsu: E24 Io' certify --db "$lions_2" --out "$work/none/x.cert" "$position"
+if cmp -s "$work/one.cert" "$work/kept.cert" && [ ! -e "$work/kept.cert.part" ]; then good=yes; else good=no; fi
+note "a certificate that isn't made leaves the one that was there" "$good"
+expect 3 '' 'dobutsu: E24 Io' verify --cert "$work/none.cert"
+expect 1 '' 'dobutsu: E16 Magic' verify --cert "$lions_2"
+expect 1 '' 'dobutsu: E15 Truncated' verify --cert /dev/null
+expect 1 '' 'dobutsu: E16 Magic' reply --cert "$lions_2" "$position"
+
+# A table whose values aren't right gives no certificate: the record of the class, with the digest that then belongs there.
+python3 - "$lions_2" "$work/wrong.db" "$position" <<'PYTHON'
+import hashlib
+import pathlib
+import sys
+sys.path.insert(0, "python")
+from dobutsu import plain
+data = bytearray(pathlib.Path(sys.argv[1]).read_bytes())
+number = plain.class_number("A", plain.read_position(sys.argv[3]))
+data[21 + 2 * number] = 2  # a win in 1
+pathlib.Path(sys.argv[2]).write_bytes(bytes(data[:-32]) + hashlib.sha256(data[:-32]).digest())
+PYTHON
+expect 1 '' 'dobutsu: E31 Claim' certify --db "$work/wrong.db" --out "$work/kept.cert" "$position"

@@ -1,0 +1,17 @@
+# The solution of the game: the certificates of testdata prove by both rules that the second player wins, and give the winning moves.
+
+start='gle/.c./.C./ELG - -'
+# The positions after each of the four moves of the starting layout.
+answers=('g.e/.cl/.C./ELG - -' 'g.e/lc./.C./ELG - -' '.le/gc./.C./ELG - -' 'gle/.../.c./ELG - c')
+for rules in A B; do
+    certificate="testdata/222_$rules.cert"
+    expect 0 "$start loss within 78" '' verify --cert "$certificate"
+    if [ "$(wc -c <"$certificate")" -lt 700000 ]; then good=yes; else good=no; fi
+    note "$certificate has less than 700 kB" "$good"
+    expect 0 'loss within 78' '' reply --cert "$certificate" "$start"
+    for answer in "${answers[@]}"; do
+        expect 0 '~^[LEGCH]\([a-c][1-4][-x]\|[*]\)[a-c][1-4]+\? win within [0-9]*$' '' reply --cert "$certificate" "$answer"
+    done
+    expect 1 '' 'dobutsu: E7 OtherSet' reply --cert "$certificate" "$position"
+    expect 1 '' 'dobutsu: E2 Letter' reply --cert "$certificate" 'glx/.c./.C./ELG - -'
+done
