@@ -1,4 +1,5 @@
-# Certificates: what is still accepted of a file with a byte changed is still true. Takes minutes.
+# Certificates: what is still accepted of a file with a byte changed is still true.
+# Takes minutes.
 
 # Small certificates made in plain Python from tables of the program: of each kind of claim some, by both rules. `make.py OUT FILE..` writes one for each
 # claim that it can make into the folder, and beside it the line that it claims.
