@@ -154,7 +154,7 @@ def verdict(data):
         certificate = plain.Certificate(data)
         certificate.verify()
         return str(certificate), certificate
-    except plain.Wrong as wrong:
+    except plain.Fault as wrong:
         return f"dobutsu: {wrong}", None
 
 

@@ -145,7 +145,7 @@ def said(data):
     try:
         certificate = plain.Certificate(data)
         certificate.verify()
-    except plain.Wrong as wrong:
+    except plain.Fault as wrong:
         number, _name, *more = str(wrong).split()
         return " ".join([number, *more])
     claim = certificate.claim + (f" {certificate.plies}" if certificate.claim != "draw" else "")

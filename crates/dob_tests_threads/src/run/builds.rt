@@ -30,10 +30,11 @@ fn the_same_table_by_any_number_of_nodes(rt: HostRuntime) {
     builds(&rt, rt.alloc(), 16, 2);
 }
 
-// By 2, 3 and 16 nodes, whose runners wait for each other's levels and sleep in between, with batches of one item.
+// By 2, 3 and 16 nodes, whose runners wait for each other's levels and sleep in between, with batches of one item. A build by 16
+// may take a second or two on a busy machine, and a test has 60.
 #[test]
 fn builds_in_a_row_end(rt: HostRuntime) {
-    for _ in 0..200 {
+    for _ in 0..20 {
         builds(&rt, rt.alloc(), 2, 1);
         builds(&rt, rt.alloc(), 3, 1);
         builds(&rt, rt.alloc(), 16, 1);
