@@ -99,7 +99,7 @@ if [ -e "$work/refused.db" ]; then good=no; else good=yes; fi
 note "a refused build makes no file" "$good"
 expect 3 '' "$(failed_at "$work/none/built.db" "$gone")" build --set 000 --nodes 2 --out "$work/none/built.db"
 expect 3 '' "$(failed_at "$work" "$folder")" build --set 000 --nodes 2 --out "$work"
-if [ -c /dev/full ]; then expect 3 '' 'dobutsu: E24 Io' build --set 000 --nodes 2 --out /dev/full; fi
+if [ -c /dev/full ]; then expect 3 '' "$(failed_at /dev/full "$full")" build --set 000 --nodes 2 --out /dev/full; fi
 
 # A file is as it was until the new one is whole: where a build is killed at some moment, where the disk takes no more, and
 # where a part of a killed build is left. Afterwards there is no part.
@@ -154,7 +154,7 @@ note "a build to a link's name writes what the link leads to" "$good"
 
 # Folders that take no file: where none can be made, on a file system of 1 MB that fills up, and on one that can only be read. The
 # file that was there stays, and no part is left. The two file systems need a room of their own, which not each system gives.
-if [ -d /proc ]; then expect 3 '' 'dobutsu: E24 Io' build --set 000 --nodes 2 --out /proc/built.db; fi
+if [ -d /proc ]; then expect 3 '' "$(failed_at /proc/built.db "$gone")" build --set 000 --nodes 2 --out /proc/built.db; fi
 mkdir "$work/small"
 no_room() {
     local good=no reason="$full"

@@ -70,7 +70,7 @@ draw 4
 6 4' '' reach "$position" --levels --db "$lions"
 expect 1 '' 'dobutsu: E7 OtherSet' reach --db "$lions" '..l/.../.../L.. C -'
 expect 1 '' 'dobutsu: E1 Shape' reach --db "$work/none.db" ''
-expect 3 '' 'dobutsu: E24 Io' reach --db "$work/none.db" "$position"
+expect 3 '' "$(failed_at "$work/none.db" "$gone")" reach --db "$work/none.db" "$position"
 # the moves with their values, best first
 expect 0 'La2-a3 win 3
 La2-b2 draw

@@ -6,6 +6,8 @@ use Rattle.dob_dbfile.specs.declared.fault.Fault.TheVariants as file_fault
 use Rattle.dob_dbfile.specs.Format.{bytes_of}
 use Rattle.dob_dbfile.specs.Sinks.{Change}
 use Rattle.dob_probe.specs.declared.fault.Fault.TheVariants as table_fault
+use Rattle.dob_certificate.specs.declared.refusal.Refusal.TheVariants as refusal
+use Rattle.dob_query.specs.declared.certificate_fault.CertificateFault.TheVariants as certificate_fault
 use Rattle.dob_query.specs.declared.fault.Fault.{Fault}
 use Rattle.dob_query.specs.declared.fault.Fault.TheVariants as fault
 use Rattle.dob_query.specs.declared.fault.Fault.TheVariants.{SetText, TooDeep, Run, File, Table, PuzzlePlies, Certificate, Memory, Io}
@@ -50,7 +52,13 @@ not_done (Table table_fault.OtherSet) e = omega (arith, e)
 not_done (Table (table_fault.Inconsistent class)) e = omega (arith, e)
 not_done (Table table_fault.Memory) e = omega (arith, e)
 not_done PuzzlePlies e = omega (arith, e)
-not_done (Certificate f) e = omega (arith, e)
+not_done (Certificate (certificate_fault.Defect defect)) e = omega (arith, e)
+not_done (Certificate (certificate_fault.Unproved refusal.Memory)) e = omega (arith, e)
+not_done (Certificate (certificate_fault.Unproved (refusal.Unsupported class))) e = omega (arith, e)
+not_done (Certificate (certificate_fault.Unproved refusal.Claim)) e = omega (arith, e)
+not_done (Certificate (certificate_fault.TooMany most)) e = omega (arith, e)
+not_done (Certificate certificate_fault.Unfit) e = omega (arith, e)
+not_done (Certificate certificate_fault.Unlisted) e = omega (arith, e)
 not_done Memory e = omega (arith, e)
 not_done Io e = omega (arith, e)
 
