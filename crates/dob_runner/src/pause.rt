@@ -47,6 +47,7 @@ impl Pause {
         let micros = self.sleep.load(Ordering::SeqCst).min(LONGEST);
         self.sleep
             .park_timeout(rt, micros as u32, Duration::from_micros(micros));
-        self.sleep.store(2 * micros, Ordering::SeqCst);
+        self.sleep
+            .store((2 * micros).min(LONGEST), Ordering::SeqCst);
     }
 }
