@@ -8,7 +8,7 @@ const Certificates = (() => {
   const CLAIMS = ["draw", "win", "loss", "winWithin", "lossWithin"];
   const SLICE = 40; // milliseconds of checking, then the page is drawn
   const MOST_CLASSES = 2 ** 32;
-  const MOST_CHECKED = 20000; // entries that are checked in plain JavaScript, which takes some milliseconds for each
+  const limits = { checked: 20000 }; // entries that are checked in plain JavaScript, which takes some milliseconds for each
 
   // ---- reading
 
@@ -254,12 +254,12 @@ const Certificates = (() => {
   async function open(name, bytes, engine, tell) {
     // the proved call counts the classes itself, which takes seconds here
     const certificate = await read(bytes, engine.verify ? () => MOST_CLASSES : Core.countClasses), entries = certificate.lost.classes.length + certificate.held.classes.length;
-    const checked = engine.verify ? "proved" : entries <= MOST_CHECKED ? "plain" : "not";
+    const checked = engine.verify ? "proved" : entries <= limits.checked ? "plain" : "not";
     if (checked === "proved") engine.verify(bytes);
     if (checked === "plain") await check(certificate, tell);
     return new Open(name, certificate, checked, engine);
   }
 
-  return { isOne, read, check, open, lookUp, line };
+  return { limits, isOne, read, check, open, lookUp, line };
 })();
 if (typeof module === "object") module.exports = Certificates;

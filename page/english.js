@@ -12,7 +12,7 @@
     opening: "Opening…",
     fileInfo: (file) => `set ${file.set}, rules ${file.profile}, ${file.count.toLocaleString("en")} classes, ${file.isTested ? "digest tested" : "digest not tested"}`,
     certificateInfo: ({ set, profile, isOfStart, checked }, claim) => {
-      const by = { proved: "checked by proved code", plain: "checked by plain JavaScript", not: "not checked: a large one takes the proved call" }[checked];
+      const by = { proved: "checked by proved code", plain: "checked by plain JavaScript", not: "not checked here: dobutsu verify checks it" }[checked];
       return `certificate of set ${set}, rules ${profile}: ${isOfStart ? "the second player wins the game" : "a position"}, ${claim}; ${by}`;
     },
     checking: (percent) => `Checking the certificate… ${percent} %`, outside: "This position isn't in the certificate: its value isn't known here.",

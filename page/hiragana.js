@@ -11,7 +11,7 @@
     opening: "ひらいています…",
     fileInfo: (file) => `セット ${file.set}、ルール ${file.profile}、${file.count.toLocaleString("ja")} きょくめん、ダイジェスト ${file.isTested ? "テストずみ" : "みテスト"}`,
     certificateInfo: ({ set, profile, isOfStart, checked }, claim) => {
-      const by = { proved: "しょうめいされた コードで けんさずみ", plain: "ふつうの JavaScript で けんさずみ", not: "けんさしていません(おおきな ものには しょうめいずみの けんさが いります)" }[checked];
+      const by = { proved: "しょうめいされた コードで けんさずみ", plain: "ふつうの JavaScript で けんさずみ", not: "けんさしていません(dobutsu verify で けんさできます)" }[checked];
       return `しょうめいしょ、セット ${set}、ルール ${profile}: ${isOfStart ? "この ゲームは ごての かち" : "ある きょくめん"}、${claim}。${by}`;
     },
     checking: (percent) => `しょうめいしょを けんさしています… ${percent} %`, outside: "この きょくめんは しょうめいしょに ないので、ひょうかは わかりません。",

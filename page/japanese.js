@@ -11,7 +11,7 @@
     opening: "開いています…",
     fileInfo: (file) => `セット ${file.set}、ルール ${file.profile}、${file.count.toLocaleString("ja")} 局面類、ダイジェスト${file.isTested ? "テスト済み" : "未テスト"}`,
     certificateInfo: ({ set, profile, isOfStart, checked }, claim) => {
-      const by = { proved: "証明されたコードで検査済み", plain: "普通の JavaScript で検査済み", not: "未検査(大きなものには証明済みの検査が必要です)" }[checked];
+      const by = { proved: "証明されたコードで検査済み", plain: "普通の JavaScript で検査済み", not: "未検査(dobutsu verify で検査できます)" }[checked];
       return `証明書、セット ${set}、ルール ${profile}: ${isOfStart ? "このゲームは後手の勝ち" : "ある局面"}、${claim}。${by}`;
     },
     checking: (percent) => `証明書を検査しています… ${percent} %`, outside: "この局面は証明書にないので、評価はわかりません。",

@@ -126,6 +126,18 @@ def solution(checks, screen, program):
     checks.expect("a table of the same set comes first", screen.value(), "draw")
 
 
+def unchecked(checks, screen, program):
+    """A large certificate isn't checked in plain JavaScript, and the page says so; one that says nothing true is open then."""
+    maker = Maker(program)
+    if screen.js("!!Game.engine().verify"):
+        return
+    screen.js("Certificates.limits.checked = 10")
+    screen.give(maker.write("large.cert", LOSS, "loss", 6))
+    english = "large.cert certificate of set 100, rules A: a position, loss 6; not checked here: dobutsu verify checks it"
+    japanese = "large.cert 証明書、セット 100、ルール A: ある局面、負け 6手。未検査(dobutsu verify で検査できます)"
+    screen.in_both(checks, "a large certificate", screen.files, [[english, False]], [[japanese, False]])
+
+
 def spoil(place, byte):
     def change(head, lost, held):
         head[place] = byte
@@ -185,4 +197,4 @@ def given(checks, screen, program):
         browser.close()
 
 
-PARTS = {"claims": claims, "solution": solution, "wrong": wrong, "given": given}
+PARTS = {"claims": claims, "solution": solution, "unchecked": unchecked, "wrong": wrong, "given": given}
