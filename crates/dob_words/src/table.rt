@@ -116,7 +116,10 @@ pub const ROWS: &[Row] = &[
             RULES,
         ],
         &[
-            ("levels", "A line for each distance, as `2 17`, behind the others"),
+            (
+                "levels",
+                "A line for each distance, as `2 17`, behind the others",
+            ),
             PROGRESS,
         ],
         &[POSITION],

@@ -7,7 +7,7 @@ use Rattle.dob_certify.proofs.replies.plies_listed.Goals as goal
 pub returns-in-Some : goal.returns-in-Some
 returns-in-Some c = (
   let itself : c.in-Some.entry.plies ≤ c.in-Some.entry.plies = omega arith in
-  inr (c.requires.goes_on, (c.in-Some.entry, c.in-Some.ensures.some, itself)),
+      inr (c.requires.goes_on, (c.in-Some.entry, c.in-Some.ensures.some, itself)),
   λ n said. elim said [
     | inl over ↦ absurd (lost_not_open c.args.classes.now.family.profile c.args.position.now.setup over c.requires.goes_on)
     | inr listed ↦ subst (λ (e : Entry). e.plies ≤ n) (sym (c.in-Some.ensures.alone listed.1.0 listed.1.1)) listed.1.2
