@@ -1,5 +1,6 @@
 -- A crew that has stopped: what its board's words say of its runners, and that its end leaves what it should.
-use Rattle.std.proofs.Common.{◌≡◌, ◌≢◌, ℕ, ◌+◌, ◌*◌, ◌<◌, ◌≤◌, inl, inr, List, ◌++◌, Option, Some, None}
+use Rattle.std.proofs.lemmas.Bool.{cases_lt}
+use Rattle.std.proofs.Common.{◌≡◌, ◌≢◌, ℕ, ◌+◌, ◌-◌, ◌*◌, ◌<◌, ◌≤◌, inl, inr, List, ◌++◌, Option, Some, None}
 use Rattle.std.proofs.Common.{length, length-append, map, false, refl, sym, ap, ◌∙◌, subst, arith}
 use Rattle.std.proofs.Common.{Global}
 use Rattle.std.specs.Prelude.{slice_get, slice_index}
@@ -22,8 +23,6 @@ use Rattle.dob_chan.specs.Ends.{sent_by, taken_of}
 use Rattle.dob_stops.specs.declared.cause.Cause.{Cause}
 use Rattle.dob_share.specs.declared.share.Share.{Share}
 use Rattle.dob_node.specs.Nodes.{IsIdle}
-use Rattle.dob_stops.specs.declared.fault.Fault.{Fault}
-use Rattle.dob_stops.specs.declared.fault.Fault.TheVariants.{Nodes, Sizes, Stopped, Memory}
 use Rattle.dob_runner.specs.declared.slots.Outlet.{Outlet}
 use Rattle.dob_runner.specs.declared.slots.Inlet.{Inlet}
 use Rattle.dob_runner.specs.declared.runner.Runner.{Runner}
@@ -36,11 +35,10 @@ use Rattle.dob_runner.specs.Endpoints.{AreOut}
 use Rattle.dob_run.specs.CrewClose.{seat_in, IsCrew, AreClosed}
 use Rattle.dob_run.specs.InboxClose.{IsJoined}
 use Rattle.dob_run.specs.CrewRunners.{endpoint_of, node_of}
-use Rattle.dob_run.specs.BoundedRun.{IsFirstFailed}
 use Rattle.dob_runner.specs.LawfulRunners.{IsLawfulRunner}
 use Rattle.dob_run.specs.Built.{needed, IsLinkDone, IsBuilt}
 use Rattle.dob_run.specs.Finished.{AreJoinedBy, AreFinished, AreShown}
-use Rattle.dob_run.specs.BuildEnd.{HaveStopped, IsFailure, IsFailureOf, failed_of, share_in, IsOwner, AreOwners, AreShownBelow}
+use Rattle.dob_run.specs.BuildEnd.{HaveStopped, AllKnow, IsFailure, AreFailureless, share_in, IsOwner, AreOwners, AreShownBelow}
 use Rattle.dob_run.proofs.CrewFinished.{nothing_of, finished_right}
 use Rattle.dob_run.proofs.CrewRunners.{seat_there, are_linked, seat_at, crew_many, crew_low, outlet_at}
 use Rattle.dob_run.proofs.Needed.{needed_fits}
@@ -75,42 +73,43 @@ module _ (board : Board) (family : Family) (size : ℕ) (runners : List Runner) 
   some_of None some = absurd (some refl)
   some_of (Some why) some = (why, refl)
 
-  module _ (causes : List (Option Cause)) (causes_are : causes ≡ map failed_of runners) (node : ℕ) (failed : slice_index words 2 ≡ 2 + node) where
+  module _ (node : ℕ) (failed : slice_index words 2 ≡ 2 + node) where
     culprit : (runner : Runner) × (slice_get runners node ≡ Some runner)
     culprit = there node (let within = are.halt_within in omega (arith, within, failed))
 
     -- the node that the words name has failed
-    pub some_cause : (why : Cause) × (slice_get causes node ≡ Some (Some why))
-    some_cause =
+    some_failure : (why : Cause) × IsFailure runners node why
+    some_failure =
         let runner : Runner = culprit.0 in
         let halt : runner.endpoint.seat.halt ≡ Failed node = are.failed node runner.endpoint.seat (seat_there runners node runner culprit.1) failed in
-        let why = some_of runner.failed (runner.own (halt ∙ ap Failed (sym (seat_at board runners crew node runner culprit.1).node))) in
-        (why.0, ap (λ (l : List (Option Cause)). slice_get l node) causes_are ∙ get_map failed_of runners node runner culprit.1 ∙ ap Some why.1)
+        let why = some_of runner.failed (runner.own (halt ∙ ap Failed (sym (seat_at board runners crew node runner culprit.1).node))) in (
+          why.0,
+          record {
+            runner = runner;
+            at = culprit.1;
+            cause = why.1;
+            known = inl (λ k other stands. same_halt other.endpoint.seat.halt (Failed node) (halt_is k other stands ∙ failed));
+          },
+        )
 
-    pub is_failure : (why : Cause) → slice_get causes node ≡ Some (Some why) → IsFailure runners node why
-    is_failure why at =
-        let got = map_got failed_of runners node (Some why) (ap (λ (l : List (Option Cause)). slice_get l node) (sym causes_are) ∙ at) in
-        record {
-          runner = got.0;
-          at = got.1;
-          cause = got.2;
-          known = inl (λ k other stands. same_halt other.endpoint.seat.halt (Failed node) (halt_is k other stands ∙ failed));
-        }
+  -- where none has failed the words say that the end was announced
+  pub ended_by : AreFailureless runners → slice_index words 2 ≡ 1
+  ended_by none = elim (cases_lt (slice_index words 2) 1) [
+    | inl low ↦ absurd (not_running (omega (arith, low)))
+    | inr some ↦ elim (cases_lt (slice_index words 2) 2) [
+      | inl low ↦ omega (arith, some, low)
+      | inr high ↦
+          let node : ℕ = slice_index words 2 - 2 in
+          let failure = some_failure node (omega (arith, high)) in
+          absurd (none node failure.0 failure.1)
+    ]
+  ]
 
   -- ---- a run that ended
 
   module _ (ended : slice_index words 2 ≡ 1) where
-    -- a runner that failed all the same
-    pub late_failure : (fault : Fault) → IsFirstFailed runners fault → IsFailureOf runners fault
-    late_failure (Stopped node why) first = record {
-      runner = first.0;
-      at = first.1;
-      cause = first.2;
-      known = inr (λ k runner at. same_halt runner.endpoint.seat.halt Ended (halt_is k runner at ∙ ended), λ k runner low_k at. first.3 k runner low_k at);
-    }
-    late_failure Nodes first = absurd first
-    late_failure Sizes first = absurd first
-    late_failure Memory first = absurd first
+    pub all_know : AllKnow Ended runners
+    all_know = λ k runner at. same_halt runner.endpoint.seat.halt Ended (halt_is k runner at ∙ ended)
 
     -- where each runner is lawful, whether it gave up afterwards or not
     law_own : (k : ℕ) (runner : Runner) → slice_get runners k ≡ Some runner → IsLawfulRunner runner.family runner.batch_size runner.node runner.endpoint
