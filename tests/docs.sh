@@ -22,3 +22,7 @@ note "tools/planted --check: $(head -1 "$work/out")" "$good"
 good=no
 if tools/results-page --check 2>"$work/out"; then good=yes; fi
 note "tools/results-page --check: $(head -1 "$work/out")" "$good"
+# The toolchain is used as it is: no tool locks for it, nor writes by itself what it believes proved.
+good=no
+if ! grep -rIn --exclude-dir=__pycache__ 'floc[k]\|stam[p]' tools test tests .ci dobutsu >"$work/out"; then good=yes; fi
+note "tools that lock or write for rt: $(head -1 "$work/out")" "$good"

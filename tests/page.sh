@@ -51,26 +51,19 @@ else
     leave_out 1 'the engine in plain JavaScript against tools/read_db.py, since Node is not there'
 fi
 
-# The page with the proved engine, where `tools/page` makes its module, and with the plain one.
-if tools/have chromium chromium 2>"$work/apt"; then
+# The page with the proved engine, of which `tools/page` makes the module, and with the plain one.
+if needs chromium wasm-opt; then
     add_counts python3 page/test/page_test.py "$work/dobutsu.html" "$program"
     add_counts python3 page/test/planted.py "$program"
-    if [ -x tools/page ]; then
-        if tools/page "$work/proved.html" >"$work/out" 2>&1; then good=yes; else good=no; fi
-        note "tools/page makes the page with the proved engine: $(tail -1 "$work/out")" "$good"
-        if grep -q '^window.DobutsuWasm = ' "$work/proved.html"; then
-            add_counts python3 page/test/page_test.py "$work/proved.html" "$program" told faults opening certificates
-            if command -v node >/dev/null; then
-                if node page/test/told.test.js page/out/dobutsu_web.wasm "$program" 2000 >"$work/out" 2>&1; then good=yes; else good=no; fi
-                note "page/test/told.test.js: $(tail -1 "$work/out")" "$good"
-            else
-                leave_out 1 'the proved engine against the program on 2,000 positions of 111 by each of the rules, since Node is not there'
-            fi
-        else
-            leave_out 2 'the page with the proved engine, in a browser and against the program, since tools/page could not make its module here'
-        fi
+    good=no
+    if tools/page "$work/proved.html" >"$work/out" 2>&1 && grep -q '^window.DobutsuWasm = ' "$work/proved.html"; then good=yes; fi
+    note "tools/page makes the page with the proved engine: $(tail -1 "$work/out")" "$good"
+    add_counts python3 page/test/page_test.py "$work/proved.html" "$program" told faults opening certificates
+    if command -v node >/dev/null; then
+        if node page/test/told.test.js page/out/dobutsu_web.wasm "$program" 2000 >"$work/out" 2>&1; then good=yes; else good=no; fi
+        note "page/test/told.test.js: $(tail -1 "$work/out")" "$good"
+    else
+        leave_out 1 'the proved engine against the program on 2,000 positions of 111 by each of the rules, since Node is not there'
     fi
-else
-    leave_out 4 'the page in a browser, by either engine and with planted faults, and the proved engine against the program, since there is no chromium'
 fi
 if [ "$left_out" -gt 0 ]; then echo "page: $left_out of 6 tests left out"; fi

@@ -16,12 +16,10 @@ PYTHON
 note "the examples in python/dobutsu: $(tail -1 "$work/out")" "$good"
 
 # The package is typed as it says, for the least Python that it takes and for the one that is here.
-if tools/have mypy mypy 2>"$work/apt"; then
+if needs mypy; then
     good=no
     if mypy --strict --python-version 3.9 python/dobutsu >"$work/out" 2>&1 && mypy --strict python/dobutsu >"$work/out" 2>&1; then good=yes; fi
     note "mypy --strict python/dobutsu: $(tail -1 "$work/out")" "$good"
-else
-    echo "Not run: mypy --strict python/dobutsu, since mypy isn't here."
 fi
 
 # The texts of Fairy-Stockfish 11.1's variant `dobutsu`: after each move of games that it played by chance, the SFEN, and the move that led to it. Read and

@@ -2,14 +2,12 @@
 # Takes minutes.
 
 # The release: made twice, the second time by a copy of the repository at another path, it is one archive; its program runs in an empty folder, and
-# needs no library. The copy has what the libraries' proofs left, and makes program and library anew.
+# needs no library. The copy has the program's object, and makes the library, the page's engine and all else anew.
 same=yes
 mkdir "$work/two"
 make_release || same=no
 git clone -q "$top" "$work/elsewhere" && git ls-files -z | xargs -0 cp -p --parents -t "$work/elsewhere" || same=no
-for kept in crates/*/out/rlib; do
-    mkdir "$work/elsewhere/${kept%/rlib}" && cp -r "$kept" "$work/elsewhere/${kept%/rlib}" || same=no
-done
+cp -p --parents -t "$work/elsewhere" crates/dobutsu/out/dobutsu crates/dobutsu/out/dobutsu.o || same=no
 "$work/elsewhere/tools/release" "$work/two" >"$work/err" 2>&1 || same=no
 cmp -s "$archive" "$work/two/$(basename "$archive")" || same=no
 rm -rf "$work/elsewhere"
