@@ -15,9 +15,8 @@ use Rattle.dob_pieces.specs.declared.kind.HandKind.{HandKind}
 use Rattle.dob_pieces.specs.declared.kind.Side.{Side}
 use Rattle.dob_pieces.specs.declared.kind.Side.TheVariants.{Mover, Enemy}
 use Rattle.dob_pieces.specs.declared.kind.Piece.{Piece}
-use Rattle.dob_pieces.specs.declared.hand.Hands.{Hands}
 use Rattle.dob_pieces.specs.Pieces.{other_side, is_side, is_lion, leads}
-use Rattle.dob_pieces.specs.Setups.{Cell, at, held, holds_lion, holds_kind, total, HasLions, HasFewPieces, HasLionOffFarRow, IsLegal}
+use Rattle.dob_pieces.specs.Setups.{Cell, at, holds_lion, holds_kind, total, HasLions, HasFewPieces, HasLionOffFarRow, IsLegal}
 use Rattle.dob_pieces.specs.Setups.{piece_of, board_by, turned_cell, turned, mirrored}
 
 -- ---- boards made square by square
@@ -197,25 +196,6 @@ count-moved p board from to x f t ne =
     let second : count_by p (set (set board from None) to x) + one_if (p (slice_index_or board to None)) ≡ count_by p (set board from None) + one_if (p x)
     = rw get_or-set_other at (count-set p (set board from None) to x within) in
     omega (arith, second, count-set p board from None f)
-
--- a total after one write
-pub total-set : (kind : HandKind) (s : Setup) (i : ℕ) (cell : Cell) → i < length s.board
-    → total kind (record s { board = set s.board i cell }) + one_if (holds_kind kind (at s i)) ≡ total kind s + one_if (holds_kind kind cell)
-unfolding total
-total-set kind s i cell lt = omega (arith, count-set (holds_kind kind) s.board i cell lt)
-
--- a total after a piece has gone from one square to another, where it stands as x
-pub total-moved : (kind : HandKind) (s : Setup) (from to : ℕ) (x : Cell) → from < length s.board → to < length s.board → from ≢ to
-    → total kind (record s { board = set (set s.board from None) to x }) + one_if (holds_kind kind (at s from))
-    + one_if (holds_kind kind (at s to)) ≡ total kind s + one_if (holds_kind kind x)
-unfolding total
-total-moved kind s from to x f t ne = omega (arith, count-moved (holds_kind kind) s.board from to x f t ne)
-
--- a total with other hands
-pub total-hands : (kind : HandKind) (s : Setup) (hands : Hands) → total kind (record s { hands = hands }) + held s.hands.mover kind
-    + held s.hands.enemy kind ≡ total kind s + held hands.mover kind + held hands.enemy kind
-unfolding total
-total-hands kind s hands = omega arith
 
 -- a side's lion passes as it
 pub own_lion : (side : Side) → holds_lion side (Some (piece_of side Lion)) ≡ true

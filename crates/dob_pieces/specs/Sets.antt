@@ -1,4 +1,4 @@
--- The text of a piece set, and how many pieces it has.
+-- The text of a piece set.
 use Rattle.std.specs.Prelude.{ℕ, ◌+◌, List, [], ◌∷◌}
 use Rattle.dob_pieces.specs.declared.piece_set.PieceSet.{PieceSet}
 use Rattle.dob_pieces.specs.Bytes.{digit_zero}
@@ -10,7 +10,3 @@ digit n = digit_zero + n
 -- three digits: chicks, elephants, giraffes
 abbrev pub set_text : PieceSet → List ℕ
 set_text set = digit set.chicks ∷ digit set.elephants ∷ digit set.giraffes ∷ []
-
--- how many pieces there are besides the lions
-abbrev pub piece_count : PieceSet → ℕ
-piece_count set = set.chicks + set.elephants + set.giraffes
