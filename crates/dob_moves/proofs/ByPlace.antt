@@ -15,7 +15,7 @@ use Rattle.dob_moves.specs.declared.game_move.Move.{Move}
 use Rattle.dob_moves.specs.declared.game_move.Move.TheVariants.{Step, Put}
 use Rattle.dob_moves.specs.declared.first_moves.Aim.{Aim}
 use Rattle.dob_moves.specs.declared.first_moves.Aim.TheVariants.{AtLion, Elsewhere}
-use Rattle.dob_moves.specs.Moves.{CanGo, CatchesLion, hand_place, may_put, place, first_drop}
+use Rattle.dob_moves.specs.Moves.{CanGo, hand_place, may_put, place, first_drop}
 use Rattle.dob_moves.specs.AtPlaces.{step_of, step_between, drop_on}
 use Rattle.dob_moves.specs.Walks.{own_kind, step_onto, put_if}
 use Rattle.dob_moves.proofs.ByProfile.{goes, may, can_go, can_go_in}
@@ -173,12 +173,3 @@ none_behind profile p there len far (Step k f t catch grows) can e =
     let before = step_before profile p k f t catch grows len can in omega (arith, before, far, e)
 none_behind profile p there len far (Put k t) can e =
     let near = drop_square profile p k t can in let few = few_kinds k in omega (arith, near, few, far, e)
-
--- no drop catches the lion, and a step that does stands before those of drops
-pub no_catch_behind : (p : Setup) (there : ℕ) → length p.board ≡ 12 → first_drop ≤ there → (m : Move) → CatchesLion p m → place m ≡ there → ⊥
-no_catch_behind p there len far (Step kind from to catch grows) h e =
-    let found = lion_found p kind from to catch grows h in
-    let within = within-from_piece p from (piece_of Mover kind) found.step.own in
-    let near = leads-to_board kind from to found.step.leads in
-    omega (arith, within, near, len, far, e)
-no_catch_behind p there len far (Put kind to) h e = h
