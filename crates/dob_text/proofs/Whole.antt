@@ -45,10 +45,6 @@ pub letters_up : (text grid mover enemy : List ℕ) → AreParts text grid mover
 letters_up text grid mover enemy parts letters = λ i lt other.
     subst (λ (byte : ℕ). IsBoardLetter byte) (sym (grid_reads text grid mover enemy parts i lt)) (letters i lt other)
 
-pub letters_down : (text grid mover enemy : List ℕ) → AreParts text grid mover enemy → HasLetters text → HasLetters grid
-letters_down text grid mover enemy parts letters = λ i lt other.
-    subst (λ (byte : ℕ). IsBoardLetter byte) (grid_reads text grid mover enemy parts i lt) (letters i lt other)
-
 pub spelled_shape : (text : List ℕ) (setup : Setup) → Spells text setup → HasShape text
 spelled_shape text setup spells =
     let space : 32 < 128 = omega arith in
