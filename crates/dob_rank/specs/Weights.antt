@@ -15,14 +15,6 @@ abbrev pub weight : (ℕ → ℕ) → ℕ → ℕ → List ℕ → ℕ
 weight w t s [] = 1
 weight w t s (l ∷ ls) = cond (l == t) (w s) 1 * weight w t (suc s) ls
 
--- the sum of the weights of all choices of so many of the empty squares
-abbrev pub all_weights : (ℕ → ℕ) → ℕ → ℕ → List ℕ → ℕ
-all_weights w s zero [] = 1
-all_weights w s (suc pieces) [] = 0
-all_weights w s zero (l ∷ ls) = all_weights w (suc s) zero ls
-all_weights w s (suc pieces) (l ∷ ls) =
-    cond (l == order Empty) (w s * all_weights w (suc s) pieces ls) 0 + all_weights w (suc s) (suc pieces) ls
-
 -- the forms that a number says are all allowed
 abbrev pub are_allowed : (ℕ → ℕ → Bool) → ℕ → ℕ → ℕ → ℕ → List ℕ → Bool
 are_allowed ok base t number s [] = true

@@ -309,16 +309,6 @@ pub fn power(base: u64, exponent: u64) -> u64
     }
 }
 
-/// How many positions the block of that number has.
-pub(crate) fn block_size(set: PieceSet, block: u64) -> u64
-    requires { block < product (block_bases set) }
-    ensures value { result ≡ block_size set block }
-    ensures bound { result ≤ 2 ^ 36 }
-{
-    let on_board = numbers_in(set, block);
-    radix::product(&bases_in(set, &on_board))
-}
-
 /// How many runs the block of that number has: one for the mover's hand and the lions' squares each.
 pub fn count_runs(set: PieceSet, block: u64) -> u64
     requires { block < product (block_bases set) }

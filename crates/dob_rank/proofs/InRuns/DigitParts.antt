@@ -136,19 +136,6 @@ eleven run hands squares kinds =
     get_or hands 0 0 ∷ get_or hands 1 0 ∷ get_or hands 2 0 ∷ run % lion_pairs / enemy_squares ∷ run % lion_pairs % enemy_squares
     ∷ get_or squares 0 0 ∷ get_or squares 1 0 ∷ get_or squares 2 0 ∷ get_or kinds 0 0 ∷ get_or kinds 1 0 ∷ get_or kinds 2 0 ∷ []
 
--- the digits that the code finds are those of the spot
-pub digits_found : (set : PieceSet) (ob : List ℕ) (run local forms : ℕ) (hands squares kinds : List ℕ) → AreParts set ob run local forms →
-    hands ≡ digits_of (hand_bases set ob) (run / lion_pairs) → squares ≡ digits_of (square_bases ob) (local / forms) →
-    kinds ≡ digits_of (form_bases ob) (local % forms) →
-    get_or hands 0 0 ∷ get_or hands 1 0 ∷ get_or hands 2 0 ∷ run % lion_pairs / enemy_squares ∷ run % lion_pairs % enemy_squares
-    ∷ get_or squares 0 0 ∷ get_or squares 1 0 ∷ get_or squares 2 0 ∷ get_or kinds 0 0 ∷ get_or kinds 1 0 ∷ get_or kinds 2 0 ∷ []
-    ≡ digits_of (bases_by set ob) (run * product (local_bases ob) + local)
-digits_found set ob run local forms hands squares kinds parts h s k =
-    ap (λ (xs : List ℕ). eleven run xs squares kinds) h
-    ∙ ap (λ (xs : List ℕ). eleven run (digits_of (hand_bases set ob) (run / lion_pairs)) xs kinds) s
-    ∙ ap (eleven run (digits_of (hand_bases set ob) (run / lion_pairs)) (digits_of (square_bases ob) (local / forms))) k
-    ∙ sym parts.digits_are
-
 pub below_same : (n : ℕ) (xs ys : List ℕ) → xs ≡ ys → n < product ys → n < product xs
 below_same n xs ys e h = subst (λ (zs : List ℕ). n < product zs) (sym e) h
 

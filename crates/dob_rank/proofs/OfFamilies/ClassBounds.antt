@@ -2,7 +2,7 @@
 use Rattle.std.proofs.Common.{ℕ, ◌<◌, ◌≤◌, ◌^◌, sym, subst, arith}
 use Rattle.dob_pieces.specs.declared.piece_set.PieceSet.{PieceSet}
 use Rattle.dob_pieces.specs.declared.profile.Family.{Family}
-use Rattle.dob_rank.specs.Families.{is_present, is_marked, size_of, classes_of}
+use Rattle.dob_rank.specs.Families.{is_marked, classes_of}
 use Rattle.dob_rank.specs.Numbers.{size_of_set, product, block_bases}
 use Rattle.dob_rank.proofs.Positions.BlockStarts.{start_few}
 use Rattle.dob_rank.proofs.Positions.Blocks.{size_of_set-sum}
@@ -16,11 +16,7 @@ size_few set =
     all_blocks : (n : ℕ) → n ≤ n
     all_blocks n = omega arith
 
--- no more of its positions and classes than setups
-pub size_of-below : (family : Family) → size_of family < 2 ^ 31
-unfolding size_of
-size_of-below family = omega (arith, marks_below-le (is_present family) (size_of_set family.set), size_few family.set)
-
+-- no more of its classes than setups
 pub classes_of-below : (family : Family) → classes_of family < 2 ^ 31
 unfolding classes_of
 classes_of-below family = omega (arith, marks_below-le (is_marked family) (size_of_set family.set), size_few family.set)

@@ -6,8 +6,8 @@ use Rattle.dob_pieces.specs.declared.setup.Setup.{Setup}
 use Rattle.dob_rank.specs.Order.{Before}
 use Rattle.dob_rank.specs.Numbers.{size_of_set, rank_of_set, nth}
 use Rattle.dob_rank.specs.Marks.{one_if, marks_below}
-use Rattle.dob_rank.specs.Families.{IsPositionOf, HasRank, IsRanked, is_present, size_of, rank_of}
-use Rattle.dob_rank.proofs.Positions.Numbering.{nth-block, rank_of_set-nth, rank_of_set-below, rank_of_set-same, rank_of_set-rises}
+use Rattle.dob_rank.specs.Families.{IsPositionOf, HasRank, IsRanked, is_present, rank_of}
+use Rattle.dob_rank.proofs.Positions.Numbering.{nth-block, rank_of_set-nth, rank_of_set-same, rank_of_set-rises}
 use Rattle.dob_rank.proofs.Marked.Words.{marks_below_more, marks_below-up}
 use Rattle.dob_rank.proofs.OfFamilies.Present.{present, allowed, HasRank-rank_of}
 
@@ -19,11 +19,6 @@ marks_rise mark a b low on =
     let up = marks_below-up mark (suc a) (b - suc a) in
     let end : marks_below mark (suc a + (b - suc a)) ≡ marks_below mark b = ap (marks_below mark) (let e : suc a + (b - suc a) ≡ b = omega (arith, low) in e) in
     omega (arith, more, one, up, end)
-
-pub rank_of-below : (family : Family) (s : Setup) → IsPositionOf family s → rank_of family s < size_of family
-unfolding rank_of size_of
-rank_of-below family s p =
-    marks_rise (is_present family) (rank_of_set family.set s) (size_of_set family.set) (rank_of_set-below family.set s p.of_set) (present family s p)
 
 -- the earlier of two positions has the lower rank
 pub rank_of-rises : (family : Family) (p q : Setup) → IsPositionOf family p → IsPositionOf family q → Before p q → rank_of family p < rank_of family q

@@ -1,5 +1,5 @@
 -- Blocks: their bases are positive, and their sizes and number are small.
-use Rattle.std.proofs.Common.{◌≡◌, ℕ, zero, suc, ◌+◌, ◌-◌, ◌*◌, ◌^◌, ◌<◌, ◌≤◌, List, [], ◌∷◌, slice_index, refl, sym, ap, ◌∙◌, subst, inl, inr, arith}
+use Rattle.std.proofs.Common.{◌≡◌, ℕ, zero, suc, ◌+◌, ◌-◌, ◌*◌, ◌^◌, ◌<◌, ◌≤◌, List, [], ◌∷◌, slice_index, refl, sym, ap, subst, inl, inr, arith}
 use Rattle.std.specs.List.{All}
 use Rattle.std.proofs.lemmas.Bool.{cases_lt}
 use Rattle.std.proofs.lemmas.Nat.{mul-le}
@@ -253,35 +253,6 @@ fits_small n h = ((omega arith), (omega arith))
 pub HasDigits-numbers : (set : PieceSet) (block : ℕ) (xs : List ℕ) → block < product (block_bases set)
     → xs ≡ digits_of (block_bases set) block → HasDigits (block_bases set) xs
 HasDigits-numbers set block xs h e = subst (HasDigits (block_bases set)) (sym e) (few_in_block set block h)
-
-pub size_of_bases : (set : PieceSet) (block : ℕ) (xs bs : List ℕ) (n : ℕ) → xs ≡ digits_of (block_bases set) block
-    → bs ≡ bases_by set xs → n ≡ product bs → n ≡ block_size set block
-size_of_bases set block xs bs n e f g = g ∙ ap product f ∙ ap (λ (ys : List ℕ). product (bases_by set ys)) e ∙ sym (block_size-product set block)
-
--- one more block before
-pub start_step : (set : PieceSet) (start size earlier block : ℕ) → block ≤ product (block_bases set)
-    → earlier < block → size ≡ block_size set earlier → size ≤ 2 ^ 36
-    → start ≡ sum_below (block_size set) earlier → start ≤ earlier * 2 ^ 36
-    → (start + size ≡ sum_below (block_size set) (earlier + 1)) × (start + size ≤ (earlier + 1) * 2 ^ 36) × (start + size < 2 ^ 64)
-start_step set start size earlier block h lt e s i b =
-    let few : product (block_bases set) ≤ 27 = blocks_small set in (
-      sum_up (block_size set) start size earlier i e,
-      more_of start size earlier b s,
-      less_word start size earlier (product (block_bases set)) (before earlier block (product (block_bases set)) lt h) few b s,
-    )
-  where
-    sum_up : (f : ℕ → ℕ) (start size earlier : ℕ) → start ≡ sum_below f earlier → size ≡ f earlier → start + size ≡ sum_below f (earlier + 1)
-    sum_up f start size earlier h k = ap (λ (x : ℕ). x + size) h ∙ ap (λ (x : ℕ). sum_below f earlier + x) k ∙ sym (sum_below_more f earlier)
-
-    more_of : (start size earlier : ℕ) → start ≤ earlier * 2 ^ 36 → size ≤ 2 ^ 36 → start + size ≤ (earlier + 1) * 2 ^ 36
-    more_of start size earlier h k = omega arith
-
-    before : (a b c : ℕ) → a < b → b ≤ c → a < c
-    before a b c h k = omega arith
-
-    less_word : (start size earlier blocks : ℕ) → earlier < blocks → blocks ≤ 27 → start ≤ earlier * 2 ^ 36
-        → size ≤ 2 ^ 36 → start + size < 2 ^ 64
-    less_word start size earlier blocks h k l m = omega arith
 
 -- a block has few runs
 pub run_bases-few : (set : PieceSet) (ob : List ℕ) → product (run_bases set ob) ≤ 2 ^ 12

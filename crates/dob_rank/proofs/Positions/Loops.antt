@@ -1,14 +1,12 @@
 -- The steps of the loops, over plain lists and numbers.
-use Rattle.std.proofs.Common.{◌≡◌, ℕ, zero, suc, ◌+◌, ◌-◌, ◌*◌, ◌/◌, ◌^◌, ◌<◌, ◌≤◌, List, [], ◌∷◌, length, map, drop}
-use Rattle.std.proofs.Common.{set, get_or, slice_index, refl, sym, ap, ◌∙◌, arith}
+use Rattle.std.proofs.Common.{◌≡◌, ℕ, zero, suc, ◌+◌, ◌-◌, ◌*◌, ◌/◌, ◌^◌, ◌<◌, ◌≤◌, List, [], ◌∷◌, length, drop}
+use Rattle.std.proofs.Common.{get_or, refl, sym, ap, ◌∙◌, arith}
 use Rattle.std.specs.List.{All}
 use Rattle.std.proofs.lemmas.List.{drop_more}
 use Rattle.std.proofs.lemmas.Nat.{mul-le}
 use Rattle.std.proofs.Math.Nat.{mul_comm, pow-zero, pow-succ'}
-use Rattle.dob_pieces.specs.Setups.{Cell}
-use Rattle.dob_rank.specs.Numbers.{product, number_of, HasDigits, layer, count, choose, base_of, forms_number, board_of, order}
-use Rattle.dob_rank.specs.declared.layers.Layer.TheVariants.{Empty}
-use Rattle.dob_rank.proofs.Arithmetic.MixedRadix.{digit_below, number_of-below}
+use Rattle.dob_rank.specs.Numbers.{product, HasDigits, choose}
+use Rattle.dob_rank.proofs.Arithmetic.MixedRadix.{digit_below}
 
 -- ---- the rest of a list, one element further back
 
@@ -45,12 +43,6 @@ product_fits bs i w limit h low p q e =
 
 -- ---- numbers
 
-pub HasDigits-positive : (bs ds : List ℕ) → HasDigits bs ds → All (λ (b : ℕ). 0 < b) bs
-HasDigits-positive [] ds h k d l = absurd (omega arith)
-HasDigits-positive (b ∷ bs) [] h k d l = absurd h
-HasDigits-positive (b ∷ bs) (x ∷ ds) h zero d l = (let low : x < b = h.0 in omega arith)
-HasDigits-positive (b ∷ bs) (x ∷ ds) h (suc k) d l = HasDigits-positive bs ds h.1 k d (omega arith)
-
 pub HasDigits-length : (bs ds : List ℕ) → HasDigits bs ds → length ds ≡ length bs
 HasDigits-length [] [] h = refl
 HasDigits-length [] (x ∷ ds) h = absurd h
@@ -69,32 +61,6 @@ digit-at [] ds k h l = absurd (omega arith)
 digit-at (b ∷ bs) [] k h l = absurd h
 digit-at (b ∷ bs) (x ∷ ds) zero h l = h.0
 digit-at (b ∷ bs) (x ∷ ds) (suc k) h l = digit-at bs ds k h.1 (omega arith)
-
--- one more digit: the step, and that it stays within the product
-pub record IsDigitStep (bs ds : List ℕ) (i n w : ℕ) : Type 0 where
-  pub number_is : n + get_or ds (i - 1) 0 * w ≡ number_of (drop (i - 1) bs) (drop (i - 1) ds)
-  pub weight_is : w * get_or bs (i - 1) 0 ≡ product (drop (i - 1) bs)
-  pub below : n + get_or ds (i - 1) 0 * w < product bs
-  pub weight_below : w * get_or bs (i - 1) 0 ≤ product bs
-
-pub digit_step : (bs ds : List ℕ) (i n w : ℕ) → HasDigits bs ds → 0 < i → i ≤ length bs → n ≡ number_of (drop i bs) (drop i ds)
-    → w ≡ product (drop i bs) → IsDigitStep bs ds i n w
-digit_step bs ds i n w h p q en ew =
-    let db : drop (i - 1) bs ≡ get_or bs (i - 1) 0 ∷ drop i bs = drop_back bs i 0 p q in
-    let len : length ds ≡ length bs = HasDigits-length bs ds h in
-    let dd : drop (i - 1) ds ≡ get_or ds (i - 1) 0 ∷ drop i ds = drop_back ds i 0 p (omega arith) in
-    let weight : product (drop (i - 1) bs) ≡ get_or bs (i - 1) 0 * product (drop i bs) = ap product db in
-    let number : number_of (drop (i - 1) bs) (drop (i - 1) ds) ≡ get_or ds (i - 1) 0 * product (drop i bs) + number_of (drop i bs) (drop i ds)
-    = ap (λ (xs : List ℕ). number_of xs (drop (i - 1) ds)) db ∙ ap (number_of (get_or bs (i - 1) 0 ∷ drop i bs)) dd in
-    let low : number_of (drop (i - 1) bs) (drop (i - 1) ds) < product (drop (i - 1) bs)
-    = number_of-below (drop (i - 1) bs) (drop (i - 1) ds) (HasDigits-drop bs ds (i - 1) h) in
-    let all : product (drop (i - 1) bs) ≤ product bs = product-drop bs (i - 1) (HasDigits-positive bs ds h) in
-    let d_w : get_or ds (i - 1) 0 * w ≡ get_or ds (i - 1) 0 * product (drop i bs) = ap (λ (x : ℕ). get_or ds (i - 1) 0 * x) ew in
-    let w_b : w * get_or bs (i - 1) 0 ≡ get_or bs (i - 1) 0 * product (drop i bs) = ap (λ (x : ℕ). x * get_or bs (i - 1) 0) ew
-    ∙ mul_comm (product (drop i bs)) (get_or bs (i - 1) 0) in
-    record { number_is = omega arith; weight_is = omega arith; below = omega arith; weight_below = omega arith }
-
--- ---- digits
 
 -- ---- small choices
 
@@ -121,25 +87,3 @@ choose_at_two m p e = half_of m (choose m 2) (choose_two_twice m) ∙ sym (ap (c
 
 pub power_at_one : (b e : ℕ) → e ≡ 1 → b ≡ b ^ e
 power_at_one b e h = sym (ap (λ (x : ℕ). b ^ x) h ∙ pow-succ' b 0 ∙ ap (λ (x : ℕ). b * x) (pow-zero b) ∙ (let z : b * 1 ≡ b = omega arith in z))
-
--- ---- layers
-
--- ---- forms
-
--- one more form: the step, and that it stays small
-pub record IsFormStep (t n w f : ℕ) (cells : List Cell) (i : ℕ) : Type 0 where
-  pub number_is : n + f * w ≡ forms_number t (drop (i - 1) cells)
-  pub weight_is : w * base_of t ≡ base_of t ^ count t (map layer (drop (i - 1) cells))
-  pub product_small : f * w ≤ 48
-  pub number_small : n + f * w ≤ 64
-  pub weight_small : w * base_of t ≤ 64
-
--- one more cell of the board made
-pub record IsBoardStep (numbers rest ls : List ℕ) (board : List Cell) (i number : ℕ) (cell : Cell) : Type 0 where
-  pub size : length (set board (i - 1) cell) ≡ 12
-  pub rest_size : length (set rest (get_or ls (i - 1) 0) number) ≡ 6
-  pub board_is : drop (i - 1) (set board (i - 1) cell) ≡ board_of (slice_index numbers) (drop (i - 1) ls)
-  pub rest_is : (t : ℕ) → t ≤ order Empty → slice_index (set rest (get_or ls (i - 1) 0) number) t
-      ≡ slice_index numbers t / base_of t ^ count t (drop (i - 1) ls)
-
--- ---- the start of a block

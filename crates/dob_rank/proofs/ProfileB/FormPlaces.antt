@@ -19,9 +19,6 @@ use Rattle.dob_rank.proofs.ProfileB.Weights.{one_more, one_if-and, allowed_other
 
 -- ---- the allowed numbers before one
 
-one_if_on : (b : Bool) → b ≡ true → one_if b ≡ 1
-one_if_on b e = ap one_if e
-
 -- of one more piece those with a lower form, and those with its own
 forms_before_one : (ok : ℕ → ℕ → Bool) (base t q r s : ℕ) (ls : List ℕ) → 0 < base → q < base → r < base ^ count t ls → ok s q ≡ true
     → marks_below (λ n. are_allowed ok base t n s (t ∷ ls)) (q * base ^ count t ls + r)

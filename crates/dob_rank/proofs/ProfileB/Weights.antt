@@ -1,14 +1,14 @@
 -- Weighted counts: the sum of the weights of all choices, and how many numbers stand for allowed forms.
-use Rattle.std.proofs.Common.{◌≡◌, ℕ, zero, suc, ◌+◌, ◌-◌, ◌*◌, ◌/◌, ◌%◌, ◌^◌, ◌<◌, ◌&&◌, Bool, true, false, List, [], ◌∷◌, refl, sym, ap, ◌∙◌, subst, inl, inr, arith}
+use Rattle.std.proofs.Common.{◌≡◌, ℕ, suc, ◌+◌, ◌-◌, ◌*◌, ◌/◌, ◌%◌, ◌^◌, ◌<◌, ◌&&◌, Bool, true, false, List, [], ◌∷◌, refl, sym, ap, ◌∙◌, subst, inl, inr, arith}
 use Rattle.std.proofs.lemmas.Bool.{cases_eq, eq-eqb, ne_eqb}
 use Rattle.std.proofs.lemmas.Nat.{div-mul-add, mod-mul-add, mod_below, same_from_place}
 use Rattle.std.proofs.Math.Arith.{mod-mul}
 use Rattle.std.proofs.Math.Nat.{mul_comm, pow-succ', pow-zero, mod-eq_of_lt}
 use Rattle.dob_rank.specs.Numbers.{sum_below, count, choose, with_first, settle, order}
 use Rattle.dob_rank.specs.Marks.{one_if, marks_below}
-use Rattle.dob_rank.specs.Weights.{weight, all_weights, are_allowed}
+use Rattle.dob_rank.specs.Weights.{weight, are_allowed}
 use Rattle.dob_rank.specs.declared.layers.Layer.TheVariants.{Empty}
-use Rattle.dob_lists.proofs.Sums.{sum_same, sum_parts, sum_times, sum_blocks}
+use Rattle.dob_lists.proofs.Sums.{sum_same, sum_times, sum_blocks}
 use Rattle.dob_rank.proofs.Boards.Choices.{count_same, count_other}
 use Rattle.dob_rank.proofs.Boards.Settled.{settle_kept, settle_taken, settle_left}
 use Rattle.dob_rank.proofs.Boards.FormDigits.{power_positive}
@@ -56,36 +56,6 @@ taken w t s pieces ls =
     ∙ ap (λ (x : ℕ). weight w t s (t ∷ settle t x c ls)) (let e : suc pieces - 1 ≡ pieces = omega arith in e)
     ∙ weight_same w t s (settle t pieces c ls))
     ∙ sum_times (w s) (λ c. weight w t (suc s) (settle t pieces c ls)) (choose (count (order Empty) ls) pieces)
-
--- all choices together weigh what the recursion over the squares says
-pub choices_weigh : (w : ℕ → ℕ) (t s pieces : ℕ) (ls : List ℕ) → t < order Empty → count t ls ≡ 0 → summed w t s pieces ls ≡ all_weights w s pieces ls
-choices_weigh w t s zero [] low none = refl
-choices_weigh w t s (suc pieces) [] low none = refl
-choices_weigh w t s zero (l ∷ ls) low none =
-    let other : l ≡ t → ⊥ = not_first t l ls none in
-    let rest : summed w t (suc s) 0 ls ≡ all_weights w (suc s) 0 ls = choices_weigh w t (suc s) 0 ls low (sym (count_other t l ls other) ∙ none) in
-    elim (cases_eq l (order Empty)) [
-      | inl e ↦ subst (λ (x : ℕ). summed w t s 0 (x ∷ ls) ≡ all_weights w (suc s) 0 ls) (sym e)
-          (ap (λ (n : ℕ). sum_below (λ c. weight w t s (settle t 0 c (order Empty ∷ ls))) (choose n 0)) (count_same (order Empty) ls)
-          ∙ left w t s 0 ls low ∙ rest)
-      | inr full ↦ kept w t s 0 l ls full other ∙ rest
-    ]
-choices_weigh w t s (suc pieces) (l ∷ ls) low none =
-    let other : l ≡ t → ⊥ = not_first t l ls none in
-    let none' : count t ls ≡ 0 = sym (count_other t l ls other) ∙ none in
-    let more : summed w t (suc s) (suc pieces) ls ≡ all_weights w (suc s) (suc pieces) ls = choices_weigh w t (suc s) (suc pieces) ls low none' in
-    let fewer : summed w t (suc s) pieces ls ≡ all_weights w (suc s) pieces ls = choices_weigh w t (suc s) pieces ls low none' in
-    elim (cases_eq l (order Empty)) [
-      | inl e ↦ subst (λ (x : ℕ). summed w t s (suc pieces) (x ∷ ls) ≡ all_weights w s (suc pieces) (x ∷ ls)) (sym e)
-          (ap (λ (n : ℕ). sum_below (λ c. weight w t s (settle t (suc pieces) c (order Empty ∷ ls))) (choose n (suc pieces))) (count_same (order Empty) ls)
-          ∙ sum_parts (λ c. weight w t s (settle t (suc pieces) c (order Empty ∷ ls))) (choose (count (order Empty) ls) pieces) (choose (count (order Empty) ls) (suc pieces))
-          ∙ ap (λ (x : ℕ). x + sum_below (λ k. weight w t s (settle t (suc pieces) (choose (count (order Empty) ls) pieces + k) (order Empty ∷ ls))) (choose (count (order Empty) ls) (suc pieces)))
-          (taken w t s pieces ls)
-          ∙ ap (λ (x : ℕ). w s * summed w t (suc s) pieces ls + x) (left w t s (suc pieces) ls low ∙ more)
-          ∙ ap (λ (x : ℕ). w s * x + all_weights w (suc s) (suc pieces) ls) fewer)
-      | inr full ↦ kept w t s (suc pieces) l ls full other ∙ more
-          ∙ sym (rw (ne_eqb l (order Empty) full) (let e : 0 + all_weights w (suc s) (suc pieces) ls ≡ all_weights w (suc s) (suc pieces) ls = omega arith in e))
-    ]
 
 -- ---- forms
 
