@@ -25,7 +25,7 @@ pub use bits::bitboards::Bitboards;
 pub use bits::shown::Shown;
 pub use class_counts::count_classes;
 pub use class_numbers::{class_number, classes_in_run};
-pub use class_rows::{block_number, class_number_by, count_blocks, write_row};
+pub use class_rows::{block_number, count_blocks, write_row};
 pub use class_walks::{MixedRun, Walk};
 pub use classes::Classes;
 pub use representatives::representative;

@@ -1,5 +1,5 @@
 -- Stretches of marks: what they say of a place, and how their list grows.
-use Rattle.std.proofs.Common.{◌≡◌, ℕ, zero, suc, ◌+◌, ◌-◌, ◌*◌, ◌/◌, ◌<◌, ◌≤◌, Bool, true, false, cond, List, [], ◌∷◌, ◌++◌, length, slice_index_or, get_or, drop}
+use Rattle.std.proofs.Common.{◌≡◌, ℕ, zero, suc, ◌+◌, ◌-◌, ◌*◌, ◌/◌, ◌<◌, ◌≤◌, Bool, true, false, List, [], ◌∷◌, ◌++◌, length, slice_index_or, get_or, drop}
 use Rattle.std.proofs.Common.{refl, sym, ap, ◌∙◌, subst, inl, inr, arith}
 use Rattle.std.specs.List.{All}
 use Rattle.std.proofs.lemmas.Bool.{cases_lt, cases_eq}
@@ -20,22 +20,6 @@ pub record IsBetween (list : List Stretch) (low high place : ℕ) : Type 0 where
   pub within : high ≤ length list
   pub low_is : (other : Stretch) → (slice_index_or list low other).start ≤ place
   pub high_is : (other : Stretch) → high < length list → place < (slice_index_or list high other).start
-
--- the whole list
-pub between_all : (mark : ℕ → Bool) (upto high place : ℕ) (list : List Stretch) → AreStretches mark upto list → place < upto → high ≡ length list →
-    IsBetween list 0 high place
-between_all mark upto high place list are below whole =
-    let some = are.some (omega arith) in
-    record {
-      some = omega (arith, some, whole);
-      within = omega (arith, whole);
-      low_is = λ other. (let start = are.first_is other some in omega (arith, start));
-      high_is = λ other inside. absurd (omega (arith, inside, whole));
-    }
-
--- the marks before a place, by its entry
-abbrev pub marks_by : Stretch → ℕ → ℕ
-marks_by entry place = cond entry.is_marked (entry.before + (place - entry.start)) entry.before
 
 -- what the entry found says of the place
 pub record IsRead (mark : ℕ → Bool) (place : ℕ) (entry : Stretch) : Type 0 where

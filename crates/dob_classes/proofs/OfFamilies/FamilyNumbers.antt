@@ -1,10 +1,8 @@
 -- Class numbers of a family: a position is in the class of its class number, and classes and their numbers answer each other.
-use Rattle.std.proofs.Common.{◌≡◌, ℕ, zero, suc, ◌<◌, ◌≤◌, ◌⊎◌, min, Bool, ◌&&◌, true, false, refl, ap, sym, ◌∙◌, subst, inl, inr, arith}
+use Rattle.std.proofs.Common.{◌≡◌, ℕ, ◌<◌, ◌≤◌, ◌⊎◌, min, true, false, refl, ap, sym, ◌∙◌, subst, inl, inr, arith}
 use Rattle.std.proofs.lemmas.Bool.{cases_lt, both_ways}
 use Rattle.std.proofs.Math.Nat.{min-eq_left, min-eq_right, min_comm}
 use Rattle.dob_pieces.specs.declared.profile.Family.{Family}
-use Rattle.dob_pieces.specs.declared.profile.Profile.{Profile}
-use Rattle.dob_pieces.specs.declared.profile.Profile.TheVariants.{A}
 use Rattle.dob_pieces.specs.declared.setup.Setup.{Setup}
 use Rattle.dob_pieces.specs.Profiles.{IsAllowed}
 use Rattle.dob_pieces.specs.Setups.{mirrored}
@@ -12,12 +10,11 @@ use Rattle.dob_pieces.proofs.Allowed.{IsAllowed-mirrored}
 use Rattle.dob_pieces.proofs.Symmetries.{mirrored-mirrored}
 use Rattle.dob_rank.specs.Order.{IsEither, IsFirstOfTwo, RepresentativeOf}
 use Rattle.dob_rank.specs.Numbers.{size_of_set, rank_of_set}
-use Rattle.dob_rank.specs.Marks.{one_if, marks_below, is_first}
-use Rattle.dob_rank.specs.Families.{family_of, IsPositionOf, IsRepresentative, HasClass, IsInClass, is_present, is_marked, size_of, classes_of, class_number}
+use Rattle.dob_rank.specs.Marks.{marks_below}
+use Rattle.dob_rank.specs.Families.{IsPositionOf, IsRepresentative, HasClass, IsInClass, is_marked, classes_of, class_number}
 use Rattle.dob_rank.proofs.Positions.Numbering.{rank_of_set-below, rank_of_set-same}
 use Rattle.dob_rank.proofs.Positions.Found.{IsPositionOfSet-mirrored}
-use Rattle.dob_rank.proofs.OfFamilies.Present.{HasClass-marked, marked, represents, there}
-use Rattle.dob_rank.proofs.Marked.Words.{marks_below_more, marks_below_none}
+use Rattle.dob_rank.proofs.OfFamilies.Present.{HasClass-marked, marked, represents}
 use Rattle.dob_classes.proofs.OfFamilies.ClassNumbers.{earlier, marks_below-rises, marks_below-same}
 use Rattle.dob_rank.proofs.Marked.Representatives.{first_by_rank, rank_of_first}
 
@@ -158,32 +155,3 @@ class_of_unmarked family s t class p off image is =
   where
     lower : (own image : ℕ) → image < own → min own image ≡ image
     lower own image lt = min-eq_right (let le : image ≤ own = omega arith in le)
-
--- ---- in profile A the classes are those of the set
-
-marked_there : (family : Family) (k : ℕ) → family.profile ≡ A → is_marked family k ≡ is_first family.set k
-unfolding is_marked
-marked_there family k a = ap (λ (b : Bool). b && is_first family.set k) (there family k a)
-
-pub classes_of-whole : (family : Family) → family.profile ≡ A → classes_of family ≡ classes_of (family_of family.set A)
-classes_of-whole family a = ap (λ (p : Profile). classes_of (family_of family.set p)) a
-
--- ---- a family has no more classes than positions
-
-fewer_marked : (on mark : ℕ → Bool) (n : ℕ) → marks_below (λ k. on k && mark k) n ≤ marks_below on n
-fewer_marked on mark zero = (let none = marks_below_none (λ k. on k && mark k) in omega (arith, none))
-fewer_marked on mark (suc n) =
-    let rest = fewer_marked on mark n in
-    let more = marks_below_more (λ k. on k && mark k) n in
-    let all = marks_below_more on n in
-    let one = no_more (on n) (mark n) in
-    omega (arith, rest, more, all, one)
-  where
-    no_more : (a b : Bool) → one_if (a && b) ≤ one_if a
-    no_more true true = omega arith
-    no_more true false = omega arith
-    no_more false b = omega arith
-
-pub classes_of-few : (family : Family) → classes_of family ≤ size_of family
-unfolding classes_of size_of is_marked
-classes_of-few family = fewer_marked (is_present family) (is_first family.set) (size_of_set family.set)

@@ -101,17 +101,8 @@ chick_form = of_cell (λ cell. layer cell ≡ order Chicks → 2 * bit_if (is_en
     (λ e. absurd (nothing e)) (λ e. absurd (no_lion e), λ e. absurd (no_giraffe e), λ e. absurd (no_elephant e), λ e. refl, λ e. refl)
     (λ e. absurd (no_enemy_lion e), λ e. absurd (no_giraffe e), λ e. absurd (no_elephant e), λ e. refl, λ e. refl)
 
-other_form : (cell : Cell) → (layer cell ≡ order Chicks → ⊥) → bit_if (is_enemy cell) ≡ form cell
-other_form = of_cell (λ cell. (layer cell ≡ order Chicks → ⊥) → bit_if (is_enemy cell) ≡ form cell)
-    (λ n. refl) (λ n. refl, λ n. refl, λ n. refl, λ n. absurd (n refl), λ n. absurd (n refl))
-    (λ n. refl, λ n. refl, λ n. refl, λ n. absurd (n refl), λ n. absurd (n refl))
-
 pub chick_found : (setup : Setup) (bits : Bitboards) (square enemy hen : ℕ) → square < 12 → AreBitboards setup bits → layer (at setup square) ≡ order Chicks
     → enemy ≡ bit_at bits.enemies square → hen ≡ bit_at bits.hens square → 2 * enemy + hen ≡ form (at setup square)
 chick_found setup bits square enemy hen lt are is e h =
     ap (λ (n : ℕ). 2 * n + hen) (e ∙ are.enemies_are.bits square lt)
     ∙ ap (λ (n : ℕ). 2 * bit_if (is_enemy (at setup square)) + n) (h ∙ are.hens_are.bits square lt) ∙ chick_form (at setup square) is
-
-pub other_found : (setup : Setup) (bits : Bitboards) (square enemy : ℕ) → square < 12 → AreBitboards setup bits → (layer (at setup square) ≡ order Chicks → ⊥)
-    → enemy ≡ bit_at bits.enemies square → enemy ≡ form (at setup square)
-other_found setup bits square enemy lt are apart e = e ∙ are.enemies_are.bits square lt ∙ other_form (at setup square) apart
