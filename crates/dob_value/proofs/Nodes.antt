@@ -1,5 +1,5 @@
 -- The lists of a graph as they grow.
-use Rattle.std.proofs.Common.{◌≡◌, ℕ, ◌+◌, ◌-◌, ◌<◌, ◌≤◌, inl, inr, refl, sym, subst, ap, ◌∙◌, arith, List, [], ◌∷◌, ◌++◌, length, take}
+use Rattle.std.proofs.Common.{◌≡◌, ℕ, ◌+◌, ◌-◌, ◌<◌, ◌≤◌, inl, inr, sym, subst, ap, ◌∙◌, arith, List, [], ◌∷◌, ◌++◌, length, take}
 use Rattle.std.proofs.Common.{drop, slice_index_or, length-append}
 use Rattle.std.proofs.Math.Seq.{drop-append_seam, take-length}
 use Rattle.std.proofs.lemmas.List.{take-append-le, drop-append-le, length-drop, get_or_append_left, get_or_push}
@@ -31,17 +31,7 @@ last_run from to xs ys starts ends =
     ∙ ap (take (length ys)) (ap (λ n. drop n (xs ++ ys)) starts ∙ drop-append_seam xs ys)
     ∙ take-length ys
 
--- the graph of no class, and of one class more
-pub nodes_none : (family : Family) → AreNodes family 0 [] (0 ∷ []) []
-nodes_none family = record {
-  statuses_whole = refl;
-  starts_whole = refl;
-  end = refl;
-  ordered = λ number below. absurd (omega arith);
-  within = λ number below. absurd (omega arith);
-  known = λ number below. absurd (omega arith);
-}
-
+-- the graph of one class more
 module _ (family : Family) (upto : ℕ) (statuses : List Status) (starts successors : List ℕ) (before : AreNodes family upto statuses starts successors)
     (status : Status) (numbers : List ℕ) (known : IsNode family.profile (ClassStandsFor family) (class_setup family upto) status numbers) where
   abbrev all : List ℕ

@@ -1,6 +1,6 @@
 -- Tables during the sweeps.
 use Rattle.std.proofs.Common.{◌≡◌, ℕ, zero, suc, ◌+◌, ◌≤◌, ◌<◌, inl, inr, refl, sym, subst, arith, ◌∙◌, List, length, slice_index_or, true}
-use Rattle.std.proofs.Common.{false, slice_set, map, get_or-set_other, get_or-set_same, length-set, take, drop, ◌++◌}
+use Rattle.std.proofs.Common.{slice_set, map, get_or-set_other, get_or-set_same, length-set, take, drop, ◌++◌}
 use Rattle.std.proofs.lemmas.Grind.{common_steps}
 use Rattle.std.proofs.lemmas.List.{length-map, get_or-map}
 use Rattle.std.proofs.lemmas.Bool.{cases_lt, cases_eq, cases_order, leb-true, le-leb}
@@ -58,12 +58,6 @@ value_same profile p q (Win d) same has = ((same.won d).1 has.0, λ n won. has.1
 value_same profile p q (Loss d) same has = ((same.lost d).1 has.0, λ n lost. has.1 n ((same.lost n).0 lost))
 value_same profile p q Draw same has = λ n. (λ won. (has n).0 ((same.won n).0 won), λ lost. (has n).1 ((same.lost n).0 lost))
 
--- an entry that is known stays
-pub known_stays : (profile : Profile) (n : ℕ) (p : Setup) (entry : Value) → is_draw entry ≡ false → IsCutOff profile n p entry → IsCutOff profile (n + 1) p entry
-known_stays profile n p (Win d) known cut = let e : d ≤ n + 1 = omega (arith, cut.0) in (e, cut.1)
-known_stays profile n p (Loss d) known cut = let e : d ≤ n + 1 = omega (arith, cut.0) in (e, cut.1)
-known_stays profile n p Draw known cut = absurd (cc)
-
 pub draw_is : (v : Value) → is_draw v ≡ true → v ≡ Draw
 draw_is (Win d) h = absurd (cc)
 draw_is (Loss d) h = absurd (cc)
@@ -95,38 +89,7 @@ successors_told n upto family entries p status numbers swept known =
     (below, tells_same family.profile n (class_setup family number) q _ stands.1 told_there) in
     node_standing family.profile (ClassStandsFor family) (TellsAt family.profile n entries) p status numbers told known
 
--- before a sweep and after it
-pub swept_none : (n : ℕ) (family : Family) (entries : List Value) → AreCutOff n family entries → AreSwept n 0 family entries
-swept_none n family entries cut = record {
-  same_length = cut.same_length;
-  fits = λ number there. (λ below. absurd (omega arith), λ upto. cut.fits number there);
-}
-
-pub swept_all : (n upto : ℕ) (family : Family) (entries : List Value) → length entries ≤ upto → AreSwept n upto family entries →
-    AreCutOff (n + 1) family entries
-swept_all n upto family entries all swept = record {
-  same_length = swept.same_length;
-  fits = λ number there.
-      let same_length : length entries ≡ classes_of family = swept.same_length in
-      (swept.fits number there).0 (omega arith);
-}
-
--- one entry more is swept, whether it stays or is written
-pub swept_kept : (n upto : ℕ) (family : Family) (entries : List Value) → AreSwept n upto family entries →
-    IsCutOff family.profile (n + 1) (class_setup family upto) (slice_index_or entries upto Draw) → AreSwept n (upto + 1) family entries
-swept_kept n upto family entries swept cut = record {
-  same_length = swept.same_length;
-  fits = λ number there. (
-    λ below. elim (cases_lt number upto) [
-      | inl earlier ↦ (swept.fits number there).0 earlier
-      | inr later ↦
-          let same : upto ≡ number = omega arith in
-          subst (λ k. IsCutOff family.profile (n + 1) (class_setup family k) (slice_index_or entries k Draw)) same cut
-    ],
-    λ above. (swept.fits number there).1 (omega arith),
-  );
-}
-
+-- one entry more is swept, which is written
 pub swept_written : (n upto : ℕ) (family : Family) (entries : List Value) (v : Value) → upto < classes_of family →
     AreSwept n upto family entries → IsCutOff family.profile (n + 1) (class_setup family upto) v → AreSwept n (upto + 1) family (slice_set entries upto v)
 swept_written n upto family entries v within swept cut =
