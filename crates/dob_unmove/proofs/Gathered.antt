@@ -1,5 +1,5 @@
 -- What the ways add, one list after the other: nothing where none can lead to an open representative.
-use Rattle.std.proofs.Common.{◌≡◌, ℕ, zero, suc, ◌<◌, ◌≤◌, Bool, true, false, List, [], ◌∷◌, ◌++◌, Option, None, refl, sym, subst, arith, Contains}
+use Rattle.std.proofs.Common.{◌≡◌, ℕ, zero, suc, ◌<◌, ◌≤◌, Bool, true, false, List, [], ◌∷◌, ◌++◌, None, refl, sym, subst, arith, Contains}
 use Rattle.std.proofs.Common.{option_to_list, append-nil, inl, inr}
 use Rattle.std.specs.Int.{trailing_zeros, w16}
 use Rattle.std.proofs.lemmas.Bool.{cases_lt}
@@ -11,14 +11,10 @@ use Rattle.dob_pieces.proofs.Lists.{head_in}
 use Rattle.dob_pieces.proofs.MaskBits.{IsLeft, without, all_left, next_left, none_left}
 use Rattle.dob_unmove.specs.declared.undo.Undo.{Undo}
 use Rattle.dob_unmove.specs.Undoes.{earlier}
-use Rattle.dob_unmove.specs.Gathers.{IsOpenRepresentative, Finds, Gathers}
+use Rattle.dob_unmove.specs.Gathers.{IsOpenRepresentative, Gathers}
 
 pub gathers_none : (Represents : Setup → ℕ → Type 0) (after : Setup) (xs : List ℕ) → Gathers Represents after [] xs xs
 gathers_none Represents after xs = refl
-
-pub gathers_one : (Represents : Setup → ℕ → Type 0) (after : Setup) (u : Undo) (found : Option ℕ) (xs ys : List ℕ) → Finds Represents (earlier after u) found
-    → ys ≡ xs ++ option_to_list found → Gathers Represents after (u ∷ []) xs ys
-gathers_one Represents after u found xs ys finds e = (found, finds, sym e)
 
 pub gathers_append : (Represents : Setup → ℕ → Type 0) (after : Setup) (us vs : List Undo) (xs ys zs : List ℕ) → Gathers Represents after us xs ys
     → Gathers Represents after vs ys zs
