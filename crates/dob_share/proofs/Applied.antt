@@ -12,7 +12,7 @@ use Rattle.dob_share.specs.Pools.{ChangesRun}
 use Rattle.dob_share.specs.Slots.{beyond, slot_at, start_at, room_at, least_of, cell_by, cell_in, IsShortCell, ArePooled}
 use Rattle.dob_share.specs.Steps.{IsChange, IsApplied, IsTooDeep}
 use Rattle.dob_share.proofs.Keeping.{same_short, cell_is, cell_here, cell_other, start_same, still_pooled}
-use Rattle.dob_share.proofs.Changing.{IsStep, misfits, not_too_deep}
+use Rattle.dob_share.proofs.Changing.{IsStep, not_too_deep}
 
 -- two cells that say the same have the same values
 pub CellValue-same : (a b : Cell) (value : Value) → SameCell a b → CellValue b value → CellValue a value
@@ -69,13 +69,6 @@ refused to was now place slots pool slot fault pooled step = record {
   values = λ change e. absurd (cc);
 }
 
-pub unfitting : (to : ℕ) (was now : Value) (place : ℕ) (slots : List Slot) (pool : List ℕ) →
-    ArePooled slots pool → (CellCanTake was now (cell_in slots pool place) → ⊥) →
-    IsApplied to was now place slots pool slots pool (Err (Contradiction to))
-unfitting to was now place slots pool pooled not =
-    refused to was now place slots pool (slot_at slots (length pool) place) (Contradiction to) pooled
-    (misfits to was now (cell_in slots pool place) (slot_at slots (length pool) place) not)
-
 -- the slot that was read
 pub read : (slots : List Slot) (pool : List ℕ) (place : ℕ) (slot : Slot) → place < length slots → slot ≡ get_or slots place slot →
     slot ≡ slot_at slots (length pool) place
@@ -114,10 +107,6 @@ module _ (slots : List Slot) (pool : List ℕ) (place : ℕ) (slot : Slot)
   pub entry_free : 0 < slot.left → slot.start + slot.used < length pool
   entry_free some = let most : slot.left + slot.used ≤ room_at slots (length pool) place = room_left in
       let end : slot.start + room_at slots (length pool) place ≤ length pool = run_end in omega arith
-
-  pub used_few : 0 < slot.left → slot.used + 1 < 64
-  used_few some = let most : slot.left + slot.used ≤ room_at slots (length pool) place = room_left in
-      let few : room_at slots (length pool) place < 64 = pooled.small place in omega arith
 
   module _ (to : ℕ) (was now : Value) where
     pub refused_here : (fault : Fault) → IsStep to was now (cell_by slot pool) slot (Err fault) →

@@ -1,7 +1,7 @@
 -- Sums over a run of the pool: after a write, at one entry, and with one entry more in use.
 use Rattle.std.proofs.Common.{◌≡◌, ◌≢◌, ℕ, zero, suc, ◌+◌, ◌-◌, ◌<◌, ◌≤◌, Bool, cond, List, length, refl, sym}
 use Rattle.std.proofs.Common.{ap, ◌∙◌, inl, inr, arith, get_or, Option, Some, None}
-use Rattle.std.proofs.Math.ListN.{set, length-set}
+use Rattle.std.proofs.Math.ListN.{set}
 use Rattle.std.proofs.lemmas.List.{get_or-set_same, get_or-set_other, get_or_default}
 use Rattle.std.proofs.lemmas.Bool.{cases_eq, eq-eqb, ne_eqb}
 use Rattle.dob_share.specs.Cells.{more_at, less_at, IsGreatestIn}
@@ -69,13 +69,6 @@ pub less_at-other : (plies other : ℕ) (wins : ℕ → ℕ) → (other ≡ plie
 less_at-other plies other wins n = ap (λ (b : Bool). cond b (wins other - 1) (wins other)) (ne_eqb other plies n)
 
 -- ---- a write
-
-pub changes_run : (pool : List ℕ) (start room place x : ℕ) → start ≤ place → place < start + room → ChangesRun start room pool (set pool place x)
-changes_run pool start room place x from below = record {
-  whole = length-set pool place x;
-  before = λ other under. get_or-set_other pool place other x vacant (let n : other ≢ place = omega arith in n);
-  behind = λ other above. get_or-set_other pool place other x vacant (let n : other ≢ place = omega arith in n);
-}
 
 -- a shorter run is changed, and so is a longer one
 pub changes_longer : (start less room : ℕ) (old new : List ℕ) → less ≤ room → ChangesRun start less old new → ChangesRun start room old new
