@@ -5,7 +5,7 @@ use Rattle.std.specs.Prelude.{◌==◌, ◌^◌, map}
 use Rattle.std.specs.List.{filter}
 use Rattle.std.proofs.lemmas.Bool.{cases_lt, cases_eq}
 use Rattle.std.proofs.lemmas.List.{append_assoc, append-nil, length-map, map-append, take-append-le, drop-append-le, take_all, take-take, take-append-drop}
-use Rattle.std.proofs.lemmas.List.{drop-take, drop-drop, take_at, drop_at, drop_all, drop_more, map_more, get_or-drop, nil_from_length}
+use Rattle.std.proofs.lemmas.List.{drop-take, drop-drop, take_at, drop_at, drop_more, map_more, get_or-drop, nil_from_length}
 use Rattle.dob_share.specs.declared.news.Settlement.{Settlement}
 use Rattle.dob_share.specs.declared.news.Item.{Item}
 use Rattle.dob_value.specs.declared.value.Value.TheVariants.{Win}
@@ -158,9 +158,6 @@ pub record IsMaking (parts : List Part) (classes : List ℕ) (index next : ℕ) 
   pub so_far : list ++ items_of_parts (drop index parts) (drop next classes) ≡ items_of_parts parts classes
   pub within : next + items_in_all (drop index parts) ≤ length classes
 
-pub making_none : (parts : List Part) (classes : List ℕ) (list : List Item) → items_in_all parts ≤ length classes → list ≡ [] → IsMaking parts classes 0 0 list
-making_none parts classes list within none = record { so_far = ap (λ (xs : List Item). xs ++ items_of_parts parts classes) none; within = omega (arith, within) }
-
 next_part : (parts : List Part) (index : ℕ) (part : Part) → index < length parts → part ≡ get_or parts index part → drop index parts ≡ part ∷ drop (index + 1) parts
 next_part parts index part there read = drop_more parts index part there ∙ ap (λ (p : Part). p ∷ drop (index + 1) parts) (sym read)
 
@@ -192,11 +189,6 @@ making_more parts classes index next list more part there read l is = record {
       let within = l.within in
       omega (arith, many, within);
 }
-
-pub making_done : (parts : List Part) (classes : List ℕ) (index next : ℕ) (list : List Item) → length parts ≤ index → IsMaking parts classes index next list
-    → list ≡ items_of_parts parts classes
-making_done parts classes index next list past l =
-    sym (append-nil list) ∙ ap (λ (xs : List Item). list ++ xs) (sym (ap (λ (ps : List Part). items_of_parts ps (drop next classes)) (drop_all index parts past))) ∙ l.so_far
 
 -- there is no item just where there is no class
 pub no_items_of_parts : (parts : List Part) (classes : List ℕ) → items_in_all parts ≡ length classes → (items_of_parts parts classes ≡ [] → length classes ≡ 0) × (length classes ≡ 0 → items_of_parts parts classes ≡ [])

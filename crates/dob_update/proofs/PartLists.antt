@@ -1,8 +1,8 @@
 -- Lists of parts: what is taken from their front, and what is left behind it.
 use Rattle.std.proofs.Common.{◌≡◌, ℕ, ◌+◌, ◌-◌, ◌^◌, ◌<◌, ◌≤◌, min, Bool, cond, List, [], ◌∷◌, ◌++◌, length, take}
-use Rattle.std.proofs.Common.{drop, set, get_or, refl, sym, ap, ◌∙◌, subst, arith, length-set}
+use Rattle.std.proofs.Common.{drop, get_or, refl, sym, ap, ◌∙◌, subst, arith}
 use Rattle.std.proofs.lemmas.Bool.{lt-ltb, le-ltb, ne_eqb}
-use Rattle.std.proofs.lemmas.List.{append_assoc, append-nil, drop_more, drop_all, take_more_set, drop-set-lt}
+use Rattle.std.proofs.lemmas.List.{append_assoc, append-nil, drop_more, drop_all}
 use Rattle.dob_share.specs.declared.news.Settlement.{Settlement}
 use Rattle.dob_update.specs.declared.part.Part.{Part}
 use Rattle.dob_update.specs.Parts.{with_number, items_in_all, front, behind, skip_behind, AreWhole}
@@ -32,9 +32,6 @@ front_next rest index parts part some within read =
 pub record IsListing (k rest index : ℕ) (parts list : List Part) : Type 0 where
   pub so_far : list ++ front rest (drop index parts) ≡ front k parts
 
-pub listing_none : (k : ℕ) (parts list : List Part) → list ≡ [] → IsListing k k 0 parts list
-listing_none k parts list e = record { so_far = ap (λ (xs : List Part). xs ++ front k parts) e }
-
 pub listing_more : (k rest index : ℕ) (parts list more : List Part) (part : Part) → 0 < rest → index < length parts → part ≡ get_or parts index part
     → IsListing k rest index parts list → more ≡ list ++ with_number part (min part.items rest) ∷ []
     → IsListing k (rest - min part.items rest) (index + 1) parts more
@@ -58,19 +55,6 @@ listing_all k rest index parts list past l =
 pub record IsKeeping (k rest index : ℕ) (old parts : List Part) : Type 0 where
   pub so_far : take index parts ++ front rest (drop index parts) ≡ front k old
   pub within : index ≤ length parts
-
-pub keeping_more : (k rest index : ℕ) (old parts : List Part) (part : Part) → 0 < rest → index < length parts → part ≡ get_or parts index part
-    → IsKeeping k rest index old parts → IsKeeping k (rest - min part.items rest) (index + 1) old (set parts index (with_number part (min part.items rest)))
-keeping_more k rest index old parts part some within read l = record {
-  so_far =
-      let next = with_number part (min part.items rest) in
-      let left = front (rest - min part.items rest) (drop (index + 1) parts) in
-      ap (λ (xs : List Part). xs ++ front (rest - min part.items rest) (drop (index + 1) (set parts index next))) (take_more_set parts index next within)
-      ∙ ap (λ (xs : List Part). (take index parts ++ next ∷ []) ++ front (rest - min part.items rest) xs) (drop-set-lt (index + 1) parts index next (omega arith))
-      ∙ append_assoc (take index parts) (next ∷ []) left
-      ∙ ap (λ (xs : List Part). take index parts ++ xs) (sym (front_next rest index parts part some within read)) ∙ l.so_far;
-  within = omega (arith, length-set parts index (with_number part (min part.items rest)), within);
-}
 
 pub keeping_done : (k rest index : ℕ) (old parts : List Part) → rest ≡ 0 → IsKeeping k rest index old parts → take index parts ≡ front k old
 keeping_done k rest index old parts e l =
@@ -124,36 +108,6 @@ first_part k skip rest before old parts part some read d = at parts d.whole d.wi
       let whole : before + part.items ≡ d.count part.settlement = subst (λ (x : Part). before + x.items ≡ d.count x.settlement) e w.1 in
       let low : d.count part.settlement < 2 ^ 64 = subst (λ (x : Part). d.count x.settlement < 2 ^ 64) e w.2 in
       record { some = more; fits = omega (arith, whole, low); is = ap (λ (x : Part). x ∷ ps) e }
-
--- the whole first part is dropped
-pub dropped_part : (k skip rest before : ℕ) (old parts : List Part) (part : Part) → part ≡ get_or parts 0 part → 0 < rest → part.items ≤ rest → IsDropping k skip rest before old parts
-    → IsDropping k skip (rest - part.items) 0 old (drop 1 parts)
-dropped_part k skip rest before old parts part read some le d = at parts d.whole d.within d.behind_is d.skip_is read where
-  at : (parts : List Part) → AreWhole d.count before parts → rest ≤ items_in_all parts → behind rest parts ≡ behind k old → skip_behind before rest parts ≡ skip_behind skip k old
-      → part ≡ get_or parts 0 part → IsDropping k skip (rest - part.items) 0 old (drop 1 parts)
-  at [] w within left skipped read = absurd (omega (arith, some, within))
-  at (p ∷ ps) w within left skipped read =
-      let same : part.items ≡ p.items = ap (λ (x : Part). x.items) read in
-      record {
-        count = d.count;
-        whole = w.3;
-        within = omega (arith, within, same);
-        behind_is = ap (λ m. behind (rest - m) ps) same ∙ sym (behind-past rest p ps (omega (arith, same, le))) ∙ left;
-        skip_is = ap (λ m. skip_behind 0 (rest - m) ps) same ∙ sym (skip-past before rest p ps (omega (arith, same, le))) ∙ skipped;
-      }
-
--- the last of what is dropped is a part of the first part
-pub dropped_within : (k skip rest before : ℕ) (old parts : List Part) (part : Part) → part ≡ get_or parts 0 part → 0 < rest → rest < part.items → IsDropping k skip rest before old parts
-    → (set parts 0 (with_number part (part.items - rest)) ≡ behind k old) × (before + rest ≡ skip_behind skip k old)
-dropped_within k skip rest before old parts part read some lt d = at parts d.whole d.within d.behind_is d.skip_is read where
-  at : (parts : List Part) → AreWhole d.count before parts → rest ≤ items_in_all parts → behind rest parts ≡ behind k old → skip_behind before rest parts ≡ skip_behind skip k old
-      → part ≡ get_or parts 0 part → (set parts 0 (with_number part (part.items - rest)) ≡ behind k old) × (before + rest ≡ skip_behind skip k old)
-  at [] w within left skipped read = absurd (omega (arith, some, within))
-  at (p ∷ ps) w within left skipped read =
-      let short : rest < p.items = subst (λ (x : Part). rest < x.items) read lt in (
-        ap (λ (x : Part). with_number x (x.items - rest) ∷ ps) read ∙ sym (behind-within rest p ps short) ∙ left,
-        sym (skip-within before rest p ps short) ∙ skipped,
-      )
 
 -- nothing is left to be dropped
 pub dropped_all : (k skip rest before : ℕ) (old parts : List Part) → rest ≡ 0 → IsDropping k skip rest before old parts → (parts ≡ behind k old) × (before ≡ skip_behind skip k old)
