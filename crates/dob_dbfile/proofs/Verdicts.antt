@@ -16,7 +16,6 @@ use Rattle.dob_dbfile.specs.declared.header.Format.TheVariants.{First, Second}
 use Rattle.dob_dbfile.specs.Devices.{Stream, after}
 use Rattle.dob_dbfile.specs.Format.{title, set_bytes, profile_bytes, count_bytes, records, header_in, contents_in, bytes_in, IsFile}
 use Rattle.dob_dbfile.specs.Faults.{header_len, SaysProfile, CountsClasses, contents_len, file_len, IsNoLonger, HasDigest, IsCutShort, HasReadFault}
-use Rattle.dob_dbfile.specs.Looking.{HasFrontFault}
 use Rattle.dob_dbfile.specs.Reading.{EndsWith, HasRestFault, TakesBytes}
 use Rattle.dob_dbfile.proofs.CodeBytes.{records-codes}
 use Rattle.dob_dbfile.proofs.Headers.{header_short}
@@ -25,18 +24,6 @@ use Rattle.dob_dbfile.proofs.FileBytes.{Tells, header_records, is_file}
 -- the fault holds, or memory was refused
 abbrev pub IsFault : Stream → Fault → Type 0
 IsFault stream given = (given ≡ fault.Memory) ⊎ HasReadFault stream given
-
--- what is wrong with the header, or short of it
-pub header_fault : (stream : Stream) (given : Fault) → HasFrontFault stream given → IsFault stream given
-header_fault stream fault.Truncated wrong = inr (inl wrong.0, wrong.1)
-header_fault stream (fault.Io count) wrong = inr (wrong.2, wrong.1, inl (inl wrong.0))
-header_fault stream fault.Magic wrong = inr wrong
-header_fault stream fault.SetByte wrong = inr wrong
-header_fault stream fault.ProfileByte wrong = inr wrong
-header_fault stream fault.ClassCount wrong = inr wrong
-header_fault stream fault.Trailing wrong = absurd wrong
-header_fault stream fault.Digest wrong = absurd wrong
-header_fault stream fault.Memory wrong = absurd wrong
 
 -- what stands before the records
 abbrev pub front : Format → Stream → List ℕ

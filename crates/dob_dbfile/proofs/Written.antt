@@ -1,20 +1,17 @@
 -- A file of a table passes all tests, and is that of no other table.
-use Rattle.std.proofs.Common.{◌≡◌, ℕ, ◌+◌, ◌*◌, ◌<◌, ◌≤◌, ◌⊎◌, false, List, take, drop, length, arith, inl, inr, refl, sym, subst, ap, ◌∙◌, Result, Ok, Err}
+use Rattle.std.proofs.Common.{◌≡◌, ℕ, ◌+◌, ◌*◌, ◌≤◌, ◌⊎◌, false, List, take, drop, length, arith, inl, inr, refl, sym, subst, ap, ◌∙◌, Result, Ok, Err}
 use Rattle.std.proofs.Common.{length-take, min}
 use Rattle.std.proofs.Math.Nat.{min-le_right}
 use Rattle.std.specs.Result.{IfOk, IfErr, MatchResult}
-use Rattle.std.specs.List.{All}
-use Rattle.std.proofs.lemmas.List.{length-append, length-map, take_at, drop_at}
+use Rattle.std.proofs.lemmas.List.{length-append, take_at, drop_at}
 use Rattle.sha2.specs.Sha256.{sha256}
 use Rattle.sha2.proofs.Facts256.{length-sha256}
 use Rattle.dob_pieces.specs.declared.profile.Family.{Family}
-use Rattle.dob_rank.specs.Families.{IsRepresentative, HasClasses, classes_of}
+use Rattle.dob_rank.specs.Families.{IsRepresentative, classes_of}
 use Rattle.dob_rank.proofs.OfFamilies.Present.{HasClasses-classes_of}
 use Rattle.dob_value.specs.declared.value.Value.{Value}
-use Rattle.dob_value.specs.Codes.{value_of_code, values_of_codes}
 use Rattle.dob_value.specs.Follows.{ClassTable, IsTable, class_table}
 use Rattle.dob_value.proofs.ClassNumbers.{one_count}
-use Rattle.dob_value.proofs.Parity.{entries_of_codes}
 use Rattle.dob_dbfile.specs.declared.fault.Fault.{Fault}
 use Rattle.dob_dbfile.specs.declared.fault.Fault.TheVariants as fault
 use Rattle.dob_dbfile.specs.declared.header.Format.{Format}
@@ -26,14 +23,6 @@ use Rattle.dob_dbfile.proofs.Decoded.{same_records}
 use Rattle.dob_dbfile.proofs.FileBytes.{Tells, IsFileIn, contents-rest, format_of, header-front, length-contents, length-header}
 use Rattle.dob_dbfile.proofs.Headers.{counts_lifts, header_long}
 use Rattle.dob_dbfile.proofs.Places.{same_head, no_fault}
-
--- a code for each class makes a table
-pub table_of_codes : (family : Family) (codes : List ℕ) → length codes ≡ classes_of family → All (λ code. code < 65536) codes
-    → IsTable family (values_of_codes codes)
-table_of_codes family codes counted fit = record {
-  classes = subst (HasClasses family) (sym (length-map codes value_of_code ∙ counted)) (HasClasses-classes_of family);
-  entries = entries_of_codes codes fit;
-}
 
 -- how many classes a table has
 pub table_classes : (table : ClassTable) → IsTable table.family table.values → length table.values ≡ classes_of table.family
