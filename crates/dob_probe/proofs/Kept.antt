@@ -9,16 +9,6 @@ use Rattle.dob_value.proofs.Distances.{same_win, same_loss}
 use Rattle.dob_probe.specs.declared.successors.Successors.{Successors}
 use Rattle.dob_probe.specs.Sums.{AreSummed, IsGreatestWin, TellsDraw}
 
-no_values : (v : Value) → ¬ Contains [] v
-no_values v there = absurd (omega (arith, there.1))
-
-pub summed_none : (kept : Successors) → kept.least_loss ≡ None → kept.greatest_win ≡ None → kept.has_draw ≡ false → AreSummed [] kept
-summed_none kept no_loss no_win no_draw = record {
-  least = subst (IsLeastLoss []) (let e : None ≡ kept.least_loss = cc in e) (λ plies. no_values (Loss plies));
-  greatest = subst (IsGreatestWin []) (let e : None ≡ kept.greatest_win = cc in e) (λ plies. no_values (Win plies));
-  draw = subst (TellsDraw []) (let e : false ≡ kept.has_draw = cc in e) (no_values Draw);
-}
-
 -- of the values of one kind, given by their distances, that one is the first in an order, or there is none
 abbrev IsFirst : (ℕ → Value) → (ℕ → ℕ → Type 0) → List Value → Option ℕ → Type 0
 IsFirst Of Before values None = (plies : ℕ) → ¬ Contains values (Of plies)

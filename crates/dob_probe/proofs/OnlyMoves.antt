@@ -42,8 +42,6 @@ IsSingleBelow profile Has p wanted the_moves upto None = NoneBelow profile Has p
 IsSingleBelow profile Has p wanted the_moves upto (Some single) = IsOnlyBelow profile Has p wanted the_moves upto single
 
 module _ (profile : Profile) (Has : Setup → Value → Type 0) (p : Setup) (wanted : Value) (the_moves : List Move) where
-  pub single_first : IsSingleBelow profile Has p wanted the_moves 0 None
-  single_first = λ index move q below there leads. absurd (omega (arith, below))
 
   -- which move stands at the index, where it isn't below it
   here_is : (upto index : ℕ) (the_move move : Move) → slice_get the_moves upto ≡ Some the_move → index < upto + 1 → upto ≤ index →
@@ -131,17 +129,6 @@ module _ (profile : Profile) (Has : Setup → Value → Type 0) (p : Setup) (wan
 
 module _ (table : ClassTable) (plies : ℕ) where
   -- what is found for a class's representative is found for the class
-  pub puzzle_found : (puzzle : Puzzle) (class : ℕ) (representative : Setup) → puzzle.class ≡ class → HasEntry table class representative (Win plies) →
-      IsOnlyTo table.family.profile (GivenBy table) representative (Loss (plies - 1)) puzzle.the_move → IsPuzzleOf table plies class (Some puzzle)
-  puzzle_found puzzle class representative is has only = (
-    is,
-    record {
-      representative = representative;
-      won = subst (λ k. HasEntry table k representative (Win plies)) (sym is) has;
-      solved = only;
-    },
-  )
-
   pub puzzle_missing : (class : ℕ) (representative : Setup) → HasEntry table class representative (Win plies) →
       IsSingleMove table.family.profile (GivenBy table) representative (Loss (plies - 1)) None → IsPuzzleOf table plies class None
   puzzle_missing class representative has none = λ puzzle is given.

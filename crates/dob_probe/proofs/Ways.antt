@@ -194,20 +194,6 @@ pub record IsOnLine (table : ClassTable) (p : Setup) (moves : List Move) (q : Se
   pub given : GivenBy table q value
   pub entry : IsEntry value
 
--- the distance falls by one
-pub distance_falls : (value wanted : Value) → IsEntry value → value_wanted value ≡ Some wanted → distance wanted < distance value
-distance_falls (Win zero) wanted entry next = absurd (omega (arith, entry.0))
-distance_falls (Win (suc n)) wanted entry next =
-    let same : wanted ≡ Loss (suc n - 1) = cc in
-    let less : suc n - 1 < suc n = omega arith in
-    subst (λ w. distance w < suc n) (sym same) less
-distance_falls (Loss zero) wanted entry next = let never : None ≡ Some wanted = next in absurd (cc)
-distance_falls (Loss (suc n)) wanted entry next =
-    let same : wanted ≡ Win n = cc in
-    let less : n < suc n = omega arith in
-    subst (λ w. distance w < suc n) (sym same) less
-distance_falls Draw wanted entry next = let never : None ≡ Some wanted = next in absurd (cc)
-
 -- the value that is wanted is again one of a table
 wanted_is_entry : (value wanted : Value) → IsEntry value → value_wanted value ≡ Some wanted → IsEntry wanted
 wanted_is_entry (Win zero) wanted entry next = absurd (omega (arith, entry.0))
