@@ -13,7 +13,7 @@ use Rattle.dob_value.proofs.Depths.{lost_not_caught, lost_not_open}
 use Rattle.dob_certificate.specs.declared.entry.Entry.{Entry}
 use Rattle.dob_certificate.specs.Listed.{IsEntryFor}
 use Rattle.dob_certificate.specs.Lost.{IsListedWithin, IsSaidLost, HasReply, IsAnswered, AreAllAnswered, IsLossSupported, SupportsLost}
-use Rattle.dob_certificate.specs.Held.{IsListedBeyond, IsSaidHeld, AreAllHeld, IsSafe, HasEscape, plies_asked, IsHoldSupported, SupportsHeld}
+use Rattle.dob_certificate.specs.Held.{IsSaidHeld, AreAllHeld, IsSafe, IsHoldSupported, SupportsHeld}
 use Rattle.dob_certificate.proofs.Replies.{at_class, of_class}
 
 -- ---- answers
@@ -127,15 +127,6 @@ module _ (family : Family) (held : List Entry) (n : ℕ) (p : Setup) where
     | inr other ↦ lost_not_open family.profile p over other.0
   ]
 
-  pub said_held_open : (b : Bool) → HasStatus family.profile p Open → IsTrue b ↔ ((n ≤ 1) ⊎ IsListedBeyond family held n p) → IsTrue b ↔ IsSaidHeld family held n p
-  said_held_open b goes_on found = (
-    λ shown. inr (goes_on, found.0 shown),
-    λ said. elim said [
-      | inl caught ↦ absurd (not_both family.profile p caught goes_on)
-      | inr other ↦ found.1 other.1
-    ],
-  )
-
   -- where the game has ended there is nothing to answer
   pub safe_over : HasLost family.profile p → IsSafe family held n p
   safe_over over = record {
@@ -157,19 +148,6 @@ module _ (family : Family) (held : List Entry) (n : ℕ) (p : Setup) where
     | inl caught ↦ lost_not_caught family.profile p over caught
     | inr more ↦ lost_not_open family.profile p over more.0
   ]
-
-  pub hold_soon : HasStatus family.profile p Open → n < 2 → IsHoldSupported family held n p
-  hold_soon goes_on few = inr (goes_on, λ many. absurd (omega (arith, few, many)))
-
-  pub hold_open : (b : Bool) → HasStatus family.profile p Open → 2 ≤ n → IsTrue b ↔ HasEscape family held (plies_asked n) p →
-      IsTrue b ↔ IsHoldSupported family held n p
-  hold_open b goes_on many escape = (
-    λ shown. inr (goes_on, λ _. escape.0 shown),
-    λ supported. elim supported [
-      | inl caught ↦ absurd (not_both family.profile p caught goes_on)
-      | inr more ↦ escape.1 (more.1 many)
-    ],
-  )
 
 pub supports_held_by : (family : Family) (held : List Entry) (entry : Entry) (p : Setup) → entry.class < classes_of family → IsRepresentative family p →
     HasClass family p entry.class → (b : Bool) → IsTrue b ↔ IsHoldSupported family held entry.plies p → IsTrue b ↔ SupportsHeld family held entry

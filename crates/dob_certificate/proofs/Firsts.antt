@@ -9,7 +9,7 @@ use Rattle.dob_certificate.specs.declared.entry.Entry.{Entry}
 use Rattle.dob_certificate.specs.declared.refusal.Refusal.{Refusal}
 use Rattle.dob_certificate.specs.declared.refusal.Refusal.TheVariants.{Memory, Unsupported, Claim}
 use Rattle.dob_certificate.specs.Ascending.{entry_at}
-use Rattle.dob_certificate.specs.Lost.{SupportsLost, SupportsAllLost}
+use Rattle.dob_certificate.specs.Lost.{SupportsAllLost}
 use Rattle.dob_certificate.specs.Held.{SupportsHeld}
 use Rattle.dob_certificate.specs.Refusals.{IsFirstUnsupported, IsEntryVerdict, IsListVerdict, IsRefusal}
 use Rattle.dob_certificate.proofs.Orders.{no_entry, read_at}
@@ -68,10 +68,6 @@ not_supported Supported entries Claim found b is = absurd found
 
 -- why a list of the two isn't passed is why the certificate isn't
 module _ (family : Family) (lost held : List Entry) (p : Setup) (claim : Claimed) where
-  pub lost_refused : (why : Refusal) → IsListVerdict (SupportsLost family lost) lost (Err why) → IsRefusal family lost held p claim why
-  lost_refused Memory found = tt
-  lost_refused (Unsupported class) found = inl found
-  lost_refused Claim found = absurd found
 
   pub held_refused : (why : Refusal) → SupportsAllLost family lost → IsListVerdict (SupportsHeld family held) held (Err why) → IsRefusal family lost held p claim why
   held_refused Memory all found = tt
