@@ -26,3 +26,7 @@ note "tools/results-page --check: $(head -1 "$work/out")" "$good"
 good=no
 if ! grep -rIn --exclude-dir=__pycache__ 'floc[k]\|stam[p]' tools test tests .ci dobutsu >"$work/out"; then good=yes; fi
 note "tools that lock or write for rt: $(head -1 "$work/out")" "$good"
+# Nothing public is without a caller, and no lemma without a citation.
+good=no
+if tools/unused >"$work/out"; then good=yes; fi
+note "tools/unused: $(head -1 "$work/out")" "$good"
