@@ -19,9 +19,6 @@ note "the class numbers of docs/CLASSES.md: $(tail -1 "$work/out")" "$good"
 good=no
 if tools/planted --check >"$work/out"; then good=yes; fi
 note "tools/planted --check: $(head -1 "$work/out")" "$good"
-good=no
-if tools/results-page --check 2>"$work/out"; then good=yes; fi
-note "tools/results-page --check: $(head -1 "$work/out")" "$good"
 # The toolchain is used as it is: no tool locks for it, nor writes by itself what it believes proved.
 good=no
 if ! grep -rIn --exclude-dir=__pycache__ 'floc[k]\|stam[p]' tools test tests .ci dobutsu >"$work/out"; then good=yes; fi
@@ -30,3 +27,6 @@ note "tools that lock or write for rt: $(head -1 "$work/out")" "$good"
 good=no
 if tools/unused >"$work/out"; then good=yes; fi
 note "tools/unused: $(head -1 "$work/out")" "$good"
+good=no
+if tools/results-page --check 2>"$work/out"; then good=yes; fi
+note "tools/results-page --check: $(head -1 "$work/out")" "$good"
