@@ -383,14 +383,6 @@ first_less all seats fewer last me after first seats_is witnessed seat e =
     (λ (none : (seats ≡ []) × (me.0.witnessed ≡ witnessed_by seat)). absurd (never_none seats fewer last seats_is none.0))
     (first seat e)
 
-pub first_done : (all seats : List NodeSeat) (me : Seated) → IsFirstWitnessed all seats me → seats ≡ [] → (seat : NodeSeat) → slice_get all 0 ≡ Some seat →
-    me.0.witnessed ≡ witnessed_by seat
-first_done all seats me first none_is seat e =
-    ⊎_elim
-    (λ (here : slice_get seats 0 ≡ Some seat). absurd (nothing_there seat (ap (λ (xs : List NodeSeat). slice_get xs 0) (sym none_is) ∙ here)))
-    (λ (none : (seats ≡ []) × (me.0.witnessed ≡ witnessed_by seat)). none.1)
-    (first seat e)
-
 pub are_words : (board : TableId) (n : ℕ) (seats : List NodeSeat) (log : List BoardEvent) (words : List ℕ) → AreSeats board n seats →
     AreRead n (map stand_of seats) log words → AreWords n seats words
 are_words board n seats log words are read = record {

@@ -1,6 +1,6 @@
 -- The halt of a board: a look at it, a failure, and the announcement of the end.
-use Rattle.std.proofs.Common.{◌≡◌, ◌≢◌, ℕ, zero, suc, ◌+◌, ◌<◌, ◌⊎◌, List, [], ◌∷◌, length, set, get_or, Bool, true, false, Option, cond, eqb, eq-eqb}
-use Rattle.std.proofs.Common.{ne_eqb, refl, sym}
+use Rattle.std.proofs.Common.{◌≡◌, ◌≢◌, ℕ, zero, suc, ◌+◌, ◌<◌, ◌⊎◌, List, [], ◌∷◌, length, set, get_or, Bool, true, false, cond, eqb, eq-eqb}
+use Rattle.std.proofs.Common.{ne_eqb, refl, sym, true≢false}
 use Rattle.std.proofs.Common.{ap, ◌∙◌, subst, inl, inr, arith, length-set, get_or-set_same, get_or-set_other}
 use Rattle.std.specs.Prelude.{slice_index, slice_set}
 use Rattle.std.proofs.lemmas.Bool.{cases_eq}
@@ -20,10 +20,11 @@ use Rattle.dob_board.specs.declared.halt.Halt.TheVariants.{Running, Ended, Faile
 use Rattle.dob_board.specs.declared.view.Stand.{Stand}
 use Rattle.dob_board.specs.declared.view.View.{View}
 use Rattle.dob_board.specs.Words.{halt_word, halt_after, ring_of}
-use Rattle.dob_board.specs.Views.{one, counter_of, finds, stand_from, IsStand}
+use Rattle.dob_board.specs.Views.{one, counter_of, finds, IsStand}
 use Rattle.dob_board.specs.Histories.{Runs, MakesEvent, Observes, HasHalt, halt_told}
 use Rattle.dob_board.specs.Rule.{IsHeld}
-use Rattle.dob_board.specs.Seats.{MayEnd, failed_after}
+use Rattle.dob_board.specs.declared.seat.NodeSeat.{NodeSeat}
+use Rattle.dob_board.specs.Seats.{MayEnd, KnewOwnFailure, KnewEnd, stand_of, witnessed_by, failed_after}
 use Rattle.dob_board.specs.Plays.{Found, Halted, FailedRun, Announced}
 use Rattle.dob_board.proofs.Kept.{Leaves, AreBy, own_node, own_alone, kept, happened, known}
 use Rattle.dob_board.proofs.Allowed.{Seated, Held, seated, same_stand, set_same}
@@ -319,7 +320,7 @@ halts_call key n i id slots me stand witnessed key_is me_is =
     subst (λ (p : ℕ × Seated). Allows (Held p.0) slots id p.1 2 (λ x. x) (Halted (step slots 2 0 0 none) p.1))
     (λ q. (sym key_is q, sym me_is q)) (halts_allows n i id slots stand witnessed)
 
-pub halts_tell : (n i found : ℕ) (me after : Seated) (stand : Stand) (witnessed : List BoardEvent) → me ≡ seated n i stand witnessed →
+halts_tell : (n i found : ℕ) (me after : Seated) (stand : Stand) (witnessed : List BoardEvent) → me ≡ seated n i stand witnessed →
     Halted (step 0 2 0 0 none) me found after →
     Found (seated n i stand witnessed) stand found after × IsKnown i stand found × (i ≡ 0 → found ≡ 1 → stand.halt ≡ 1)
     × Observes n i (finds stand found) witnessed after.0.witnessed (HasHalt found)
@@ -373,7 +374,7 @@ fails_call key n i id slots mark me stand witnessed key_is me_is mark_is =
     subst (λ (p : ℕ × Seated × ℕ). Allows (Held p.0) slots id p.1 2 (λ x. either (eqb x 0) p.2 x) (FailedRun (step slots 2 0 p.2 none) p.1))
     (λ q. (sym key_is q, sym me_is q, sym mark_is q)) (fails_allows n i id slots stand witnessed)
 
-pub fails_tell : (n i found mark : ℕ) (me after : Seated) (stand : Stand) (witnessed : List BoardEvent) → me ≡ seated n i stand witnessed → mark ≡ 2 + i →
+fails_tell : (n i found mark : ℕ) (me after : Seated) (stand : Stand) (witnessed : List BoardEvent) → me ≡ seated n i stand witnessed → mark ≡ 2 + i →
     FailedRun (step 0 2 0 mark none) me found after →
     Found (seated n i stand witnessed) stand (halt_after found mark) after × (i ≡ 0 → halt_after found mark ≡ 1 → stand.halt ≡ 1)
     × Observes n i (finds stand (halt_after found mark)) witnessed after.0.witnessed (HasHalt found)
@@ -437,7 +438,7 @@ announces_call key n i id slots me stand witnessed key_is me_is may =
     subst (λ (p : ℕ × Seated). Allows (Held p.0) slots id p.1 2 (λ x. either (eqb x 0) 1 x) (Announced (step slots 2 0 1 none) p.1))
     (λ q. (sym key_is q, sym me_is q)) (announces_allows n i id slots stand witnessed may)
 
-pub announces_tell : (n i found : ℕ) (me after : Seated) (stand : Stand) (witnessed : List BoardEvent) → me ≡ seated n i stand witnessed →
+announces_tell : (n i found : ℕ) (me after : Seated) (stand : Stand) (witnessed : List BoardEvent) → me ≡ seated n i stand witnessed →
     Announced (step 0 2 0 1 none) me found after →
     Found (seated n i stand witnessed) stand (halt_after found 1) after × IsKnown i stand (halt_after found 1)
     × (found ≡ 0 → MakesEvent n i Announce stand (finds stand 1) witnessed after.0.witnessed)
@@ -448,72 +449,79 @@ announces_tell n i found me after stand witnessed me_is tells =
 -- ---- what a seat's fields are afterwards
 
 -- The seat's view after it found a halt, and the halt that it knows.
-pub record HasFound (n i : ℕ) (stand : Halt → Stand) (old new : Halt) (after : Seated) : Type 0 where
-  pub view_is : after ≡ seated n i (stand new) after.0.witnessed
-  pub within : halt_word new < 2 + n
-  pub stays : old ≢ Running → new ≡ old
+pub record HasFound (seat : NodeSeat) (new : Halt) (after : Seated) : Type 0 where
+  pub view_is : after ≡ seated seat.nodes seat.node (finds (stand_of seat) (halt_word new)) after.0.witnessed
+  pub within : halt_word new < 2 + seat.nodes
+  pub stays : seat.halt ≢ Running → new ≡ seat.halt
   pub told : halt_word new ≡ halt_told after.0.witnessed
 
-pub found_done : (n i word : ℕ) (posted taken seen : List ℕ) (black : Bool) (token : Option Token) (old new : Halt) (witnessed : List BoardEvent) (after : Seated) →
-    Found (seated n i (stand_from posted taken seen black token old) witnessed) (stand_from posted taken seen black token old) word after → halt_word new ≡ word →
-    HasFound n i (stand_from posted taken seen black token) old new after
-found_done n i word posted taken seen black token old new witnessed after found new_is = record {
-  view_is = found.0 ∙ ap (λ (w : ℕ). seated n i (finds (stand_from posted taken seen black token old) w) after.0.witnessed) (sym new_is);
+found_done : (seat : NodeSeat) (word : ℕ) (new : Halt) (after : Seated) →
+    Found (seated seat.nodes seat.node (stand_of seat) (witnessed_by seat)) (stand_of seat) word after → halt_word new ≡ word → HasFound seat new after
+found_done seat word new after found new_is = record {
+  view_is = found.0 ∙ ap (λ (w : ℕ). seated seat.nodes seat.node (finds (stand_of seat) w) after.0.witnessed) (sym new_is);
   within = omega (arith, found.1, new_is);
-  stays = λ stopped. same_halt new old (new_is ∙ found.2 (runs_on old stopped));
+  stays = λ stopped. same_halt new seat.halt (new_is ∙ found.2 (runs_on seat.halt stopped));
   told = new_is ∙ found.3;
 }
 
 -- what the seat knew of its own failure
-pub knew_done : (i word : ℕ) (posted taken seen : List ℕ) (black : Bool) (token : Option Token) (old new : Halt) →
-    IsKnown i (stand_from posted taken seen black token old) word → halt_word new ≡ word → new ≡ Failed i → old ≡ new
-knew_done i word posted taken seen black token old new knew new_is own =
-    let mark : halt_word new ≡ 2 + i = ap halt_word own in
-    same_halt old new (knew (sym new_is ∙ mark) ∙ sym mark)
+pub knew_done : (seat : NodeSeat) (word : ℕ) (new : Halt) → IsKnown seat.node (stand_of seat) word → halt_word new ≡ word → KnewOwnFailure seat new
+knew_done seat word new knew new_is own =
+    let mark : halt_word new ≡ 2 + seat.node = ap halt_word own in
+    same_halt seat.halt new (knew (sym new_is ∙ mark) ∙ sym mark)
 
 -- what was observed with the words was observed with their halts
-pub observed_halt : (n i was word : ℕ) (posted taken seen : List ℕ) (black : Bool) (token : Option Token) (old found new : Halt) (witnessed now : List BoardEvent) →
-    Observes n i (finds (stand_from posted taken seen black token old) word) witnessed now (HasHalt was) → halt_word found ≡ was → halt_word new ≡ word →
-    Observes n i (stand_from posted taken seen black token new) witnessed now (HasHalt (halt_word found))
-observed_halt n i was word posted taken seen black token old found new witnessed now observed found_is new_is =
-    subst (λ (p : ℕ × ℕ). Observes n i (finds (stand_from posted taken seen black token old) p.0) witnessed now (HasHalt p.1))
-    (λ q. (sym new_is q, sym found_is q)) observed
-
--- what node 0 knew of the end
-pub knew_end_done : (i word : ℕ) (posted taken seen : List ℕ) (black : Bool) (token : Option Token) (old new : Halt) →
-    (i ≡ 0 → word ≡ 1 → (stand_from posted taken seen black token old).halt ≡ 1) → halt_word new ≡ word → i ≡ 0 → new ≡ Ended → old ≡ Ended
-knew_end_done i word posted taken seen black token old new knew new_is first ended =
-    same_halt old Ended (knew first (sym new_is ∙ ap halt_word ended))
+observed_halt : (n i was word : ℕ) (stand : Stand) (found new : Halt) (witnessed now : List BoardEvent) →
+    Observes n i (finds stand word) witnessed now (HasHalt was) → halt_word found ≡ was → halt_word new ≡ word →
+    Observes n i (finds stand (halt_word new)) witnessed now (HasHalt (halt_word found))
+observed_halt n i was word stand found new witnessed now observed found_is new_is =
+    subst (λ (p : ℕ × ℕ). Observes n i (finds stand p.0) witnessed now (HasHalt p.1)) (λ q. (sym new_is q, sym found_is q)) observed
 
 -- a node that has witnessed all events and knows the end is white
-pub white_observed : (n i : ℕ) (stand : Stand) (witnessed now : List BoardEvent) (IsSo : Ring → Type 0) → i < n → Observes n i stand witnessed now IsSo →
+white_observed : (n i : ℕ) (stand : Stand) (witnessed now : List BoardEvent) (IsSo : Ring → Type 0) → i < n → Observes n i stand witnessed now IsSo →
     stand.halt ≡ 1 → stand.black ≡ false
 white_observed n i stand witnessed now IsSo within observed ended = white_shown n i observed.ring stand within observed.is_lawful observed.shows ended
 
--- so a black one doesn't know it
-pub black_observes : (n i : ℕ) (stand : Stand) (witnessed now : List BoardEvent) (IsSo : Ring → Type 0) → i < n → Observes n i stand witnessed now IsSo →
-    stand.black ≡ true → stand.halt ≢ 1
-black_observes n i stand witnessed now IsSo within observed black ended =
-    let white : stand.black ≡ false = white_observed n i stand witnessed now IsSo within observed ended in cc
+-- What a seat holds and knows that found one halt and left another one: node 0 knew of an end, and where that is known the node is white.
+pub record HasLooked (seat : NodeSeat) (found new : Halt) (after : Seated) : Type 0 where
+  pub holds : HasFound seat new after
+  pub observed : Observes seat.nodes seat.node (finds (stand_of seat) (halt_word new)) (witnessed_by seat) after.0.witnessed (HasHalt (halt_word found))
+  pub unannounced : KnewEnd seat new
+  pub white : new ≡ Ended → seat.black ≡ false
+  pub black : seat.black ≡ true → new ≢ Ended
 
--- a node that announced the end, or has witnessed that it came, is white
-pub white_announced : (n i : ℕ) (before stand : Stand) (witnessed now : List BoardEvent) (halt old : Halt) → i < n →
-    ((halt ≡ Ended) × MakesEvent n i Announce before stand witnessed now) ⊎ ((halt ≡ Ended → old ≡ Ended) × Observes n i stand witnessed now (HasHalt (halt_word halt))) →
-    stand.halt ≡ 1 → stand.black ≡ false
-white_announced n i before stand witnessed now halt old within done ended =
-    elim done [
-      | inl made ↦ white_shown n i made.1.new stand within made.1.is_lawful made.1.shows_after ended
-      | inr observed ↦ white_observed n i stand witnessed now (HasHalt (halt_word halt)) within observed.1 ended
-    ]
+looked : (seat : NodeSeat) (was word : ℕ) (found new : Halt) (after : Seated) →
+    Found (seated seat.nodes seat.node (stand_of seat) (witnessed_by seat)) (stand_of seat) word after →
+    (seat.node ≡ 0 → word ≡ 1 → (stand_of seat).halt ≡ 1) →
+    Observes seat.nodes seat.node (finds (stand_of seat) word) (witnessed_by seat) after.0.witnessed (HasHalt was) →
+    halt_word found ≡ was → halt_word new ≡ word → HasLooked seat found new after
+looked seat was word found new after holds knew observed found_is new_is =
+    let saw = observed_halt seat.nodes seat.node was word (stand_of seat) found new (witnessed_by seat) after.0.witnessed observed found_is new_is in
+    let white : new ≡ Ended → seat.black ≡ false = λ ended. white_observed seat.nodes seat.node (finds (stand_of seat) (halt_word new)) (witnessed_by seat)
+    after.0.witnessed (HasHalt (halt_word found)) seat.within saw (ap halt_word ended) in
+    record {
+      holds = found_done seat word new after holds new_is;
+      observed = saw;
+      unannounced = λ first ended. same_halt seat.halt Ended (knew first (sym new_is ∙ ap halt_word ended));
+      white = white;
+      black = λ black ended. true≢false (sym black ∙ white ended);
+    }
+
+-- a look
+pub halts_done : (seat : NodeSeat) (word : ℕ) (new : Halt) (after : Seated) → Halted (step 0 2 0 0 none) seat.seat.me word after → halt_word new ≡ word →
+    HasLooked seat new new after × KnewOwnFailure seat new
+halts_done seat word new after tells new_is =
+    let told = halts_tell seat.nodes seat.node word seat.seat.me after (stand_of seat) (witnessed_by seat) seat.view_is tells in
+    (looked seat word word new new after told.0 told.2 told.3 new_is new_is, knew_done seat word new told.1 new_is)
 
 -- the halt of each word
-pub halt_at : (word : ℕ) → (halt : Halt) × (halt_word halt ≡ word)
+halt_at : (word : ℕ) → (halt : Halt) × (halt_word halt ≡ word)
 halt_at zero = (Running, refl)
 halt_at (suc zero) = (Ended, refl)
 halt_at (suc (suc node)) = (Failed node, omega arith)
 
 -- the answer of a failure
-pub failed_answer : (i word : ℕ) (found new : Halt) → halt_word found ≡ word → halt_word new ≡ halt_after word (2 + i) → new ≡ failed_after found i
+failed_answer : (i word : ℕ) (found new : Halt) → halt_word found ≡ word → halt_word new ≡ halt_after word (2 + i) → new ≡ failed_after found i
 failed_answer i word found new found_is new_is =
     same_halt new (failed_after found i) (new_is ∙ ap (λ (w : ℕ). halt_after w (2 + i)) (sym found_is) ∙ answered found)
   where
@@ -522,22 +530,52 @@ failed_answer i word found new found_is new_is =
     answered Ended = refl
     answered (Failed node) = halt_found (2 + node) (2 + i) (λ e. omega (arith, e))
 
--- an announcement, or what was observed in its place
-pub announced_done : (n i found : ℕ) (posted taken seen : List ℕ) (black : Bool) (token : Option Token) (old new : Halt) (witnessed now : List BoardEvent) →
-    (found ≡ 0 → MakesEvent n i Announce (stand_from posted taken seen black token old) (finds (stand_from posted taken seen black token old) 1) witnessed now) →
-    (found ≢ 0 → (found ≡ 1 → (stand_from posted taken seen black token old).halt ≡ 1)
-    × Observes n i (finds (stand_from posted taken seen black token old) found) witnessed now (HasHalt found)) → halt_word new ≡ halt_after found 1 →
-    ((new ≡ Ended) × MakesEvent n i Announce (stand_from posted taken seen black token old) (stand_from posted taken seen black token new) witnessed now)
-    ⊎ ((new ≡ Ended → old ≡ Ended) × Observes n i (stand_from posted taken seen black token new) witnessed now (HasHalt (halt_word new)))
-announced_done n i found posted taken seen black token old new witnessed now made observed new_is =
-    let before : Stand = stand_from posted taken seen black token old in
+-- a failure
+pub fails_done : (seat : NodeSeat) (word mark : ℕ) (new : Halt) (after : Seated) → mark ≡ 2 + seat.node → FailedRun (step 0 2 0 mark none) seat.seat.me word after →
+    halt_word new ≡ halt_after word mark → (found : Halt) × HasLooked seat found new after × (new ≡ failed_after found seat.node)
+fails_done seat word mark new after mark_is tells new_is =
+    let told = fails_tell seat.nodes seat.node word mark seat.seat.me after (stand_of seat) (witnessed_by seat) seat.view_is mark_is tells in
+    let found = halt_at word in (
+      found.0,
+      looked seat word (halt_after word mark) found.0 new after told.0 told.1 told.2 found.1 new_is,
+      failed_answer seat.node word found.0 new found.1 (new_is ∙ ap (halt_after word) mark_is),
+    )
+
+-- What a seat holds and knows that announced the end, or observed what came before.
+pub record HasTold (seat : NodeSeat) (new : Halt) (after : Seated) : Type 0 where
+  pub holds : HasFound seat new after
+  pub own : KnewOwnFailure seat new
+  pub event : ((new ≡ Ended)
+      × MakesEvent seat.nodes seat.node Announce (stand_of seat) (finds (stand_of seat) (halt_word new)) (witnessed_by seat) after.0.witnessed)
+      ⊎ ((new ≡ Ended → seat.halt ≡ Ended)
+      × Observes seat.nodes seat.node (finds (stand_of seat) (halt_word new)) (witnessed_by seat) after.0.witnessed (HasHalt (halt_word new)))
+  pub white : new ≡ Ended → seat.black ≡ false
+
+-- an announcement
+pub announces_done : (seat : NodeSeat) (found : ℕ) (new : Halt) (after : Seated) → Announced (step 0 2 0 1 none) seat.seat.me found after →
+    halt_word new ≡ halt_after found 1 → HasTold seat new after
+announces_done seat found new after tells new_is =
+    let told = announces_tell seat.nodes seat.node found seat.seat.me after (stand_of seat) (witnessed_by seat) seat.view_is tells in
+    let holds = found_done seat (halt_after found 1) new after told.0 new_is in
+    let own = knew_done seat (halt_after found 1) new told.1 new_is in
+    let stand : Stand = finds (stand_of seat) (halt_word new) in
     elim (cases_eq found 0) [
       | inl running ↦ let word_is : halt_word new ≡ 1 = new_is ∙ halt_marked found 1 running in
-          inl (same_halt new Ended word_is, subst (λ (w : ℕ). MakesEvent n i Announce before (finds before w) witnessed now) (sym word_is) (made running))
+          let made = subst (λ (w : ℕ). MakesEvent seat.nodes seat.node Announce (stand_of seat) (finds (stand_of seat) w) (witnessed_by seat) after.0.witnessed)
+          (sym word_is) (told.2 running) in
+          record {
+            holds = holds;
+            own = own;
+            event = inl (same_halt new Ended word_is, made);
+            white = λ ended. white_shown seat.nodes seat.node made.new stand seat.within made.is_lawful made.shows_after (ap halt_word ended);
+          }
       | inr stopped ↦ let word_is : halt_word new ≡ found = new_is ∙ halt_found found 1 stopped in
-          let known = observed stopped in
-          inr (
-            (λ ended. same_halt old Ended (known.0 (sym word_is ∙ ap halt_word ended))),
-            observed_halt n i found found posted taken seen black token old new new witnessed now known.1 word_is word_is,
-          )
+          let known = told.3 stopped in
+          let saw = observed_halt seat.nodes seat.node found found (stand_of seat) new new (witnessed_by seat) after.0.witnessed known.1 word_is word_is in
+          record {
+            holds = holds;
+            own = own;
+            event = inr (λ ended. same_halt seat.halt Ended (known.0 (sym word_is ∙ ap halt_word ended)), saw);
+            white = λ ended. white_observed seat.nodes seat.node stand (witnessed_by seat) after.0.witnessed (HasHalt (halt_word new)) seat.within saw (ap halt_word ended);
+          }
     ]

@@ -1,5 +1,5 @@
 -- The token of a board: its word, a look at it, and a pass.
-use Rattle.std.proofs.Common.{◌≡◌, ℕ, zero, suc, ◌+◌, ◌-◌, ◌*◌, ◌^◌, ◌<◌, ◌≤◌, List, [], ◌∷◌, length, set, Bool, true, false, eqb, eq-eqb, ne_eqb, Some, refl}
+use Rattle.std.proofs.Common.{◌≡◌, ℕ, zero, suc, ◌+◌, ◌-◌, ◌^◌, ◌<◌, ◌≤◌, List, [], ◌∷◌, length, set, Bool, true, false, eqb, eq-eqb, ne_eqb, Some, refl}
 use Rattle.std.proofs.Common.{sym, ap, ◌∙◌, subst, inl, inr, arith, length-set, get_or-set_same, get_or-set_other}
 use Rattle.std.proofs.Math.IntN.{ℤ, pos, neg_ℤ, ◌-ℤ◌}
 use Rattle.std.proofs.lemmas.Int.{ints}
@@ -30,29 +30,6 @@ use Rattle.dob_board.proofs.Steps.{painted, painted_colours}
 use Rattle.dob_board.proofs.Allowed.{Seated, Held, seated, same_stand, set_same}
 
 -- ---- the word of a token
-
--- a word is that of one token
-pub packed_once : (word : ℕ) (first other : Token) → IsPacked first word → IsPacked other word → first ≡ other
-packed_once word first other left right =
-    let parts = same_parts word first.at other.at first.black other.black first.sum other.sum left right in
-    λ q. record { at = parts.0 q; black = parts.1 q; sum = parts.2 q }
-  where
-    same_parts : (word at at' : ℕ) (black black' : Bool) (total total' : ℤ) → IsPacked (record { at = at; black = black; sum = total }) word →
-        IsPacked (record { at = at'; black = black'; sum = total' }) word → (at ≡ at') × (black ≡ black') × (total ≡ total')
-    same_parts word at at' true true total total' left right = (
-      omega (arith, ints, left.word_is, right.word_is, left.fits.low, left.fits.high, right.fits.low, right.fits.high),
-      refl,
-      omega (arith, ints, left.word_is, right.word_is, left.fits.low, left.fits.high, right.fits.low, right.fits.high),
-    )
-    same_parts word at at' false false total total' left right = (
-      omega (arith, ints, left.word_is, right.word_is, left.fits.low, left.fits.high, right.fits.low, right.fits.high),
-      refl,
-      omega (arith, ints, left.word_is, right.word_is, left.fits.low, left.fits.high, right.fits.low, right.fits.high),
-    )
-    same_parts word at at' true false total total' left right =
-        absurd (omega (arith, ints, left.word_is, right.word_is, left.fits.low, left.fits.high, right.fits.low, right.fits.high))
-    same_parts word at at' false true total total' left right =
-        absurd (omega (arith, ints, left.word_is, right.word_is, left.fits.low, left.fits.high, right.fits.low, right.fits.high))
 
 -- a token that is seen at node i is at node i
 pub seen_there : (i : ℕ) (token known : Token) → token_at i token ≡ Some known → (known ≡ token) × (known.at ≡ i)
@@ -136,16 +113,6 @@ pub meets_call : (key n i id slots : ℕ) (me : Seated) (stand : Stand) (witness
 meets_call key n i id slots me stand witnessed key_is me_is =
     subst (λ (p : ℕ × Seated). Allows (Held p.0) slots id p.1 1 (λ x. x) (Met (step slots 1 0 0 none) p.1))
     (λ q. (sym key_is q, sym me_is q)) (meets_allows n i id slots stand witnessed)
-
-pub meets_tell : (n i found : ℕ) (me after : Seated) (stand : Stand) (witnessed : List BoardEvent) (token : Token) → me ≡ seated n i stand witnessed →
-    Met (step 0 1 0 0 none) me found after → IsPacked token found →
-    (after ≡ seated n i (meets i stand token) after.0.witnessed) × ((seen : Token) → stand.token ≡ Some seen → token ≡ seen)
-    × Observes n i (meets i stand token) witnessed after.0.witnessed (HasToken token)
-meets_tell n i found me after stand witnessed token me_is tells packed =
-    let here = (subst (λ (p : Seated). Met (step 0 1 0 0 none) p found after) me_is tells) stand refl refl in
-    let same : here.0 ≡ token = packed_once found here.0 token here.1 packed in
-    subst (λ (t : Token). (after ≡ seated n i (meets i stand t) after.0.witnessed) × ((seen : Token) → stand.token ≡ Some seen → t ≡ seen)
-    × Observes n i (meets i stand t) witnessed after.0.witnessed (HasToken t)) same (here.2, here.3, here.4)
 
 -- ---- pass
 
@@ -268,23 +235,6 @@ passes_tell n i word me after stand token witnessed me_is has tells =
     (subst (λ (p : Seated). Passed (step 0 1 word 0 none) p word after) me_is tells) stand token refl refl has
 
 -- ---- bounds
-
--- a lawful ring's token at node i is in the bounds that stand for i
-pub observed_bounds : (n i : ℕ) (stand : Stand) (witnessed now : List BoardEvent) (token : Token) → Observes n i stand witnessed now (HasToken token) → token.at ≡ i
-    → IsInBounds n i token
-observed_bounds n i stand witnessed now token observed here = (
-  here,
-  subst (λ (p : ℕ × Token). neg_ℤ (pos ((n - 1 - p.0) * 2 ^ 44)) ≤ℤ p.1.sum)
-      (λ q. ((ap (λ (t : Token). t.at) observed.is_so ∙ here) q, observed.is_so q)) observed.is_lawful.low,
-  subst (λ (p : ℕ × Token). p.1.sum ≤ℤ pos ((n - 1 - p.0) * 2 ^ 44))
-      (λ q. ((ap (λ (t : Token). t.at) observed.is_so ∙ here) q, observed.is_so q)) observed.is_lawful.high,
-)
-
-pub seen_bounds : (n i : ℕ) (stand : Stand) (witnessed now : List BoardEvent) (token known : Token) → Observes n i stand witnessed now (HasToken token) →
-    token_at i token ≡ Some known → IsInBounds n i known
-seen_bounds n i stand witnessed now token known observed e =
-    let there = seen_there i token known e in
-    subst (IsInBounds n i) (sym there.0) (observed_bounds n i stand witnessed now token observed (ap (λ (t : Token). t.at) (sym there.0) ∙ there.1))
 
 -- the token that is passed has a word
 pub passed_fits : (n i : ℕ) (token : Token) (count : ℤ) (black : Bool) → n ≤ 16 → i < n → IsInBounds n i token →

@@ -1,8 +1,7 @@
 -- Announcing keeps the rule: the seat makes the event, or finds the halt that came before, and holds what it found.
-use Rattle.std.proofs.Common.{rules, refl, arith, ap, ◌∙◌}
-use Rattle.dob_board.specs.Words.{halt_word}
-use Rattle.dob_board.specs.Views.{stand_from}
-use Rattle.dob_board.proofs.Halting.{announces_call, announces_tell, found_done, knew_done, announced_done, white_announced}
+use Rattle.std.proofs.Common.{◌∙◌, rules, refl, arith}
+use Rattle.dob_board.specs.Seats.{stand_of, witnessed_by}
+use Rattle.dob_board.proofs.Halting.{HasTold, announces_call, announces_done}
 use Rattle.dob_board.proofs.seat.NodeSeat.announce.Goals as goal
 
 pub compare_exchange-found-requires : goal.compare_exchange-found-requires
@@ -10,19 +9,18 @@ compare_exchange-found-requires c =
     let seat = c.args.self.now in (
       search rules,
       rw (c.deref.ensures, seat.words) (omega arith),
-      announces_call _ seat.nodes seat.node _ _ _ (stand_from seat.posted.items seat.taken.items seat.seen.items seat.black seat.token seat.halt)
-          seat.seat.me.0.witnessed
-          (search rules) seat.view_is c.requires,
+      announces_call _ seat.nodes seat.node _ _ _ (stand_of seat) (witnessed_by seat) (search rules) seat.view_is c.requires,
     )
+
+done : (c : goal.After-result-1) → HasTold c.args.self.now c.halt_of-self.result c.compare_exchange-found.new.seat.me
+done c = announces_done c.args.self.now c.compare_exchange-found.result c.halt_of-self.result c.compare_exchange-found.new.seat.me
+    c.compare_exchange-found.ensures.2 (c.halt_of-self.ensures ∙ c.halt_after.ensures)
 
 pub invariant_of-self : goal.invariant_of-self
 invariant_of-self c =
     let seat = c.args.self.now in
-    let witnessed = announces_tell seat.nodes seat.node c.compare_exchange-found.result seat.seat.me c.compare_exchange-found.new.seat.me
-    (stand_from seat.posted.items seat.taken.items seat.seen.items seat.black seat.token seat.halt) seat.seat.me.0.witnessed seat.view_is
-    c.compare_exchange-found.ensures.2 in
-    let done = found_done seat.nodes seat.node _ seat.posted.items seat.taken.items seat.seen.items seat.black seat.token seat.halt c.halt_of-self.result
-    seat.seat.me.0.witnessed c.compare_exchange-found.new.seat.me witnessed.0 (c.halt_of-self.ensures ∙ c.halt_after.ensures) in
+    let told = announces_done seat c.compare_exchange-found.result c.halt_of-self.result c.compare_exchange-found.new.seat.me
+    c.compare_exchange-found.ensures.2 (c.halt_of-self.ensures ∙ c.halt_after.ensures) in
     record {
       size = seat.size;
       within = seat.within;
@@ -35,53 +33,19 @@ invariant_of-self c =
       few_posted = seat.few_posted;
       few_taken = seat.few_taken;
       in_bounds = seat.in_bounds;
-      halt_within = done.within;
-      white = λ ended. white_announced seat.nodes seat.node
-          (stand_from seat.posted.items seat.taken.items seat.seen.items seat.black seat.token seat.halt)
-          (stand_from seat.posted.items seat.taken.items seat.seen.items seat.black seat.token c.halt_of-self.result)
-          seat.seat.me.0.witnessed c.compare_exchange-found.new.seat.me.0.witnessed c.halt_of-self.result seat.halt seat.within
-          (announced_done seat.nodes seat.node c.compare_exchange-found.result seat.posted.items seat.taken.items seat.seen.items seat.black seat.token
-          seat.halt c.halt_of-self.result
-          seat.seat.me.0.witnessed c.compare_exchange-found.new.seat.me.0.witnessed witnessed.2 witnessed.3 (c.halt_of-self.ensures ∙ c.halt_after.ensures))
-          (ap halt_word ended);
-      view_is = done.view_is;
+      halt_within = told.holds.within;
+      white = told.white;
+      view_is = told.holds.view_is;
     }
 
 pub returns-clause-found : goal.returns-clause-found
-returns-clause-found c =
-    let seat = c.args.self.now in
-    let witnessed = announces_tell seat.nodes seat.node c.compare_exchange-found.result seat.seat.me c.compare_exchange-found.new.seat.me
-    (stand_from seat.posted.items seat.taken.items seat.seen.items seat.black seat.token seat.halt) seat.seat.me.0.witnessed seat.view_is
-    c.compare_exchange-found.ensures.2 in
-    let done = found_done seat.nodes seat.node _ seat.posted.items seat.taken.items seat.seen.items seat.black seat.token seat.halt c.halt_of-self.result
-    seat.seat.me.0.witnessed c.compare_exchange-found.new.seat.me witnessed.0 (c.halt_of-self.ensures ∙ c.halt_after.ensures) in
-    record { noted = refl; halt_is = refl; within = done.within; stays = done.stays }
+returns-clause-found c = let holds = (done c).holds in record { noted = refl; halt_is = refl; within = holds.within; stays = holds.stays }
 
 pub returns-clause-told : goal.returns-clause-told
-returns-clause-told c =
-    let seat = c.args.self.now in
-    let witnessed = announces_tell seat.nodes seat.node c.compare_exchange-found.result seat.seat.me c.compare_exchange-found.new.seat.me
-    (stand_from seat.posted.items seat.taken.items seat.seen.items seat.black seat.token seat.halt) seat.seat.me.0.witnessed seat.view_is
-    c.compare_exchange-found.ensures.2 in
-    let done = found_done seat.nodes seat.node _ seat.posted.items seat.taken.items seat.seen.items seat.black seat.token seat.halt c.halt_of-self.result
-    seat.seat.me.0.witnessed c.compare_exchange-found.new.seat.me witnessed.0 (c.halt_of-self.ensures ∙ c.halt_after.ensures) in
-    done.told
+returns-clause-told c = (done c).holds.told
 
 pub returns-clause-event : goal.returns-clause-event
-returns-clause-event c =
-    let seat = c.args.self.now in
-    let witnessed = announces_tell seat.nodes seat.node c.compare_exchange-found.result seat.seat.me c.compare_exchange-found.new.seat.me
-    (stand_from seat.posted.items seat.taken.items seat.seen.items seat.black seat.token seat.halt) seat.seat.me.0.witnessed seat.view_is
-    c.compare_exchange-found.ensures.2 in
-    announced_done seat.nodes seat.node c.compare_exchange-found.result seat.posted.items seat.taken.items seat.seen.items seat.black seat.token seat.halt
-    c.halt_of-self.result
-    seat.seat.me.0.witnessed c.compare_exchange-found.new.seat.me.0.witnessed witnessed.2 witnessed.3 (c.halt_of-self.ensures ∙ c.halt_after.ensures)
+returns-clause-event c = (done c).event
 
 pub returns-clause-own : goal.returns-clause-own
-returns-clause-own c =
-    let seat = c.args.self.now in
-    let witnessed = announces_tell seat.nodes seat.node c.compare_exchange-found.result seat.seat.me c.compare_exchange-found.new.seat.me
-    (stand_from seat.posted.items seat.taken.items seat.seen.items seat.black seat.token seat.halt) seat.seat.me.0.witnessed seat.view_is
-    c.compare_exchange-found.ensures.2 in
-    knew_done seat.node _ seat.posted.items seat.taken.items seat.seen.items seat.black seat.token seat.halt c.halt_of-self.result
-    witnessed.1 (c.halt_of-self.ensures ∙ c.halt_after.ensures)
+returns-clause-own c = (done c).own

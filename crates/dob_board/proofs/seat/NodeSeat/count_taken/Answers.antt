@@ -1,7 +1,7 @@
 -- To count a batch that was seen keeps the rule: the count stays in bounds, and the seat makes the event of a take.
 use Rattle.std.proofs.Common.{rules, arith, ap}
 use Rattle.dob_board.specs.Words.{halt_word}
-use Rattle.dob_board.specs.Views.{stand_from}
+use Rattle.dob_board.specs.Seats.{stand_of, witnessed_by}
 use Rattle.dob_board.proofs.Allowed.{takes_call, same_default}
 use Rattle.dob_board.proofs.Done.{takes_done, takes_before}
 use Rattle.dob_board.proofs.Places.{taken_within}
@@ -12,8 +12,7 @@ fetch_add-requires c =
     let seat = c.args.self.now in (
       search rules,
       rw (c.deref.ensures, seat.words, c.taken_index-word.ensures) (taken_within seat.nodes c.args.from seat.node c.requires.node seat.within),
-      takes_call _ seat.nodes seat.node c.args.from _ _ _ _
-          (stand_from seat.posted.items seat.taken.items seat.seen.items seat.black seat.token seat.halt) seat.seat.me.0.witnessed
+      takes_call _ seat.nodes seat.node c.args.from _ _ _ _ (stand_of seat) (witnessed_by seat)
           (search rules) seat.view_is c.taken_index-word.ensures seat.within c.requires.node c.requires.waiting,
     )
 
@@ -32,7 +31,7 @@ invariant_of-self c =
     let seat = c.args.self.now in
     let done =
     takes_done seat.nodes seat.node c.args.from c.taken_index-word.result c.fetch_add.result c.index_mut.result.now seat.seat.me c.fetch_add.new.seat.me
-    seat.posted.items seat.taken.items seat.seen.items seat.black seat.token seat.halt seat.seat.me.0.witnessed
+    seat.posted.items seat.taken.items seat.seen.items seat.black seat.token seat.halt (witnessed_by seat)
     seat.view_is c.taken_index-word.ensures seat.within c.requires.node (search rules) c.index_mut.ensures.value c.fetch_add.ensures.2 in
     record {
       size = seat.size;
@@ -47,7 +46,7 @@ invariant_of-self c =
       few_taken = done.few.taken;
       in_bounds = seat.in_bounds;
       halt_within = seat.halt_within;
-      white = λ ended. absurd (takes_before seat.nodes seat.node c.args.from _ _ seat.seat.me.0.witnessed _ done.made (ap halt_word ended));
+      white = λ ended. absurd (takes_before seat.nodes seat.node c.args.from _ _ (witnessed_by seat) _ done.made (ap halt_word ended));
       view_is = done.view_is;
     }
 
@@ -56,6 +55,6 @@ returns-clause-event c =
     let seat = c.args.self.now in
     let done =
     takes_done seat.nodes seat.node c.args.from c.taken_index-word.result c.fetch_add.result c.index_mut.result.now seat.seat.me c.fetch_add.new.seat.me
-    seat.posted.items seat.taken.items seat.seen.items seat.black seat.token seat.halt seat.seat.me.0.witnessed
+    seat.posted.items seat.taken.items seat.seen.items seat.black seat.token seat.halt (witnessed_by seat)
     seat.view_is c.taken_index-word.ensures seat.within c.requires.node (search rules) c.index_mut.ensures.value c.fetch_add.ensures.2 in
     done.made

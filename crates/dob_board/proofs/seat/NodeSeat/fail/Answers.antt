@@ -1,9 +1,8 @@
 -- A failure keeps the rule: the seat holds the halt that it finds, and to a black node that is no end.
-use Rattle.std.proofs.Common.{◌≡◌, ◌+◌, rules, refl, arith, ◌∙◌, ap}
-use Rattle.dob_board.specs.Words.{halt_word, halt_after}
-use Rattle.dob_board.specs.Views.{stand_from}
-use Rattle.dob_board.specs.Histories.{HasHalt}
-use Rattle.dob_board.proofs.Halting.{fails_call, fails_tell, found_done, knew_end_done, white_observed, black_observes, observed_halt, halt_at, failed_answer}
+use Rattle.std.proofs.Common.{◌≡◌, ◌∙◌, rules, refl, arith}
+use Rattle.dob_board.specs.declared.halt.Halt.{Halt}
+use Rattle.dob_board.specs.Seats.{stand_of, witnessed_by, failed_after}
+use Rattle.dob_board.proofs.Halting.{HasLooked, fails_call, fails_done}
 use Rattle.dob_board.proofs.seat.NodeSeat.fail.Goals as goal
 
 pub compare_exchange-found-requires : goal.compare_exchange-found-requires
@@ -11,20 +10,19 @@ compare_exchange-found-requires c =
     let seat = c.args.self.now in (
       search rules,
       rw (c.deref.ensures, seat.words) (omega arith),
-      fails_call _ seat.nodes seat.node _ _ _ _ (stand_from seat.posted.items seat.taken.items seat.seen.items seat.black seat.token seat.halt)
-          seat.seat.me.0.witnessed
-          (search rules) seat.view_is (omega arith),
+      fails_call _ seat.nodes seat.node _ _ _ _ (stand_of seat) (witnessed_by seat) (search rules) seat.view_is (omega arith),
     )
+
+done : (c : goal.After-result-1) → (found : Halt) × HasLooked c.args.self.now found c.halt_of-self.result c.compare_exchange-found.new.seat.me
+    × (c.halt_of-self.result ≡ failed_after found c.args.self.now.node)
+done c = fails_done c.args.self.now c.compare_exchange-found.result _ c.halt_of-self.result c.compare_exchange-found.new.seat.me
+    (omega arith) c.compare_exchange-found.ensures.2 (c.halt_of-self.ensures ∙ c.halt_after.ensures)
 
 pub invariant_of-self : goal.invariant_of-self
 invariant_of-self c =
     let seat = c.args.self.now in
-    let witnessed = fails_tell seat.nodes seat.node c.compare_exchange-found.result _ seat.seat.me c.compare_exchange-found.new.seat.me
-    (stand_from seat.posted.items seat.taken.items seat.seen.items seat.black seat.token seat.halt) seat.seat.me.0.witnessed seat.view_is
-    (omega arith) c.compare_exchange-found.ensures.2 in
-    let done = found_done seat.nodes seat.node _ seat.posted.items seat.taken.items seat.seen.items seat.black seat.token seat.halt c.halt_of-self.result
-    seat.seat.me.0.witnessed c.compare_exchange-found.new.seat.me witnessed.0 (c.halt_of-self.ensures ∙ c.halt_after.ensures) in
-    let found = halt_at c.compare_exchange-found.result in
+    let looked = (fails_done seat c.compare_exchange-found.result _ c.halt_of-self.result c.compare_exchange-found.new.seat.me
+    (omega arith) c.compare_exchange-found.ensures.2 (c.halt_of-self.ensures ∙ c.halt_after.ensures)).1 in
     record {
       size = seat.size;
       within = seat.within;
@@ -37,74 +35,22 @@ invariant_of-self c =
       few_posted = seat.few_posted;
       few_taken = seat.few_taken;
       in_bounds = seat.in_bounds;
-      halt_within = done.within;
-      white = λ ended. white_observed seat.nodes seat.node
-          (stand_from seat.posted.items seat.taken.items seat.seen.items seat.black seat.token c.halt_of-self.result)
-          seat.seat.me.0.witnessed c.compare_exchange-found.new.seat.me.0.witnessed (HasHalt (halt_word found.0)) seat.within
-          (observed_halt seat.nodes seat.node _ _ seat.posted.items seat.taken.items seat.seen.items seat.black seat.token seat.halt
-          found.0 c.halt_of-self.result seat.seat.me.0.witnessed c.compare_exchange-found.new.seat.me.0.witnessed witnessed.2 found.1
-          (c.halt_of-self.ensures ∙ c.halt_after.ensures))
-          (ap halt_word ended);
-      view_is = done.view_is;
+      halt_within = looked.holds.within;
+      white = looked.white;
+      view_is = looked.holds.view_is;
     }
 
 pub returns-clause-found : goal.returns-clause-found
-returns-clause-found c =
-    let seat = c.args.self.now in
-    let witnessed = fails_tell seat.nodes seat.node c.compare_exchange-found.result _ seat.seat.me c.compare_exchange-found.new.seat.me
-    (stand_from seat.posted.items seat.taken.items seat.seen.items seat.black seat.token seat.halt) seat.seat.me.0.witnessed seat.view_is
-    (omega arith) c.compare_exchange-found.ensures.2 in
-    let done = found_done seat.nodes seat.node _ seat.posted.items seat.taken.items seat.seen.items seat.black seat.token seat.halt c.halt_of-self.result
-    seat.seat.me.0.witnessed c.compare_exchange-found.new.seat.me witnessed.0 (c.halt_of-self.ensures ∙ c.halt_after.ensures) in
-    record { noted = refl; halt_is = refl; within = done.within; stays = done.stays }
+returns-clause-found c = let holds = (done c).1.holds in record { noted = refl; halt_is = refl; within = holds.within; stays = holds.stays }
 
 pub returns-clause-told : goal.returns-clause-told
-returns-clause-told c =
-    let seat = c.args.self.now in
-    let witnessed = fails_tell seat.nodes seat.node c.compare_exchange-found.result _ seat.seat.me c.compare_exchange-found.new.seat.me
-    (stand_from seat.posted.items seat.taken.items seat.seen.items seat.black seat.token seat.halt) seat.seat.me.0.witnessed seat.view_is
-    (omega arith) c.compare_exchange-found.ensures.2 in
-    let done = found_done seat.nodes seat.node _ seat.posted.items seat.taken.items seat.seen.items seat.black seat.token seat.halt c.halt_of-self.result
-    seat.seat.me.0.witnessed c.compare_exchange-found.new.seat.me witnessed.0 (c.halt_of-self.ensures ∙ c.halt_after.ensures) in
-    done.told
+returns-clause-told c = (done c).1.holds.told
 
 pub returns-clause-observed : goal.returns-clause-observed
-returns-clause-observed c =
-    let seat = c.args.self.now in
-    let witnessed = fails_tell seat.nodes seat.node c.compare_exchange-found.result _ seat.seat.me c.compare_exchange-found.new.seat.me
-    (stand_from seat.posted.items seat.taken.items seat.seen.items seat.black seat.token seat.halt) seat.seat.me.0.witnessed seat.view_is
-    (omega arith) c.compare_exchange-found.ensures.2 in
-    let found = halt_at c.compare_exchange-found.result in
-    let word_is : halt_word c.halt_of-self.result ≡ halt_after c.compare_exchange-found.result (2 + seat.node) =
-    c.halt_of-self.ensures ∙ c.halt_after.ensures in
-    record {
-      found = found.0;
-      observed = observed_halt seat.nodes seat.node _ _ seat.posted.items seat.taken.items seat.seen.items seat.black seat.token seat.halt
-          found.0 c.halt_of-self.result seat.seat.me.0.witnessed c.compare_exchange-found.new.seat.me.0.witnessed witnessed.2 found.1
-          (c.halt_of-self.ensures ∙ c.halt_after.ensures);
-      answer = failed_answer seat.node c.compare_exchange-found.result found.0 c.halt_of-self.result found.1 word_is;
-    }
+returns-clause-observed c = record { found = (done c).0; observed = (done c).1.observed; answer = (done c).2 }
 
 pub returns-clause-unannounced : goal.returns-clause-unannounced
-returns-clause-unannounced c =
-    let seat = c.args.self.now in
-    let witnessed = fails_tell seat.nodes seat.node c.compare_exchange-found.result _ seat.seat.me c.compare_exchange-found.new.seat.me
-    (stand_from seat.posted.items seat.taken.items seat.seen.items seat.black seat.token seat.halt) seat.seat.me.0.witnessed seat.view_is
-    (omega arith) c.compare_exchange-found.ensures.2 in
-    knew_end_done seat.node _ seat.posted.items seat.taken.items seat.seen.items seat.black seat.token seat.halt c.halt_of-self.result
-    witnessed.1 (c.halt_of-self.ensures ∙ c.halt_after.ensures)
+returns-clause-unannounced c = (done c).1.unannounced
 
 pub returns-clause-black : goal.returns-clause-black
-returns-clause-black c black ended =
-    let seat = c.args.self.now in
-    let witnessed = fails_tell seat.nodes seat.node c.compare_exchange-found.result _ seat.seat.me c.compare_exchange-found.new.seat.me
-    (stand_from seat.posted.items seat.taken.items seat.seen.items seat.black seat.token seat.halt) seat.seat.me.0.witnessed seat.view_is
-    (omega arith) c.compare_exchange-found.ensures.2 in
-    let found = halt_at c.compare_exchange-found.result in
-    black_observes seat.nodes seat.node
-    (stand_from seat.posted.items seat.taken.items seat.seen.items seat.black seat.token c.halt_of-self.result)
-    seat.seat.me.0.witnessed c.compare_exchange-found.new.seat.me.0.witnessed (HasHalt (halt_word found.0)) seat.within
-    (observed_halt seat.nodes seat.node _ _ seat.posted.items seat.taken.items seat.seen.items seat.black seat.token seat.halt
-    found.0 c.halt_of-self.result seat.seat.me.0.witnessed c.compare_exchange-found.new.seat.me.0.witnessed witnessed.2 found.1
-    (c.halt_of-self.ensures ∙ c.halt_after.ensures))
-    black (ap halt_word ended)
+returns-clause-black c = (done c).1.black

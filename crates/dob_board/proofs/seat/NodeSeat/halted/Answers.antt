@@ -1,9 +1,7 @@
 -- A look at the halt keeps the rule: what is found stays, is no end to a black node, and no own failure that is new.
-use Rattle.std.proofs.Common.{rules, refl, arith, ap}
-use Rattle.dob_board.specs.Words.{halt_word}
-use Rattle.dob_board.specs.Views.{stand_from}
-use Rattle.dob_board.specs.Histories.{HasHalt}
-use Rattle.dob_board.proofs.Halting.{halts_call, halts_tell, found_done, knew_done, knew_end_done, white_observed, black_observes, observed_halt}
+use Rattle.std.proofs.Common.{rules, refl, arith}
+use Rattle.dob_board.specs.Seats.{stand_of, witnessed_by, KnewOwnFailure}
+use Rattle.dob_board.proofs.Halting.{HasLooked, halts_call, halts_done}
 use Rattle.dob_board.proofs.seat.NodeSeat.halted.Goals as goal
 
 pub load-word-requires : goal.load-word-requires
@@ -11,20 +9,17 @@ load-word-requires c =
     let seat = c.args.self.now in (
       search rules,
       rw (c.deref.ensures, seat.words) (omega arith),
-      halts_call _ seat.nodes seat.node _ _ _ (stand_from seat.posted.items seat.taken.items seat.seen.items seat.black seat.token seat.halt)
-          seat.seat.me.0.witnessed
-          (search rules) seat.view_is,
+      halts_call _ seat.nodes seat.node _ _ _ (stand_of seat) (witnessed_by seat) (search rules) seat.view_is,
     )
+
+done : (c : goal.After-result-1) → HasLooked c.args.self.now c.halt_of-self.result c.halt_of-self.result c.load-word.new.seat.me
+    × KnewOwnFailure c.args.self.now c.halt_of-self.result
+done c = halts_done c.args.self.now c.load-word.result c.halt_of-self.result c.load-word.new.seat.me c.load-word.ensures.2 c.halt_of-self.ensures
 
 pub invariant_of-self : goal.invariant_of-self
 invariant_of-self c =
     let seat = c.args.self.now in
-    let witnessed = halts_tell seat.nodes seat.node c.load-word.result seat.seat.me c.load-word.new.seat.me
-    (stand_from seat.posted.items seat.taken.items seat.seen.items seat.black seat.token seat.halt) seat.seat.me.0.witnessed seat.view_is c.load-word.ensures.2 in
-    let done =
-    found_done seat.nodes seat.node c.load-word.result seat.posted.items seat.taken.items seat.seen.items seat.black seat.token seat.halt
-    c.halt_of-self.result
-    seat.seat.me.0.witnessed c.load-word.new.seat.me witnessed.0 c.halt_of-self.ensures in
+    let looked = (halts_done seat c.load-word.result c.halt_of-self.result c.load-word.new.seat.me c.load-word.ensures.2 c.halt_of-self.ensures).0 in
     record {
       size = seat.size;
       within = seat.within;
@@ -37,70 +32,25 @@ invariant_of-self c =
       few_posted = seat.few_posted;
       few_taken = seat.few_taken;
       in_bounds = seat.in_bounds;
-      halt_within = done.within;
-      white = λ ended. white_observed seat.nodes seat.node
-          (stand_from seat.posted.items seat.taken.items seat.seen.items seat.black seat.token c.halt_of-self.result)
-          seat.seat.me.0.witnessed c.load-word.new.seat.me.0.witnessed (HasHalt (halt_word c.halt_of-self.result)) seat.within
-          (observed_halt seat.nodes seat.node _ _ seat.posted.items seat.taken.items seat.seen.items seat.black seat.token seat.halt
-          c.halt_of-self.result c.halt_of-self.result seat.seat.me.0.witnessed c.load-word.new.seat.me.0.witnessed witnessed.3 c.halt_of-self.ensures c.halt_of-self.ensures)
-          (ap halt_word ended);
-      view_is = done.view_is;
+      halt_within = looked.holds.within;
+      white = looked.white;
+      view_is = looked.holds.view_is;
     }
 
 pub returns-clause-found : goal.returns-clause-found
-returns-clause-found c =
-    let seat = c.args.self.now in
-    let witnessed = halts_tell seat.nodes seat.node c.load-word.result seat.seat.me c.load-word.new.seat.me
-    (stand_from seat.posted.items seat.taken.items seat.seen.items seat.black seat.token seat.halt) seat.seat.me.0.witnessed seat.view_is c.load-word.ensures.2 in
-    let done =
-    found_done seat.nodes seat.node c.load-word.result seat.posted.items seat.taken.items seat.seen.items seat.black seat.token seat.halt
-    c.halt_of-self.result
-    seat.seat.me.0.witnessed c.load-word.new.seat.me witnessed.0 c.halt_of-self.ensures in
-    record { noted = refl; halt_is = refl; within = done.within; stays = done.stays }
+returns-clause-found c = let holds = (done c).0.holds in record { noted = refl; halt_is = refl; within = holds.within; stays = holds.stays }
 
 pub returns-clause-told : goal.returns-clause-told
-returns-clause-told c =
-    let seat = c.args.self.now in
-    let witnessed = halts_tell seat.nodes seat.node c.load-word.result seat.seat.me c.load-word.new.seat.me
-    (stand_from seat.posted.items seat.taken.items seat.seen.items seat.black seat.token seat.halt) seat.seat.me.0.witnessed seat.view_is c.load-word.ensures.2 in
-    let done =
-    found_done seat.nodes seat.node c.load-word.result seat.posted.items seat.taken.items seat.seen.items seat.black seat.token seat.halt
-    c.halt_of-self.result
-    seat.seat.me.0.witnessed c.load-word.new.seat.me witnessed.0 c.halt_of-self.ensures in
-    done.told
+returns-clause-told c = (done c).0.holds.told
 
 pub returns-clause-observed : goal.returns-clause-observed
-returns-clause-observed c =
-    let seat = c.args.self.now in
-    let witnessed = halts_tell seat.nodes seat.node c.load-word.result seat.seat.me c.load-word.new.seat.me
-    (stand_from seat.posted.items seat.taken.items seat.seen.items seat.black seat.token seat.halt) seat.seat.me.0.witnessed seat.view_is c.load-word.ensures.2 in
-    observed_halt seat.nodes seat.node _ _ seat.posted.items seat.taken.items seat.seen.items seat.black seat.token seat.halt
-    c.halt_of-self.result c.halt_of-self.result seat.seat.me.0.witnessed c.load-word.new.seat.me.0.witnessed witnessed.3 c.halt_of-self.ensures c.halt_of-self.ensures
+returns-clause-observed c = (done c).0.observed
 
 pub returns-clause-own : goal.returns-clause-own
-returns-clause-own c =
-    let seat = c.args.self.now in
-    let witnessed = halts_tell seat.nodes seat.node c.load-word.result seat.seat.me c.load-word.new.seat.me
-    (stand_from seat.posted.items seat.taken.items seat.seen.items seat.black seat.token seat.halt) seat.seat.me.0.witnessed seat.view_is c.load-word.ensures.2 in
-    knew_done seat.node c.load-word.result seat.posted.items seat.taken.items seat.seen.items seat.black seat.token seat.halt c.halt_of-self.result
-    witnessed.1 c.halt_of-self.ensures
+returns-clause-own c = (done c).1
 
 pub returns-clause-unannounced : goal.returns-clause-unannounced
-returns-clause-unannounced c =
-    let seat = c.args.self.now in
-    let witnessed = halts_tell seat.nodes seat.node c.load-word.result seat.seat.me c.load-word.new.seat.me
-    (stand_from seat.posted.items seat.taken.items seat.seen.items seat.black seat.token seat.halt) seat.seat.me.0.witnessed seat.view_is c.load-word.ensures.2 in
-    knew_end_done seat.node c.load-word.result seat.posted.items seat.taken.items seat.seen.items seat.black seat.token seat.halt c.halt_of-self.result
-    witnessed.2 c.halt_of-self.ensures
+returns-clause-unannounced c = (done c).0.unannounced
 
 pub returns-clause-black : goal.returns-clause-black
-returns-clause-black c black ended =
-    let seat = c.args.self.now in
-    let witnessed = halts_tell seat.nodes seat.node c.load-word.result seat.seat.me c.load-word.new.seat.me
-    (stand_from seat.posted.items seat.taken.items seat.seen.items seat.black seat.token seat.halt) seat.seat.me.0.witnessed seat.view_is c.load-word.ensures.2 in
-    black_observes seat.nodes seat.node
-    (stand_from seat.posted.items seat.taken.items seat.seen.items seat.black seat.token c.halt_of-self.result)
-    seat.seat.me.0.witnessed c.load-word.new.seat.me.0.witnessed (HasHalt (halt_word c.halt_of-self.result)) seat.within
-    (observed_halt seat.nodes seat.node _ _ seat.posted.items seat.taken.items seat.seen.items seat.black seat.token seat.halt
-    c.halt_of-self.result c.halt_of-self.result seat.seat.me.0.witnessed c.load-word.new.seat.me.0.witnessed witnessed.3 c.halt_of-self.ensures c.halt_of-self.ensures)
-    black (ap halt_word ended)
+returns-clause-black c = (done c).0.black

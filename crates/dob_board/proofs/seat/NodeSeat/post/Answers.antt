@@ -1,6 +1,6 @@
 -- To post a batch keeps the rule: the count stays in bounds, and the seat makes the event of a post.
 use Rattle.std.proofs.Common.{◌≡◌, false, rules}
-use Rattle.dob_board.specs.Views.{stand_from}
+use Rattle.dob_board.specs.Seats.{stand_of, witnessed_by}
 use Rattle.dob_board.proofs.Allowed.{posts_call}
 use Rattle.dob_board.proofs.Done.{posts_done}
 use Rattle.dob_board.proofs.Places.{posted_within}
@@ -11,8 +11,7 @@ fetch_add-requires c =
     let seat = c.args.self.now in (
       search rules,
       rw (c.deref.ensures, seat.words, c.posted_index-word.ensures) (posted_within seat.nodes seat.node c.args.to seat.within c.requires.node),
-      posts_call _ seat.nodes seat.node c.args.to _ _ _ _
-          (stand_from seat.posted.items seat.taken.items seat.seen.items seat.black seat.token seat.halt) seat.seat.me.0.witnessed
+      posts_call _ seat.nodes seat.node c.args.to _ _ _ _ (stand_of seat) (witnessed_by seat)
           (search rules) seat.view_is c.posted_index-word.ensures c.requires.node c.requires.other c.requires.black c.requires.few,
     )
 
@@ -21,7 +20,7 @@ invariant_of-self c =
     let seat = c.args.self.now in
     let done =
     posts_done seat.nodes seat.node c.args.to c.posted_index-word.result c.fetch_add.result c.index_mut.result.now seat.seat.me c.fetch_add.new.seat.me
-    seat.posted.items seat.taken.items seat.seen.items seat.black seat.token seat.halt seat.seat.me.0.witnessed
+    seat.posted.items seat.taken.items seat.seen.items seat.black seat.token seat.halt (witnessed_by seat)
     seat.view_is c.posted_index-word.ensures seat.within c.requires.node (search rules) c.index_mut.ensures.value c.fetch_add.ensures.2 in
     record {
       size = seat.size;
@@ -45,7 +44,7 @@ returns-clause-event c =
     let seat = c.args.self.now in
     let done =
     posts_done seat.nodes seat.node c.args.to c.posted_index-word.result c.fetch_add.result c.index_mut.result.now seat.seat.me c.fetch_add.new.seat.me
-    seat.posted.items seat.taken.items seat.seen.items seat.black seat.token seat.halt seat.seat.me.0.witnessed
+    seat.posted.items seat.taken.items seat.seen.items seat.black seat.token seat.halt (witnessed_by seat)
     seat.view_is c.posted_index-word.ensures seat.within c.requires.node (search rules) c.index_mut.ensures.value c.fetch_add.ensures.2 in
     done.made
 

@@ -1,7 +1,7 @@
 -- A look at the token's word keeps the rule of the board.
 use Rattle.std.proofs.Common.{rules, arith}
 use Rattle.std.proofs.lemmas.Grind.{common_steps}
-use Rattle.dob_board.specs.Views.{stand_from}
+use Rattle.dob_board.specs.Seats.{stand_of, witnessed_by}
 use Rattle.dob_board.proofs.Passing.{meets_call}
 use Rattle.dob_board.proofs.seat.NodeSeat.token.Goals as goal
 
@@ -10,9 +10,7 @@ load-word-requires c =
     let seat = c.args.self.now in (
       search rules,
       rw (c.deref.ensures, seat.words) (omega arith),
-      meets_call _ seat.nodes seat.node _ _ _ (stand_from seat.posted.items seat.taken.items seat.seen.items seat.black seat.token seat.halt)
-          seat.seat.me.0.witnessed
-          (search rules) seat.view_is,
+      meets_call _ seat.nodes seat.node _ _ _ (stand_of seat) (witnessed_by seat) (search rules) seat.view_is,
     )
 
 pub unreachable-requires : goal.unreachable-requires
