@@ -6,9 +6,6 @@ use Rattle.dob_certificate.specs.Ascending.{AreAscending}
 use Rattle.dob_certfile.specs.Format.{entry_bytes, entries_bytes}
 use Rattle.dob_certfile.proofs.Lists.{StartsFrom, tail_ascends, tail_starts}
 
-pub starts_here : (entries : List Entry) (i least : ℕ) (d : Entry) → i < length entries → StartsFrom least (drop i entries) → least ≤ (get_or entries i d).class
-starts_here entries i least d lt starts = (let here : StartsFrom least (get_or entries i d ∷ drop (i + 1) entries) = subst (StartsFrom least) (drop_more entries i d lt) starts in here)
-
 starts_after : (entries : List Entry) (i : ℕ) (d : Entry) → AreAscending entries → i < length entries → StartsFrom ((get_or entries i d).class + 1) (drop (suc i) entries)
 starts_after [] i d ascending lt = absurd (omega (arith, lt))
 starts_after (entry ∷ entries) zero d ascending lt = tail_starts entry entries ascending
