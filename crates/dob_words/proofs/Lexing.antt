@@ -9,7 +9,7 @@ use Rattle.std.proofs.lemmas.Bool.Decides.{Decides-eqb}
 use Rattle.clap.specs.Lexer.{has_byte, long_of, short_of}
 use Rattle.std.specs.Option.{option_map_or}
 use Rattle.std.proofs.Math.Bool.{or-false}
-use Rattle.dob_words.specs.Words.{Text, flag_of, is_help_flag, is_text, name_in, text_in}
+use Rattle.dob_words.specs.Words.{Text, flag_of, is_help_flag, is_text}
 
 -- the first bytes of a word
 pub data View : Text → Type 0 where
@@ -147,7 +147,3 @@ text_flag w e = none_of (flag_of w) e
 -- the name in a word `--name` or `--name=value`
 abbrev pub long_name : Text → Text
 long_name w = option_map_or (λ p. p.0) (long_of w) []
-
--- what follows the hyphens of a word with two is what `clap` splits at the first `=`
-pub long_split : (c : ℕ) (cs : Text) → long_of (45 ∷ 45 ∷ c ∷ cs) ≡ Some (name_in (c ∷ cs), text_in (c ∷ cs))
-long_split c cs = refl

@@ -1,7 +1,7 @@
 -- The texts of a subcommand, from its own matches, and which form's matches they are.
 use Rattle.std.proofs.Common.{◌≡◌, ◌∙◌, ℕ, true, false, inl, inr, ap, ap₂, sym, subst, refl, rules}
 use Rattle.std.proofs.Common.{true≢false, map, List, [], ◌∷◌, Option, Some, None, is_some}
-use Rattle.std.specs.Prelude.{Err, IfSome, is_err, Result, option_map, unwrap_or}
+use Rattle.std.specs.Prelude.{Err, is_err, Result, option_map, unwrap_or}
 use Rattle.std.specs.Str.Parse.{ParsesUnsigned}
 use Rattle.std.proofs.lemmas.Result.{Ok-from_Ok_iff}
 use Rattle.clap.specs.Words.{Row, first_of, first_value, found_of, rows_of, subcommand_name_of, subcommand_rows_of}
@@ -9,7 +9,7 @@ use Rattle.clap.specs.declared.parser.ArgMatches.{ArgMatches}
 use Rattle.clap.specs.declared.builder.value_parser.ValueParser.TheVariants.{Unsigned}
 use Rattle.clap.proofs.ValueTestLemmas.{accepts-Accepts}
 use Rattle.clap.proofs.WalkLemmas.{first_value-rows}
-use Rattle.dob_words.specs.Forms.{Form, Text, form_named, forms, is_among, is_needed, labels}
+use Rattle.dob_words.specs.Forms.{Form, Text, form_named, forms, is_needed, labels}
 use Rattle.dob_words.specs.Lines.{IsAmong}
 use Rattle.dob_words.specs.Words.{asks, is_number, number_in, settled}
 use Rattle.dob_words.specs.Shapes.{AreFit, Finds, HasFit, IsFit, IsMet, IsMetBySome, IsNamed, texts_in}
@@ -23,11 +23,6 @@ use Rattle.dob_words.proofs.Texts.{Each, taken_number}
 pub there : (f : Form) (label : Text) (o : Option Text) → is_needed f label ≡ true → IsFit f label o → is_some o ≡ true
 there f label None needed fit = absurd (true≢false (sym needed ∙ fit))
 there f label (Some t) needed fit = refl
-
--- what is a number by its form tells one, where it is given
-pub given_number : (f : Form) (label : Text) (o : Option Text) → is_among f.numbers label ≡ true → IsFit f label o → IfSome o (λ t. is_number t ≡ true)
-given_number f label None among fit = tt
-given_number f label (Some t) among fit = rw among at fit
 
 -- a number is read from its text
 pub never_refused : {E : Type 0} (t : Text) (r : Result ℕ E) (e : E) → is_number t ≡ true → ParsesUnsigned 64 10 t r → r ≡ Err e → ⊥

@@ -143,6 +143,3 @@ command_meaning words v t = rw (v, t) refl
 
 pub topic_meaning : (words : List Text) → is_version words ≡ false → is_topic words ≡ true → meaning_of_topic words ≡ meaning_of words
 topic_meaning words v t = rw (v, t) refl
-
-pub version_meaning : (words : List Text) → is_version words ≡ true → meaning_of words ≡ version
-version_meaning words e = rw e refl

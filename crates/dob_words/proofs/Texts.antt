@@ -210,10 +210,6 @@ module _ (profiles : ProfileNames) (are : AreProfiles profiles) (f : Form) (long
       → use_fault false (text_arg profiles f long index label) (t ∷ []) (rows_of given) ≡ kind.ArgumentConflict ∷ []
   use_twice t u given there = rw (has_found label given, there) refl
 
-  -- and so is none
-  pub use_none : (rows : List Row) → use_fault false (text_arg profiles f long index label) [] rows ≡ kind.InvalidValue ∷ []
-  use_none rows = refl
-
 -- ---- one more flag
 
 -- a flag's row is that of the empty text
