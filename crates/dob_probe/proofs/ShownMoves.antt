@@ -5,20 +5,21 @@ use Rattle.std.proofs.lemmas.Bool.{cases_eq, cases_lt}
 use Rattle.dob_pieces.specs.declared.kind.Kind.{Kind}
 use Rattle.dob_pieces.specs.declared.kind.HandKind.{HandKind}
 use Rattle.dob_pieces.specs.declared.kind.Side.TheVariants.{Mover, Enemy}
+use Rattle.dob_pieces.specs.declared.hand.Hand.{Hand}
 use Rattle.dob_pieces.specs.declared.piece_set.PieceSet.{PieceSet}
 use Rattle.dob_pieces.specs.declared.setup.Setup.{Setup}
 use Rattle.dob_pieces.specs.Pieces.{kind_on_board}
-use Rattle.dob_pieces.specs.Setups.{Cell, at, held, piece_of, turned, turned_cell, mirrored, IsLegal}
+use Rattle.dob_pieces.specs.Setups.{at, held, piece_of, turned, turned_cell, mirrored, with_one_less, IsLegal}
 use Rattle.dob_pieces.proofs.Boards.{at-turned, length-turned}
 use Rattle.dob_pieces.proofs.Symmetries.{mirrored-mirrored}
-use Rattle.dob_moves.specs.Outcomes.{arrives_as, stepped, dropped}
+use Rattle.dob_moves.specs.Outcomes.{arrives_as, with_caught, stepped, dropped}
 use Rattle.dob_moves.proofs.Outcomes.{held_few}
 use Rattle.dob_rank.specs.Numbers.{rank_of_set}
 use Rattle.dob_rank.specs.Order.{IsPositionOfSet, IsFirstOfTwo}
 use Rattle.dob_rank.proofs.Marked.Representatives.{first_by_rank}
 use Rattle.dob_rank.proofs.Positions.Found.{IsPositionOfSet-mirrored}
 use Rattle.dob_classes.specs.Changes.{IsWith}
-use Rattle.dob_classes.proofs.SquareSets.BitChanges.{with_cell, with_one}
+use Rattle.dob_classes.proofs.SquareSets.BitChanges.{with_cell}
 use Rattle.dob_probe.specs.ShownMoves.{HasArrived}
 
 -- ---- moves
@@ -31,7 +32,7 @@ step_arrived p kind from to grows twelve low_from low_to = record {
   here = at-turned (stepped p kind from to grows) (11 - to) (omega (arith, low_to))
       ∙ ap (λ (k : ℕ). turned_cell (at (stepped p kind from to grows) k)) (let twice : 11 - (11 - to) ≡ to = omega (arith, low_to) in twice)
       ∙ ap turned_cell (get_or-set_same (set p.board from None) to (Some (piece_of Mover (arrives_as kind grows))) None
-      (let long = length-set p.board from {x = None} in omega (arith, twelve, low_to)));
+      (let long = length-set p.board from None in omega (arith, twelve, low_to)));
   there = λ s below apart. elsewhere s below apart;
 }
   where
@@ -64,6 +65,19 @@ drop_arrived p kind to twelve low_to = record {
       ∙ ap turned_cell (get_or-set_other p.board to (11 - s) _ None (omega (arith, low_to, below, apart)))
       ∙ sym (at-turned p s below);
 }
+
+-- the hands, as the enemy sees them
+pub hands_after_step : (p : Setup) (kind : Kind) (from to : ℕ) (grows : Bool) (hand : Hand) → hand ≡ with_caught p.hands.mover (at p to) →
+    (turned (stepped p kind from to grows)).hands ≡ record { mover = p.hands.enemy; enemy = hand }
+unfolding turned stepped
+hands_after_step p kind from to grows hand is =
+    subst (λ (h : Hand). (turned (stepped p kind from to grows)).hands ≡ record { mover = p.hands.enemy; enemy = h }) (sym is) refl
+
+pub hands_after_drop : (p : Setup) (kind : HandKind) (to : ℕ) (hand : Hand) → hand ≡ with_one_less p.hands.mover kind →
+    (turned (dropped p kind to)).hands ≡ record { mover = p.hands.enemy; enemy = hand }
+unfolding turned dropped
+hands_after_drop p kind to hand is =
+    subst (λ (h : Hand). (turned (dropped p kind to)).hands ≡ record { mover = p.hands.enemy; enemy = h }) (sym is) refl
 
 -- a hand has room for one more
 pub held_low : (p : Setup) → IsLegal p → (k : HandKind) → held p.hands.mover k < 255

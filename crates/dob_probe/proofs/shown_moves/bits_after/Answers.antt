@@ -14,8 +14,10 @@ after_drop-requires-clause-in_hand c = (subst (λ (m : Move). CanGo A c.args.pos
 
 pub returns-in-Step : goal.returns-in-Step
 returns-in-Step c = λ q by. subst (λ (s : Setup). AreBitboards s c.after_step.result)
-    (sym (HasOutcome-is c.args.position.now.setup _ q (subst (λ (m : Move). HasOutcome c.args.position.now.setup m q) c.in-Step.is by))) c.after_step.ensures
+    (sym (HasOutcome-is c.args.position.now.setup (Step c.in-Step.kind c.in-Step.from c.in-Step.to c.in-Step.catch c.in-Step.grows) q
+    (subst (λ (m : Move). HasOutcome c.args.position.now.setup m q) c.in-Step.is by))) c.after_step.ensures
 
 pub returns-in-Put : goal.returns-in-Put
 returns-in-Put c = λ q by. subst (λ (s : Setup). AreBitboards s c.after_drop.result)
-    (sym (HasOutcome-is c.args.position.now.setup _ q (subst (λ (m : Move). HasOutcome c.args.position.now.setup m q) c.in-Put.is by))) c.after_drop.ensures
+    (sym (HasOutcome-is c.args.position.now.setup (Put c.in-Put.kind c.in-Put.to) q
+    (subst (λ (m : Move). HasOutcome c.args.position.now.setup m q) c.in-Put.is by))) c.after_drop.ensures

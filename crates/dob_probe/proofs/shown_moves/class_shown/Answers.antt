@@ -1,7 +1,6 @@
 -- A position and its mirror image have one class number.
 use Rattle.std.proofs.Common.{◌∙◌}
 use Rattle.dob_pieces.specs.Setups.{mirrored}
-use Rattle.dob_pieces.specs.declared.setup.Setup.{Setup}
 use Rattle.dob_classes.proofs.OfFamilies.FamilyNumbers.{IsPositionOf-mirrored, class_number-mirrored}
 use Rattle.dob_probe.proofs.shown_moves.class_shown.Goals as goal
 
@@ -14,7 +13,10 @@ class_from-requires c =
     )
 
 pub returns-then-stand_later : goal.returns-then-stand_later
-returns-then-stand_later c = λ s shown.
-    let family = c.args.classes.now.family in
-    c.class_from.ensures (mirrored s) (record { position = IsPositionOf-mirrored family s shown.position; squares = c.mirrored_bits.ensures s shown.squares })
-    ∙ class_number-mirrored family s shown.position
+returns-then-stand_later c = record {
+  number = λ s shown.
+      let family = c.args.classes.now.family in
+      c.class_from.ensures.number (mirrored s)
+      (record { position = IsPositionOf-mirrored family s shown.position; squares = c.mirrored_bits.ensures s shown.squares })
+      ∙ class_number-mirrored family s shown.position;
+}
