@@ -9,10 +9,10 @@ ghost use Rattle.dob_rank.specs.Families.{class_number, classes_of};
 ghost use Rattle.dob_classes.specs.Bitboards.{AreBitboards, IsShown};
 ghost use Rattle.dob_probe.specs.ShownMoves.{HasArrived};
 
-use dob_classes::{Bitboards, Classes};
+use dob_classes::{Bitboards, Classes, mirrored_bits};
 use dob_moves::Move;
 use dob_pieces::{Hand, HandKind, Hands, Kind, Position, Square};
-use dob_unmove::{mirrored_bits, with_enemy, without};
+use dob_unmove::{with_enemy, without};
 
 // Column c, the last of the three of each row, and column b.
 const COLUMN_C: u16 = 0b100_100_100_100;
