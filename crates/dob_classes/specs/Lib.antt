@@ -6,6 +6,7 @@ pub mod Stretches
 pub mod FamilyRuns
 pub mod RunTables
 pub mod RunIndex
+pub mod RunShapes
 pub mod BlockTables
 pub mod BlockRows
 pub mod Walks

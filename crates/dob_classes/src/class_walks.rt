@@ -6,10 +6,10 @@ ghost use Rattle.dob_rank.specs.Runs.{runs_in, run_size, run_kind, lion_pairs};
 ghost use Rattle.dob_classes.specs.Stretches.{local_marks};
 ghost use Rattle.dob_rank.specs.declared.runs.RunKind.TheVariants.{Mixed};
 
+use crate::run_shapes::{RunShape, shape_of};
 use crate::spots::count_before;
 use crate::stretches::stretch_from;
 use dob_pieces::Family;
-use dob_rank::block;
 
 /// A run of a family whose lions both stand on column b.
 #[derive(Clone, Copy)]
@@ -34,6 +34,7 @@ pub struct Walk {
 }
 
 impl MixedRun {
+    ghost use Rattle.dob_classes.specs.RunShapes.{IsShape};
     ghost use Rattle.dob_classes.specs.Walks.{IsWalk, IsStretchIn, marks_before};
 
     /// A walk that begins at that place, or at the run's end.
@@ -59,10 +60,11 @@ impl MixedRun {
         ensures place { walk.new.place ≡ place }
         ensures count { marks_before self.now walk.old.number + result ≡ marks_before self.now walk.new.number }
     {
+        let shape = shape_of(self.family.set, self.block, self.run);
         let mut at = *walk;
         let mut count = 0;
         while at.place < place {
-            let (next, more) = self.step(at, place);
+            let (next, more) = self.step(&shape, at, place);
             at = next;
             count += more;
         }
@@ -70,8 +72,9 @@ impl MixedRun {
         count
     }
 
-    /// One step further, to the end of the places that are alike or to that place, and how many representatives stand on the way.
-    pub(crate) fn step(&self, walk: Walk, place: u64) -> (Walk, u64)
+    /// One step further, by the run's shape, to the end of the places that are alike or to that place, and how many representatives stand on the way.
+    pub(crate) fn step(&self, shape: &RunShape, walk: Walk, place: u64) -> (Walk, u64)
+        requires shape { IsShape self.now.family.set self.now.block self.now.run shape.now }
         requires walk { IsWalk self.now walk }
         requires further { walk.place < place }
         requires within { place ≤ run_size self.now.family.set self.now.block }
@@ -81,7 +84,7 @@ impl MixedRun {
         ensures alike { IsStretchIn self.now.family self.now.block self.now.run walk.number result.0.number result.0.is_marked }
         ensures count { marks_before self.now walk.number + result.1 ≡ marks_before self.now result.0.number }
     {
-        let (is_marked, end) = self.stretch_at(walk);
+        let (is_marked, end) = self.stretch_at(shape, walk);
         let to = end.min(place);
         let number = count_before(self.family, self.block, self.run, to);
         let count = if is_marked { number - walk.number } else { 0 };
@@ -97,7 +100,8 @@ impl MixedRun {
     }
 
     // Whether the places from the walk's own on are marked, and an end up to which they are alike.
-    fn stretch_at(&self, walk: Walk) -> (bool, u64)
+    fn stretch_at(&self, shape: &RunShape, walk: Walk) -> (bool, u64)
+        requires shape { IsShape self.now.family.set self.now.block self.now.run shape.now }
         requires walk { IsWalk self.now walk }
         requires within { walk.place < run_size self.now.family.set self.now.block }
         ensures some { walk.place < result.1 }
@@ -107,8 +111,6 @@ impl MixedRun {
         if walk.place < walk.end {
             return (walk.is_marked, walk.end);
         }
-        let set = self.family.set;
-        let bases = block::local_bases_in(set, self.block);
-        stretch_from(set, self.block, self.run, walk.place, &bases)
+        stretch_from(self.family.set, self.block, self.run, walk.place, shape)
     }
 }

@@ -15,6 +15,7 @@ pub mod laws;
 mod place_tables;
 mod representatives;
 mod run_index;
+mod run_shapes;
 mod runs;
 mod spots;
 mod stretch_tables;
@@ -22,6 +23,7 @@ mod stretches;
 
 pub use any_rows::class_number_by_any;
 pub use bits::bitboards::Bitboards;
+pub use bits::images::mirrored_bits;
 pub use bits::shown::Shown;
 pub use class_counts::count_classes;
 pub use class_numbers::{class_number, classes_in_run};

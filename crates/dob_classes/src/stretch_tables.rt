@@ -9,6 +9,7 @@ ghost use Rattle.dob_classes.specs.Stretches.{AreStretches};
 ghost use Rattle.dob_rank.specs.declared.runs.RunKind.TheVariants.{Mixed};
 
 use crate::class_walks::MixedRun;
+use crate::run_shapes::shape_of;
 use crate::stretches::{Stretch, push_stretch};
 use dob_pieces::{Family, Memory};
 use dob_rank::block;
@@ -49,12 +50,13 @@ impl StretchTable {
     {
         let size = block::run_size_in(family.set, block);
         let mixed = MixedRun { family, block, run };
+        let shape = shape_of(family.set, block, run);
         let mut walk = mixed.walk_from(0);
         let mut list = Vec::new(alloc);
         let mut count = 0;
         let mut last = false;
         while walk.place < size {
-            let (next, marks) = mixed.step(walk, size);
+            let (next, marks) = mixed.step(&shape, walk, size);
             push_stretch(&mut list, walk.number, count, next.is_marked, last)?;
             last = next.is_marked;
             count += marks;

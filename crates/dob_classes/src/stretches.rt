@@ -2,16 +2,17 @@
 // in which a position differs from its mirror image decides for all places that have the same digits up to there, so that the
 // stretches are few: some 2,700 where there are 4.8 million places.
 ghost use Rattle.std.specs.Prelude.{◌≡◌, ◌<◌, ◌≤◌, ◌+◌, ◌%◌, ◌^◌, ℕ, Bool, IfOk};
-ghost use Rattle.dob_rank.specs.Numbers.{product, block_bases, digits_of};
-ghost use Rattle.dob_rank.specs.Runs.{runs_in, run_size, run_kind, lion_pairs, local_bases};
+ghost use Rattle.dob_rank.specs.Numbers.{product, block_bases};
+ghost use Rattle.dob_rank.specs.Runs.{runs_in, run_size, run_kind, lion_pairs};
+ghost use Rattle.dob_classes.specs.RunShapes.{IsShape};
 ghost use Rattle.std.specs.List.{All};
 ghost use Rattle.dob_classes.specs.Stretches.{AreStretches, IsGrowing, EndsWith, IsWidth, local_marks};
 ghost use Rattle.dob_rank.specs.declared.runs.RunKind.TheVariants.{Mixed};
 
+use crate::bits::image_places::image_place;
+use crate::run_shapes::RunShape;
 use dob_pieces::{Memory, PieceSet};
-use dob_rank::block;
 use dob_rank::runs::Spot;
-use dob_rank::set_ranks::{position_at, spot_of};
 use std::alloc::Global;
 
 /// A stretch of places of a run: where it begins, how many marked places of the run are before it, and whether its own are.
@@ -53,20 +54,19 @@ pub(crate) fn stretch_from(
     block: u64,
     run: u64,
     local: u64,
-    bases: &[u64; 6],
+    shape: &RunShape,
 ) -> (bool, u64)
     requires block { block < product (block_bases set) }
     requires run { run < runs_in set block }
     requires kind { run_kind (run % lion_pairs) ≡ Mixed }
     requires local { local < run_size set block }
-    requires bases { bases.now ≡ local_bases (digits_of (block_bases set) block) }
+    requires shape { IsShape set block run shape.now }
     ensures some { local < result.1 }
     ensures within { result.1 ≤ run_size set block }
     ensures marks { (k : ℕ) → local ≤ k → k < result.1 → local_marks set block run k ≡ result.0 }
 {
-    let image = position_at(set, block, Spot { run, local }).mirrored();
-    let other = spot_of(set, &image).1.local;
-    let width = width_of(bases, local, other);
+    let other = image_place(set, block, Spot { run, local }, shape);
+    let width = width_of(&shape.bases, local, other);
     (local <= other, (local / width + 1) * width)
 }
 

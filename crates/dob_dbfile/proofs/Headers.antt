@@ -11,7 +11,7 @@ use Rattle.dob_dbfile.specs.declared.fault.Fault.TheVariants as fault
 use Rattle.dob_dbfile.specs.declared.header.Format.{Format}
 use Rattle.dob_dbfile.specs.declared.header.Format.TheVariants.{First, Second}
 use Rattle.dob_dbfile.specs.Devices.{Stream, after, GivesFirst}
-use Rattle.dob_dbfile.specs.Faults.{count_place, header_len, HasTitle, NamesSet, HasHeader, SaysProfile, NamesFamily}
+use Rattle.dob_dbfile.specs.Faults.{count_place, header_len, HasTitle, NamesSet, HasHeader, SaysProfile, NamesFamily, NamesClasses}
 use Rattle.dob_dbfile.specs.Faults.{CountsClasses, HasHeaderFault}
 use Rattle.dob_dbfile.specs.Looking.{HasFrontFault}
 use Rattle.dob_dbfile.specs.Reading.{GivesFewer, TakesBytes}
@@ -91,6 +91,9 @@ module _ (n : ℕ) (bytes : List ℕ) (long : 20 ≤ n) (there : n ≤ length by
   pub counts_lifts : (format : Format) (family : Family) → CountsClasses format family (take n bytes) → CountsClasses format family bytes
   counts_lifts format family counts =
       (family_lifts format family counts.0, sym (count_part format (fits_in format family.set counts.0.0)) ∙ counts.1)
+
+  pub names_lift : NamesClasses (take n bytes) → NamesClasses bytes
+  names_lift names = (names.0, names.1, counts_lifts names.0 names.1 names.2)
 
   pub counts_falls : (format : Format) (family : Family) → header_len format ≤ n → CountsClasses format family bytes → CountsClasses format family (take n bytes)
   counts_falls format family fits counts =
@@ -206,3 +209,11 @@ pub takes_front : (stream : Stream) (size : ℕ) (room : List ℕ) → size ≤ 
 takes_front stream size room there is =
     let len : length room ≡ size = ap length is ∙ length-take-le size stream.bytes there in
     record { within = omega (arith, len, there); same = is ∙ ap (λ (n : ℕ). take n stream.bytes) (sym len) }
+
+-- the last eight bytes
+pub last_count : (at size len : ℕ) (header : List ℕ) → length header ≡ len → size ≡ len → at + 8 ≡ len
+    → take (length header - (size - 8)) (drop (size - 8) header) ≡ take 8 (drop at header)
+last_count at size len header long same is =
+    let place : size - 8 ≡ at = omega (arith, is, same) in
+    let eight : length header - (size - 8) ≡ 8 = omega (arith, is, same, long) in
+    ap (λ (k : ℕ). take k (drop (size - 8) header)) eight ∙ ap (λ (k : ℕ). take 8 (drop k header)) place

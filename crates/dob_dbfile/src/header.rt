@@ -1,17 +1,18 @@
 // What stands before the records of a file: its format, its family, and how many classes there are.
-ghost use Rattle.std.specs.Prelude.{◌≡◌, ◌≢◌, ◌++◌, ◌≤◌, ◌↔◌, ◌∷◌, [], length, take, drop, Some, IsTrue, OnOk, IfOk, IfErr, IfSome, MatchOption, vec_capacity};
+ghost use Rattle.std.specs.Prelude.{◌≡◌, ◌≢◌, ◌⊎◌, ◌++◌, ◌≤◌, ◌↔◌, ◌∷◌, [], length, take, drop, Some, IsTrue, OnOk, IfOk, IfErr, IfSome, MatchOption, vec_capacity};
 ghost use Rattle.dob_pieces.specs.declared.profile.Family.{Family as AnyFamily};
 ghost use Rattle.dob_pieces.specs.declared.piece_set.PieceSet.{PieceSet as AnySet};
 ghost use Rattle.dob_pieces.specs.declared.profile.Profile.{Profile as AnyProfile};
 ghost use Rattle.dob_dbfile.specs.declared.header.Format.{Format as AnyFormat};
 ghost use Rattle.dob_dbfile.specs.declared.header.Format.TheVariants.{Second};
 ghost use Rattle.dob_dbfile.specs.Format.{title, set_bytes, profile_byte, profile_bytes, count_bytes};
-ghost use Rattle.dob_dbfile.specs.Faults.{SaysProfile, NamesSet, NamesFamily, HasHeader, CountsClasses, HasHeaderFault, count_place, header_len};
+ghost use Rattle.dob_dbfile.specs.Faults.{SaysProfile, NamesSet, NamesFamily, NamesClasses, HasHeader, CountsClasses, HasHeaderFault, count_place, header_len};
 
 use crate::fault::Fault;
 use byteorder::{ByteOrder, LittleEndian};
-use dob_classes::count_classes;
+use dob_classes::{Classes, count_classes};
 use dob_pieces::{Family, Memory, PieceSet, Profile};
+use std::alloc::Global;
 
 /// How many bytes are read before anything is tested: the whole header of the first format.
 pub(crate) const FRONT_LEN: usize = 20;
@@ -106,6 +107,39 @@ pub(crate) fn family_counted(format: Format, set: PieceSet, header: &[u8]) -> Re
     let count = &header[format.header_len() - COUNT_LEN..];
     if is_count(count, count_classes(family)) {
         Ok(family)
+    } else {
+        Err(Fault::ClassCount)
+    }
+}
+
+/// The classes of the family of that set that the whole header names, where it has their number. They are counted as they are opened; where memory is
+/// refused they are counted without.
+///
+/// # Errors
+///
+/// `ProfileByte`, `ClassCount`; `Memory` where neither of them holds.
+pub(crate) fn classes_counted(
+    alloc: Global,
+    format: Format,
+    set: PieceSet,
+    header: &[u8],
+) -> Result<Classes, Fault>
+    requires named { HasHeader format set header.now }
+    requires long { length header.now ≡ header_len format }
+    ensures counted { IfOk result (λ classes. CountsClasses format classes.family header.now) }
+    ensures fault { IfErr result (λ given. (given ≡ Fault.Memory) ⊎ HasHeaderFault header.now given) }
+    ensures memory { IfErr result (λ given. given ≡ Fault.Memory → NamesClasses header.now) }
+{
+    let Some(profile) = profile_named(format, header) else {
+        return Err(Fault::ProfileByte);
+    };
+    let Ok(classes) = Classes::open(alloc, Family { set, profile }) else {
+        let _family = family_counted(format, set, header)?;
+        return Err(Fault::Memory);
+    };
+    let count = &header[format.header_len() - COUNT_LEN..];
+    if is_count(count, classes.class_count()) {
+        Ok(classes)
     } else {
         Err(Fault::ClassCount)
     }

@@ -7,7 +7,7 @@ ghost use Rattle.dob_dbfile.specs.Looking.{HasFrontFault, HasRecord, HasRecordFa
 
 use crate::device::{Failed, PlacedSource, Source};
 use crate::fault::Fault;
-use crate::front::read_header;
+use crate::front::{Header, read_header};
 use crate::header::{Format, HEADER_LEN};
 use crate::read::fill;
 use crate::records::{RECORD_LEN, value_in};
@@ -31,9 +31,8 @@ pub fn read_classes<R: Source>(alloc: Global, source: &mut R) -> Result<(Format,
     ensures failed { R.has_failed source.new ≡ is_io_error result }
 {
     let mut room = [0; HEADER_LEN];
-    let header = read_header(source, &mut room)?;
-    let classes = Classes::open(alloc, header.family)?;
-    Ok((header.format, classes))
+    let Header { format, classes } = read_header(alloc, source, &mut room)?;
+    Ok((format, classes))
 }
 
 /// The value that the class's record says, in a file of that format, which is read by its place. Neither another record nor

@@ -11,11 +11,10 @@ ghost use Rattle.dob_dbfile.specs.Reading.{TakesBytes, GivesFewer, IsNoEnd, Read
 
 use crate::device::{Failed, Source};
 use crate::fault::Fault;
-use crate::front::read_header;
+use crate::front::{Header, read_header};
 use crate::header::HEADER_LEN;
 use crate::records::{PIECE_RECORDS, RECORD_LEN, piece_room, push_codes};
 use crate::transfer::read_full;
-use dob_classes::Classes;
 use dob_lists::{SegmentLength, Segments};
 use dob_pieces::Memory;
 use dob_value::Table;
@@ -69,9 +68,8 @@ fn read_file<R: Source>(alloc: Global, source: &mut R) -> Result<Table, Fault>
     ensures failed { R.has_failed source.new ≡ is_io_error result }
 {
     let mut room = [0; HEADER_LEN];
-    let header = read_header(source, &mut room)?;
-    let classes = Classes::open(alloc, header.family)?;
-    let front = &room[..header.format.header_len()];
+    let Header { format, classes } = read_header(alloc, source, &mut room)?;
+    let front = &room[..format.header_len()];
     let codes = read_codes(alloc, source, front, classes.class_count())?;
     Ok(Table::new(classes, codes))
 }

@@ -1,6 +1,7 @@
 pub mod Lines
 pub mod Checks
 pub mod Sums
+pub mod ShownMoves
 pub mod ValuedMoves
 pub mod Walks
 pub mod Puzzles

@@ -11,6 +11,7 @@ mod lines;
 mod members;
 mod probes;
 mod puzzles;
+mod shown_moves;
 mod successors;
 mod walks;
 

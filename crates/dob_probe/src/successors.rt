@@ -2,6 +2,8 @@
 // there is a draw are kept.
 ghost use Rattle.std.specs.Prelude.{◌≡◌, ◌++◌, List, [], ◌∷◌, IfOk, OnOk};
 ghost use Rattle.dob_pieces.specs.declared.setup.Setup.{Setup};
+ghost use Rattle.dob_pieces.specs.Setups.{turned};
+ghost use Rattle.dob_classes.specs.Bitboards.{AreBitboards};
 ghost use Rattle.dob_moves.specs.Moves.{Goes, CanGo};
 ghost use Rattle.dob_moves.specs.Statuses.{AreMoves, HasStatus};
 ghost use Rattle.dob_moves.specs.declared.position_status.Status.{Status};
@@ -13,6 +15,8 @@ ghost use Rattle.dob_value.specs.Distances.{lesser_of, greater_of};
 ghost use Rattle.dob_probe.specs.Lines.{GivenBy};
 ghost use Rattle.dob_probe.specs.Sums.{AreSummed, HasNext, value_after};
 
+use crate::shown_moves::{bits_after, class_shown};
+use dob_classes::Bitboards;
 use dob_moves::{Move, Status, apply, moves_into};
 use dob_pieces::{Memory, Position};
 use dob_value::{Table, Value};
@@ -134,12 +138,25 @@ fn successors_of(table: &Table, position: &Position, the_moves: &[Move]) -> Succ
     requires the_moves { AreMoves table.now.family.profile position.now.setup the_moves.now }
     ensures { (values : List Valued) × AreSuccessors table.now.family.profile (λ v q. GivenBy table.now q v) position.now.setup values × AreSummed values result }
 {
+    let seen = Bitboards::turned(&position.setup);
     let mut kept = Successors::none();
     for the_move in the_moves {
-        let value = value_to(table, position, *the_move);
+        let value = value_shown(table, position, &seen, *the_move);
         kept = kept.with(value);
     }
     kept
+}
+
+// The value of the position to which the move leads, by the sets of squares that the enemy sees before it.
+fn value_shown(table: &Table, position: &Position, seen: &Bitboards, the_move: Move) -> Value
+    requires member { IsPositionOf table.now.family position.now.setup }
+    requires the_move { HasStatus table.now.family.profile position.now.setup Status.Open × CanGo table.now.family.profile position.now.setup the_move }
+    requires seen { AreBitboards (turned position.now.setup) seen.now }
+    ensures { (q : Setup) → Goes table.now.family.profile position.now.setup the_move q → GivenBy table.now q result }
+{
+    let bits = bits_after(position, seen, the_move);
+    let class = class_shown(table.classes(), &bits);
+    table.value(class)
 }
 
 // The value of the position to which the move leads.

@@ -23,6 +23,5 @@ pub mod Dead  -- ways that lead back to no open representative
 pub mod Standing  -- which ways a piece can have made
 pub mod WayMasks  -- the masks of the ways
 pub mod OwnImages  -- positions that are their own mirror images
-pub mod ImageMasks  -- masks of mirror images
 pub mod BitUndone  -- and when a move is taken back
 pub mod OwnKinds  -- the mover's piece on a square

@@ -4,7 +4,6 @@
 mod attackers;
 mod bits_before;
 mod earlier;
-mod images;
 pub mod plain;
 mod predecessors;
 mod undo;
@@ -15,4 +14,3 @@ pub use predecessors::{back, back_into};
 
 // Changes of sets of squares, of which moves that are made consist too.
 pub use bits_before::{with_enemy, without};
-pub use images::mirrored_bits;

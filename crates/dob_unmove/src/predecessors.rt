@@ -21,10 +21,9 @@ ghost use Rattle.dob_unmove.specs.Ends.{CanWalk, CanEnd, Collects};
 
 use crate::bits_before::bits_before;
 use crate::earlier::may_give_back;
-use crate::images::mirrored_bits;
 use crate::undo::Undo;
 use crate::ways::Ways;
-use dob_classes::{Bitboards, Classes, Shown};
+use dob_classes::{Bitboards, Classes, Shown, mirrored_bits};
 use dob_pieces::{
     HandKind, Kind, Memory, Position, Setup, Side, Square, lowest_square, without_square,
 };

@@ -51,6 +51,30 @@ pub listing_all : (k rest index : ℕ) (parts list : List Part) → length parts
 listing_all k rest index parts list past l =
     sym (append-nil list) ∙ ap (λ (xs : List Part). list ++ xs) (sym (ap (front rest) (drop_all index parts past))) ∙ l.so_far
 
+-- so many are in front so far
+pub record IsCounting (k rest index : ℕ) (parts : List Part) : Type 0 where
+  pub so_far : index + length (front rest (drop index parts)) ≡ length (front k parts)
+  pub within : index ≤ length parts
+
+pub counting_more : (k rest index : ℕ) (parts : List Part) (part : Part) → 0 < rest → index < length parts → part ≡ get_or parts index part
+    → IsCounting k rest index parts → IsCounting k (rest - min part.items rest) (index + 1) parts
+counting_more k rest index parts part some within read l =
+    let next = ap (λ (xs : List Part). length xs) (front_next rest index parts part some within read) in
+    record { so_far = (let so = l.so_far in omega (arith, so, next)); within = omega (arith, within) }
+
+pub counting_done : (k rest index : ℕ) (parts : List Part) → rest ≡ 0 → IsCounting k rest index parts → index ≡ length (front k parts)
+counting_done k rest index parts e l =
+    let none : length (front rest (drop index parts)) ≡ 0 =
+    ap (λ m. length (front m (drop index parts))) e ∙ ap (λ (xs : List Part). length xs) (front-zero (drop index parts)) in
+    let so = l.so_far in
+    omega (arith, none, so)
+
+pub counting_all : (k rest index : ℕ) (parts : List Part) → length parts ≤ index → IsCounting k rest index parts → index ≡ length (front k parts)
+counting_all k rest index parts past l =
+    let none : length (front rest (drop index parts)) ≡ 0 = ap (λ (xs : List Part). length (front rest xs)) (drop_all index parts past) in
+    let so = l.so_far in
+    omega (arith, none, so)
+
 -- the same in place
 pub record IsKeeping (k rest index : ℕ) (old parts : List Part) : Type 0 where
   pub so_far : take index parts ++ front rest (drop index parts) ≡ front k old

@@ -206,7 +206,7 @@ fn push_owned(queue: &mut VecDeque<u64>, classes: &[u64], nodes: usize, to: usiz
 fn front_parts(alloc: Global, parts: &VecDeque<Part>, k: usize) -> Result<Vec<Part>, Memory>
     ensures { IfOk result (λ list. list.items ≡ front k parts.now.items) }
 {
-    let mut list = Vec::new(alloc);
+    let mut list = Vec::with_capacity(alloc, count_front(parts, k))?;
     let mut rest = k;
     for index in 0..parts.len() {
         if rest == 0 {
@@ -218,6 +218,20 @@ fn front_parts(alloc: Global, parts: &VecDeque<Part>, k: usize) -> Result<Vec<Pa
         rest -= items;
     }
     Ok(list)
+}
+
+// How many parts the first `k` items are in.
+fn count_front(parts: &VecDeque<Part>, k: usize) -> usize
+    ensures { result ≡ length (front k parts.now.items) }
+{
+    let mut rest = k;
+    let mut count = 0;
+    while rest > 0 && count < parts.len() {
+        let part = parts[count];
+        rest -= part.items.min(rest);
+        count += 1;
+    }
+    count
 }
 
 // The items of the parts, `k` of them, whose classes are the first of those.

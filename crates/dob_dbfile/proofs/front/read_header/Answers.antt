@@ -1,11 +1,11 @@
 -- The two pieces are the header, and what it is refused for is a fault of the stream.
-use Rattle.std.proofs.Common.{◌≡◌, ◌∙◌, ◌+◌, ◌-◌, ◌++◌, ℕ, List, arith, subst, ap, length, take, drop, rules}
+use Rattle.std.proofs.Common.{◌≡◌, ◌∙◌, ◌+◌, ◌-◌, ◌++◌, ℕ, List, arith, subst, ap, length, take, drop, inl, inr, rules}
 use Rattle.std.proofs.lemmas.Result.{err_from_is_err_and}
 use borrow.Rule.Slice.PartMut.{put_mid}
 use Rattle.dob_dbfile.specs.Devices.{after}
-use Rattle.dob_dbfile.specs.Faults.{CountsClasses, HasHeaderFault, NamesSet, header_len}
+use Rattle.dob_dbfile.specs.Faults.{CountsClasses, HasHeaderFault, NamesClasses, NamesSet, header_len}
 use Rattle.dob_dbfile.proofs.Filled.{after-after}
-use Rattle.dob_dbfile.proofs.Headers.{counts_lifts, fault_lifts, front_cut, front_refused, header_came, header_long, set_lifts, takes_front}
+use Rattle.dob_dbfile.proofs.Headers.{counts_lifts, fault_lifts, front_cut, front_refused, header_came, header_long, names_lift, set_lifts, takes_front}
 use Rattle.dob_dbfile.proofs.front.read_header.Goals as goal
 
 pub returns-in_err-fill-clause-fault : goal.returns-in_err-fill-clause-fault
@@ -18,21 +18,36 @@ returns-in_err-fill-clause-fault g c = λ stream gives.
     let names = set_lifts 20 stream.bytes (omega arith) (omega (arith, twenty, first.0.within)) format c.in_ok-format.set
     (subst (NamesSet format c.in_ok-format.set) front c.in_ok-format.ensures.named) in
     let more : 20 + length c.fill.new.room ≡ header_len format = search rules in
-    rw (p.1, p.2) (front_cut stream format c.in_ok-format.set (length c.fill.new.room) c.in_err-fill.field-0.0 names more
-    (c.in_err-fill.ensures.cut (after 20 stream) first.1) c.in_err-fill.ensures.known)
+    rw (p.1, p.2) (inr (front_cut stream format c.in_ok-format.set (length c.fill.new.room) c.in_err-fill.field-0.0 names more
+    (c.in_err-fill.ensures.cut (after 20 stream) first.1) c.in_err-fill.ensures.known))
 
-pub returns-in_err-family-clause-fault : goal.returns-in_err-family-clause-fault
-returns-in_err-family-clause-fault g c = λ stream gives.
-    let p = err_from_is_err_and c.from_residual-in_err-family.result c.from_residual-in_err-family.ensures.1 in
+pub returns-in_err-classes-clause-fault : goal.returns-in_err-classes-clause-fault
+returns-in_err-classes-clause-fault g c = λ stream gives.
+    let p = err_from_is_err_and c.from_residual-in_err-classes.result c.from_residual-in_err-classes.ensures.1 in
     let first = c.in_ok-format.ensures.taken stream gives in
     let second = c.in_ok-fill.ensures.taken (after 20 stream) first.1 in
     let format = c.in_ok-format.format in
     let came = header_came stream format c.header_len.result c.read_front.new.room c.args.room.now c.fill.new.room c.requires c.read_front.auto.room
     c.header_len.ensures c.fill.auto.room first.0 second.0 in
-    let given = c.in_err-family.field-0.0 in
-    rw (p.1, p.2) (front_refused stream given (fault_lifts (header_len format) stream.bytes (header_long format) came.there given
-    (subst (λ (h : List ℕ). HasHeaderFault h given) (ap (λ (n : ℕ). take n (put_mid 20 (c.header_len.result - 20) (c.read_front.new.room ++ drop 20 c.args.room.now)
-    c.fill.new.room)) c.header_len-2.ensures ∙ came.same) c.in_err-family.ensures.fault)))
+    let given = c.in_err-classes.field-0.0 in
+    rw (p.1, p.2) (elim c.in_err-classes.ensures.fault [
+      | inl none ↦ inl none
+      | inr wrong ↦ inr (front_refused stream given (fault_lifts (header_len format) stream.bytes (header_long format) came.there given
+          (subst (λ (h : List ℕ). HasHeaderFault h given) (ap (λ (n : ℕ). take n (put_mid 20 (c.header_len.result - 20) (c.read_front.new.room ++ drop 20 c.args.room.now)
+          c.fill.new.room)) c.header_len-2.ensures ∙ came.same) wrong)))
+    ])
+
+pub returns-in_err-classes-clause-memory : goal.returns-in_err-classes-clause-memory
+returns-in_err-classes-clause-memory g c = λ stream gives.
+    let p = err_from_is_err_and c.from_residual-in_err-classes.result c.from_residual-in_err-classes.ensures.1 in
+    let first = c.in_ok-format.ensures.taken stream gives in
+    let second = c.in_ok-fill.ensures.taken (after 20 stream) first.1 in
+    let format = c.in_ok-format.format in
+    let came = header_came stream format c.header_len.result c.read_front.new.room c.args.room.now c.fill.new.room c.requires c.read_front.auto.room
+    c.header_len.ensures c.fill.auto.room first.0 second.0 in
+    rw (p.1, p.2) (λ memory. names_lift (header_len format) stream.bytes (header_long format) came.there
+    (subst NamesClasses (ap (λ (n : ℕ). take n (put_mid 20 (c.header_len.result - 20) (c.read_front.new.room ++ drop 20 c.args.room.now)
+    c.fill.new.room)) c.header_len-2.ensures ∙ came.same) (c.in_err-classes.ensures.memory memory)))
 
 pub returns-clause-counted : goal.returns-clause-counted
 returns-clause-counted g c = λ stream gives.
@@ -41,9 +56,9 @@ returns-clause-counted g c = λ stream gives.
     let format = c.in_ok-format.format in
     let came = header_came stream format c.header_len.result c.read_front.new.room c.args.room.now c.fill.new.room c.requires c.read_front.auto.room
     c.header_len.ensures c.fill.auto.room first.0 second.0 in
-    counts_lifts (header_len format) stream.bytes (header_long format) came.there format c.in_ok-family.family
-    (subst (CountsClasses format c.in_ok-family.family) (ap (λ (n : ℕ). take n (put_mid 20 (c.header_len.result - 20)
-    (c.read_front.new.room ++ drop 20 c.args.room.now) c.fill.new.room)) c.header_len-2.ensures ∙ came.same) c.in_ok-family.ensures.counted)
+    counts_lifts (header_len format) stream.bytes (header_long format) came.there format c.in_ok-classes.classes.family
+    (subst (CountsClasses format c.in_ok-classes.classes.family) (ap (λ (n : ℕ). take n (put_mid 20 (c.header_len.result - 20)
+    (c.read_front.new.room ++ drop 20 c.args.room.now) c.fill.new.room)) c.header_len-2.ensures ∙ came.same) c.in_ok-classes.ensures.counted)
 
 pub returns-clause-taken : goal.returns-clause-taken
 returns-clause-taken g c = λ stream gives.

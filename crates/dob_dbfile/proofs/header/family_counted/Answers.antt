@@ -1,21 +1,13 @@
 -- The header says no profile, or has another number than that of the family's classes.
-use Rattle.std.proofs.Common.{◌≡◌, ◌∙◌, ◌-◌, ◌+◌, ℕ, List, arith, sym, ap, true, false, length, take, drop}
+use Rattle.std.proofs.Common.{◌≡◌, ◌∙◌, sym, ap, true, false}
 use Rattle.dob_rank.specs.Families.{family_of}
 use Rattle.dob_dbfile.specs.Format.{count_bytes}
 use Rattle.dob_dbfile.specs.Faults.{count_place, header_len}
-use Rattle.dob_dbfile.proofs.Headers.{count_last}
+use Rattle.dob_dbfile.proofs.Headers.{count_last, last_count}
 use Rattle.dob_dbfile.proofs.header.family_counted.Goals as goal
 
 pub returns-in_default-clause-fault : goal.returns-in_default-clause-fault
 returns-in_default-clause-fault c = (c.args.format, c.args.set, c.requires.named, λ profile names. c.in_default.ensures profile names.1)
-
--- the last eight bytes
-last_count : (at size len : ℕ) (header : List ℕ) → length header ≡ len → size ≡ len → at + 8 ≡ len
-    → take (length header - (size - 8)) (drop (size - 8) header) ≡ take 8 (drop at header)
-last_count at size len header long same is =
-    let place : size - 8 ≡ at = omega (arith, is, same) in
-    let eight : length header - (size - 8) ≡ 8 = omega (arith, is, same, long) in
-    ap (λ (k : ℕ). take k (drop (size - 8) header)) eight ∙ ap (λ (k : ℕ). take 8 (drop k header)) place
 
 pub returns-else-is_count-clause-fault : goal.returns-else-is_count-clause-fault
 returns-else-is_count-clause-fault c =

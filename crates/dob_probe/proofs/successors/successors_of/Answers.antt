@@ -11,8 +11,8 @@ pub loop-the_move-init : goal.loop-the_move-init
 loop-the_move-init c =
     ([], successors_none c.args.table.now.family.profile (λ (v : Value) q. GivenBy c.args.table.now q v) c.args.position.now.setup _, c.none-kept.ensures)
 
-pub value_to-value-requires-clause-the_move : goal.value_to-value-requires-clause-the_move
-value_to-value-requires-clause-the_move c =
+pub value_shown-value-requires-clause-the_move : goal.value_shown-value-requires-clause-the_move
+value_shown-value-requires-clause-the_move c =
     move_goes c.args.table.now.family.profile c.args.position.now.setup c.args.the_moves.now c.loop-the_move.the_move-index c.the_move-item.result
     c.requires.the_moves c.loop-the_move-test.true c.the_move-item.is
 
@@ -23,13 +23,13 @@ loop-the_move-preserved c =
     let the_moves = c.args.the_moves.now in
     let index = c.loop-the_move.the_move-index in
     let the_move = c.the_move-item.result in
-    let value = c.value_to-value.result in
+    let value = c.value_shown-value.result in
     let values : List Value = c.loop-the_move.invariant.0 in
     let here = slice_get_read the_moves _ index the_move refl c.loop-the_move-test.true c.the_move-item.is in
     let goes = move_goes c.args.table.now.family.profile setup the_moves index the_move c.requires.the_moves
     c.loop-the_move-test.true c.the_move-item.is in (
       values ++ value ∷ [],
-      successors_more c.args.table.now.family.profile Gives setup the_moves index values the_move value here goes.1 c.value_to-value.ensures c.loop-the_move.invariant.1,
+      successors_more c.args.table.now.family.profile Gives setup the_moves index values the_move value here goes.1 c.value_shown-value.ensures c.loop-the_move.invariant.1,
       c.with-kept.ensures values c.loop-the_move.invariant.2,
     )
 

@@ -12,7 +12,7 @@ use Rattle.dob_pieces.specs.Setups.{Cell, at, mirrored}
 use Rattle.dob_pieces.proofs.Boards.{all_below, all_below-at, at-mirrored}
 use Rattle.dob_pieces.proofs.Targets.{is_mask}
 use Rattle.dob_pieces.proofs.MaskBits.{bit_if, IsMask-and, IsMask-or, IsMask-same}
-use Rattle.dob_unmove.specs.declared.images.TheConstants.{COLUMN_A, COLUMN_B}
+use Rattle.dob_classes.specs.declared.bits.images.TheConstants.{COLUMN_A, COLUMN_B}
 
 -- ---- all squares two up or two down
 

@@ -6,7 +6,7 @@ ghost use Rattle.dob_pieces.specs.Squares.{mirrored_square};
 ghost use Rattle.dob_pieces.specs.declared.setup.Setup.{Setup};
 ghost use Rattle.dob_classes.specs.Bitboards.{AreBitboards};
 
-use dob_classes::Bitboards;
+use crate::bits::bitboards::Bitboards;
 
 /// The squares of column a, the lowest of the three of each row, and those of column b.
 const COLUMN_A: u16 = 0b001_001_001_001;

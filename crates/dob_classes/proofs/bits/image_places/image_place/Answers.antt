@@ -1,0 +1,88 @@
+-- The digits of the spot make the position's sets, and those of its mirror image have the place.
+use Rattle.std.proofs.Common.{◌≡◌, ◌<◌, ◌+◌, ◌*◌, List, ap, ◌∙◌, sym, subst, refl}
+use Rattle.dob_pieces.specs.declared.hand.Hands.{Hands}
+use Rattle.dob_pieces.specs.declared.setup.Setup.{Setup}
+use Rattle.dob_pieces.specs.Setups.{setup_of, mirrored}
+use Rattle.dob_classes.specs.Bitboards.{AreBitboards, IsShownOfSet}
+use Rattle.dob_rank.specs.Numbers.{product, digits_of, bases_by, board_of, numbers_by, layers_by, setup_by, HasDigits, block_bases, HasBlock}
+use Rattle.dob_rank.specs.Runs.{run_bases, local_bases, run_size}
+use Rattle.dob_rank.proofs.Positions.Blocks.{AreChoices-digits, HasDigits-numbers}
+use Rattle.dob_rank.proofs.Positions.Found.{HasDigits-spot, IsPositionOfSet-mirrored, made_by, made_in_block, run_in_bases, local_in_bases}
+use Rattle.dob_classes.proofs.SquareSets.ImagePlaces.{square_choices}
+use Rattle.dob_classes.proofs.bits.image_places.image_place.Goals as goal
+use Rattle.dob_classes.proofs.bits.image_places.image_place.Goals.{After-digits_with-digits, After-mirrored_bits}
+
+pub digits_with-digits-requires-clause-on_board : goal.digits_with-digits-requires-clause-on_board
+digits_with-digits-requires-clause-on_board c = HasDigits-numbers c.args.set c.args.block _ c.requires.block c.requires.shape.on_board_is
+
+pub digits_with-digits-requires-clause-run : goal.digits_with-digits-requires-clause-run
+digits_with-digits-requires-clause-run c = run_in_bases c.args.set c.args.block c.args.spot.run _ c.requires.shape.on_board_is c.requires.run
+
+pub digits_with-digits-requires-clause-local : goal.digits_with-digits-requires-clause-local
+digits_with-digits-requires-clause-local c = local_in_bases c.args.set c.args.block c.args.spot.local _ c.requires.shape.on_board_is c.requires.local
+
+-- the spot has the digits
+has_digits : (c : After-digits_with-digits) → HasDigits (bases_by c.args.set c.args.shape.now.on_board) c.digits_with-digits.result
+has_digits c = HasDigits-spot c.args.set c.args.shape.now.on_board c.args.spot.run c.args.spot.local _
+    (run_in_bases c.args.set c.args.block c.args.spot.run _ c.requires.shape.on_board_is c.requires.run)
+    (local_in_bases c.args.set c.args.block c.args.spot.local _ c.requires.shape.on_board_is c.requires.local) c.digits_with-digits.ensures
+
+pub places_by-places-requires : goal.places_by-places-requires
+places_by-places-requires c =
+    square_choices c.args.shape.now.on_board c.digits_with-digits.result
+    (AreChoices-digits c.args.set c.args.shape.now.on_board c.digits_with-digits.result
+    (HasDigits-numbers c.args.set c.args.block _ c.requires.block c.requires.shape.on_board_is) (has_digits (goal.at.places_by-places-requires c).After-digits_with-digits))
+
+pub hands_of-hands-requires-clause-on_board : goal.hands_of-hands-requires-clause-on_board
+hands_of-hands-requires-clause-on_board c = HasDigits-numbers c.args.set c.args.block _ c.requires.block c.requires.shape.on_board_is
+
+pub hands_of-hands-requires-clause-digits : goal.hands_of-hands-requires-clause-digits
+hands_of-hands-requires-clause-digits c = has_digits (goal.at.hands_of-hands-requires-clause-digits c).After-digits_with-digits
+
+pub bits_by-bits-requires-clause-choices : goal.bits_by-bits-requires-clause-choices
+bits_by-bits-requires-clause-choices c =
+    AreChoices-digits c.args.set c.args.shape.now.on_board c.digits_with-digits.result
+    (HasDigits-numbers c.args.set c.args.block _ c.requires.block c.requires.shape.on_board_is)
+    (has_digits (goal.at.bits_by-bits-requires-clause-choices c).After-digits_with-digits)
+
+-- the setup of the digits stands at the spot
+setup_there : (c : After-digits_with-digits) → HasBlock c.args.set c.args.block (c.args.spot.run * run_size c.args.set c.args.block + c.args.spot.local)
+    (setup_by c.args.set c.args.shape.now.on_board c.digits_with-digits.result)
+setup_there c =
+    let on_board = c.args.shape.now.on_board in
+    made_in_block c.args.set c.args.block c.args.spot.run c.args.spot.local on_board _ c.requires.block c.requires.shape.on_board_is
+    (made_by c.args.set on_board c.args.spot.run c.args.spot.local c.digits_with-digits.result _
+    (HasDigits-numbers c.args.set c.args.block _ c.requires.block c.requires.shape.on_board_is)
+    (run_in_bases c.args.set c.args.block c.args.spot.run _ c.requires.shape.on_board_is c.requires.run)
+    (local_in_bases c.args.set c.args.block c.args.spot.local _ c.requires.shape.on_board_is c.requires.local) c.digits_with-digits.ensures refl)
+
+-- and the sets are those of its mirror image
+image_shown : (c : After-mirrored_bits) → HasBlock c.args.set c.args.block (c.args.spot.run * run_size c.args.set c.args.block + c.args.spot.local)
+    (setup_by c.args.set c.args.shape.now.on_board c.digits_with-digits.result)
+    → IsShownOfSet c.args.set (mirrored (setup_by c.args.set c.args.shape.now.on_board c.digits_with-digits.result))
+    c.mirrored_bits.result
+image_shown c there =
+    let on_board = c.args.shape.now.on_board in
+    let digits = c.digits_with-digits.result in
+    let setup = setup_by c.args.set on_board digits in
+    record {
+      position = IsPositionOfSet-mirrored c.args.set setup there.position;
+      squares = c.mirrored_bits.ensures setup
+          (subst (λ (h : Hands). AreBitboards (setup_of (board_of (numbers_by digits) (layers_by on_board digits)) h) c.bits_by-bits.result)
+          c.hands_of-hands.ensures c.bits_by-bits.ensures);
+    }
+
+pub spot_shown-requires : goal.spot_shown-requires
+spot_shown-requires c = (
+  _,
+  image_shown (goal.at.spot_shown-requires c).After-mirrored_bits (setup_there (goal.at.spot_shown-requires c).After-digits_with-digits),
+)
+
+pub returns : goal.returns
+returns c = (
+  _,
+  (
+    setup_there (goal.at.returns c).After-digits_with-digits,
+    c.spot_shown.ensures.local _ (image_shown (goal.at.returns c).After-mirrored_bits (setup_there (goal.at.returns c).After-digits_with-digits)),
+  ),
+)

@@ -1,0 +1,24 @@
+-- The header says no profile, or has another number than that of the family's classes.
+use Rattle.std.proofs.Common.{◌≡◌, ◌∙◌, ap, inr, sym, true, false}
+use Rattle.dob_rank.specs.Families.{family_of, classes_of}
+use Rattle.dob_dbfile.specs.Format.{count_bytes}
+use Rattle.dob_dbfile.specs.Faults.{count_place, header_len}
+use Rattle.dob_dbfile.proofs.Headers.{count_last, last_count}
+use Rattle.dob_dbfile.proofs.header.classes_counted.Goals as goal
+
+pub returns-in_default-clause-fault : goal.returns-in_default-clause-fault
+returns-in_default-clause-fault c = inr (c.args.format, c.args.set, c.requires.named, λ profile names. c.in_default.ensures profile names.1)
+
+pub returns-else-is_count-clause-fault : goal.returns-else-is_count-clause-fault
+returns-else-is_count-clause-fault c =
+    let family = family_of c.args.set c.in-Some.profile in inr (
+      c.args.format,
+      family,
+      (c.requires.named, c.in-Some.ensures),
+      λ counts.
+          let counted = last_count (count_place c.args.format) c.header_len.result (header_len c.args.format) c.args.header.now c.requires.long
+          c.header_len.ensures (count_last c.args.format) ∙ counts.1
+          ∙ ap count_bytes (sym (c.class_count.ensures.number ∙ ap classes_of c.in-Ok.ensures.family)) in
+          let never : false ≡ true = c.if-is_count.ensures.1 counted in
+          absurd (cc),
+    )

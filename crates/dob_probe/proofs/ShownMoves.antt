@@ -1,0 +1,103 @@
+-- What the enemy sees of a move, and the class that sets of squares show.
+use Rattle.std.proofs.Common.{◌≡◌, ◌≢◌, ℕ, ◌-◌, ◌<◌, ◌≤◌, Bool, None, Some, length, refl, sym, ap, ◌∙◌, subst, inl, inr, arith, set}
+use Rattle.std.proofs.lemmas.List.{length-set, get_or-set_same, get_or-set_other}
+use Rattle.std.proofs.lemmas.Bool.{cases_eq, cases_lt}
+use Rattle.dob_pieces.specs.declared.kind.Kind.{Kind}
+use Rattle.dob_pieces.specs.declared.kind.HandKind.{HandKind}
+use Rattle.dob_pieces.specs.declared.kind.Side.TheVariants.{Mover, Enemy}
+use Rattle.dob_pieces.specs.declared.hand.Hand.{Hand}
+use Rattle.dob_pieces.specs.declared.piece_set.PieceSet.{PieceSet}
+use Rattle.dob_pieces.specs.declared.setup.Setup.{Setup}
+use Rattle.dob_pieces.specs.Pieces.{kind_on_board}
+use Rattle.dob_pieces.specs.Setups.{at, held, piece_of, turned, turned_cell, mirrored, with_one_less, IsLegal}
+use Rattle.dob_pieces.proofs.Boards.{at-turned, length-turned}
+use Rattle.dob_pieces.proofs.Symmetries.{mirrored-mirrored}
+use Rattle.dob_moves.specs.Outcomes.{arrives_as, with_caught, stepped, dropped}
+use Rattle.dob_moves.proofs.Outcomes.{held_few}
+use Rattle.dob_rank.specs.Numbers.{rank_of_set}
+use Rattle.dob_rank.specs.Order.{IsPositionOfSet, IsFirstOfTwo}
+use Rattle.dob_rank.proofs.Marked.Representatives.{first_by_rank}
+use Rattle.dob_rank.proofs.Positions.Found.{IsPositionOfSet-mirrored}
+use Rattle.dob_classes.specs.Changes.{IsWith}
+use Rattle.dob_classes.proofs.SquareSets.BitChanges.{with_cell}
+use Rattle.dob_probe.specs.ShownMoves.{HasArrived}
+
+-- ---- moves
+
+-- the square that was left is empty for the enemy too, and the piece arrived
+pub step_arrived : (p : Setup) (kind : Kind) (from to : ℕ) (grows : Bool) → length p.board ≡ 12 → from < 12 → to < 12 →
+    HasArrived (with_cell (turned p) (11 - from) None) (turned (stepped p kind from to grows)) (11 - to) (arrives_as kind grows)
+unfolding stepped
+step_arrived p kind from to grows twelve low_from low_to = record {
+  here = at-turned (stepped p kind from to grows) (11 - to) (omega (arith, low_to))
+      ∙ ap (λ (k : ℕ). turned_cell (at (stepped p kind from to grows) k)) (let twice : 11 - (11 - to) ≡ to = omega (arith, low_to) in twice)
+      ∙ ap turned_cell (get_or-set_same (set p.board from None) to (Some (piece_of Mover (arrives_as kind grows))) None
+      (let long = length-set p.board from None in omega (arith, twelve, low_to)));
+  there = λ s below apart. elsewhere s below apart;
+}
+  where
+    elsewhere : (s : ℕ) → s < 12 → s ≢ 11 - to → at (turned (stepped p kind from to grows)) s ≡ at (with_cell (turned p) (11 - from) None) s
+    elsewhere s below apart = elim (cases_eq s (11 - from)) [
+      | inl is ↦
+          at-turned (stepped p kind from to grows) s below
+          ∙ ap turned_cell (get_or-set_other (set p.board from None) to (11 - s) _ None (omega (arith, low_to, below, apart))
+          ∙ ap (λ (k : ℕ). at (with_cell p from None) k) (let twice : 11 - s ≡ from = omega (arith, low_from, is) in twice)
+          ∙ get_or-set_same p.board from None None (omega (arith, twelve, low_from)))
+          ∙ sym (ap (λ (k : ℕ). at (with_cell (turned p) (11 - from) None) k) is ∙ get_or-set_same (turned p).board (11 - from) None None
+          (let long = length-turned p in omega (arith, long, low_from)))
+      | inr other ↦
+          at-turned (stepped p kind from to grows) s below
+          ∙ ap turned_cell (get_or-set_other (set p.board from None) to (11 - s) _ None (omega (arith, low_to, below, apart))
+          ∙ get_or-set_other p.board from (11 - s) None None (omega (arith, low_from, below, other)))
+          ∙ sym (at-turned p s below)
+          ∙ sym (get_or-set_other (turned p).board (11 - from) s None None other)
+    ]
+
+pub drop_arrived : (p : Setup) (kind : HandKind) (to : ℕ) → length p.board ≡ 12 → to < 12 →
+    HasArrived (turned p) (turned (dropped p kind to)) (11 - to) (kind_on_board kind)
+unfolding dropped
+drop_arrived p kind to twelve low_to = record {
+  here = at-turned (dropped p kind to) (11 - to) (omega (arith, low_to))
+      ∙ ap (λ (k : ℕ). turned_cell (at (dropped p kind to) k)) (let twice : 11 - (11 - to) ≡ to = omega (arith, low_to) in twice)
+      ∙ ap turned_cell (get_or-set_same p.board to (Some (piece_of Mover (kind_on_board kind))) None (omega (arith, twelve, low_to)));
+  there = λ s below apart.
+      at-turned (dropped p kind to) s below
+      ∙ ap turned_cell (get_or-set_other p.board to (11 - s) _ None (omega (arith, low_to, below, apart)))
+      ∙ sym (at-turned p s below);
+}
+
+-- the hands, as the enemy sees them
+pub hands_after_step : (p : Setup) (kind : Kind) (from to : ℕ) (grows : Bool) (hand : Hand) → hand ≡ with_caught p.hands.mover (at p to) →
+    (turned (stepped p kind from to grows)).hands ≡ record { mover = p.hands.enemy; enemy = hand }
+unfolding turned stepped
+hands_after_step p kind from to grows hand is =
+    subst (λ (h : Hand). (turned (stepped p kind from to grows)).hands ≡ record { mover = p.hands.enemy; enemy = h }) (sym is) refl
+
+pub hands_after_drop : (p : Setup) (kind : HandKind) (to : ℕ) (hand : Hand) → hand ≡ with_one_less p.hands.mover kind →
+    (turned (dropped p kind to)).hands ≡ record { mover = p.hands.enemy; enemy = hand }
+unfolding turned dropped
+hands_after_drop p kind to hand is =
+    subst (λ (h : Hand). (turned (dropped p kind to)).hands ≡ record { mover = p.hands.enemy; enemy = h }) (sym is) refl
+
+-- a hand has room for one more
+pub held_low : (p : Setup) → IsLegal p → (k : HandKind) → held p.hands.mover k < 255
+held_low p legal k = omega (arith, held_few p legal k)
+
+-- the square cleared and the hands as they are afterwards, the piece alone is more
+pub arrived_on : (before after : Setup) (square : ℕ) (kind : Kind) → length before.board ≡ 12 → square < 12 → HasArrived before after square kind →
+    IsWith (record (with_cell before square None) { hands = after.hands }) after square (Some (piece_of Enemy kind))
+arrived_on before after square kind twelve low arrived = record {
+  here = arrived.here;
+  there = λ s below apart. arrived.there s below apart ∙ sym (get_or-set_other before.board square s None None apart);
+  hands_stay = refl;
+}
+
+-- ---- classes
+
+-- of a position and its mirror image one is no later than the other
+pub one_is_first : (set : PieceSet) (s : Setup) → length s.board ≡ 12 → IsPositionOfSet set s → (IsFirstOfTwo s → ⊥) → (IsFirstOfTwo (mirrored s) → ⊥) → ⊥
+one_is_first set s twelve position later image_later = elim (cases_lt (rank_of_set set (mirrored s)) (rank_of_set set s)) [
+  | inl less ↦ image_later (first_by_rank set (mirrored s) (IsPositionOfSet-mirrored set s position)
+      (subst (λ (t : Setup). rank_of_set set (mirrored s) ≤ rank_of_set set t) (sym (mirrored-mirrored s twelve)) (omega (arith, less))))
+  | inr most ↦ later (first_by_rank set s position most)
+]
