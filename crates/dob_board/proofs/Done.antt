@@ -13,7 +13,7 @@ use Rattle.dob_board.specs.declared.halt.Halt.{Halt}
 use Rattle.dob_board.specs.declared.view.Stand.{Stand}
 use Rattle.dob_board.specs.Words.{posted_word, taken_word}
 use Rattle.dob_board.specs.Views.{Shows, sees, stand_from}
-use Rattle.dob_board.specs.Histories.{GoesOn, MakesEvent, token_moves_of}
+use Rattle.dob_board.specs.Histories.{IsLaterLog, MakesEvent, token_moves_of}
 use Rattle.dob_board.specs.Plays.{Posted, Took}
 use Rattle.dob_board.proofs.Allowed.{Seated, seated, posts_tell, takes_tell, one_more, same_default}
 
@@ -83,12 +83,12 @@ takes_done n i j word found x me after posted taken seen black token halt witnes
     }
 
 -- what was witnessed is witnessed still
-pub goes_on : (first middle last : List BoardEvent) → GoesOn first middle → GoesOn middle last → GoesOn first last
+pub goes_on : (first middle last : List BoardEvent) → IsLaterLog first middle → IsLaterLog middle last → IsLaterLog first last
 goes_on first middle last on further =
     (further.0 ++ on.0, further.1 ∙ ap (λ (l : List BoardEvent). further.0 ++ l) on.1 ∙ sym (append_assoc further.0 on.0 first))
 
 -- a look before an event changes neither counts nor colour
-pub makes_later : (n i j number : ℕ) (event : RingEvent) (stand after : Stand) (witnessed middle now : List BoardEvent) → GoesOn witnessed middle →
+pub makes_later : (n i j number : ℕ) (event : RingEvent) (stand after : Stand) (witnessed middle now : List BoardEvent) → IsLaterLog witnessed middle →
     token_moves_of i middle ≡ token_moves_of i witnessed → MakesEvent n i event (sees stand j number) after middle now → MakesEvent n i event stand after witnessed now
 makes_later n i j number event stand after witnessed middle now on still made = record {
   log = made.log;

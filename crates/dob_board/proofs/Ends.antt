@@ -24,7 +24,7 @@ use Rattle.dob_board.specs.Rule.{IsNode, IsView, IsHeld}
 use Rattle.atomic_table.specs.Seated.{TableId}
 use Rattle.dob_board.specs.declared.seat.NodeSeat.{NodeSeat}
 use Rattle.dob_board.specs.declared.board.Closed.{Closed}
-use Rattle.dob_board.specs.Histories.{GoesOn}
+use Rattle.dob_board.specs.Histories.{IsLaterLog}
 use Rattle.dob_board.specs.Rule.{fresh}
 use Rattle.dob_board.specs.Seats.{stand_of, witnessed_by, log_of, IsSeatOf, AreSeats, AreWords, IsBoardHistory}
 use Rattle.dob_board.specs.Boards.{joined, nobody, behind, gathered, closed_view, LeadsTo, IsWord, AreRead, AreAsWitnessed, Read}
@@ -427,12 +427,12 @@ are_words board n seats log words are read = record {
 
 -- what happened on a closed board
 pub is_history : (n : ℕ) (seats : List NodeSeat) (closed : Closed) (witnessed : List BoardEvent) → 0 < n →
-    ((seat : NodeSeat) → slice_get seats 0 ≡ Some seat → witnessed ≡ witnessed_by seat) → GoesOn witnessed (log_of closed) →
+    ((seat : NodeSeat) → slice_get seats 0 ≡ Some seat → witnessed ≡ witnessed_by seat) → IsLaterLog witnessed (log_of closed) →
     AreRead n (map stand_of seats) (log_of closed) closed.words.items → IsBoardHistory n seats closed
 is_history n seats closed witnessed some_nodes first on read =
     let has = read_ring n (map stand_of seats) (log_of closed) closed.words.items some_nodes read in
     record {
-      witnessed = λ seat e. subst (λ (l : List BoardEvent). GoesOn l (log_of closed)) (first seat e) on;
+      witnessed = λ seat e. subst (λ (l : List BoardEvent). IsLaterLog l (log_of closed)) (first seat e) on;
       ring = has.0;
       runs = has.1.runs;
       is_lawful = has.1.is_lawful;

@@ -17,7 +17,7 @@ use Rattle.dob_board.specs.declared.view.Stand.{Stand}
 use Rattle.dob_board.specs.declared.view.View.{View}
 use Rattle.dob_board.specs.Words.{ring_of}
 use Rattle.dob_board.specs.Views.{one, IsStand}
-use Rattle.dob_board.specs.Histories.{Runs, GoesOn, IsInTime, MakesEvent, Observes, halt_told, token_moves_of}
+use Rattle.dob_board.specs.Histories.{Runs, IsLaterLog, IsInTime, MakesEvent, Observes, halt_told, token_moves_of}
 use Rattle.dob_board.specs.Rule.{IsNode, IsView, IsHeld}
 
 -- what a step of node i, from one ring and halt to another, leaves to the others
@@ -54,12 +54,12 @@ stand_stays n i k old new halt now stand within apart leaves is = record {
 }
 
 -- the log goes on from what was witnessed
-goes_further : (witnessed log more : List BoardEvent) → GoesOn witnessed log → GoesOn witnessed (more ++ log)
+goes_further : (witnessed log more : List BoardEvent) → IsLaterLog witnessed log → IsLaterLog witnessed (more ++ log)
 goes_further witnessed log more on = (more ++ on.0, ap (λ (l : List BoardEvent). more ++ l) on.1 ∙ sym (append_assoc more on.0 witnessed))
 
 -- the view of one node is right where that node is, and has moved nothing since
 pub one_is_view : (n i id halt : ℕ) (owner : ℕ → ℕ) (ring : Ring) (log witnessed : List BoardEvent) (stand : Stand) → i < n → owner i ≡ id →
-    GoesOn witnessed log → token_moves_of i log ≡ token_moves_of i witnessed → IsStand n ring halt i stand → IsView n owner ring halt log id (one n i stand witnessed)
+    IsLaterLog witnessed log → token_moves_of i log ≡ token_moves_of i witnessed → IsStand n ring halt i stand → IsView n owner ring halt log id (one n i stand witnessed)
 one_is_view n i id halt owner ring log witnessed stand within owned on still is =
     record { was_witnessed = on; nodes = node; alone = λ e. unmoved; is_closed = λ e. absurd (cc) }
   where

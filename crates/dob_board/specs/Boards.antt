@@ -10,7 +10,7 @@ use Rattle.dob_board.specs.declared.view.Stand.{Stand}
 use Rattle.dob_board.specs.declared.view.View.{View}
 use Rattle.dob_board.specs.Words.{posted_word, taken_word, word_count}
 use Rattle.dob_board.specs.Views.{Shows}
-use Rattle.dob_board.specs.Histories.{Runs, GoesOn, halt_told}
+use Rattle.dob_board.specs.Histories.{Runs, IsLaterLog, halt_told}
 use Rattle.dob_board.specs.Rule.{fresh}
 
 -- the words at the start, the second of which is that of the first token
@@ -65,7 +65,7 @@ module _ {S : Type 0} where
   -- A load of any word by a seat that stands for all nodes. Its view is closed from then on, and what it has witnessed stays.
   abbrev pub Read : Step S → Me S View → ℕ → Me S View → Type 0
   Read st me found after = (after ≡ (closed_view me.0.size me.0.stands after.0.witnessed, me.1)) × (me.0.closed ≡ true → after.0.witnessed ≡ me.0.witnessed)
-      × GoesOn me.0.witnessed after.0.witnessed × IsWord me.0.size me.0.stands after.0.witnessed st.word found
+      × IsLaterLog me.0.witnessed after.0.witnessed × IsWord me.0.size me.0.stands after.0.witnessed st.word found
 
 -- all words of a board of n nodes, as a seat that stands for these nodes and has witnessed that log reads them
 pub record AreRead (n : ℕ) (stands : List Stand) (log : List BoardEvent) (words : List ℕ) : Type 0 where

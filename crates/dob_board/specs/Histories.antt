@@ -34,8 +34,8 @@ Runs n (OfRing event ∷ log) ring = (before : Ring) × Runs n log before × Mov
 Runs n (Failure node ∷ log) ring = (halt_told log ≡ 0) × Runs n log ring
 
 -- the log went on from what was witnessed
-abbrev pub GoesOn : List BoardEvent → List BoardEvent → Type 0
-GoesOn witnessed log = (more : List BoardEvent) × (log ≡ more ++ witnessed)
+abbrev pub IsLaterLog : List BoardEvent → List BoardEvent → Type 0
+IsLaterLog witnessed log = (more : List BoardEvent) × (log ≡ more ++ witnessed)
 
 -- but for a pass, events happen only before the end is announced
 abbrev pub IsInTime : RingEvent → Ring → Type 0
@@ -49,7 +49,7 @@ IsInTime Announce ring = ring.announced ≡ false
 -- a lawful one that shows how the node stands now; and the node has witnessed all that.
 pub record MakesEvent (n i : ℕ) (event : RingEvent) (before after : Stand) (witnessed now : List BoardEvent) : Type 0 where
   pub log : List BoardEvent
-  pub went_on : GoesOn witnessed log
+  pub went_on : IsLaterLog witnessed log
   pub alone : token_moves_of i log ≡ token_moves_of i witnessed
   pub is_next : now ≡ OfRing event ∷ log
   pub old : Ring
@@ -65,7 +65,7 @@ pub record MakesEvent (n i : ℕ) (event : RingEvent) (before after : Stand) (wi
 -- Node i has witnessed all events so far, and made no move of those that are new to it. They led to a lawful ring that shows how the
 -- node stands, and of which this is so.
 pub record Observes (n i : ℕ) (stand : Stand) (witnessed now : List BoardEvent) (IsSo : Ring → Type 0) : Type 0 where
-  pub went_on : GoesOn witnessed now
+  pub went_on : IsLaterLog witnessed now
   pub alone : token_moves_of i now ≡ token_moves_of i witnessed
   pub ring : Ring
   pub runs : Runs n now ring

@@ -11,7 +11,7 @@ use Rattle.dob_board.specs.declared.view.Stand.{Stand}
 use Rattle.dob_board.specs.declared.view.View.{View}
 use Rattle.dob_board.specs.Words.{word_count, ring_of}
 use Rattle.dob_board.specs.Views.{IsStand}
-use Rattle.dob_board.specs.Histories.{Runs, GoesOn, halt_told, token_moves_of}
+use Rattle.dob_board.specs.Histories.{Runs, IsLaterLog, halt_told, token_moves_of}
 
 -- What a seat's view says of a node is right: the view is of n nodes, the node is this seat's, and what it knows is right.
 pub record IsNode (n : ℕ) (owner : ℕ → ℕ) (ring : Ring) (halt port size node : ℕ) (stand : Stand) : Type 0 where
@@ -30,7 +30,7 @@ pub record IsClosed (n : ℕ) (log : List BoardEvent) (view : View) : Type 0 whe
 -- on, is right; if it has all that they did, none of them moved the token or announced the end since; and if it is closed it is
 -- that of all nodes.
 pub record IsView (n : ℕ) (owner : ℕ → ℕ) (ring : Ring) (halt : ℕ) (log : List BoardEvent) (port : ℕ) (view : View) : Type 0 where
-  pub was_witnessed : GoesOn view.witnessed log
+  pub was_witnessed : IsLaterLog view.witnessed log
   pub nodes : (k : ℕ) (stand : Stand) → get_elem? view.stands k ≡ some stand → IsNode n owner ring halt port view.size (view.from + k) stand
   pub alone : view.own ≡ true → (k : ℕ) (stand : Stand) → get_elem? view.stands k ≡ some stand →
       token_moves_of (view.from + k) log ≡ token_moves_of (view.from + k) view.witnessed

@@ -12,7 +12,7 @@ use Rattle.dob_board.specs.declared.view.Stand.{Stand}
 use Rattle.dob_board.specs.declared.seat.NodeSeat.{NodeSeat}
 use Rattle.dob_board.specs.declared.board.Closed.{Closed}
 use Rattle.dob_board.specs.Words.{posted_word, taken_word, word_count, halt_word}
-use Rattle.dob_board.specs.Histories.{Runs, GoesOn, MakesEvent, Observes, HasPosted, HasHalt, halt_told, token_moves_of}
+use Rattle.dob_board.specs.Histories.{Runs, IsLaterLog, MakesEvent, Observes, HasPosted, HasHalt, halt_told, token_moves_of}
 use Rattle.dob_board.specs.Views.{Shows, stand_from, sees, takes_more, counter_of, finds}
 
 -- what the seat knows of its node
@@ -134,7 +134,7 @@ log_of closed = closed.rest.me.0.witnessed
 -- it led to this lawful ring, which shows how each node stands; word 1 is that of its token; its end is announced where word 2 is
 -- 1, and nowhere else; and word 2 is the halt that the events give.
 pub record IsBoardHistory (n : ℕ) (seats : List NodeSeat) (closed : Closed) : Type 0 where
-  pub witnessed : (seat : NodeSeat) → slice_get seats 0 ≡ Some seat → GoesOn (witnessed_by seat) (log_of closed)
+  pub witnessed : (seat : NodeSeat) → slice_get seats 0 ≡ Some seat → IsLaterLog (witnessed_by seat) (log_of closed)
   pub ring : Ring
   pub runs : Runs n (log_of closed) ring
   pub is_lawful : IsLawfulRing n ring

@@ -3,7 +3,7 @@ ghost use Rattle.std.specs.Prelude.{◌≡◌, suc, [], Some, map, length, slice
 ghost use Rattle.std.specs.Arc.{arc_value};
 ghost use Rattle.dob_board.specs.Words.{word_count};
 ghost use Rattle.dob_board.specs.Boards.{behind, gathered, joined, closed_view, AreRead};
-ghost use Rattle.dob_board.specs.Histories.{GoesOn};
+ghost use Rattle.dob_board.specs.Histories.{IsLaterLog};
 ghost use Rattle.dob_board.specs.Seats.{stand_of, witnessed_by, IsSeatOf, AreSeats, AreWords, IsBoardHistory};
 
 use crate::rule::{Back, Reads};
@@ -81,7 +81,7 @@ fn read_all(
     requires all { length rest.old.me.0.stands ≡ nodes }
     requires room { vec_len words ≡ word_count nodes }
     ensures rest { rest.new.me ≡ (closed_view nodes rest.old.me.0.stands rest.new.me.0.witnessed, []) }
-    ensures witnessed { GoesOn rest.old.me.0.witnessed rest.new.me.0.witnessed }
+    ensures witnessed { IsLaterLog rest.old.me.0.witnessed rest.new.me.0.witnessed }
     ensures read { AreRead nodes rest.old.me.0.stands rest.new.me.0.witnessed result.items }
 {
     for word in 0..words.len() {

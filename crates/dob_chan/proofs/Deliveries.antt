@@ -14,7 +14,7 @@ use Rattle.dob_update.specs.Batches.{BatchView}
 use Rattle.dob_pieces.specs.Lists.{IsBeginning}
 use Rattle.dob_chan.specs.declared.rule.Note.{Note}
 use Rattle.dob_chan.specs.declared.rule.Told.{Told}
-use Rattle.dob_chan.specs.Inboxes.{most_batches, batches_of, sending, taking, resting, untold, sent_by_ended, IsLawfulInbox, AreOf, AreLast, AreNext, AreLeft, GoesOn, HasSent, HasReceived, FitsSender, FitsTaker, IsDelivered}
+use Rattle.dob_chan.specs.Inboxes.{most_batches, batches_of, sending, taking, resting, untold, sent_by_ended, IsLawfulInbox, AreOf, AreHeldSince, AreNext, AreLeft, IsAfterTold, HasSent, HasReceived, FitsSender, FitsTaker, IsDelivered}
 
 at_end : {V : Type 0} → (l : List V) (a b : V) (j : ℕ) → get_elem? l j ≢ some b → get_elem? (l ++ a ∷ []) j ≡ some b → j ≡ length l
 at_end [] a b zero n e = refl
@@ -91,10 +91,10 @@ begins_more : {X : Type 0} → (front whole : List X) (x : X) → IsBeginning fr
 begins_more front whole x is = (is.0 ++ x ∷ [], ap (λ l. l ++ x ∷ []) is.1 ∙ append_assoc front is.0 (x ∷ []))
 
 -- what was learned goes on when one batch more is sent, or taken
-sent_on : (told : Told) (sent taken : List BatchView) (x : BatchView) → GoesOn told sent taken → GoesOn told (sent ++ x ∷ []) taken
+sent_on : (told : Told) (sent taken : List BatchView) (x : BatchView) → IsAfterTold told sent taken → IsAfterTold told (sent ++ x ∷ []) taken
 sent_on told sent taken x is = (begins_more told.sent sent x is.0, is.1)
 
-taken_on : (told : Told) (sent taken : List BatchView) (x : BatchView) → GoesOn told sent taken → GoesOn told sent (taken ++ x ∷ [])
+taken_on : (told : Told) (sent taken : List BatchView) (x : BatchView) → IsAfterTold told sent taken → IsAfterTold told sent (taken ++ x ∷ [])
 taken_on told sent taken x is = (is.0, begins_more told.taken taken x is.1)
 
 -- a new inbox is lawful
@@ -172,7 +172,7 @@ posts n port v x role own few held views _ h at =
     )
 
 -- a sender learns that what the inbox holds was sent and not taken
-pub last : (port : ℕ) (v : Note) → v ≡ sending v.senders v.from v.sent v.told → Learns IsDelivered port v (AreLast v.senders v.from v.sent v.told)
+pub last : (port : ℕ) (v : Note) → v ≡ sending v.senders v.from v.sent v.told → Learns IsDelivered port v (AreHeldSince v.senders v.from v.sent v.told)
 last port v role held views h at =
     let mine = (h.each port v at).0 (ap (λ (y : Note). y.sends) role) in (
       of_last (λ (b : BatchView). b.from < v.senders) h.taken held
@@ -257,7 +257,7 @@ pub next : (port : ℕ) (v : Note) → v.takes ≡ true → Learns IsDelivered p
 next port v may held views h at = let mine = (h.each port v at).1 may in (
   h.sent,
   h.lawful ∙ ap (λ l. l ++ held) (sym mine.2),
-  subst (λ (l : List BatchView). GoesOn v.told h.sent l) (sym mine.2) mine.7,
+  subst (λ (l : List BatchView). IsAfterTold v.told h.sent l) (sym mine.2) mine.7,
 )
 
 -- of senders that have ended no more is taken than they sent
@@ -357,7 +357,7 @@ opens port v may more held views h at =
                   subst (λ (y : ℕ × ℕ). y.0 < y.1) (λ i. ((ap (λ (y : Note). y.from) is) i, mine.0 i)) more,
                   seat_here v.opened (some (length vs)) h.seat u.from (sym (ap (λ (y : Note). y.from) is)) ∙ ap some (sym place),
                   sym (ap (λ (y : Note). y.sent) is) ∙ sym (mine.5 v.opened (omega arith)).1 ∙ ap (λ k. batches_of k h.sent) (ap (λ (y : Note). y.from) is),
-                  subst (λ (t : Told). GoesOn t h.sent h.taken) (ap (λ (y : Note). y.told) is) ((h.sent, refl), (h.taken, refl)),
+                  subst (λ (t : Told). IsAfterTold t h.sent h.taken) (ap (λ (y : Note). y.told) is) ((h.sent, refl), (h.taken, refl)),
                 )),
             λ p. absurd (true≢false (sym (ap (λ (y : Note). y.takes) is ∙ p))),
           ))

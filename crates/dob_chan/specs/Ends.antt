@@ -8,7 +8,7 @@ use Rattle.dob_chan.specs.declared.rule.Told.{Told}
 use Rattle.dob_chan.specs.declared.ends.SendEnd.{SendEnd}
 use Rattle.dob_chan.specs.declared.ends.TakeEnd.{TakeEnd}
 use Rattle.dob_chan.specs.declared.ends.Rejoined.{Rejoined}
-use Rattle.dob_chan.specs.Inboxes.{IsLawfulInbox, AreLast, AreNext, batches_of}
+use Rattle.dob_chan.specs.Inboxes.{IsLawfulInbox, AreHeldSince, AreNext, batches_of}
 
 -- the batches that the end has sent, in order
 abbrev pub sent_by : SendEnd → List BatchView
@@ -76,7 +76,7 @@ AreStill olds news = (length news ≡ length olds)
 
 -- At some moment after what was learned the inbox was full of batches of its senders, and that sender had sent just its own.
 abbrev pub WasFull : ℕ → ℕ → ℕ → List BatchView → Told → Type 0
-WasFull capacity senders from own told = (held : List BatchView) × (length held ≡ capacity) × AreLast senders from own told held
+WasFull capacity senders from own told = (held : List BatchView) × (length held ≡ capacity) × AreHeldSince senders from own told held
 
 -- At some moment after what was learned the inbox was empty: what had been sent was what was taken.
 abbrev pub WasEmpty : List BatchView → Told → Type 0

@@ -46,26 +46,26 @@ abbrev pub AreOf : ℕ → List BatchView → Type 0
 AreOf senders batches = All (λ (b : BatchView). b.from < senders) batches
 
 -- what was sent and taken goes on from what was learned
-abbrev pub GoesOn : Told → List BatchView → List BatchView → Type 0
-GoesOn told sent taken = IsBeginning told.sent sent × IsBeginning told.taken taken
+abbrev pub IsAfterTold : Told → List BatchView → List BatchView → Type 0
+IsAfterTold told sent taken = IsBeginning told.sent sent × IsBeginning told.taken taken
 
 -- The inbox holds what was sent and not taken, since what was learned, and nothing that isn't of one of the senders; of that one
 -- just its own batches were sent.
-abbrev pub AreLast : ℕ → ℕ → List BatchView → Told → List BatchView → Type 0
-AreLast senders from own told held = AreOf senders held
-    × ((sent taken : List BatchView) × IsLawfulInbox sent taken held × (batches_of from sent ≡ own) × GoesOn told sent taken)
+abbrev pub AreHeldSince : ℕ → ℕ → List BatchView → Told → List BatchView → Type 0
+AreHeldSince senders from own told held = AreOf senders held
+    × ((sent taken : List BatchView) × IsLawfulInbox sent taken held × (batches_of from sent ≡ own) × IsAfterTold told sent taken)
 
 -- the inbox holds what was sent, since what was learned, after what was taken
 abbrev pub AreNext : List BatchView → Told → List BatchView → Type 0
-AreNext taken told held = (sent : List BatchView) × IsLawfulInbox sent taken held × GoesOn told sent taken
+AreNext taken told held = (sent : List BatchView) × IsLawfulInbox sent taken held × IsAfterTold told sent taken
 
 -- The sender, whose own batches are these now, learned that the batch is the last one sent, and what was sent and taken before.
 abbrev pub HasSent : ℕ → BatchView → List BatchView → Told → Told → Type 0
-HasSent from batch own old new = (before : List BatchView) × (new.sent ≡ before ++ batch ∷ []) × GoesOn old before new.taken × (batches_of from new.sent ≡ own)
+HasSent from batch own old new = (before : List BatchView) × (new.sent ≡ before ++ batch ∷ []) × IsAfterTold old before new.taken × (batches_of from new.sent ≡ own)
 
 -- The taker learned that just these are taken, and what was sent, with these and what the inbox holds.
 abbrev pub HasReceived : List BatchView → Told → Told → Type 0
-HasReceived taken old new = (new.taken ≡ taken) × IsBeginning taken new.sent × GoesOn old new.sent new.taken
+HasReceived taken old new = (new.taken ≡ taken) × IsBeginning taken new.sent × IsAfterTold old new.sent new.taken
 
 -- what the senders that have ended sent is what was taken of them and then what the inbox holds of them
 abbrev pub AreLeft : List BatchView → List (List BatchView) → List BatchView → Type 0
@@ -74,7 +74,7 @@ AreLeft taken ended held = (from : ℕ) → from < length ended → IsLawfulInbo
 -- A sender's pass knows what was sent with its place, and learned what is so; `seat` gives the pass of each place.
 abbrev pub FitsSender : ℕ → (ℕ → Option ℕ) → List BatchView → List BatchView → ℕ → Note → Type 0
 FitsSender senders seat sent taken pass v = v.sends ≡ true →
-    (v.senders ≡ senders) × (v.from < senders) × (seat v.from ≡ some pass) × (v.sent ≡ batches_of v.from sent) × GoesOn v.told sent taken
+    (v.senders ≡ senders) × (v.from < senders) × (seat v.from ≡ some pass) × (v.sent ≡ batches_of v.from sent) × IsAfterTold v.told sent taken
 
 -- The taking pass knows what was taken, which senders haven't begun and what those sent that have ended, and learned what is so.
 abbrev pub FitsTaker : ℕ → ℕ → (ℕ → Option ℕ) → List BatchView → List BatchView → ℕ → Note → Type 0
@@ -82,7 +82,7 @@ FitsTaker senders taker seat sent taken pass v = v.takes ≡ true →
     (v.senders ≡ senders) × (pass ≡ taker) × (v.taken ≡ taken) × (v.opened ≤ senders) × (length v.ended ≤ v.opened)
     × ((from : ℕ) → v.opened ≤ from → (seat from ≡ none) × (batches_of from sent ≡ []))
     × ((from : ℕ) → from < length v.ended → (seat from ≡ none) × (sent_by_ended v.ended from ≡ batches_of from sent))
-    × GoesOn v.told sent taken
+    × IsAfterTold v.told sent taken
 
 -- The inbox is lawful, whatever its ends have done so far: of each sender, what was sent is what was taken and then what
 -- the inbox holds, since that is so of all of them together.

@@ -84,9 +84,9 @@ impl Outcome<Batch, Note> for Sends {
 }
 
 impl Lesson<Batch, Note> for Sends {
-    ghost use Rattle.dob_chan.specs.Inboxes.{AreLast};
+    ghost use Rattle.dob_chan.specs.Inboxes.{AreHeldSince};
 
-    ghost fact = { λ v held. AreLast v.senders v.from v.sent v.told held };
+    ghost fact = { λ v held. AreHeldSince v.senders v.from v.sent v.told held };
 }
 
 /// What a receipt shows: the batch is the last that was taken, and of one of the senders, and all that happened before; and

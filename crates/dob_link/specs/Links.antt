@@ -17,9 +17,9 @@ LinkSteps old (Handed batch) new = old ≡ batch ∷ new
 LinkSteps old Nothing new = (old ≡ []) × (new ≡ [])
 
 -- before and after such calls, one after another
-abbrev pub Runs : List BatchView → List Call → List BatchView → Type 0
-Runs old [] new = old ≡ new
-Runs old (call ∷ calls) new = (between : List BatchView) × LinkSteps old call between × Runs between calls new
+abbrev pub LeadsBy : List BatchView → List Call → List BatchView → Type 0
+LeadsBy old [] new = old ≡ new
+LeadsBy old (call ∷ calls) new = (between : List BatchView) × LinkSteps old call between × LeadsBy between calls new
 
 -- the batches that were taken in, in order
 abbrev pub taken : List Call → List BatchView
@@ -40,7 +40,7 @@ handed (Nothing ∷ calls) = handed calls
 -- Over any calls of a link that was empty before them, the batches taken in are those handed out followed by those
 -- waiting, in the same order.
 abbrev pub LinksKeepOrder : Type 0
-LinksKeepOrder = (calls : List Call) (waiting : List BatchView) → Runs [] calls waiting → taken calls ≡ handed calls ++ waiting
+LinksKeepOrder = (calls : List Call) (waiting : List BatchView) → LeadsBy [] calls waiting → taken calls ≡ handed calls ++ waiting
 
 -- a link: the batches that wait in it, the first to be handed out first, and for how many it has room
 pub record LinkView : Type 0 where

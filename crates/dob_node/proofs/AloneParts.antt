@@ -11,7 +11,7 @@ use Rattle.dob_share.specs.Shares.{IsOwn, cell_at}
 use Rattle.dob_share.proofs.Changing.{short_value}
 use Rattle.dob_node.specs.Stores.{HistoryView}
 use Rattle.dob_node.specs.Histories.{value_of}
-use Rattle.dob_node.specs.Lawful.{AreLawfulNodes, IsNextItem, CanApply, AreAfter, IsApplied, AreSettled}
+use Rattle.dob_node.specs.Lawful.{AreLawfulNodes, IsNextItem, CanApply, AreAfter, IsOneMore, AreSettled}
 use Rattle.dob_node.specs.Falls.{HaveFalls}
 use Rattle.dob_node.specs.TakenItems.{AreKept, IsTaken}
 use Rattle.dob_node.specs.Alone.{alone_history, alone_applied, alone_items, cells_below}
@@ -58,7 +58,7 @@ module _ (family : Family) (share after : Share) (history grown : HistoryView) (
   can = can_apply family 1 (alone_history h) (alone_applied applied) (cells_below (classes_of family) share) (value_of h) (lit< tt) lawful 0 0 (lit< tt) (lit< tt)
       item is_next
 
-  is_applied : IsApplied 0 0 item (alone_applied applied) (alone_applied (applied ++ item ∷ []))
+  is_applied : IsOneMore 0 0 item (alone_applied applied) (alone_applied (applied ++ item ∷ []))
   is_applied = record { one_more = refl; same_sender = senders; same_receiver = receivers }
     where
       senders : (k : ℕ) → k ≢ 0 → alone_applied (applied ++ item ∷ []) k 0 ≡ alone_applied applied k 0

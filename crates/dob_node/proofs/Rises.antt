@@ -27,7 +27,7 @@ use Rattle.dob_share.proofs.Learning.{counted}
 use Rattle.dob_share.proofs.Sums.{sums_up_after}
 use Rattle.dob_node.specs.Histories.{copies, items_to, last_now, value_of, known, all_known, IsChained}
 use Rattle.dob_node.specs.Quiet.{FollowsFromKnown}
-use Rattle.dob_node.specs.Lawful.{known_of, AreLawfulNodes, IsNextItem, CanApply, AreAfter, IsApplied, AreSettled}
+use Rattle.dob_node.specs.Lawful.{known_of, AreLawfulNodes, IsNextItem, CanApply, AreAfter, IsOneMore, AreSettled}
 use Rattle.dob_node.specs.OpeningLists.{opening_value, opening_settlement, opening_settlements}
 use Rattle.dob_node.specs.Falls.{IsFirst, RestsOn, IsSettlement, IsFall, IsCellWithin, HaveFalls}
 use Rattle.dob_node.proofs.Runs.{from_each_below, only_one}
@@ -146,7 +146,7 @@ module _ (family : Family) (n : ℕ) (histories : ℕ → List Settlement) (appl
   abbrev after : ℕ → ℕ → List Item
   after k m = cond (eqb k i && eqb m j) (applied i j ++ item ∷ []) (applied k m)
 
-  is_applied : IsApplied i j item applied after
+  is_applied : IsOneMore i j item applied after
   is_applied = record {
     one_more = ap (λ b. cond (b && eqb j j) (applied i j ++ item ∷ []) (applied i j)) (eq-eqb i i refl)
         ∙ ap (λ b. cond b (applied i j ++ item ∷ []) (applied i j)) (eq-eqb j j refl);

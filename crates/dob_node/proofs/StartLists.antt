@@ -19,9 +19,9 @@ use Rattle.dob_share.specs.Openings.{opening_of, settles, settled_among}
 use Rattle.dob_share.specs.Owners.{class_of_place}
 use Rattle.dob_share.specs.Shares.{places_of, IsOwn, status_at}
 use Rattle.dob_share.specs.Statuses.{StatusesView}
-use Rattle.dob_node.specs.OpeningLists.{opening_value, opening_settlement, opening_settlements, opening_status}
+use Rattle.dob_node.specs.OpeningLists.{opening_value, opening_settlement, start_settlements, opening_settlements, opening_status}
 use Rattle.dob_node.specs.Levels.{level_of}
-use Rattle.dob_node.specs.Stores.{start_status, start_settlements, starts_of, starts_count}
+use Rattle.dob_node.specs.Stores.{start_status, starts_of, starts_count}
 use Rattle.dob_node.proofs.Beginnings.{or_else, entry_opened}
 use Rattle.dob_node.proofs.Opens.{one_settles, status_listed}
 

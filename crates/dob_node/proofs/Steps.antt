@@ -24,7 +24,7 @@ use Rattle.dob_share.specs.Cells.{Cell, CellValue, SumsUp, Changes, changed}
 use Rattle.dob_update.specs.Items.{items_from}
 use Rattle.dob_node.specs.Histories.{copies, value_of, all_known, IsNext, IsChained}
 use Rattle.dob_node.specs.Quiet.{FollowsAtStatus}
-use Rattle.dob_node.specs.Lawful.{known_of, AreLawfulNodes, IsNextItem, CanApply, AreAfter, IsApplied, AreSettled}
+use Rattle.dob_node.specs.Lawful.{known_of, AreLawfulNodes, IsNextItem, CanApply, AreAfter, IsOneMore, AreSettled}
 use Rattle.dob_node.proofs.Rest.{some_of, below_owner}
 use Rattle.dob_node.proofs.Splits.{IsMade, IsFrom, split, made_from}
 use Rattle.dob_node.proofs.Learns.{has_copy, learnt, nothing_learnt}
@@ -112,7 +112,7 @@ module _ (family : Family) (n : ℕ) (histories : ℕ → List Settlement) (appl
         (subst (λ known. SumsUp known (cell item.to)) (known_here applied) (lawful.sums item.to there_is.0 there_is.1));
   }
 
-  module _ (after : ℕ → ℕ → List Item) (is_applied : IsApplied i j item applied after) where
+  module _ (after : ℕ → ℕ → List Item) (is_applied : IsOneMore i j item applied after) where
     -- the class of the item learns what it says
     pub learns_here : Changes (known_of family n histories applied item.to) (known_of family n histories after item.to) item.was item.now
     learns_here =
@@ -132,7 +132,7 @@ module _ (family : Family) (n : ℕ) (histories : ℕ → List Settlement) (appl
           (λ k. refl) (λ k. is_applied.same_receiver k (owner_of n p) elsewhere)
     ]
 
-  module _ (after : ℕ → ℕ → List Item) (is_applied : IsApplied i j item applied after) (cells : ℕ → Cell) (worth : ℕ → Value)
+  module _ (after : ℕ → ℕ → List Item) (is_applied : IsOneMore i j item applied after) (cells : ℕ → Cell) (worth : ℕ → Value)
       (are_after : AreAfter item cell cells value worth) (grown : ℕ → List Settlement)
       (settled : AreSettled j item.to (value item.to) (worth item.to) histories grown) where
     -- ---- with the item, before its settlement

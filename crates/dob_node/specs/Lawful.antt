@@ -60,7 +60,7 @@ pub record AreAfter (item : Item) (cell after : ℕ → Cell) (value values : �
   pub others : (p : ℕ) → p ≢ item.to → SameCell (after p) (cell p) × (values p ≡ value p)
 
 -- what is applied after an item from node i at node j
-pub record IsApplied (i j : ℕ) (item : Item) (applied after : ℕ → ℕ → List Item) : Type 0 where
+pub record IsOneMore (i j : ℕ) (item : Item) (applied after : ℕ → ℕ → List Item) : Type 0 where
   pub one_more : after i j ≡ applied i j ++ item ∷ []
   pub same_sender : (k : ℕ) → k ≢ i → after k j ≡ applied k j
   pub same_receiver : (k m : ℕ) → m ≢ j → after k m ≡ applied k m

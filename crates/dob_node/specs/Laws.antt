@@ -14,7 +14,7 @@ use Rattle.dob_share.specs.Cells.{Cell, SumsUp, Changes, changed}
 use Rattle.dob_share.specs.Steps.{IsTooDeep}
 use Rattle.dob_update.specs.Items.{items_from}
 use Rattle.dob_node.specs.Openings.{AreOpenings}
-use Rattle.dob_node.specs.Lawful.{known_of, AreLawfulNodes, IsNextItem, CanApply, AreAfter, IsApplied, AreSettled}
+use Rattle.dob_node.specs.Lawful.{known_of, AreLawfulNodes, IsNextItem, CanApply, AreAfter, IsOneMore, AreSettled}
 use Rattle.dob_node.specs.Falls.{HaveFalls}
 
 -- before anything is applied a cell with all the class's moves left sums up what their copies know
@@ -33,7 +33,7 @@ NextItemFits = (family : Family) (n : ℕ) (histories : ℕ → List Settlement)
 abbrev pub NextItemTeachesOne : Type 0
 NextItemTeachesOne = (family : Family) (n : ℕ) (histories : ℕ → List Settlement) (applied after : ℕ → ℕ → List Item) (cell : ℕ → Cell)
     (value : ℕ → Value) (i j : ℕ) (item : Item) → 0 < n → i < n → j < n → AreLawfulNodes family n histories applied cell value →
-    IsNextItem family n histories applied i j item → IsApplied i j item applied after →
+    IsNextItem family n histories applied i j item → IsOneMore i j item applied after →
     Changes (known_of family n histories applied item.to) (known_of family n histories after item.to) item.was item.now
     × ((p : ℕ) → p ≢ item.to → known_of family n histories after p ≡ known_of family n histories applied p)
 
@@ -41,7 +41,7 @@ NextItemTeachesOne = (family : Family) (n : ℕ) (histories : ℕ → List Settl
 abbrev pub LawfulStays : Type 0
 LawfulStays = (family : Family) (n : ℕ) (histories grown : ℕ → List Settlement) (applied after : ℕ → ℕ → List Item) (cell cells : ℕ → Cell)
     (value worth : ℕ → Value) (i j : ℕ) (item : Item) → 0 < n → i < n → j < n → AreLawfulNodes family n histories applied cell value →
-    IsNextItem family n histories applied i j item → IsApplied i j item applied after → AreAfter item cell cells value worth →
+    IsNextItem family n histories applied i j item → IsOneMore i j item applied after → AreAfter item cell cells value worth →
     AreSettled j item.to (value item.to) (worth item.to) histories grown → AreLawfulNodes family n grown after cells worth
 
 -- each settlement then stands first in a fall, where it did before

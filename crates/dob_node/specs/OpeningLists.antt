@@ -21,11 +21,15 @@ abbrev pub opening_settlement : ℕ → ℕ → Option Value → List Settlement
 opening_settlement number class None = []
 opening_settlement number class (Some now) = record { number = number; class = class; was = Draw; now = now } ∷ []
 
--- the settlements at the opening, in the order of the classes, of owner `id` among n of that many classes
+-- the settlements at the opening, in the order of the classes, of owner `id` among n at that many first places, by the statuses there
+abbrev pub start_settlements : (ℕ → Status) → ℕ → ℕ → ℕ → List Settlement
+start_settlements status n id zero = []
+start_settlements status n id (suc places) = let before = start_settlements status n id places in
+    before ++ opening_settlement (length before) (class_of_place n id places) (opening_value (status places))
+
+-- the same by the statuses of the classes
 abbrev pub opening_settlements : (ℕ → Status) → ℕ → ℕ → ℕ → List Settlement
-opening_settlements status n id zero = []
-opening_settlements status n id (suc places) = let before = opening_settlements status n id places in
-    before ++ opening_settlement (length before) (class_of_place n id places) (opening_value (status (class_of_place n id places)))
+opening_settlements status n id = start_settlements (λ place. status (class_of_place n id place)) n id
 
 -- the status that is listed of a class
 abbrev pub opening_status : List Opening → ℕ → Status

@@ -7,7 +7,7 @@ use Rattle.dob_share.specs.declared.news.Settlement.{Settlement}
 use Rattle.dob_share.specs.Openings.{settled_among}
 use Rattle.dob_share.specs.Owners.{class_of_place}
 use Rattle.dob_share.specs.Statuses.{StatusesView, status_in}
-use Rattle.dob_node.specs.OpeningLists.{opening_value, opening_settlement}
+use Rattle.dob_node.specs.OpeningLists.{start_settlements}
 use Rattle.dob_node.specs.declared.history.Stored.{Stored}
 
 -- the settlements of one owner among n, and how many more its store has room for at least
@@ -35,13 +35,7 @@ settlements_from n id number (stored ∷ rest) = settlement_of n id number store
 abbrev pub start_status : StatusesView → ℕ → Status
 start_status starts place = status_in starts.words place
 
--- the settlements of the start, in the order of the classes, of owner `id` among n, at that many first places, by their statuses
-abbrev pub start_settlements : (ℕ → Status) → ℕ → ℕ → ℕ → List Settlement
-start_settlements status n id zero = []
-start_settlements status n id (suc places) = let before = start_settlements status n id places in
-    before ++ opening_settlement (length before) (class_of_place n id places) (opening_value (status places))
-
--- those at all places
+-- the settlements of the start, at all places
 abbrev pub starts_of : ℕ → ℕ → StatusesView → List Settlement
 starts_of n id starts = start_settlements (start_status starts) n id starts.places
 

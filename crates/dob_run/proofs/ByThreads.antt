@@ -6,7 +6,7 @@ use Rattle.dob_pieces.proofs.Elements.{some_at}
 use Rattle.dob_pieces.specs.declared.profile.Family.{Family}
 use Rattle.dob_update.specs.Batches.{BatchView}
 use Rattle.dob_board.specs.declared.board.Board.{Board}
-use Rattle.dob_chan.specs.Ends.{sent_by, taken_by}
+use Rattle.dob_chan.specs.Ends.{sent_by, taken_by, place_of}
 use Rattle.dob_stops.specs.declared.cause.Cause.{Cause}
 use Rattle.dob_stops.specs.declared.fault.Fault.{Fault}
 use Rattle.dob_stops.specs.declared.fault.Fault.TheVariants.{Nodes, Sizes, Stopped, Memory}
@@ -154,11 +154,11 @@ module _ (No : ℕ → Type 0) (turns : ℕ) (family : Family) (n size capacity 
               link.1,
               omega (
                 arith,
-                link.2.sent,
+                link.2.0,
                 few_offered i j from.0 outlet.0 from.1 outlet.1,
                 length-append (sent_by outlet.0.end) (in_slot outlet.0.slot),
               ),
-              omega (arith, link.2.received, few_of i (taken_by inlet.end), few_taken j to.0 to.1),
+              omega (arith, link.2.1, few_of (place_of outlet.0.end) (taken_by inlet.end), few_taken j to.0 to.1),
             );
       }
 

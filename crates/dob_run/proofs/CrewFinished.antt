@@ -40,7 +40,8 @@ use Rattle.dob_runner.specs.Links.{offered, worked_from}
 use Rattle.dob_runner.specs.Endpoints.{AreOut}
 use Rattle.dob_runner.specs.Knows.{CanHaveMade, KnowsRight}
 use Rattle.dob_runner.specs.LawfulRunners.{planned, items_worked, own_applied, applied_from, SendsRight, IsLawfulRunner}
-use Rattle.dob_run.specs.Finished.{IsRunnerOf, AreJoinedBy, AreFinished, AreShown}
+use Rattle.dob_run.specs.Finished.{IsLawfulAt, AreFinished, AreShown}
+use Rattle.dob_run.proofs.CrewRunners.{are_linked}
 use Rattle.dob_runner.proofs.Senders.{parts}
 use Rattle.dob_runner.proofs.Applied.{applied_here, applied_else}
 use Rattle.dob_runner.proofs.Summing.{sums_by}
@@ -133,7 +134,7 @@ module _ (family : Family) (n : ℕ) (some : 0 < n) (runners : List Runner) (are
   there : (i : ℕ) → i < n → slice_get runners i ≡ Some (at i)
   there i low = slice_get-get_or runners i first.0 (subst (λ m. i < m) (sym are.count) low)
 
-  place : (i : ℕ) → i < n → IsRunnerOf family n i (at i)
+  place : (i : ℕ) → i < n → IsLawfulAt family n i (at i)
   place i low = are.each i (at i) (there i low)
 
   law : (i : ℕ) → i < n → IsLawfulRunner (at i).family (at i).batch_size (at i).node (at i).endpoint
@@ -190,15 +191,13 @@ module _ (family : Family) (n : ℕ) (some : 0 < n) (runners : List Runner) (are
       outlet : (x : Outlet) × (slice_get (at i).endpoint.outlets.items j ≡ Some x)
       outlet = some_at (at i).endpoint.outlets.items j (let long = outlets_long (at i).endpoint in let nodes = (place i low_i).seat.1 in omega (arith, long, nodes, low_j))
 
-      joined : AreJoinedBy runners i j (at i) (at j) outlet.0 (at j).endpoint.inlet
-      joined = record { sends = there i low_i; takes = there j low_j; out = outlet.1; into = refl }
-
       inbox : (waiting : List BatchView) × (sent_by outlet.0.end ≡ taken_of (at j).endpoint.inlet.end i ++ waiting)
-      inbox = are.inboxes i j (at i) (at j) outlet.0 (at j).endpoint.inlet joined
+      inbox = are.inboxes i j outlet.0 (at j).endpoint.inlet
+          (are_linked runners i j (at i) (at j) outlet.0 (at j).endpoint.inlet (there i low_i) (there j low_j) outlet.1 refl)
 
       long : length (worked_from (at j).endpoint.inlet i) ≡ length (offered outlet.0)
       long = sym ((at j).endpoint.taken i (subst (λ m. i < m) (sym (place j low_j).seat.1) low_i))
-          ∙ sym (are.counts i j (at i) (at j) outlet.0 (at j).endpoint.inlet joined) ∙ (at i).endpoint.posted j outlet.0 outlet.1
+          ∙ sym (are.counts i j outlet.0 (at j).endpoint.inlet (are_linked runners i j (at i) (at j) outlet.0 (at j).endpoint.inlet (there i low_i) (there j low_j) outlet.1 refl)) ∙ (at i).endpoint.posted j outlet.0 outlet.1
 
       sends : SendsRight (at i).node (at i).batch_size j (offered outlet.0)
       sends = (law i low_i).sends j outlet.0 (λ e. apart (sym (e ∙ (place i low_i).seat.0))) outlet.1

@@ -15,7 +15,7 @@ use Rattle.dob_board.specs.declared.board.Board.{Board}
 use Rattle.dob_board.specs.declared.board.Closed.{Closed}
 use Rattle.dob_board.specs.Seats.{AreWords}
 use Rattle.dob_chan.specs.declared.ends.Rejoined.{Rejoined}
-use Rattle.dob_chan.specs.Ends.{sent_by, taken_of}
+use Rattle.dob_chan.specs.Ends.{sent_by, taken_by, taken_of, IsRejoined}
 use Rattle.dob_node.specs.declared.node.Node.{Node}
 use Rattle.dob_node.specs.Nodes.{outbox_to}
 use Rattle.dob_runner.specs.declared.slots.Outlet.{Outlet}
@@ -26,7 +26,7 @@ use Rattle.dob_run.specs.declared.crew_close.ClosedCrew.{ClosedCrew}
 use Rattle.dob_run.specs.declared.bounded_run.Worker.{Worker}
 use Rattle.dob_run.specs.declared.bounded_run.Turned.{Turned}
 use Rattle.dob_run.specs.CrewClose.{AreLinked, seat_in, IsCrew, row_of, slots_out, slots_in, AreClosed}
-use Rattle.dob_run.specs.InboxClose.{outlet_slot, IsJoined}
+use Rattle.dob_run.specs.InboxClose.{outlet_slot}
 use Rattle.dob_runner.specs.Slots.{in_slot, held_from}
 use Rattle.dob_runner.specs.Knows.{KnowsRight}
 use Rattle.dob_runner.specs.Links.{offered, worked_from}
@@ -36,7 +36,7 @@ use Rattle.dob_run.specs.BoundedRun.{IsWorker, IsLink, IsTurned, AreUnfailed, Ar
 use Rattle.dob_runner.specs.LawfulRunners.{planned, applied_from, AreLast, SendsRight, IsLawfulRunner}
 use Rattle.dob_runner.proofs.Senders.{parts, front}
 use Rattle.dob_runner.proofs.Applied.{applied_here, applied_else}
-use Rattle.dob_run.proofs.CrewRunners.{zip_at, seat_there, are_linked, seat_at, crew_many, crew_low, outlet_at}
+use Rattle.dob_run.proofs.CrewRunners.{zip_at, seat_there, are_linked, rejoined_at, seat_at, crew_many, crew_low, outlet_at}
 use Rattle.dob_run.proofs.Places.{at_row, each_more, none_at, get_map, map_got, next_is, then_left, gone_all}
 
 -- ---- workers, one by one
@@ -193,13 +193,15 @@ module _ (board : Board) (family : Family) (size : ℕ) (runners : List Runner) 
 
   link_is : (i j : ℕ) (sender taker : Worker) (from to : Runner) (outlet : Outlet) (link : Rejoined) → slice_get runners i ≡ Some from →
       slice_get runners j ≡ Some to → sender.node ≡ from.node → sender.sending.items ≡ slots_out from.endpoint → taker.taking.items ≡ slots_in to.endpoint →
-      slice_get from.endpoint.outlets.items j ≡ Some outlet → IsJoined i outlet.end to.endpoint.inlet.end link →
+      slice_get from.endpoint.outlets.items j ≡ Some outlet → IsRejoined outlet.end (taken_by to.endpoint.inlet.end) link →
       IsLink board.nodes size turned.closed.words.items i j sender taker (applied_by (slice_get runners j) i) link
-  link_is i j sender taker from to outlet link at_i at_j node_is out_is into_is out joined =
+  link_is i j sender taker from to outlet link at_i at_j node_is out_is into_is out rejoined =
       let low_i = crew_low board runners crew i from at_i in
       let low_j = crew_low board runners crew j to at_j in
       let low : i < to.endpoint.seat.nodes = subst (λ (m : ℕ). i < m) (sym (seat_at board runners crew j to at_j).nodes) low_i in
       let inlet : Inlet = to.endpoint.inlet in
+      let place = (crew.paired i j outlet inlet (are_linked runners i j from to outlet inlet at_i at_j out refl)).1 in
+      let joined = rejoined_at i outlet.end (taken_by inlet.end) link place rejoined in
       record {
         sent = sent_by outlet.end;
         received = taken_of inlet.end i;
@@ -207,15 +209,15 @@ module _ (board : Board) (family : Family) (size : ℕ) (runners : List Runner) 
         taking = held_from inlet.slot i;
         sending_is = ap (λ (l : List (Option BatchView)). slice_get l j) out_is ∙ get_map outlet_slot from.endpoint.outlets.items j outlet out;
         taking_is = ap (λ (l : List (Option BatchView)). slice_get l i) into_is ∙ at_row to.endpoint.seat.nodes i inlet.slot low;
-        sent_count = joined.sent;
-        received_count = joined.received;
-        lawful = joined.lawful;
+        sent_count = joined.0;
+        received_count = joined.1;
+        lawful = joined.2;
         posted = omega (
           arith,
           left.words.posted i j from.endpoint.seat (seat_there runners i from at_i) low_j,
           from.endpoint.posted j outlet out,
           length-append (sent_by outlet.end) (in_slot outlet.slot),
-          joined.sent,
+          joined.0,
         );
         taken = omega (
           arith,
@@ -223,7 +225,7 @@ module _ (board : Board) (family : Family) (size : ℕ) (runners : List Runner) 
           to.endpoint.taken i low,
           ap length (parts inlet i),
           length-append (worked_from inlet i) (in_slot (held_from inlet.slot i)),
-          joined.received,
+          joined.1,
         );
         planned_is = λ apart. subst (λ (node : Node). planned node j ≡ items_of_batches (sent_by outlet.end ++ in_slot outlet.slot) ++ (outbox_to node j).items) (sym node_is)
             (sends_at i j from outlet at_i out apart).items;

@@ -8,7 +8,11 @@ use Rattle.dob_pieces.specs.declared.profile.Family.{Family}
 use Rattle.dob_pieces.proofs.Elements.{some_at}
 use Rattle.dob_board.specs.declared.board.Board.{Board}
 use Rattle.dob_board.specs.Seats.{IsSeatOf}
-use Rattle.dob_chan.specs.Ends.{IsEndOf}
+use Rattle.dob_update.specs.Batches.{BatchView}
+use Rattle.dob_chan.specs.declared.ends.SendEnd.{SendEnd}
+use Rattle.dob_chan.specs.declared.ends.Rejoined.{Rejoined}
+use Rattle.dob_chan.specs.Inboxes.{IsLawfulInbox, batches_of}
+use Rattle.dob_chan.specs.Ends.{sent_by, place_of, IsEndOf, IsRejoined}
 use Rattle.dob_runner.specs.declared.slots.Outlet.{Outlet}
 use Rattle.dob_runner.specs.declared.slots.Inlet.{Inlet}
 use Rattle.dob_runner.specs.declared.endpoint.Endpoint.{Endpoint}
@@ -60,11 +64,21 @@ all_suit family size runners are k runner at = let is = are k runner at in recor
 
 -- ---- a crew's runners
 
+-- what went over the link from the sender at that place
+pub rejoined_at : (i : ℕ) (send : SendEnd) (taken : List BatchView) (link : Rejoined) → place_of send ≡ i → IsRejoined send taken link →
+    (link.sent ≡ length (sent_by send)) × (link.received ≡ length (batches_of i taken))
+    × IsLawfulInbox (sent_by send) (batches_of i taken) link.waiting.items
+rejoined_at i send taken link place is = (
+  is.0,
+  is.1 ∙ ap (λ (k : ℕ). length (batches_of k taken)) place,
+  subst (λ (k : ℕ). IsLawfulInbox (sent_by send) (batches_of k taken) link.waiting.items) place is.2,
+)
+
 pub seat_there : (runners : List Runner) (k : ℕ) (runner : Runner) → slice_get runners k ≡ Some runner →
     slice_get (map seat_in (map endpoint_of runners)) k ≡ Some runner.endpoint.seat
 seat_there runners k runner at = get_map seat_in (map endpoint_of runners) k runner.endpoint (get_map endpoint_of runners k runner at)
 
-pub are_linked : (runners : List Runner) (i j : ℕ) (from to : Runner) (outlet : Outlet) (inlet : Inlet) → slice_get runners i ≡ Some from →
+abbrev pub are_linked : (runners : List Runner) (i j : ℕ) (from to : Runner) (outlet : Outlet) (inlet : Inlet) → slice_get runners i ≡ Some from →
     slice_get runners j ≡ Some to → slice_get from.endpoint.outlets.items j ≡ Some outlet → to.endpoint.inlet ≡ inlet →
     AreLinked (map endpoint_of runners) i j outlet inlet
 are_linked runners i j from to outlet inlet sends takes out into = record {

@@ -1,5 +1,6 @@
 -- A crew that has stopped: what its board's words say of its runners, and that its end leaves what it should.
-use Rattle.std.proofs.Common.{◌≡◌, ◌≢◌, ℕ, ◌+◌, ◌*◌, ◌<◌, ◌≤◌, inl, inr, List, ◌++◌, Option, Some, None}
+use Rattle.std.proofs.lemmas.Bool.{cases_lt}
+use Rattle.std.proofs.Common.{◌≡◌, ◌≢◌, ℕ, ◌+◌, ◌-◌, ◌*◌, ◌<◌, ◌≤◌, inl, inr, List, ◌++◌, Option, Some, None}
 use Rattle.std.proofs.Common.{length, length-append, map, false, refl, sym, ap, ◌∙◌, subst, arith}
 use Rattle.std.proofs.Common.{Global}
 use Rattle.std.specs.Prelude.{slice_get, slice_index}
@@ -18,14 +19,14 @@ use Rattle.dob_board.specs.Words.{posted_word, halt_word}
 use Rattle.dob_board.specs.Seats.{AreWords}
 use Rattle.dob_board.proofs.Halting.{same_halt}
 use Rattle.dob_chan.specs.declared.ends.Rejoined.{Rejoined}
-use Rattle.dob_chan.specs.Ends.{sent_by, taken_of}
+use Rattle.dob_chan.specs.Inboxes.{IsLawfulInbox}
+use Rattle.dob_chan.specs.Ends.{sent_by, taken_by, taken_of, IsRejoined}
 use Rattle.dob_stops.specs.declared.cause.Cause.{Cause}
 use Rattle.dob_share.specs.declared.share.Share.{Share}
 use Rattle.dob_node.specs.Nodes.{IsIdle}
-use Rattle.dob_stops.specs.declared.fault.Fault.{Fault}
-use Rattle.dob_stops.specs.declared.fault.Fault.TheVariants.{Nodes, Sizes, Stopped, Memory}
 use Rattle.dob_runner.specs.declared.slots.Outlet.{Outlet}
 use Rattle.dob_runner.specs.declared.slots.Inlet.{Inlet}
+use Rattle.dob_runner.specs.declared.endpoint.Endpoint.{Endpoint}
 use Rattle.dob_runner.specs.declared.runner.Runner.{Runner}
 use Rattle.dob_run.specs.declared.crew_close.ClosedCrew.{ClosedCrew as Left}
 use Rattle.dob_run.specs.declared.build_end.Built.{Built}
@@ -34,15 +35,13 @@ use Rattle.dob_runner.specs.Links.{offered, worked_from}
 use Rattle.dob_runner.proofs.Senders.{parts}
 use Rattle.dob_runner.specs.Endpoints.{AreOut}
 use Rattle.dob_run.specs.CrewClose.{seat_in, IsCrew, AreClosed}
-use Rattle.dob_run.specs.InboxClose.{IsJoined}
 use Rattle.dob_run.specs.CrewRunners.{endpoint_of, node_of}
-use Rattle.dob_run.specs.BoundedRun.{IsFirstFailed}
 use Rattle.dob_runner.specs.LawfulRunners.{IsLawfulRunner}
 use Rattle.dob_run.specs.Built.{needed, IsLinkDone, IsBuilt}
-use Rattle.dob_run.specs.Finished.{AreJoinedBy, AreFinished, AreShown}
-use Rattle.dob_run.specs.BuildEnd.{HaveStopped, IsFailure, IsFailureOf, failed_of, share_in, IsOwner, AreOwners, AreShownBelow}
+use Rattle.dob_run.specs.Finished.{AreFinished, AreShown}
+use Rattle.dob_run.specs.BuildEnd.{HaveStopped, AllKnow, IsFailure, AreFailureless, share_in, IsOwner, AreOwners, AreShownBelow}
 use Rattle.dob_run.proofs.CrewFinished.{nothing_of, finished_right}
-use Rattle.dob_run.proofs.CrewRunners.{seat_there, are_linked, seat_at, crew_many, crew_low, outlet_at}
+use Rattle.dob_run.proofs.CrewRunners.{seat_there, are_linked, rejoined_at, seat_at, crew_many, crew_low, outlet_at}
 use Rattle.dob_run.proofs.Needed.{needed_fits}
 use Rattle.dob_run.proofs.Openings.{some_openings}
 use Rattle.dob_run.proofs.Places.{get_map, map_got}
@@ -75,42 +74,43 @@ module _ (board : Board) (family : Family) (size : ℕ) (runners : List Runner) 
   some_of None some = absurd (some refl)
   some_of (Some why) some = (why, refl)
 
-  module _ (causes : List (Option Cause)) (causes_are : causes ≡ map failed_of runners) (node : ℕ) (failed : slice_index words 2 ≡ 2 + node) where
+  module _ (node : ℕ) (failed : slice_index words 2 ≡ 2 + node) where
     culprit : (runner : Runner) × (slice_get runners node ≡ Some runner)
     culprit = there node (let within = are.halt_within in omega (arith, within, failed))
 
     -- the node that the words name has failed
-    pub some_cause : (why : Cause) × (slice_get causes node ≡ Some (Some why))
-    some_cause =
+    some_failure : (why : Cause) × IsFailure runners node why
+    some_failure =
         let runner : Runner = culprit.0 in
         let halt : runner.endpoint.seat.halt ≡ Failed node = are.failed node runner.endpoint.seat (seat_there runners node runner culprit.1) failed in
-        let why = some_of runner.failed (runner.own (halt ∙ ap Failed (sym (seat_at board runners crew node runner culprit.1).node))) in
-        (why.0, ap (λ (l : List (Option Cause)). slice_get l node) causes_are ∙ get_map failed_of runners node runner culprit.1 ∙ ap Some why.1)
+        let why = some_of runner.failed (runner.own (halt ∙ ap Failed (sym (seat_at board runners crew node runner culprit.1).node))) in (
+          why.0,
+          record {
+            runner = runner;
+            at = culprit.1;
+            cause = why.1;
+            known = inl (λ k other stands. same_halt other.endpoint.seat.halt (Failed node) (halt_is k other stands ∙ failed));
+          },
+        )
 
-    pub is_failure : (why : Cause) → slice_get causes node ≡ Some (Some why) → IsFailure runners node why
-    is_failure why at =
-        let got = map_got failed_of runners node (Some why) (ap (λ (l : List (Option Cause)). slice_get l node) (sym causes_are) ∙ at) in
-        record {
-          runner = got.0;
-          at = got.1;
-          cause = got.2;
-          known = inl (λ k other stands. same_halt other.endpoint.seat.halt (Failed node) (halt_is k other stands ∙ failed));
-        }
+  -- where none has failed the words say that the end was announced
+  pub ended_by : AreFailureless runners → slice_index words 2 ≡ 1
+  ended_by none = elim (cases_lt (slice_index words 2) 1) [
+    | inl low ↦ absurd (not_running (omega (arith, low)))
+    | inr some ↦ elim (cases_lt (slice_index words 2) 2) [
+      | inl low ↦ omega (arith, some, low)
+      | inr high ↦
+          let node : ℕ = slice_index words 2 - 2 in
+          let failure = some_failure node (omega (arith, high)) in
+          absurd (none node failure.0 failure.1)
+    ]
+  ]
 
   -- ---- a run that ended
 
   module _ (ended : slice_index words 2 ≡ 1) where
-    -- a runner that failed all the same
-    pub late_failure : (fault : Fault) → IsFirstFailed runners fault → IsFailureOf runners fault
-    late_failure (Stopped node why) first = record {
-      runner = first.0;
-      at = first.1;
-      cause = first.2;
-      known = inr (λ k runner at. same_halt runner.endpoint.seat.halt Ended (halt_is k runner at ∙ ended), λ k runner low_k at. first.3 k runner low_k at);
-    }
-    late_failure Nodes first = absurd first
-    late_failure Sizes first = absurd first
-    late_failure Memory first = absurd first
+    pub all_know : AllKnow Ended runners
+    all_know = λ k runner at. same_halt runner.endpoint.seat.halt Ended (halt_is k runner at ∙ ended)
 
     -- where each runner is lawful, whether it gave up afterwards or not
     law_own : (k : ℕ) (runner : Runner) → slice_get runners k ≡ Some runner → IsLawfulRunner runner.family runner.batch_size runner.node runner.endpoint
@@ -177,54 +177,63 @@ module _ (board : Board) (family : Family) (size : ℕ) (runners : List Runner) 
           lawful = law_own k runner at;
         };
         white = white;
-        counts = λ i j sender taker outlet inlet joined. counts i j sender taker joined.sends joined.takes;
-        inboxes = λ i j sender taker outlet inlet joined.
-            let links = are_linked runners i j sender taker outlet inlet joined.sends joined.takes joined.out joined.into in
-            let link = has.links i j outlet inlet links in (link.0.waiting.items, link.2.lawful);
+        counts = λ i j outlet inlet linked.
+            let from = map_got endpoint_of runners i linked.sender linked.sends in
+            let to = map_got endpoint_of runners j linked.taker linked.takes in
+            ap (λ (e : Endpoint). slice_index e.seat.posted.items j) (sym from.2) ∙ counts i j from.0 to.0 from.1 to.1
+                ∙ ap (λ (e : Endpoint). slice_index e.seat.taken.items i) to.2;
+        inboxes = λ i j outlet inlet linked.
+            let link = has.links i j outlet inlet linked in
+            (link.0.waiting.items, (rejoined_at i outlet.end (taken_by inlet.end) link.0 (crew.paired i j outlet inlet linked).1 link.2).2);
       }
 
       link_is : (values : List Value) → AreShown family board.nodes runners values →
-          (i j : ℕ) (sender taker : Runner) (outlet : Outlet) (inlet : Inlet) (link : Rejoined) → AreJoinedBy runners i j sender taker outlet inlet →
-          IsJoined i outlet.end inlet.end link → IsLinkDone family board.nodes size words values i j link
-      link_is values shown i j sender taker outlet inlet link joined is = record {
+          (i j : ℕ) (sender taker : Runner) (outlet : Outlet) (inlet : Inlet) (link : Rejoined) → slice_get runners i ≡ Some sender →
+          slice_get runners j ≡ Some taker → slice_get sender.endpoint.outlets.items j ≡ Some outlet → taker.endpoint.inlet ≡ inlet →
+          IsRejoined outlet.end (taken_by inlet.end) link → IsLinkDone family board.nodes size words values i j link
+      link_is values shown i j sender taker outlet inlet link sends takes out into rejoined = record {
         posted = posted;
         taken = sym (are.all_taken ended i j low_i low_j) ∙ posted;
-        received = omega (arith, is.sent, is.received, sent, same, took);
+        received = omega (arith, is.0, is.1, sent, same, took);
         waiting = nothing_of link.waiting.items (omega (arith, sent, same, took));
         enough = λ apart. subst (λ (m : ℕ). needed family board.nodes values i j ≤ m * size) (sym is_sent)
-            (needed_fits family board.nodes size i j sender.node sender.endpoint outlet values (law i sender joined.sends) (rest i sender joined.sends).0
-            (id_is i sender joined.sends) (n_is i sender joined.sends) apart joined.out shown.whole
-            (λ class value low owns at. shown.each class value sender at (ap (λ (m : ℕ). slice_get runners m) owns ∙ joined.sends)));
+            (needed_fits family board.nodes size i j sender.node sender.endpoint outlet values (law i sender sends) (rest i sender sends).0
+            (id_is i sender sends) (n_is i sender sends) apart out shown.whole
+            (λ class value low owns at. shown.each class value sender at (ap (λ (m : ℕ). slice_get runners m) owns ∙ sends)));
       }
         where
+          is : (link.sent ≡ length (sent_by outlet.end)) × (link.received ≡ length (taken_of inlet.end i))
+              × IsLawfulInbox (sent_by outlet.end) (taken_of inlet.end i) link.waiting.items
+          is = rejoined_at i outlet.end (taken_by inlet.end) link (crew.paired i j outlet inlet (are_linked runners i j sender taker outlet inlet sends takes out into)).1 rejoined
+
           low_i : i < board.nodes
-          low_i = crew_low board runners crew i sender joined.sends
+          low_i = crew_low board runners crew i sender sends
 
           low_j : j < board.nodes
-          low_j = crew_low board runners crew j taker joined.takes
+          low_j = crew_low board runners crew j taker takes
 
           -- nothing lies in the sending slot
           empty : outlet.slot ≡ None
-          empty = (rest i sender joined.sends).1 j outlet joined.out
+          empty = (rest i sender sends).1 j outlet out
 
           offered_is : offered outlet ≡ sent_by outlet.end
           offered_is = ap (λ (slot : Option BatchView). sent_by outlet.end ++ in_slot slot) empty ∙ append-nil (sent_by outlet.end)
 
           is_sent : link.sent ≡ length (offered outlet)
-          is_sent = is.sent ∙ ap length (sym offered_is)
+          is_sent = is.0 ∙ ap length (sym offered_is)
 
           posted : slice_index words (posted_word board.nodes i j) ≡ link.sent
-          posted = are.posted i j sender.endpoint.seat (seat_there runners i sender joined.sends) low_j ∙ sender.endpoint.posted j outlet joined.out ∙ sym is_sent
+          posted = are.posted i j sender.endpoint.seat (seat_there runners i sender sends) low_j ∙ sender.endpoint.posted j outlet out ∙ sym is_sent
 
           taken_is : slice_index taker.endpoint.seat.taken.items i ≡ length (worked_from inlet i)
-          taken_is = taker.endpoint.taken i (subst (λ (m : ℕ). i < m) (sym (seat_at board runners crew j taker joined.takes).nodes) low_i)
-              ∙ ap (λ (l : Inlet). length (worked_from l i)) joined.into
+          taken_is = taker.endpoint.taken i (subst (λ (m : ℕ). i < m) (sym (seat_at board runners crew j taker takes).nodes) low_i)
+              ∙ ap (λ (l : Inlet). length (worked_from l i)) into
 
           same : length (worked_from inlet i) ≡ length (sent_by outlet.end)
-          same = sym taken_is ∙ sym (counts i j sender taker joined.sends joined.takes) ∙ sender.endpoint.posted j outlet joined.out ∙ ap length offered_is
+          same = sym taken_is ∙ sym (counts i j sender taker sends takes) ∙ sender.endpoint.posted j outlet out ∙ ap length offered_is
 
           sent : length (sent_by outlet.end) ≡ length (taken_of inlet.end i) + length link.waiting.items
-          sent = ap length is.lawful ∙ length-append (taken_of inlet.end i) link.waiting.items
+          sent = ap length is.2 ∙ length-append (taken_of inlet.end i) link.waiting.items
 
           took : length (worked_from inlet i) ≤ length (taken_of inlet.end i)
           took = omega (arith, ap length (parts inlet i), length-append (worked_from inlet i) (in_slot (held_from inlet.slot i)))
@@ -248,12 +257,10 @@ module _ (board : Board) (family : Family) (size : ℕ) (runners : List Runner) 
                 let to = there j low_j in
                 let outlet = outlet_at board runners crew i j from.0 from.1 low_j in
                 let inlet : Inlet = to.0.endpoint.inlet in
-                let joined : AreJoinedBy runners i j from.0 to.0 outlet.0 inlet =
-                record { sends = from.1; takes = to.1; out = outlet.1; into = refl } in
                 let link = has.links i j outlet.0 inlet (are_linked runners i j from.0 to.0 outlet.0 inlet from.1 to.1 outlet.1 refl) in (
                   link.0,
                   ap (λ (v : Vec Rejoined Global). slice_get v.items (i * board.nodes + j)) links ∙ link.1,
                   subst (λ (l : List ℕ). IsLinkDone family board.nodes size l values i j link.0) items
-                      (link_is values by_runners i j from.0 to.0 outlet.0 inlet link.0 joined link.2),
+                      (link_is values by_runners i j from.0 to.0 outlet.0 inlet link.0 from.1 to.1 outlet.1 refl link.2),
                 );
           }

@@ -10,13 +10,13 @@ use Rattle.dob_pieces.proofs.Elements.{at_end, some_at, get_front, middle}
 use Rattle.dob_chan.specs.declared.ends.SendEnd.{SendEnd}
 use Rattle.dob_chan.specs.declared.ends.TakeEnd.{TakeEnd}
 use Rattle.dob_chan.specs.declared.ends.Rejoined.{Rejoined}
-use Rattle.dob_chan.specs.Ends.{IsEndOf, senders_of}
+use Rattle.dob_chan.specs.Ends.{taken_by, IsEndOf, IsRejoined, senders_of}
 use Rattle.dob_runner.specs.declared.slots.Outlet.{Outlet}
 use Rattle.dob_runner.specs.declared.slots.Inlet.{Inlet}
 use Rattle.dob_runner.specs.declared.endpoint.Endpoint.{Endpoint}
 use Rattle.dob_run.specs.declared.crew_close.Parts.{Parts}
 use Rattle.dob_run.specs.Rows.{StandsAt, AreDealt}
-use Rattle.dob_run.specs.InboxClose.{outlet_end, IsJoined, AreEnds, AreJoined}
+use Rattle.dob_run.specs.InboxClose.{outlet_end, AreEnds, AreJoined}
 use Rattle.dob_run.specs.CrewClose.{AreLinked, seat_in, IsCrew, row_of, ends_out, end_in, slots_out, slots_in, HasRowMore, HasAdded, ArePartsOf}
 use Rattle.dob_run.proofs.Places.{get_map, map_got}
 
@@ -124,7 +124,7 @@ module _ (board : Board) (endpoints : List Endpoint) (parts : Parts) where
   -- the link of two endpoints stands in the row of the sender at the place of the taker
   pub links_are : IsCrew board endpoints → ArePartsOf board.nodes endpoints parts → (links : List Rejoined) → AreJoined board.nodes parts.sends.items parts.takes.items links →
       (i j : ℕ) (outlet : Outlet) (inlet : Inlet) → AreLinked endpoints i j outlet inlet →
-      (link : Rejoined) × (slice_get links (i * board.nodes + j) ≡ Some link) × IsJoined i outlet.end inlet.end link
+      (link : Rejoined) × (slice_get links (i * board.nodes + j) ≡ Some link) × IsRejoined outlet.end (taken_by inlet.end) link
   links_are crew are links joined i j outlet inlet linked =
       let ends = ends_are crew are in
       let count = count_is board endpoints crew in
@@ -139,4 +139,4 @@ module _ (board : Board) (endpoints : List Endpoint) (parts : Parts) where
       let take : slice_get parts.takes.items j ≡ Some inlet.end = ap (λ (l : List TakeEnd). slice_get l j) are.takes ∙ get_map end_in endpoints j linked.taker linked.takes
       ∙ ap (λ (l : Inlet). Some l.end) linked.into in
       let found = joined.joined i j end.0 inlet.end (row.0, row.1, end.1) take in
-      (found.0, found.1, subst (λ (s : SendEnd). IsJoined i s inlet.end found.0) sent found.2)
+      (found.0, found.1, subst (λ (s : SendEnd). IsRejoined s (taken_by inlet.end) found.0) sent found.2)

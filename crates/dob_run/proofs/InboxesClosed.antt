@@ -9,11 +9,10 @@ use Rattle.std.proofs.lemmas.Bool.{cases_eq}
 use Rattle.dob_chan.specs.declared.ends.SendEnd.{SendEnd}
 use Rattle.dob_chan.specs.declared.ends.TakeEnd.{TakeEnd}
 use Rattle.dob_chan.specs.declared.ends.Rejoined.{Rejoined}
-use Rattle.dob_chan.specs.Inboxes.{IsLawfulInbox}
-use Rattle.dob_chan.specs.Ends.{sent_by, taken_by, taken_of, place_of, AreEndsOf, AreRejoined}
+use Rattle.dob_chan.specs.Ends.{taken_by, AreEndsOf, IsRejoined, AreRejoined}
 use Rattle.dob_pieces.proofs.Elements.{at_end, some_at, get_front, get_set_other}
 use Rattle.dob_run.specs.Rows.{StandsAt, AreRows, AreDealt, AreInOrder}
-use Rattle.dob_run.specs.InboxClose.{IsJoined, AreEnds, AreJoined}
+use Rattle.dob_run.specs.InboxClose.{AreEnds, AreJoined}
 use Rattle.dob_runner.proofs.Counted.{there_set}
 use Rattle.dob_run.proofs.Places.{next_is, then_left, gone_all, behind, none_stands}
 
@@ -117,7 +116,7 @@ pub record IsFor {Z : Type 0} (sends : List (Vec SendEnd Z)) (takes : List TakeE
   pub take : TakeEnd
   pub sent : StandsAt sends j i send
   pub taken : slice_get takes j ≡ Some take
-  pub joined : IsJoined i send take link
+  pub joined : IsRejoined send (taken_by take) link
 
 -- So many inboxes are ended, whose links stand at the ends of their senders' rows, and these ends are left.
 pub record AreOn {Z W : Type 0} (n : ℕ) (sends : List (Vec SendEnd Z)) (takes : List TakeEnd) (sends_left : List (Vec SendEnd Z)) (takes_left : List TakeEnd)
@@ -163,18 +162,13 @@ module _ {Z W : Type 0} (n : ℕ) (sends : List (Vec SendEnd Z)) (takes : List T
         | inr last ↦
             let send = some_at row.items i (omega (arith, slice_get_within links i one.1 one.3, rejoined.0)) in
             let is = rejoined.1 i send.0 one.1 send.1 one.3 in
-            let place : place_of send.0 ≡ i = (ends.1 i send.0 send.1).1 in
             let here : j ≡ k = last.0 ∙ are.each i one.0 one.2 in
             record {
               send = send.0;
               take = take;
               sent = (row, ap (slice_get sends) here ∙ at, send.1);
               taken = ap (slice_get takes) here ∙ at_take;
-              joined = subst (λ (l : Rejoined). IsJoined i send.0 take l) last.1 (record {
-                sent = is.0;
-                received = is.1 ∙ ap (λ (m : ℕ). length (taken_of take m)) place;
-                lawful = subst (λ (m : ℕ). IsLawfulInbox (sent_by send.0) (taken_of take m) one.1.waiting.items) place is.2;
-              });
+              joined = subst (λ (l : Rejoined). IsRejoined send.0 (taken_by take) l) last.1 is;
             }
       ]
 
@@ -214,6 +208,6 @@ module _ {Z W : Type 0} (n : ℕ) (sends : List (Vec SendEnd Z)) (takes : List T
         let same_take : found.take ≡ take = same_Some found.take take (sym found.taken ∙ at_take) in (
           link.0,
           order.each i j link.0 low_i (row.0, row.1, link.1),
-          subst (λ (p : SendEnd × TakeEnd). IsJoined i p.0 p.1 link.0) (λ q. (same_send q, same_take q)) found.joined,
+          subst (λ (p : SendEnd × TakeEnd). IsRejoined p.0 (taken_by p.1) link.0) (λ q. (same_send q, same_take q)) found.joined,
         );
   }

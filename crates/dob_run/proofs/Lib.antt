@@ -20,4 +20,5 @@ pub mod ByThreads  -- from what the threads promise to what is made of the crew
 -- The end of a crew.
 pub mod Shown  -- the values that the nodes of a crew show
 pub mod CrewFinished  -- a crew that has come to its end holds the value table
+pub mod KnownFailures  -- a failure that each runner knows of, and that there is none
 pub mod CrewStopped  -- what the board's words say of the runners of a stopped crew

@@ -2,16 +2,27 @@
 use Rattle.std.proofs.Common.{◌≡◌, ℕ, Bool, List, [], ◌∷◌, ◌++◌, length, map, Some, sym, ap, ◌∙◌, subst, append_assoc, arith}
 use Rattle.std.specs.Prelude.{slice_get, IfOk, Result, MatchResult, Ok, Err}
 use Rattle.std.proofs.lemmas.List.{append-nil}
+use Rattle.std.proofs.lemmas.Option.{same_Some}
 use Rattle.std.specs.List.{AllZip, Contains}
 use Rattle.std.specs.declared.vec.Vec.{Vec}
 use Rattle.dob_pieces.proofs.Elements.{middle}
 use Rattle.dob_runner.specs.declared.runner.Runner.{Runner}
+use Rattle.dob_run.specs.declared.threads.Kept.{Kept}
 use Rattle.dob_run.specs.declared.threads.Started.{Started}
 use Rattle.dob_run.specs.declared.threads.Started.TheVariants.{Runs, GaveUp}
-use Rattle.dob_runner.specs.Runners.{KeepsRunner, says_no}
+use Rattle.dob_stops.specs.declared.cause.Cause.TheVariants.{Memory}
+use Rattle.dob_runner.specs.Runners.{KeepsRunner, HasFailed, says_no}
 use Rattle.dob_runner.specs.declared.turn_loop.Until.{Until}
-use Rattle.dob_run.specs.Started.{IsStartOf, IsEndOf}
 use Rattle.dob_runner.specs.TurnLoop.{Ends, EndsBy}
+use Rattle.dob_runner.proofs.Ending.{ended_without_memory}
+use Rattle.dob_run.specs.declared.handed.Handed.{Handed}
+use Rattle.std.specs.Global.{Global}
+use Rattle.rtrb.specs.declared.AnyItems.{AnyItems}
+use Rattle.rtrb.specs.declared.producer.Producer.{Producer}
+use Rattle.rtrb.specs.declared.consumer.Consumer.{Consumer}
+use Rattle.rtrb.specs.Ring.{sent, received, known_items, IsPair, SameProducer, SameConsumer, ProducerLooked, ConsumerLooked}
+use Rattle.dob_run.specs.Started.{IsHandedOn, IsStartOf, IsEndOf, IsJoinable, AreJoinable}
+use Rattle.dob_run.proofs.CrewRunners.{zip_at}
 
 zip_one : {X Y : Type 0} → (R : X → Y → Type 0) (xs : List X) (ys : List Y) (x : X) (y : Y) → AllZip R xs ys → R x y → AllZip R (xs ++ x ∷ []) (ys ++ y ∷ [])
 zip_one R [] [] x y are is = (is, tt)
@@ -63,11 +74,64 @@ made_all {X} {Y} {E} R xs given (Ok made) are is = subst (AllZip R xs) (sym is.2
     (all_ok E R xs is.0 (subst (λ (l : List (Result Y E)). AllZip (λ (x : X) (r : Result Y E). IfOk r (R x)) xs l) is.1 are))
 made_all R xs given (Err why) are is = tt
 
+-- ---- what goes over a ring for one
+
+-- both ends are those of one ring as before
+pub still_pair : (giving : Producer Handed Global AnyItems) (taking after : Consumer Handed Global AnyItems) → IsPair giving taking →
+    SameConsumer taking after → IsPair giving after
+still_pair giving taking after pair same = (same.0.0 ∙ pair.0, same.0.1 ∙ pair.1, same.0.2 ∙ pair.2, same.0.3 ∙ pair.3)
+
+-- and where the giver has sent more
+pub still_given : (giving after : Producer Handed Global AnyItems) (taking : Consumer Handed Global AnyItems) → IsPair giving taking →
+    SameProducer giving after → IsPair after taking
+still_given giving after taking pair same = (pair.0 ∙ sym same.0.0, pair.1 ∙ sym same.0.1, pair.2 ∙ sym same.0.2, pair.3 ∙ sym same.0.3)
+
+-- the one that was taken went first
+pub went_first : (giving after : Producer Handed Global AnyItems) (taking looked : Consumer Handed Global AnyItems) (handed : Handed) →
+    received taking ≡ handed ∷ [] → ConsumerLooked taking looked → ProducerLooked giving after →
+    received looked ++ known_items looked ≡ sent after → sent giving ≡ handed ∷ known_items looked
+went_first giving after taking looked handed came seen told fifo =
+    sym told.1 ∙ sym fifo ∙ ap (λ (l : List Handed). l ++ known_items looked) (seen.1 ∙ came)
+
+-- ---- runners whose threads were started
+
+-- a runner that was given first, to the thread that promised so
+pub handed_on : {G : Type 0} (Says : G → ℕ → Bool → Type 0) (gate : G) (until : Until) (runner : Runner) (giving after : Producer Handed Global AnyItems)
+    (taking : Consumer Handed Global AnyItems) (promise : Kept G) (handed : Handed) → sent giving ≡ [] → sent after ≡ sent giving ++ handed ∷ [] →
+    handed.runner ≡ runner → IsPair giving taking → SameProducer giving after → promise.taking.value ≡ taking → promise.until.value ≡ until →
+    promise.gate.value ≡ gate → IsHandedOn Says gate until runner after promise
+handed_on Says gate until runner giving after taking promise handed none given runner_is pair same taking_is until_is gate_is = record {
+  handed = handed;
+  sent_is = given ∙ ap (λ (l : List Handed). l ++ handed ∷ []) none;
+  runner_is = runner_is;
+  pair = subst (λ (x : Consumer Handed Global AnyItems). IsPair after x) (sym taking_is) (still_given giving after taking pair same);
+  until_is = until_is;
+  gate_is = gate_is;
+}
+
+-- the first of two lists that are one
+same_first : {X : Type 0} (x y : X) (xs ys : List X) → x ∷ xs ≡ y ∷ ys → x ≡ y
+same_first {X} x y xs ys same = same_Some x y (ap (λ (l : List X). slice_get l 0) same)
+
 module _ {G : Type 0} (Says : G → ℕ → Bool → Type 0) (gate : G) (until : Until) where
   ended : (runner now : Runner) (started : Started G) → IsStartOf Says gate until runner started → IsEndOf Says started now →
       EndsBy (Says gate) until runner now
-  ended runner now (Runs handle) start end = subst (λ (p : G × Until × Runner). EndsBy (Says p.0) p.1 p.2 now) (λ i. (start.2 i, start.1 i, start.0 i)) end
-  ended runner now (GaveUp was) start end = subst (λ (r : Runner). EndsBy (Says gate) until runner r) (sym end) start
+  ended runner now (Runs handle giving) start end =
+      let same : end.0.runner ≡ runner = ap (λ (h : Handed). h.runner) (same_first end.0 start.handed end.1 [] (sym end.2 ∙ start.sent_is)) ∙ start.runner_is in
+      subst (λ (p : G × Until × Runner). EndsBy (Says p.0) p.1 p.2 now) (λ i. (start.gate_is i, start.until_is i, same i)) end.3
+  ended runner now (GaveUp was) start end =
+      ended_without_memory (Says gate) until runner now (subst (λ (r : Runner). HasFailed runner r Memory) (sym end) start.failed)
+
+  -- the ends of the ring by which a started runner went belong together
+  joinable : (runner : Runner) (started : Started G) → IsStartOf Says gate until runner started → IsJoinable started
+  joinable runner (Runs handle giving) start = start.pair
+  joinable runner (GaveUp was) start = tt
+
+  pub all_joinable : (runners : List Runner) (started : List (Started G)) → AllZip (IsStartOf Says gate until) runners started →
+      AreJoinable started
+  all_joinable runners started starts = λ k one at.
+      let was = zip_at (IsStartOf Says gate until) runners started k one starts at in
+      joinable was.0 one was.2
 
   -- each runner that was started and ended is where it was in its crew, and through with its turns
   pub all_ended : (runners : List Runner) (started : List (Started G)) (after : List Runner) → AllZip (IsStartOf Says gate until) runners started →

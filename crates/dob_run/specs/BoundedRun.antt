@@ -8,6 +8,7 @@ use Rattle.dob_board.specs.Words.{posted_word, taken_word, word_count}
 use Rattle.dob_board.specs.Seats.{AreWords}
 use Rattle.dob_chan.specs.declared.ends.Rejoined.{Rejoined}
 use Rattle.dob_chan.specs.Inboxes.{IsLawfulInbox}
+use Rattle.dob_chan.specs.Ends.{taken_by, IsRejoined}
 use Rattle.dob_stops.specs.declared.cause.Cause.TheVariants.{Held}
 use Rattle.dob_node.specs.declared.node.Node.{Node}
 use Rattle.dob_node.specs.Nodes.{outbox_to}
@@ -19,7 +20,6 @@ use Rattle.dob_runner.specs.declared.runner.Runner.{Runner}
 use Rattle.dob_run.specs.declared.bounded_run.Worker.{Worker}
 use Rattle.dob_run.specs.declared.bounded_run.Turned.{Turned}
 use Rattle.dob_run.specs.CrewClose.{AreLinked, seat_in, slots_out, slots_in}
-use Rattle.dob_run.specs.InboxClose.{IsJoined}
 use Rattle.dob_runner.specs.Slots.{in_slot}
 use Rattle.dob_runner.specs.Knows.{KnowsRight}
 use Rattle.dob_runner.specs.declared.turn_loop.Until.{Until}
@@ -120,4 +120,4 @@ pub record HasLeft (n : ℕ) (runners : List Runner) (turned : Turned) : Type 0 
   pub words : AreWords n (map seat_in (map endpoint_of runners)) turned.closed.words.items
   pub links_count : length turned.links.items ≡ n * n
   pub links : (i j : ℕ) (outlet : Outlet) (inlet : Inlet) → AreLinked (map endpoint_of runners) i j outlet inlet →
-      (link : Rejoined) × (slice_get turned.links.items (i * n + j) ≡ Some link) × IsJoined i outlet.end inlet.end link
+      (link : Rejoined) × (slice_get turned.links.items (i * n + j) ≡ Some link) × IsRejoined outlet.end (taken_by inlet.end) link

@@ -1,5 +1,5 @@
 -- A crew whose runners have all stopped, and what is made of it.
-use Rattle.std.specs.Prelude.{◌≡◌, ◌≢◌, ⊤, ℕ, ◌<◌, ◌⊎◌, List, Option, None, Some, slice_get}
+use Rattle.std.specs.Prelude.{◌≡◌, ◌≢◌, ℕ, ◌<◌, ◌⊎◌, List, None, Some, slice_get}
 use Rattle.dob_pieces.specs.declared.profile.Family.{Family}
 use Rattle.dob_rank.specs.Families.{classes_of}
 use Rattle.dob_value.specs.declared.value.Value.{Value}
@@ -26,9 +26,6 @@ pub record IsStoppedRunner (family : Family) (size : ℕ) (runner : Runner) : Ty
 abbrev pub HaveStopped : Family → ℕ → List Runner → Type 0
 HaveStopped family size runners = (k : ℕ) (runner : Runner) → slice_get runners k ≡ Some runner → IsStoppedRunner family size runner
 
-abbrev pub failed_of : Runner → Option Cause
-failed_of runner = runner.failed
-
 -- the share of a node
 abbrev pub share_in : Node → Share
 share_in node = node.share
@@ -49,10 +46,14 @@ pub record IsFailure (runners : List Runner) (node : ℕ) (why : Cause) : Type 0
   pub cause : runner.failed ≡ Some why
   pub known : AllKnow (Failed node) runners ⊎ (AllKnow Ended runners × IsLeastFailed runners node)
 
--- why a crew that has stopped leaves no table: a node's failure, or memory is refused
+-- no node has failed so
+abbrev pub AreFailureless : List Runner → Type 0
+AreFailureless runners = (node : ℕ) (why : Cause) → ¬ IsFailure runners node why
+
+-- why a crew that has stopped leaves no table: a node's failure; or where there is none, memory is refused
 abbrev pub IsFailureOf : List Runner → Fault → Type 0
 IsFailureOf runners (Stopped node why) = IsFailure runners node why
-IsFailureOf runners Memory = ⊤
+IsFailureOf runners Memory = AreFailureless runners
 IsFailureOf runners Nodes = ⊥
 IsFailureOf runners Sizes = ⊥
 

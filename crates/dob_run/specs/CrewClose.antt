@@ -8,7 +8,7 @@ use Rattle.dob_board.specs.Seats.{AreSeats, AreWords}
 use Rattle.dob_chan.specs.declared.ends.SendEnd.{SendEnd}
 use Rattle.dob_chan.specs.declared.ends.TakeEnd.{TakeEnd}
 use Rattle.dob_chan.specs.declared.ends.Rejoined.{Rejoined}
-use Rattle.dob_chan.specs.Ends.{IsEndOf}
+use Rattle.dob_chan.specs.Ends.{taken_by, IsEndOf, IsRejoined}
 use Rattle.dob_runner.specs.declared.slots.Outlet.{Outlet}
 use Rattle.dob_runner.specs.declared.slots.Inlet.{Inlet}
 use Rattle.dob_runner.specs.declared.endpoint.Endpoint.{Endpoint}
@@ -16,7 +16,7 @@ use Rattle.dob_run.specs.declared.crew_close.ClosedCrew.{ClosedCrew}
 use Rattle.dob_run.specs.declared.crew_close.Parts.{Parts}
 use Rattle.dob_run.specs.Rows.{StandsAt, AreRows, AreDealt}
 use Rattle.dob_runner.specs.Slots.{slot_row}
-use Rattle.dob_run.specs.InboxClose.{outlet_end, outlet_slot, IsJoined}
+use Rattle.dob_run.specs.InboxClose.{outlet_end, outlet_slot}
 
 -- the outlet of i for j and the inlet of j
 pub record AreLinked (endpoints : List Endpoint) (i j : ℕ) (outlet : Outlet) (inlet : Inlet) : Type 0 where
@@ -80,6 +80,6 @@ pub record AreClosed (n : ℕ) (endpoints : List Endpoint) (ended : ClosedCrew) 
   pub words : AreWords n (map seat_in endpoints) ended.closed.words.items
   pub count : length ended.links.items ≡ n * n
   pub links : (i j : ℕ) (outlet : Outlet) (inlet : Inlet) → AreLinked endpoints i j outlet inlet →
-      (link : Rejoined) × (slice_get ended.links.items (i * n + j) ≡ Some link) × IsJoined i outlet.end inlet.end link
+      (link : Rejoined) × (slice_get ended.links.items (i * n + j) ≡ Some link) × IsRejoined outlet.end (taken_by inlet.end) link
   pub sending : map row_of ended.sending.items ≡ map slots_out endpoints
   pub taking : map row_of ended.taking.items ≡ map slots_in endpoints

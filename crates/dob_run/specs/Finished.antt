@@ -1,5 +1,5 @@
 -- A crew that has come to its end: nothing is left to do anywhere.
-use Rattle.std.specs.Prelude.{◌≡◌, ℕ, ◌<◌, ◌++◌, List, Some, false, length, slice_get, slice_index}
+use Rattle.std.specs.Prelude.{◌≡◌, ℕ, ◌<◌, ◌++◌, List, Some, false, length, map, slice_get, slice_index}
 use Rattle.dob_pieces.specs.declared.profile.Family.{Family}
 use Rattle.dob_rank.specs.Families.{classes_of}
 use Rattle.dob_value.specs.declared.value.Value.{Value}
@@ -14,29 +14,24 @@ use Rattle.dob_runner.specs.declared.slots.Outlet.{Outlet}
 use Rattle.dob_runner.specs.declared.slots.Inlet.{Inlet}
 use Rattle.dob_runner.specs.declared.runner.Runner.{Runner}
 use Rattle.dob_runner.specs.LawfulRunners.{IsLawfulRunner}
+use Rattle.dob_run.specs.CrewClose.{AreLinked}
+use Rattle.dob_run.specs.CrewRunners.{endpoint_of}
 
 -- the runner is lawful, and stands at that place of a crew of n for the family
-pub record IsRunnerOf (family : Family) (n place : ℕ) (runner : Runner) : Type 0 where
+pub record IsLawfulAt (family : Family) (n place : ℕ) (runner : Runner) : Type 0 where
   pub seat : (runner.endpoint.seat.node ≡ place) × (runner.endpoint.seat.nodes ≡ n)
   pub family_is : runner.family ≡ family
   pub lawful : IsLawfulRunner runner.family runner.batch_size runner.node runner.endpoint
-
--- the outlet of runner i for j and the inlet of j
-pub record AreJoinedBy (runners : List Runner) (i j : ℕ) (sender taker : Runner) (outlet : Outlet) (inlet : Inlet) : Type 0 where
-  pub sends : slice_get runners i ≡ Some sender
-  pub takes : slice_get runners j ≡ Some taker
-  pub out : slice_get sender.endpoint.outlets.items j ≡ Some outlet
-  pub into : taker.endpoint.inlet ≡ inlet
 
 -- The crew of n has ended: each runner is lawful and white; on each link as many batches were posted as were taken, and what
 -- came out of the inbox of the first is the beginning of what the second sent.
 pub record AreFinished (family : Family) (n : ℕ) (runners : List Runner) : Type 0 where
   pub count : length runners ≡ n
-  pub each : (i : ℕ) (runner : Runner) → slice_get runners i ≡ Some runner → IsRunnerOf family n i runner
+  pub each : (i : ℕ) (runner : Runner) → slice_get runners i ≡ Some runner → IsLawfulAt family n i runner
   pub white : (i : ℕ) (runner : Runner) → slice_get runners i ≡ Some runner → runner.endpoint.seat.black ≡ false
-  pub counts : (i j : ℕ) (sender taker : Runner) (outlet : Outlet) (inlet : Inlet) → AreJoinedBy runners i j sender taker outlet inlet →
-      slice_index sender.endpoint.seat.posted.items j ≡ slice_index taker.endpoint.seat.taken.items i
-  pub inboxes : (i j : ℕ) (sender taker : Runner) (outlet : Outlet) (inlet : Inlet) → AreJoinedBy runners i j sender taker outlet inlet →
+  pub counts : (i j : ℕ) (outlet : Outlet) (inlet : Inlet) (linked : AreLinked (map endpoint_of runners) i j outlet inlet) →
+      slice_index linked.sender.seat.posted.items j ≡ slice_index linked.taker.seat.taken.items i
+  pub inboxes : (i j : ℕ) (outlet : Outlet) (inlet : Inlet) → AreLinked (map endpoint_of runners) i j outlet inlet →
       (waiting : List BatchView) × (sent_by outlet.end ≡ taken_of inlet.end i ++ waiting)
 
 -- each value is what the owner of its class shows

@@ -5,8 +5,7 @@ use Rattle.dob_update.specs.Batches.{BatchView}
 use Rattle.dob_chan.specs.declared.ends.SendEnd.{SendEnd}
 use Rattle.dob_chan.specs.declared.ends.TakeEnd.{TakeEnd}
 use Rattle.dob_chan.specs.declared.ends.Rejoined.{Rejoined}
-use Rattle.dob_chan.specs.Inboxes.{IsLawfulInbox}
-use Rattle.dob_chan.specs.Ends.{sent_by, taken_of, AreEndsOf}
+use Rattle.dob_chan.specs.Ends.{taken_by, AreEndsOf, IsRejoined}
 use Rattle.dob_runner.specs.declared.slots.Outlet.{Outlet}
 use Rattle.dob_run.specs.Rows.{StandsAt, AreRows}
 
@@ -15,12 +14,6 @@ outlet_end outlet = outlet.end
 
 abbrev pub outlet_slot : Outlet → Option BatchView
 outlet_slot outlet = outlet.slot
-
--- The link has the counts of the sender's end and of the taking end for it, and what is left of what was sent.
-pub record IsJoined (from : ℕ) (send : SendEnd) (take : TakeEnd) (link : Rejoined) : Type 0 where
-  pub sent : link.sent ≡ length (sent_by send)
-  pub received : link.received ≡ length (taken_of take from)
-  pub lawful : IsLawfulInbox (sent_by send) (taken_of take from) link.waiting.items
 
 -- n rows of n sending ends and n taking ends, and those of each row are all those of the inbox of the taking end at its place
 pub record AreEnds {Z : Type 0} (n : ℕ) (sends : List (Vec SendEnd Z)) (takes : List TakeEnd) : Type 0 where
@@ -32,4 +25,4 @@ pub record AreEnds {Z : Type 0} (n : ℕ) (sends : List (Vec SendEnd Z)) (takes 
 pub record AreJoined {Z : Type 0} (n : ℕ) (sends : List (Vec SendEnd Z)) (takes : List TakeEnd) (links : List Rejoined) : Type 0 where
   pub count : length links ≡ n * n
   pub joined : (i j : ℕ) (send : SendEnd) (take : TakeEnd) → StandsAt sends j i send → slice_get takes j ≡ Some take →
-      (link : Rejoined) × (slice_get links (i * n + j) ≡ Some link) × IsJoined i send take link
+      (link : Rejoined) × (slice_get links (i * n + j) ≡ Some link) × IsRejoined send (taken_by take) link

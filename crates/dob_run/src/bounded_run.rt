@@ -82,8 +82,8 @@ pub(crate) fn find_failed(runners: &[Runner]) -> Result<(), Fault>
     Ok(())
 }
 
-// Why the runner at that place has failed, if it has.
-fn failure_at(runners: &[Runner], place: usize) -> Option<Cause>
+/// Why the runner at that place has failed, if it has.
+pub(crate) fn failure_at(runners: &[Runner], place: usize) -> Option<Cause>
     requires { place < length runners.now }
     ensures { (runner : Runner) → slice_get runners.now place ≡ Some runner → result ≡ runner.failed }
 {

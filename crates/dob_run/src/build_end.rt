@@ -1,5 +1,5 @@
 // What a build by threads leaves, when its crew has come to its end.
-ghost use Rattle.std.specs.Prelude.{◌≡◌, ◌≢◌, ◌+◌, ◌<◌, ◌≤◌, ℕ, Some, IfOk, IfErr, OnOk, MatchOption, map, length, slice_get, slice_index};
+ghost use Rattle.std.specs.Prelude.{◌≡◌, ◌↔◌, ◌<◌, ◌≤◌, ℕ, IsTrue, Some, IfOk, IfErr, OnOk, MatchOption, map, length, slice_get};
 ghost use Rattle.dob_pieces.specs.declared.profile.Family.{Family};
 ghost use Rattle.dob_rank.specs.Families.{classes_of};
 ghost use Rattle.dob_share.specs.Owners.{owner_of};
@@ -11,17 +11,17 @@ ghost use Rattle.dob_run.specs.CrewRunners.{endpoint_of, node_of};
 ghost use Rattle.dob_run.specs.CrewClose.{IsCrew, AreClosed};
 ghost use Rattle.dob_run.specs.Built.{IsBuilt};
 ghost use Rattle.dob_run.specs.BoundedRun.{AreUnfailed};
-ghost use Rattle.dob_run.specs.BuildEnd.{HaveStopped, IsFailureOf, AreOwners, IsShownByOwner, IsCodeShown, AreShownBelow, failed_of, share_in};
+ghost use Rattle.dob_run.specs.BuildEnd.{HaveStopped, AllKnow, IsFailure, IsFailureOf, AreFailureless, AreOwners, IsShownByOwner, IsCodeShown, AreShownBelow, share_in};
 ghost use Rattle.dob_run.specs.Scans.{AreFrom};
 
-use crate::bounded_run::{find_failed, part_runners};
+use crate::bounded_run::{failure_at, find_failed, part_runners};
 use crate::crew_close::{ClosedCrew, close_endpoints};
 use crate::scans::AT_A_TIME;
 use dob_board::{Board, Closed, Halt};
 use dob_chan::Rejoined;
 use dob_classes::Classes;
 use dob_lists::{SegmentLength, Segments};
-use dob_node::{Cause, Node};
+use dob_node::Node;
 use dob_pieces::{Family, Memory};
 use dob_runner::Runner;
 use dob_share::{Share, owner};
@@ -48,7 +48,7 @@ pub struct Built {
 /// # Errors
 ///
 /// `Stopped` where the run failed, with the node that failed it and that node's cause, and where a runner failed only
-/// after the end was announced, with the least such node and its cause; `Memory`, which gives the crew up.
+/// after the end was announced, with the least such node and its cause; `Memory` only where none has failed, which gives the crew up.
 pub fn finish<R: Threads + Wait + Sync>(
     rt: &R,
     alloc: Global,
@@ -63,16 +63,10 @@ pub fn finish<R: Threads + Wait + Sync>(
     ensures unfailed { OnOk result (AreUnfailed runners.items) }
     ensures failed { IfErr result (IsFailureOf runners.items) }
 {
-    let causes = causes_of(alloc, &runners)?;
-    let late = find_failed(&runners);
-    let (nodes, ended) = close_all(rt, alloc, board, runners)?;
-    if let Some(node) = failed_in(&ended.closed) {
-        let cause = cause_at(&causes, node);
-        return Err(Fault::Stopped { node, cause });
-    }
-    if let Err(fault) = late {
+    if let Some(fault) = failure_known(&runners) {
         return Err(fault);
     }
+    let (nodes, ended) = close_all(rt, alloc, board, runners)?;
     let shares = shares_of(alloc, nodes)?;
     let table = table_of(rt, alloc, classes, &shares)?;
     let ClosedCrew { closed, links, .. } = ended;
@@ -83,15 +77,54 @@ pub fn finish<R: Threads + Wait + Sync>(
     })
 }
 
-// Why each runner has failed, if it has.
-fn causes_of(alloc: Global, runners: &[Runner]) -> Result<Vec<Option<Cause>>, Memory>
-    ensures { IfOk result (λ causes. causes.items ≡ map failed_of runners.now) }
+// The failure that each of these runners knows of: the node that failed the run, or the least one that failed although its end was announced. It takes no
+// memory, so that a failure is named where none is left.
+fn failure_known(runners: &[Runner]) -> Option<Fault>
+    ensures { MatchOption result
+        (AreFailureless runners.now × (AllKnow Halt.Ended runners.now → AreUnfailed runners.now))
+        (IsFailureOf runners.now) }
 {
-    let mut causes = Vec::with_capacity(alloc, runners.len())?;
-    for runner in runners {
-        causes.push(runner.failed)?;
+    let Some(first) = runners.first() else {
+        return None;
+    };
+    let halt = first.endpoint.seat.halt;
+    if !all_know(runners, halt) {
+        return None;
     }
-    Ok(causes)
+    match halt {
+        Halt::Running => None,
+        Halt::Ended => match find_failed(runners) {
+            Ok(()) => None,
+            Err(fault) => Some(fault),
+        },
+        Halt::Failed(node) => failure_of(runners, node),
+    }
+}
+
+// Whether each runner knows of that halt.
+fn all_know(runners: &[Runner], halt: Halt) -> bool
+    ensures { IsTrue result ↔ AllKnow halt runners.now }
+{
+    for runner in runners {
+        if runner.endpoint.seat.halt != halt {
+            return false;
+        }
+    }
+    true
+}
+
+// Why the runner of the node that failed the run has failed.
+fn failure_of(runners: &[Runner], node: usize) -> Option<Fault>
+    requires { AllKnow (Halt.Failed node) runners.now }
+    ensures { MatchOption result ((why : Cause) → ¬ IsFailure runners.now node why) (IsFailureOf runners.now) }
+{
+    if node >= runners.len() {
+        return None;
+    }
+    let Some(cause) = failure_at(runners, node) else {
+        return None;
+    };
+    Some(Fault::Stopped { node, cause })
 }
 
 // Closes the crew of these runners: their nodes, and what their endpoints leave.
@@ -108,29 +141,6 @@ fn close_all<R: Wait>(
     let (nodes, endpoints) = part_runners(alloc, runners)?;
     let ended = close_endpoints(rt, alloc, board, endpoints)?;
     Ok((nodes, ended))
-}
-
-// The node that failed the run, as the words of the board say; none where the end was announced.
-fn failed_in(closed: &Closed) -> Option<usize>
-    requires { slice_index closed.now.words.items 2 ≢ 0 }
-    ensures { MatchOption result (slice_index closed.now.words.items 2 ≡ 1) (λ node. slice_index closed.now.words.items 2 ≡ 2 + node) }
-{
-    match closed.halt() {
-        Halt::Failed(node) => Some(node),
-        Halt::Ended => None,
-        Halt::Running => unreachable!(),
-    }
-}
-
-// The cause that stands at that place.
-fn cause_at(causes: &[Option<Cause>], place: usize) -> Cause
-    requires { (why : Cause) × (slice_get causes.now place ≡ Some (Some why)) }
-    ensures { slice_get causes.now place ≡ Some (Some result) }
-{
-    let Some(cause) = causes[place] else {
-        unreachable!()
-    };
-    cause
 }
 
 // The share of each node. All else that the nodes have is given back.

@@ -3,7 +3,7 @@
 // nodes show is the table.
 //
 // The files: `limits` has the sizes of a crew; `crew_*` open and close a crew and `inbox_*` its inboxes; `threads` has a thread for
-// each runner; `build*` is a whole build and `bounded_run` a run of so many turns.
+// each runner, which `handed` hands to it; `build*` is a whole build and `bounded_run` a run of so many turns.
 #![tactic(auto)]
 
 mod bounded_run;
@@ -11,6 +11,7 @@ mod build;
 mod build_end;
 mod crew_close;
 mod crew_open;
+mod handed;
 mod inbox_close;
 mod inbox_open;
 mod laws;

@@ -1,13 +1,15 @@
 // A thread for each runner of a crew.
-ghost use Rattle.std.specs.Prelude.{◌≡◌, ℕ, IfOk};
+ghost use Rattle.std.specs.Prelude.{◌≡◌, ℕ, [], None, IfOk};
 ghost use Rattle.std.specs.List.{AllZip};
 ghost use Rattle.dob_run.specs.CrewSizes.{AreThese};
 ghost use Rattle.dob_runner.specs.TurnLoop.{Suits, EndsBy};
 ghost use Rattle.dob_run.specs.CrewTurns.{AllSuit, AreLetOn, HasRun};
 ghost use Rattle.dob_runner.specs.Runners.{says_no};
-ghost use Rattle.dob_run.specs.Started.{IsStartOf, IsEndOf};
+ghost use Rattle.rtrb.specs.Ring.{received};
+ghost use Rattle.dob_run.specs.Started.{HasTaken, GivesUp, IsStartOf, IsEndOf, IsJoinable, AreJoinable};
 
 use crate::crew_open::crew_of;
+use crate::handed::{Handed, next_handed};
 use crate::limits::CrewSizes;
 use crate::scans::scan;
 use dob_board::Board;
@@ -16,29 +18,39 @@ use dob_lists::SegmentLength;
 use dob_node::Cause;
 use dob_pieces::{Family, Memory};
 use dob_runner::{Gate, Runner, Until};
+use rtrb::{Consumer, Producer, RingBuffer};
 use std::alloc::Global;
 use std::snapshot::Snapshot;
 use std::sync::Wait;
-use std::sync::atomic::{AtomicUsize, Ordering};
 use std::thread;
 use std::thread::{Promise, PromisedHandle, Scope, Threads};
 
+// What a thread leaves: its end of the ring by which its runner came, and that runner after its turns.
+#[derive(Drop)]
+pub(crate) struct Ran<'s> {
+    taking: Consumer<Handed<'s>>,
+    runner: Runner,
+}
+
 // What the thread of a runner promises.
 #[derive(Drop)]
-pub(crate) struct Kept<G> {
-    was: Snapshot<Runner>,
+pub(crate) struct Kept<'s, G> {
+    taking: Snapshot<Consumer<Handed<'s>>>,
     until: Snapshot<Until>,
     gate: Snapshot<G>,
 }
 
-impl<G: Gate> Promise<Runner> for Kept<G> {
-    ghost kept_by = { λ p r. EndsBy (G.says p.gate.value) p.until.value p.was.value r };
+impl<'s, G: Gate> Promise<Ran<'s>> for Kept<'s, G> {
+    ghost kept_by = { λ p ran. HasTaken (G.says p.gate.value) p.until.value p.taking.value ran };
 }
 
-// A runner whose thread runs, or one that gave up.
+// A runner whose thread runs, with the other end of its ring, or one that gave up.
 #[derive(Drop)]
-pub(crate) enum Started<G: Gate> {
-    Runs(PromisedHandle<Runner, Kept<G>>),
+pub(crate) enum Started<'s, G: Gate> {
+    Runs {
+        handle: PromisedHandle<Ran<'s>, Kept<'s, G>>,
+        giving: Producer<Handed<'s>>,
+    },
     GaveUp(Runner),
 }
 
@@ -82,8 +94,6 @@ fn run_each<R: Threads + Wait + Sync, G: Gate + Sync>(
     requires { AllSuit classes.now.family runners.items }
     ensures { IfOk result (λ ended. AllZip (EndsBy (G.says gate.now) until.now) runners.items ended.items) }
 {
-    let unstarted = AtomicUsize::new(usize::MAX);
-    let unstarted = &unstarted;
     thread::scope(
         thread::scope_env(),
         rt,
@@ -91,8 +101,9 @@ fn run_each<R: Threads + Wait + Sync, G: Gate + Sync>(
             requires { AllSuit classes.now.family runners.items }
             ensures { IfOk result (λ ended. AllZip (EndsBy (G.says gate.entry.now) until.entry.now) runners.items ended.items) }
         {
-            let started = start_all(rt, alloc, scope, runners, classes, gate, until, unstarted)?;
-            end_all(rt, alloc, started)
+            let room = Vec::with_capacity(alloc, runners.len())?;
+            let started = start_all(rt, alloc, scope, runners, classes, gate, until)?;
+            end_all(rt, started, room)
         },
     )
 }
@@ -106,85 +117,87 @@ fn start_all<'s, E, R: Threads + Wait + Sync, G: Gate + Sync>(
     classes: &'s Classes,
     gate: &'s G,
     until: &'s Until,
-    unstarted: &'s AtomicUsize,
-) -> Result<Vec<Started<G>>, Memory>
+) -> Result<Vec<Started<'s, G>>, Memory>
     requires { AllSuit classes.now.family runners.items }
     ensures { IfOk result (λ started. AllZip (IsStartOf G.says gate.now until.now) runners.items started.items) }
 {
     let mut started = Vec::with_capacity(alloc, runners.len())?;
     for runner in runners {
-        started.push(start(rt, scope, runner, classes, gate, until, unstarted))?;
+        started.push(start(rt, alloc, scope, runner, classes, gate, until))?;
     }
     Ok(started)
 }
 
-// Starts the thread of a runner. Where none can be made its node is noted first, so that it makes no turn here; and it fails,
-// if it hadn't.
+// Starts the thread of a runner and hands the runner to it. Where none can be made the runner is still here, and gives up.
 fn start<'s, E, R: Threads + Wait + Sync, G: Gate + Sync>(
     rt: &'s R,
+    alloc: Global,
     scope: &Scope<'s, E>,
     runner: Runner,
     classes: &'s Classes,
     gate: &'s G,
     until: &'s Until,
-    unstarted: &'s AtomicUsize,
-) -> Started<G>
+) -> Started<'s, G>
     requires { Suits classes.now.family runner }
     ensures { IsStartOf G.says gate.now until.now runner result }
 {
-    let node = runner.endpoint.seat.node;
+    let Ok((mut giving, taking)) = RingBuffer::new(alloc, 1) else {
+        return Started::GaveUp(given_up(runner));
+    };
     let promise = Kept {
-        was: Snapshot::of(&runner),
+        taking: Snapshot::of(&taking),
         until: Snapshot::of(until),
         gate: Snapshot::of(gate),
     };
-    let run = move || -> Runner
-        requires { Suits classes.now.family runner }
-        ensures { EndsBy (G.says gate.entry.now) until.entry.now runner result }
-    { go_unless(unstarted, rt, runner, classes, gate, until) };
-    match scope.spawn_with(promise, run) {
-        Ok(handle) => Started::Runs(handle),
-        Err(handed_back) => {
-            unstarted.store(node, Ordering::SeqCst);
-            let mut back = (handed_back.value)();
-            let None = back.failed else {
-                return Started::GaveUp(back);
-            };
-            back.abandon(Cause::Memory);
-            Started::GaveUp(back)
-        }
-    }
+    let run = move || -> Ran
+        requires { received taking ≡ [] }
+        ensures { HasTaken (G.says gate.entry.now) until.entry.now taking.entry result }
+    { take_and_go(rt, taking, gate, until) };
+    let Ok(handle) = scope.spawn_with(promise, run) else {
+        return Started::GaveUp(given_up(runner));
+    };
+    giving.push_reserved(Handed { runner, classes });
+    Started::Runs { handle, giving }
 }
 
-// Makes the turns, unless it is the runner's node that was noted: then it fails.
-fn go_unless<R: Wait, G: Gate>(
-    unstarted: &AtomicUsize,
-    rt: &R,
-    mut runner: Runner,
-    classes: &Classes,
-    gate: &G,
-    until: &Until,
-) -> Runner
-    requires { Suits classes.now.family runner }
-    ensures { EndsBy (G.says gate.now) until.now runner result }
+// The runner has made no turn, and fails for lack of memory.
+fn given_up(mut runner: Runner) -> Runner
+    requires { runner.failed ≡ None }
+    ensures { GivesUp runner result }
 {
-    if unstarted.load(Ordering::SeqCst) == runner.endpoint.seat.node {
-        runner.abandon(Cause::Memory);
-        return runner;
-    }
-    runner.go_until(rt, classes, gate, until);
+    runner.abandon(Cause::Memory);
     runner
 }
 
-// Waits for the thread of each runner.
-fn end_all<R: Threads, G: Gate>(
+// Takes the runner that comes over the ring, and lets it make its turns.
+fn take_and_go<'s, R: Wait, G: Gate>(
     rt: &R,
-    alloc: Global,
-    started: Vec<Started<G>>,
-) -> Result<Vec<Runner>, Memory>
-    ensures { IfOk result (λ ended. AllZip (IsEndOf G.says) started.items ended.items) }
+    mut taking: Consumer<Handed<'s>>,
+    gate: &G,
+    until: &Until,
+) -> Ran<'s>
+    requires { received taking ≡ [] }
+    ensures { HasTaken (G.says gate.now) until.now taking.entry result }
 {
-    let mut ended = Vec::with_capacity(alloc, started.len())?;
+    let Handed {
+        mut runner,
+        classes,
+    } = next_handed(rt, &mut taking);
+    runner.go_until(rt, classes, gate, until);
+    Ran { taking, runner }
+}
+
+// Waits for the thread of each runner. The room for them was made before the first began, so that what one failed for is told
+// where no memory is left.
+fn end_all<'s, R: Threads, G: Gate>(
+    rt: &R,
+    started: Vec<Started<'s, G>>,
+    room: Vec<Runner>,
+) -> Result<Vec<Runner>, Memory>
+    requires { AreJoinable started.items × (room.items ≡ []) }
+    ensures { IfOk result (λ ended. AllZip (IsEndOf G.says) started.entry.items ended.items) }
+{
+    let mut ended = room;
     for one in started {
         ended.push(end(rt, one))?;
     }
@@ -192,11 +205,16 @@ fn end_all<R: Threads, G: Gate>(
 }
 
 // Waits for the thread of a runner.
-fn end<R: Threads, G: Gate>(rt: &R, started: Started<G>) -> Runner
-    ensures { IsEndOf G.says started result }
+fn end<'s, R: Threads, G: Gate>(rt: &R, started: Started<'s, G>) -> Runner
+    requires { IsJoinable started }
+    ensures { IsEndOf G.says started.entry result }
 {
     match started {
-        Started::Runs(handle) => handle.join(rt),
+        Started::Runs { handle, mut giving } => {
+            let Ran { mut taking, runner } = handle.join(rt);
+            taking.slots_beside(&mut giving);
+            runner
+        }
         Started::GaveUp(runner) => runner,
     }
 }

@@ -9,7 +9,7 @@ use Rattle.dob_node.specs.Lawful.{CanApply}
 use Rattle.dob_node.proofs.Kept.{better_apart}
 use Rattle.dob_node.proofs.Steps.{can_apply, lawful_after}
 use Rattle.dob_world.specs.Worlds.{Setting, Nodes, value_in, items_in, AreLawful}
-use Rattle.dob_world.specs.Events.{NodesStay, Applies, AppliesAll}
+use Rattle.dob_world.specs.Events.{NodesStay, Applies, AppliesItems}
 use Rattle.dob_world.proofs.Places.{at_node, lawful_stay}
 
 -- What node j has applied from node i is longer by the items, and what others have applied stays; each history goes on
@@ -88,7 +88,7 @@ next_after k i j front rest old new differs grows is =
 module _ (k : Setting) (some : 0 < k.n) (i j : ℕ) (low_i : i < k.n) (low_j : j < k.n) (differs : i ≢ j) where
   -- the items of another node, applied in order
   pub all_applied : (items rest : List Item) (old new : Nodes) → AreLawful k old → items_in k old i j ≡ old.applied i j ++ (items ++ rest) →
-      AppliesAll k i j items old new → AreLawful k new × Grows i j items old new
+      AppliesItems k i j items old new → AreLawful k new × Grows i j items old new
   all_applied [] rest old new lawful is all = (lawful_stay k old new all lawful, none_grows i j old new all)
   all_applied (item ∷ items) rest old new lawful is all =
       let step = step_grows k i j item old all.0 all.1 in

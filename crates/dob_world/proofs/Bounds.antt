@@ -10,7 +10,7 @@ use Rattle.dob_world.specs.declared.event.Event.{Event}
 use Rattle.dob_world.specs.declared.event.Event.TheVariants.{Expand, Own, Post, Take, Pass, Announce}
 use Rattle.dob_stops.specs.declared.fault.Fault.{Fault}
 use Rattle.dob_world.specs.Worlds.{Setting, Nodes, WorldView, State, value_in, items_in, AreLawful, HaveFallsIn, IsLinked}
-use Rattle.dob_world.specs.Events.{NodesStay, Applies, AppliesAll, AppliesOwn, TakesBatch, CanHappen, Happens}
+use Rattle.dob_world.specs.Events.{NodesStay, Applies, AppliesItems, AppliesOwn, TakesBatch, CanHappen, Happens}
 use Rattle.dob_world.specs.Stops.{GoesTooDeep, OwnGoesTooDeep, TakenGoesTooDeep, IsStopBy, IsForMemory}
 use Rattle.dob_world.proofs.Places.{nodes_same}
 use Rattle.dob_world.proofs.Applied.{lawful_step, step_grows, next_after, all_applied}
@@ -33,7 +33,7 @@ module _ (k : Setting) (some : 0 < k.n) (i j : ℕ) (low_i : i < k.n) (low_j : j
 
 module _ (k : Setting) (some : 0 < k.n) (i j : ℕ) (low_i : i < k.n) (low_j : j < k.n) (differs : i ≢ j) where
   all_fall : (items rest : List Item) (old new : Nodes) → AreLawful k old → HaveFallsIn k old →
-      items_in k old i j ≡ old.applied i j ++ (items ++ rest) → AppliesAll k i j items old new → HaveFallsIn k new
+      items_in k old i j ≡ old.applied i j ++ (items ++ rest) → AppliesItems k i j items old new → HaveFallsIn k new
   all_fall [] rest old new lawful falls is all = bound_stays k old new all falls
   all_fall (item ∷ items) rest old new lawful falls is all =
       all_fall items rest all.0 new

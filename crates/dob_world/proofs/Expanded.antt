@@ -20,7 +20,7 @@ use Rattle.dob_node.specs.Nodes.{IsSound, IsExpanded, outbox_to}
 use Rattle.dob_safra.specs.Rings.{Ring}
 use Rattle.dob_world.specs.declared.lane.Lane.{Lane}
 use Rattle.dob_world.specs.Worlds.{Setting}
-use Rattle.dob_world.specs.Events.{Expands}
+use Rattle.dob_world.specs.Events.{ExpandsAt}
 use Rattle.dob_world.specs.Shown.{part, nodes_shown, world_shown}
 use Rattle.dob_world.specs.Standing.{IsNodeOf, AreInPlace, AreCutsPosted}
 use Rattle.dob_world.proofs.Cuts.{cuts_stay}
@@ -50,7 +50,7 @@ module _ (k : Setting) (nodes : List Node) (lanes : List Lane) (i : ℕ) (node a
         (sym step.same.3) is.statuses;
   }
 
-  pub expands : Expands k i (world_shown k.family k.n nodes lanes) (world_shown k.family k.n (set nodes i after) lanes)
+  pub expands : ExpandsAt k i (world_shown k.family k.n nodes lanes) (world_shown k.family k.n (set nodes i after) lanes)
   unfolding world_shown nodes_shown
   expands = record {
     settlement = step.settlement;

@@ -7,7 +7,7 @@ use Rattle.dob_update.specs.Batches.{BatchView, items_of_batches}
 use Rattle.dob_node.proofs.Settles.{emitted_all}
 use Rattle.dob_world.specs.declared.event.Event.TheVariants.{Expand, Own, Post, Take, Pass, Announce}
 use Rattle.dob_world.specs.Worlds.{Setting, Nodes, WorldView, State, items_in, AreLawful, IsLinked}
-use Rattle.dob_world.specs.Events.{Expands, AppliesAll, AppliesOwn, Posts, TakesBatch}
+use Rattle.dob_world.specs.Events.{ExpandsAt, AppliesItems, AppliesOwn, Posts, TakesBatch}
 use Rattle.dob_world.specs.Laws.{HappeningKeepsAll, EventsKeepAll, ListsAreBeginnings, OwnItemFits, TakenItemFits}
 use Rattle.dob_world.proofs.Places.{lawful_stay}
 use Rattle.dob_world.proofs.Applied.{Grows, next_fits, lawful_step, step_grows, next_after, all_applied}
@@ -43,7 +43,7 @@ next_waiting k world i j batch batches linked low_i low_j differs is =
 -- ---- one event of nodes and links
 
 module _ (k : Setting) (old new : WorldView) (lawful : AreLawful k old.nodes) (linked : IsLinked k old) where
-  pub expanded_keeps : (i : ℕ) → i < k.n → Expands k i old new → AreLawful k new.nodes × IsLinked k new
+  pub expanded_keeps : (i : ℕ) → i < k.n → ExpandsAt k i old new → AreLawful k new.nodes × IsLinked k new
   expanded_keeps i low step = (lawful_stay k old.nodes new.nodes step.nodes lawful, linked_expanded k i old new low linked step)
 
   pub owned_keeps : (i : ℕ) → 0 < k.n → i < k.n → AppliesOwn k i old new → AreLawful k new.nodes × IsLinked k new
@@ -129,7 +129,7 @@ pub record FrontApplied (k : Setting) (i j : ℕ) (front behind : List Item) (ol
 
 pub front_applied : (k : Setting) (world : WorldView) (i j : ℕ) (batch : BatchView) (batches : List BatchView) (front behind : List Item) (nodes : Nodes) →
     0 < k.n → AreLawful k world.nodes → IsLinked k world → i < k.n → j < k.n → i ≢ j → world.waiting i j ≡ batch ∷ batches → batch.items ≡ front ++ behind →
-    AppliesAll k i j front world.nodes nodes → FrontApplied k i j front behind world.nodes nodes
+    AppliesItems k i j front world.nodes nodes → FrontApplied k i j front behind world.nodes nodes
 front_applied k world i j batch batches front behind nodes some lawful linked low_i low_j differs first items_are applied =
     let later = items_from (predecessors k.family) k.n j (drop (world.expanded i) (world.nodes.history i)) in
     let others = items_of_batches batches ++ (world.outbox i j ++ later) in

@@ -9,13 +9,13 @@ use Rattle.dob_update.specs.Batches.{items_of_batches}
 use Rattle.dob_update.proofs.BatchItems.{items_in_more}
 use Rattle.dob_node.proofs.Settles.{emitted_more, emitted_grown}
 use Rattle.dob_world.specs.Worlds.{Setting, WorldView, emitted_in, IsLinked}
-use Rattle.dob_world.specs.Events.{Expands, AppliesOwn, Posts, TakesBatch}
+use Rattle.dob_world.specs.Events.{ExpandsAt, AppliesOwn, Posts, TakesBatch}
 use Rattle.dob_world.proofs.Places.{at_node, at_link}
 use Rattle.dob_world.proofs.Applied.{Grows}
 
 -- ---- a settlement expanded
 
-module _ (k : Setting) (i : ℕ) (old new : WorldView) (low_i : i < k.n) (linked : IsLinked k old) (step : Expands k i old new) where
+module _ (k : Setting) (i : ℕ) (old new : WorldView) (low_i : i < k.n) (linked : IsLinked k old) (step : ExpandsAt k i old new) where
   abbrev targets : ℕ → List ℕ
   targets = predecessors k.family
 

@@ -25,9 +25,9 @@ use Rattle.dob_node.specs.Nodes.{IsSound, HasTaken, outbox_to}
 use Rattle.dob_node.proofs.Nodes.{outbox_same, kept_sound}
 use Rattle.dob_world.specs.declared.lane.Lane.{Lane}
 use Rattle.dob_world.specs.Worlds.{Setting, WorldView, AreLawful, IsLinked}
-use Rattle.dob_world.specs.Events.{Stays, LinksStay, OtherLinksStay, AppliesAll, AppliesOwn, TakesBatch, Posts}
+use Rattle.dob_world.specs.Events.{Stays, LinksStay, OtherLinksStay, AppliesItems, AppliesOwn, TakesBatch, Posts}
 use Rattle.dob_world.specs.Stops.{GoesTooDeep, TakesFront}
-use Rattle.dob_world.specs.Lanes.{IsBatchFor, HasListed, HasTakenBatch, HasReceivedFront, HasSentBatch}
+use Rattle.dob_world.specs.Lanes.{IsBatchTo, HasListed, HasTakenBatch, HasReceivedFront, HasSentBatch}
 use Rattle.dob_world.specs.Shown.{part, lane_at, nodes_shown, world_shown}
 use Rattle.dob_world.specs.Standing.{IsNodeOf, IsLaneOf}
 use Rattle.dob_world.proofs.Slots.{here, was, elsewhere, stays, lane_here, lane_was, lane_else, lane_stays}
@@ -82,7 +82,7 @@ module _ (k : Setting) (nodes : List Node) (lanes : List Lane) (i : ℕ) (low : 
   pub lane_owned : IsLaneOf k i i lane → IsLaneOf k i i next
   lane_owned of = record {
     capacity = ap (λ (l : LinkView). l.capacity) step.same.0 ∙ of.capacity;
-    batches = subst (λ (l : LinkView). All (IsBatchFor k.family k.n i) l.waiting) (sym step.same.0) of.batches;
+    batches = subst (λ (l : LinkView). All (IsBatchTo k.family k.n i) l.waiting) (sym step.same.0) of.batches;
   }
 
   own_first : (world_shown k.family k.n nodes lanes).own i ≡ step.applied.item ∷ after.own
@@ -167,13 +167,13 @@ module _ (k : Setting) (nodes : List Node) (lanes : List Lane) (i j : ℕ) (low_
   waits_are : lane.link.waiting ≡ step.batch ∷ next.link.waiting
   waits_are = ap (λ (l : LinkView). l.waiting) step.first
 
-  batches_are : All (IsBatchFor k.family k.n j) (step.batch ∷ next.link.waiting)
-  batches_are = subst (λ bs. All (IsBatchFor k.family k.n j) bs) waits_are is_lane.batches
+  batches_are : All (IsBatchTo k.family k.n j) (step.batch ∷ next.link.waiting)
+  batches_are = subst (λ bs. All (IsBatchTo k.family k.n j) bs) waits_are is_lane.batches
 
   pub lane_received : IsLaneOf k i j next
   lane_received = record {
     capacity = sym (ap (λ (l : LinkView). l.capacity) step.first) ∙ is_lane.capacity;
-    batches = All-tail (IsBatchFor k.family k.n j) step.batch next.link.waiting batches_are;
+    batches = All-tail (IsBatchTo k.family k.n j) step.batch next.link.waiting batches_are;
   }
 
   pub waits_first : before.waiting i j ≡ step.batch ∷ next.link.waiting
@@ -198,14 +198,14 @@ module _ (k : Setting) (nodes : List Node) (lanes : List Lane) (i j : ℕ) (low_
     lane_stays k.n lanes i j lane next low_i low_j whole there_l [] (λ (x : Lane). x.sent.items) step.same,
   )
 
-  pub items_received : 0 < k.n → AreLawful k before.nodes → IsLinked k before → AppliesAll k i j items before.nodes later.nodes
+  pub items_received : 0 < k.n → AreLawful k before.nodes → IsLinked k before → AppliesItems k i j items before.nodes later.nodes
   unfolding world_shown
   items_received some lawful linked =
       let others = items_of_batches next.link.waiting ++ (before.outbox i j
       ++ items_from (predecessors k.family) k.n j (drop (before.expanded i) (before.nodes.history i))) in
       applies_many k nodes lanes i j low_i low_j node after lane next there_n there_l whole some items (step.behind ++ others) differs (kept_of k j node is)
       (All-front items step.behind (subst (λ xs. All HasItemEntries xs) step.items_are
-      (All-head (IsBatchFor k.family k.n j) step.batch next.link.waiting batches_are).entries)) step.taken.taken lawful
+      (All-head (IsBatchTo k.family k.n j) step.batch next.link.waiting batches_are).entries)) step.taken.taken lawful
       (next_waiting k before i j step.batch next.link.waiting linked low_i low_j differs waits_first
       ∙ ap (λ xs. before.nodes.applied i j ++ (xs ++ others)) step.items_are
       ∙ ap (λ xs. before.nodes.applied i j ++ xs) (append_assoc items step.behind others)) step.listed
@@ -214,7 +214,7 @@ module _ (k : Setting) (nodes : List Node) (lanes : List Lane) (i j : ℕ) (low_
   receives all some lawful linked = record {
     batch = step.batch;
     first = waits_first ∙ ap (λ bs. step.batch ∷ bs) (sym waits_left);
-    applied = subst (λ xs. AppliesAll k i j xs before.nodes later.nodes) (sym all) (items_received some lawful linked);
+    applied = subst (λ xs. AppliesItems k i j xs before.nodes later.nodes) (sym all) (items_received some lawful linked);
     others = others_wait;
     same = all_stay;
   }
@@ -249,7 +249,7 @@ module _ (k : Setting) (nodes : List Node) (lanes : List Lane) (i j : ℕ) (low_
   node_posted sound going = node_after k i node after is sound going step.cut.same.0 step.cut.same.1 step.cut.same.2
       (λ class. ap (λ (s : Share). status_at s class) step.cut.kept.0)
 
-  batch_for : IsBatchFor k.family k.n j step.batch
+  batch_for : IsBatchTo k.family k.n j step.batch
   batch_for = record {
     of = (
       step.cut.cut.of_link.0 ∙ (is.sound.addressed j).of.0 ∙ is.of.0,
@@ -262,9 +262,9 @@ module _ (k : Setting) (nodes : List Node) (lanes : List Lane) (i j : ℕ) (low_
   pub lane_posted : IsLaneOf k i j next
   lane_posted = record {
     capacity = ap (λ (l : LinkView). l.capacity) step.link ∙ is_lane.capacity;
-    batches = subst (λ (l : LinkView). All (IsBatchFor k.family k.n j) l.waiting) (sym step.link)
-        (All-append (IsBatchFor k.family k.n j) lane.link.waiting (step.batch ∷ []) is_lane.batches
-        (All-cons (IsBatchFor k.family k.n j) step.batch [] batch_for (All-nil (IsBatchFor k.family k.n j))));
+    batches = subst (λ (l : LinkView). All (IsBatchTo k.family k.n j) l.waiting) (sym step.link)
+        (All-append (IsBatchTo k.family k.n j) lane.link.waiting (step.batch ∷ []) is_lane.batches
+        (All-cons (IsBatchTo k.family k.n j) step.batch [] batch_for (All-nil (IsBatchTo k.family k.n j))));
   }
 
   pub posts : Posts k i j (world_shown k.family k.n nodes lanes) (world_shown k.family k.n (set nodes i after) (set lanes (i * k.n + j) next))

@@ -10,7 +10,7 @@ use Rattle.dob_share.specs.declared.news.Item.{Item}
 use Rattle.dob_world.specs.declared.event.Event.{Event}
 use Rattle.dob_world.specs.declared.event.Event.TheVariants.{Expand, Own, Post, Take, Pass, Announce}
 use Rattle.dob_world.specs.Worlds.{Setting, Nodes, WorldView, State, IsNodeIdle, Matches}
-use Rattle.dob_world.specs.Events.{Happens, Expands, AppliesOwn, Posts, TakesBatch, AppliesAll}
+use Rattle.dob_world.specs.Events.{Happens, ExpandsAt, AppliesOwn, Posts, TakesBatch, AppliesItems}
 use Rattle.dob_world.specs.Standing.{HasAtMost}
 use Rattle.dob_world.specs.Laws.{HappeningKeepsMatch}
 use Rattle.dob_world.proofs.Places.{at_link}
@@ -33,7 +33,7 @@ idle_same k old new i expanded history own outboxes idle = record {
 }
 
 -- the histories of other nodes than j stay where it applies items
-pub all_elsewhere : (k : Setting) (i j : ℕ) (items : List Item) (old new : Nodes) → AppliesAll k i j items old new → (m : ℕ) → m ≢ j →
+pub all_elsewhere : (k : Setting) (i j : ℕ) (items : List Item) (old new : Nodes) → AppliesItems k i j items old new → (m : ℕ) → m ≢ j →
     new.history m ≡ old.history m
 all_elsewhere k i j [] old new applied m other = applied.history m
 all_elsewhere k i j (item ∷ items) old new applied m other =
@@ -51,7 +51,7 @@ white_else k old new i colours black stay matches m low white = elim (cases_eq m
 module _ (k : Setting) (old new : State) (size : IsSize k.n) (matches : Matches k old) where
   -- ---- events that leave the ring
 
-  pub matches_expanded : (i : ℕ) → i < k.n → old.world.expanded i < length (old.world.nodes.history i) → Expands k i old.world new.world → new.ring ≡ old.ring →
+  pub matches_expanded : (i : ℕ) → i < k.n → old.world.expanded i < length (old.world.nodes.history i) → ExpandsAt k i old.world new.world → new.ring ≡ old.ring →
       Matches k new
   matches_expanded i low more step same = record {
     lawful = subst (λ (r : Ring). IsLawfulRing k.n r) (sym same) matches.lawful;

@@ -13,7 +13,7 @@ use Rattle.dob_node.specs.TakenItems.{HasItemEntries, AreKept, IsTaken, AreTaken
 use Rattle.dob_node.specs.declared.node.Node.{Node}
 use Rattle.dob_world.specs.declared.lane.Lane.{Lane}
 use Rattle.dob_world.specs.Worlds.{Setting, Nodes, items_in, AreLawful}
-use Rattle.dob_world.specs.Events.{Applies, AppliesAll}
+use Rattle.dob_world.specs.Events.{Applies, AppliesItems}
 use Rattle.dob_world.specs.Shown.{part, lane_at, nodes_shown}
 use Rattle.dob_world.specs.Standing.{IsNodeOf, IsLaneOf, AreInPlace}
 use Rattle.dob_world.proofs.Places.{at_node, at_link, nodes_same}
@@ -128,11 +128,11 @@ module _ (k : Setting) (nodes : List Node) (lanes : List Lane) (i j : ℕ) (low_
 
   pub applies_many : 0 < k.n → (items rest : List Item) → i ≢ j → AreKept k.family k.n j node.share node.history → All HasItemEntries items →
       AreTaken items node.share after.share node.history after.history → AreLawful k old → items_in k old i j ≡ old.applied i j ++ (items ++ rest) →
-      next.applied.items ≡ lane.applied.items ++ items → AppliesAll k i j items old new
+      next.applied.items ≡ lane.applied.items ++ items → AppliesItems k i j items old new
   applies_many some items rest differs kept entries taken lawful is listed =
-      subst (λ x. AppliesAll k i j items x new) (sym old_same)
-      (subst (λ x. AppliesAll k i j items (with_share k i j old node.share node.history.settlements lane.applied.items) x) (sym new_same)
-      (subst (λ xs. AppliesAll k i j items (with_share k i j old node.share node.history.settlements lane.applied.items)
+      subst (λ x. AppliesItems k i j items x new) (sym old_same)
+      (subst (λ x. AppliesItems k i j items (with_share k i j old node.share node.history.settlements lane.applied.items) x) (sym new_same)
+      (subst (λ xs. AppliesItems k i j items (with_share k i j old node.share node.history.settlements lane.applied.items)
       (with_share k i j old after.share after.history.settlements xs)) (sym listed)
       (items_apply k some i j low_i low_j old items node.share after.share node.history after.history lane.applied.items rest differs kept entries taken
       (subst (λ x. AreLawful k x) old_same lawful)

@@ -41,7 +41,7 @@ use Rattle.dob_world.specs.Worlds.{Setting, Nodes, value_in, AreLawful, HaveFall
 use Rattle.dob_world.specs.Shown.{part, lane_at, nodes_shown, world_shown}
 use Rattle.dob_world.specs.Standing.{IsNodeOf, AreInPlace}
 use Rattle.dob_world.specs.Start.{AreOpenedNodes, AreEmptyLanes, IsEmptyLane}
-use Rattle.dob_world.specs.Lanes.{IsBatchFor}
+use Rattle.dob_world.specs.Lanes.{IsBatchTo}
 use Rattle.dob_link.specs.Links.{LinkView}
 use Rattle.std.proofs.lemmas.List.Elements.{All-nil}
 use Rattle.dob_pieces.proofs.Elements.{some_at}
@@ -85,7 +85,7 @@ module _ (k : Setting) (openings : List Opening) (nodes : List Node) (lanes : Li
     node = is_node;
     lane = λ i j lane there. let e = lane_empty i j lane there in record {
       capacity = ap (λ (l : LinkView). l.capacity) e.link;
-      batches = subst (λ (l : LinkView). All (IsBatchFor k.family k.n j) l.waiting) (sym e.link) (All-nil (IsBatchFor k.family k.n j));
+      batches = subst (λ (l : LinkView). All (IsBatchTo k.family k.n j) l.waiting) (sym e.link) (All-nil (IsBatchTo k.family k.n j));
     };
   }
 

@@ -24,7 +24,7 @@ use Rattle.dob_node.proofs.Kepts.{fits_own, kept_still}
 use Rattle.dob_node.proofs.ItemChanges.{same_by, Change, item_changes}
 use Rattle.dob_node.proofs.TakenLists.{kept_with_room}
 use Rattle.dob_world.specs.Worlds.{Setting, Nodes, value_in, items_in, AreLawful}
-use Rattle.dob_world.specs.Events.{NodesStay, Applies, AppliesAll}
+use Rattle.dob_world.specs.Events.{NodesStay, Applies, AppliesItems}
 use Rattle.dob_world.proofs.Applied.{next_fits, lawful_step, step_grows, next_after}
 
 -- ---- nodes of which one has that share and history, and has applied those items of another
@@ -198,7 +198,7 @@ module _ (k : Setting) (some : 0 < k.n) (i j : ℕ) (low_i : i < k.n) (low_j : j
       AreKept k.family k.n j share history → All HasItemEntries more → AreTaken more share after history grown →
       AreLawful k (with_share k i j nodes share history.settlements items) →
       items_in k (with_share k i j nodes share history.settlements items) i j ≡ items ++ (more ++ rest) →
-      AppliesAll k i j more (with_share k i j nodes share history.settlements items) (with_share k i j nodes after grown.settlements (items ++ more))
+      AppliesItems k i j more (with_share k i j nodes share history.settlements items) (with_share k i j nodes after grown.settlements (items ++ more))
       × AreKept k.family k.n j after grown
   items_apply [] share after history grown items rest differs kept entries taken lawful is = (
     stay_by (with_share k i j nodes share history.settlements items) (with_share k i j nodes after grown.settlements (items ++ []))
@@ -225,7 +225,7 @@ module _ (k : Setting) (some : 0 < k.n) (i j : ℕ) (low_i : i < k.n) (low_j : j
         (
           new,
           step,
-          subst (λ xs. AppliesAll k i j more new (with_share k i j nodes after grown.settlements xs)) (append_assoc items (item ∷ []) more) then.0,
+          subst (λ xs. AppliesItems k i j more new (with_share k i j nodes after grown.settlements xs)) (append_assoc items (item ∷ []) more) then.0,
         ),
         then.1,
       )

@@ -5,7 +5,7 @@ use Rattle.dob_share.specs.declared.news.Settlement.{Settlement}
 use Rattle.dob_share.specs.declared.news.Item.{Item}
 use Rattle.dob_update.specs.Items.{items_of}
 use Rattle.dob_update.specs.Batches.{BatchView}
-use Rattle.dob_node.specs.Lawful.{AreAfter, IsApplied, AreSettled}
+use Rattle.dob_node.specs.Lawful.{AreAfter, IsOneMore, AreSettled}
 use Rattle.dob_world.specs.declared.event.Event.{Event}
 use Rattle.dob_safra.specs.declared.event.RingEvent.TheVariants as ring
 use Rattle.dob_safra.specs.Rings.{IsAnnounceable, Moved}
@@ -55,20 +55,20 @@ OtherLinksStay i j old new = (m l : ℕ) → (m ≢ i) ⊎ (l ≢ j) → new m l
 -- Node j applies an item of node i: it is listed, the cell of its class is changed as it says, and where this changes
 -- the class's value the history of j has a settlement more.
 pub record Applies (k : Setting) (i j : ℕ) (item : Item) (old new : Nodes) : Type 0 where
-  pub listed : IsApplied i j item old.applied new.applied
+  pub listed : IsOneMore i j item old.applied new.applied
   pub cells : AreAfter item old.cell new.cell (value_in k.n old) (value_in k.n new)
   pub settled : AreSettled j item.to (value_in k.n old item.to) (value_in k.n new item.to) old.history new.history
 
 -- it applies items of node i, one after the other
-abbrev pub AppliesAll : Setting → ℕ → ℕ → List Item → Nodes → Nodes → Type 0
-AppliesAll k i j [] old new = NodesStay old new
-AppliesAll k i j (item ∷ items) old new = (between : Nodes) × Applies k i j item old between × AppliesAll k i j items between new
+abbrev pub AppliesItems : Setting → ℕ → ℕ → List Item → Nodes → Nodes → Type 0
+AppliesItems k i j [] old new = NodesStay old new
+AppliesItems k i j (item ∷ items) old new = (between : Nodes) × Applies k i j item old between × AppliesItems k i j items between new
 
 -- ---- what an event changes
 
 -- The next settlement of node i becomes items: those for itself are the last of its own, those for another node are the
 -- last of the outbox for it.
-pub record Expands (k : Setting) (i : ℕ) (old new : WorldView) : Type 0 where
+pub record ExpandsAt (k : Setting) (i : ℕ) (old new : WorldView) : Type 0 where
   pub settlement : Settlement
   pub is_next : slice_get (old.nodes.history i) (old.expanded i) ≡ Some settlement
   pub expanded : new.expanded i ≡ old.expanded i + 1
@@ -103,13 +103,13 @@ pub record Posts (k : Setting) (i j : ℕ) (old new : WorldView) : Type 0 where
 pub record TakesBatch (k : Setting) (i j : ℕ) (old new : WorldView) : Type 0 where
   pub batch : BatchView
   pub first : old.waiting i j ≡ batch ∷ new.waiting i j
-  pub applied : AppliesAll k i j batch.items old.nodes new.nodes
+  pub applied : AppliesItems k i j batch.items old.nodes new.nodes
   pub others : OtherLinksStay i j old.waiting new.waiting
   pub same : Stays old.expanded new.expanded × Stays old.own new.own × LinksStay old.outbox new.outbox × LinksStay old.sent new.sent
 
 -- The event makes the new state of the old one. Of the ring's state it changes what the ring's own event does.
 abbrev pub Happens : Setting → State → Event → State → Type 0
-Happens k old (Expand i) new = Expands k i old.world new.world × (new.ring ≡ old.ring)
+Happens k old (Expand i) new = ExpandsAt k i old.world new.world × (new.ring ≡ old.ring)
 Happens k old (Own i) new = AppliesOwn k i old.world new.world × (new.ring ≡ old.ring)
 Happens k old (Post i j) new = Posts k i j old.world new.world × Moved k.n old.ring (ring.Post i j) new.ring
 Happens k old (Take i j) new = TakesBatch k i j old.world new.world × Moved k.n old.ring (ring.Take i j) new.ring

@@ -16,7 +16,7 @@ abbrev pub AreTwo : ℕ → ℕ → ℕ → Type 0
 AreTwo n i j = (i < n) × (j < n) × (i ≢ j)
 
 -- a batch for one of n nodes, with items that have such values as a table can have
-pub record IsBatchFor (family : Family) (n to : ℕ) (batch : BatchView) : Type 0 where
+pub record IsBatchTo (family : Family) (n to : ℕ) (batch : BatchView) : Type 0 where
   pub of : (batch.family ≡ family) × (batch.n ≡ n) × (batch.to ≡ to)
   pub entries : All HasItemEntries batch.items
 

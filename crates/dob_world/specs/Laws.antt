@@ -12,7 +12,7 @@ use Rattle.dob_node.specs.Lawful.{CanApply}
 use Rattle.dob_safra.specs.Laws.{IsSize}
 use Rattle.dob_world.specs.declared.event.Event.{Event}
 use Rattle.dob_world.specs.Worlds.{Setting, Nodes, WorldView, State, value_in, items_in, AreLawful, IsLinked, IsAtRest, Matches}
-use Rattle.dob_world.specs.Events.{CanHappen, Happens, WorldMayEnd, AppliesAll}
+use Rattle.dob_world.specs.Events.{CanHappen, Happens, WorldMayEnd, AppliesItems}
 use Rattle.dob_world.specs.Runs.{IsAfter}
 use Rattle.dob_world.specs.Rounds.{IsStill}
 use Rattle.dob_world.specs.Headline.{IsSilent, Headline}
@@ -49,7 +49,7 @@ OwnItemFits = (k : Setting) (world : WorldView) (i : ℕ) (item : Item) (rest : 
 abbrev pub TakenItemFits : Type 0
 TakenItemFits = (k : Setting) (world : WorldView) (i j : ℕ) (batch : BatchView) (batches : List BatchView) (front : List Item) (item : Item)
     (behind : List Item) (nodes : Nodes) → 0 < k.n → AreLawful k world.nodes → IsLinked k world → i < k.n → j < k.n → i ≢ j →
-    world.waiting i j ≡ batch ∷ batches → batch.items ≡ front ++ item ∷ behind → AppliesAll k i j front world.nodes nodes →
+    world.waiting i j ≡ batch ∷ batches → batch.items ≡ front ++ item ∷ behind → AppliesItems k i j front world.nodes nodes →
     CanApply k.family k.n j nodes.cell item
 
 -- a lawful and linked world at rest has the value table

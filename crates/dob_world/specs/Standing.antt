@@ -17,7 +17,7 @@ use Rattle.dob_world.specs.declared.detector.Detector.{Detector}
 use Rattle.dob_stops.specs.declared.fault.Fault.{Fault}
 use Rattle.dob_world.specs.declared.lane.Lane.{Lane}
 use Rattle.dob_world.specs.declared.world.World.{World}
-use Rattle.dob_world.specs.Lanes.{IsBatchFor}
+use Rattle.dob_world.specs.Lanes.{IsBatchTo}
 use Rattle.dob_world.specs.Worlds.{Setting, AreLawful, HaveFallsIn, IsLinked, Matches}
 use Rattle.dob_world.specs.Stops.{IsStop, IsForMemory}
 use Rattle.dob_world.specs.Headline.{AreBeginnings, Headline}
@@ -38,7 +38,7 @@ pub record IsNodeOf (k : Setting) (i : ℕ) (node : Node) : Type 0 where
 -- the lane from node i to node j
 pub record IsLaneOf (k : Setting) (i j : ℕ) (lane : Lane) : Type 0 where
   pub capacity : lane.link.capacity ≡ k.capacity
-  pub batches : All (IsBatchFor k.family k.n j) lane.link.waiting
+  pub batches : All (IsBatchTo k.family k.n j) lane.link.waiting
 
 -- nodes and lanes stand in their places
 pub record AreInPlace (k : Setting) (nodes : List Node) (lanes : List Lane) : Type 0 where

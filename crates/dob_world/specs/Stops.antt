@@ -10,7 +10,7 @@ use Rattle.dob_world.specs.declared.event.Event.TheVariants.{Expand, Own, Post, 
 use Rattle.dob_stops.specs.declared.fault.Fault.{Fault}
 use Rattle.dob_stops.specs.declared.fault.Fault.TheVariants.{Stopped}
 use Rattle.dob_world.specs.Worlds.{Setting, Nodes, WorldView, State}
-use Rattle.dob_world.specs.Events.{CanHappen, AppliesAll, Stays, LinksStay, OtherLinksStay}
+use Rattle.dob_world.specs.Events.{CanHappen, AppliesItems, Stays, LinksStay, OtherLinksStay}
 use Rattle.dob_world.specs.Runs.{IsAfter, IsAfterSteps}
 use Rattle.dob_world.specs.Rounds.{round_length, round_event, round_front, rounds_of}
 
@@ -35,7 +35,7 @@ pub record TakenGoesTooDeep (k : Setting) (world : WorldView) (i j : ℕ) : Type
   pub behind : List Item
   pub items_are : batch.items ≡ front ++ item ∷ behind
   pub between : Nodes
-  pub applied : AppliesAll k i j front world.nodes between
+  pub applied : AppliesItems k i j front world.nodes between
   pub deep : GoesTooDeep between item
 
 -- Node j takes the first batch that waits on the link from i up to an item that goes too deep: just the items before that one are

@@ -4,7 +4,7 @@ ghost use Rattle.std.specs.Prelude.{true, false, IfErr, OnOk, OnErr};
 ghost use Rattle.std.specs.List.{All};
 ghost use Rattle.dob_stops.specs.declared.cause.Cause.TheVariants as cause;
 ghost use Rattle.dob_node.specs.Nodes.{outbox_to, IsSound, IsUnchanged, HasItemFault};
-ghost use Rattle.dob_world.specs.Lanes.{LaneStays, IsBatchFor, HasListed, HasSentBatch, HasTakenBatch, HasReceivedFront};
+ghost use Rattle.dob_world.specs.Lanes.{LaneStays, IsBatchTo, HasListed, HasSentBatch, HasTakenBatch, HasReceivedFront};
 
 use crate::lane::Lane;
 use dob_link::Link;
@@ -91,7 +91,7 @@ pub(crate) fn post(
 pub(crate) fn receive(node: &mut Node, lane: &mut Lane) -> Result<bool, Cause>
     requires sound { IsSound node.old }
     requires going { node.old.failed ≡ None }
-    requires batches { All (IsBatchFor node.old.family node.old.n node.old.id) lane.old.link.waiting }
+    requires batches { All (IsBatchTo node.old.family node.old.n node.old.id) lane.old.link.waiting }
     ensures none { (result ≡ Ok false) ↔ (lane.old.link.waiting ≡ []) }
     ensures nothing { result ≡ Ok false → (node.new ≡ node.old) × (lane.new ≡ lane.old) }
     ensures received { result ≡ Ok true → HasTakenBatch node.old lane.old node.new lane.new }

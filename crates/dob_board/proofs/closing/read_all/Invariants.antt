@@ -1,7 +1,7 @@
 -- The words below the index are read as the stands of all nodes say, and the rest's view is of these, closed by the first.
 use Rattle.std.proofs.Common.{◌≡◌, ◌<◌, ℕ, [], true, false, get_or, vec_len}
 use Rattle.dob_board.specs.Boards.{IsWord}
-use Rattle.dob_board.specs.Histories.{GoesOn}
+use Rattle.dob_board.specs.Histories.{IsLaterLog}
 use Rattle.dob_board.proofs.closing.read_all.Given as goal
 
 abbrev pub invariant-loop-word : goal.invariant-loop-word
@@ -13,7 +13,7 @@ invariant-loop-word l = record {
   no_slot : l.rest.me.1 ≡ [];
   closed : 0 < l.word → l.rest.me.0.closed ≡ true;
   own : 0 < l.word → l.rest.me.0.own ≡ false;
-  witnessed : GoesOn l.fn.rest.me.0.witnessed l.rest.me.0.witnessed;
+  witnessed : IsLaterLog l.fn.rest.me.0.witnessed l.rest.me.0.witnessed;
   long : vec_len l.words ≡ vec_len l.fn.words;
   read : (w : ℕ) → w < l.word → IsWord l.nodes l.fn.rest.me.0.stands l.rest.me.0.witnessed w (get_or l.words.items w 0);
 }

@@ -2,10 +2,10 @@
 use Rattle.std.proofs.Common.{◌≡◌, List, [], ◌∷◌, ◌++◌, sym, ap, ◌∙◌}
 use Rattle.std.proofs.lemmas.List.{append-nil, append_assoc}
 use Rattle.dob_update.specs.Batches.{BatchView}
-use Rattle.dob_link.specs.Links.{Call, Taken, GivenBack, Handed, Nothing, Runs, taken, handed}
+use Rattle.dob_link.specs.Links.{Call, Taken, GivenBack, Handed, Nothing, LeadsBy, taken, handed}
 use Rattle.dob_link.proofs.laws.links_keep_order.Goals as goal
 
-kept_order : (calls : List Call) (old new : List BatchView) → Runs old calls new → old ++ taken calls ≡ handed calls ++ new
+kept_order : (calls : List Call) (old new : List BatchView) → LeadsBy old calls new → old ++ taken calls ≡ handed calls ++ new
 kept_order [] old new e = append-nil old ∙ e
 kept_order (Taken batch ∷ calls) old new r =
     sym (append_assoc old (batch ∷ []) (taken calls)) ∙ ap (λ bs. bs ++ taken calls) (sym r.1) ∙ kept_order calls r.0 new r.2

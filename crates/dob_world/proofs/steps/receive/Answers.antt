@@ -5,22 +5,22 @@ use Rattle.std.proofs.lemmas.List.Elements.{All-head}
 use Rattle.dob_link.specs.Links.{link_of}
 use Rattle.dob_update.specs.Batches.{BatchView}
 use Rattle.dob_node.proofs.TakenLists.{taken_since, before_since}
-use Rattle.dob_world.specs.Lanes.{IsBatchFor}
+use Rattle.dob_world.specs.Lanes.{IsBatchTo}
 use Rattle.dob_world.proofs.Firsts.{front_is}
 use Rattle.dob_world.proofs.steps.receive.Goals as goal
 
 pub apply_batch-requires-clause-n : goal.apply_batch-requires-clause-n
-apply_batch-requires-clause-n c = let P = λ (b : BatchView). IsBatchFor c.args.node.now.family c.args.node.now.n c.args.node.now.id b in
+apply_batch-requires-clause-n c = let P = λ (b : BatchView). IsBatchTo c.args.node.now.family c.args.node.now.n c.args.node.now.id b in
     (All-head P c.in-Some-next.batch c.next.new.self.waiting (subst (λ xs. All P xs) c.in-Some-next.ensures.some c.requires.batches)).of.1
     ∙ sym c.reserve-2.ensures.step.unchanged.same.2
 
 pub apply_batch-requires-clause-family : goal.apply_batch-requires-clause-family
-apply_batch-requires-clause-family c = let P = λ (b : BatchView). IsBatchFor c.args.node.now.family c.args.node.now.n c.args.node.now.id b in
+apply_batch-requires-clause-family c = let P = λ (b : BatchView). IsBatchTo c.args.node.now.family c.args.node.now.n c.args.node.now.id b in
     (All-head P c.in-Some-next.batch c.next.new.self.waiting (subst (λ xs. All P xs) c.in-Some-next.ensures.some c.requires.batches)).of.0
     ∙ sym c.reserve-2.ensures.step.unchanged.same.0
 
 pub apply_batch-requires-clause-entries : goal.apply_batch-requires-clause-entries
-apply_batch-requires-clause-entries c = let P = λ (b : BatchView). IsBatchFor c.args.node.now.family c.args.node.now.n c.args.node.now.id b in
+apply_batch-requires-clause-entries c = let P = λ (b : BatchView). IsBatchTo c.args.node.now.family c.args.node.now.n c.args.node.now.id b in
     (All-head P c.in-Some-next.batch c.next.new.self.waiting (subst (λ xs. All P xs) c.in-Some-next.ensures.some c.requires.batches)).entries
 
 pub returns-in-Err-clause-front : goal.returns-in-Err-clause-front

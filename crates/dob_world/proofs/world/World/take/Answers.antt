@@ -3,7 +3,7 @@ use Rattle.std.proofs.Common.{ℕ, refl, sym, ap, subst, Ok, Err}
 use Rattle.std.specs.List.{All}
 use Rattle.dob_pieces.specs.declared.profile.Family.{Family}
 use Rattle.dob_update.specs.Batches.{BatchView}
-use Rattle.dob_world.specs.Lanes.{IsBatchFor}
+use Rattle.dob_world.specs.Lanes.{IsBatchTo}
 use Rattle.dob_world.specs.declared.event.Event.TheVariants.{Take}
 use Rattle.dob_safra.specs.declared.event.RingEvent.TheVariants as ring
 use Rattle.dob_world.specs.Shown.{setting_of, ring_of}
@@ -34,9 +34,9 @@ receive-requires-clause-batches c =
     let node = c.index_mut.result.now in
     let k = setting_of c.args.self.now in
     let waiting = c.index_mut-2.result.now.link.waiting in
-    subst (λ (st : Family). All (λ (b : BatchView). IsBatchFor st node.n node.id b) waiting) (sym at.node_of.of.0)
-    (subst (λ (m : ℕ). All (λ (b : BatchView). IsBatchFor k.family m node.id b) waiting) (sym at.node_of.of.2)
-    (subst (λ (m : ℕ). All (λ (b : BatchView). IsBatchFor k.family k.n m b) waiting) (sym at.node_of.of.1) at.lane_of.batches))
+    subst (λ (st : Family). All (λ (b : BatchView). IsBatchTo st node.n node.id b) waiting) (sym at.node_of.of.0)
+    (subst (λ (m : ℕ). All (λ (b : BatchView). IsBatchTo k.family m node.id b) waiting) (sym at.node_of.of.2)
+    (subst (λ (m : ℕ). All (λ (b : BatchView). IsBatchTo k.family k.n m b) waiting) (sym at.node_of.of.1) at.lane_of.batches))
 
 pub count_take-requires-clause-ready : goal.count_take-requires-clause-ready
 count_take-requires-clause-ready c =

@@ -1,0 +1,8 @@
+-- Each so far knows of it.
+use Rattle.std.proofs.Common.{◌≡◌, ℕ, ◌<◌, Some}
+use Rattle.std.specs.Prelude.{slice_get}
+use Rattle.dob_runner.specs.declared.runner.Runner.{Runner}
+use Rattle.dob_run.proofs.build_end.all_know.Given as goal
+
+abbrev pub invariant-loop-runner : goal.invariant-loop-runner
+invariant-loop-runner l = (k : ℕ) (runner : Runner) → k < l.runner-index → slice_get l.runners k ≡ Some runner → runner.endpoint.seat.halt ≡ l.halt

@@ -1,0 +1,7 @@
+-- Nothing came yet.
+use Rattle.std.proofs.Common.{◌≡◌}
+use Rattle.rtrb.specs.Ring.{received, SameConsumer}
+use Rattle.dob_run.proofs.handed.next_handed.Given as goal
+
+abbrev pub invariant-loop : goal.invariant-loop
+invariant-loop g l = (received l.taking ≡ received l.initial.taking) × SameConsumer l.initial.taking l.taking

@@ -1,0 +1,12 @@
+-- The first that came has made its turns.
+use Rattle.std.proofs.Common.{List, [], ◌∷◌, ◌++◌, ap, ◌∙◌}
+use Rattle.dob_run.specs.declared.handed.Handed.{Handed}
+use Rattle.dob_run.proofs.threads.take_and_go.Goals as goal
+
+pub returns : goal.returns
+returns g c = record {
+  same = c.next_handed-runner.ensures.same;
+  handed = c.next_handed-runner.result;
+  came = c.next_handed-runner.ensures.came ∙ ap (λ (l : List Handed). l ++ c.next_handed-runner.result ∷ []) c.requires;
+  ends = c.go_until.ensures;
+}
