@@ -1,5 +1,5 @@
 -- What the program owes where it is asked about a position by a database file of which only the header and the records that it needs are read.
-use Rattle.std.specs.Prelude.{◌≡◌, ◌⊎◌, ℕ, Bool, List, Result, String}
+use Rattle.std.specs.Prelude.{◌≡◌, ◌⊎◌, ℕ, List, Result, String}
 use Rattle.dob_pieces.specs.declared.profile.Family.{Family}
 use Rattle.dob_pieces.specs.declared.profile.Profile.{Profile}
 use Rattle.dob_pieces.specs.declared.profile.Profile.TheVariants.{A}
@@ -27,9 +27,9 @@ use Rattle.dob_query.specs.declared.questions.Question.{Question}
 use Rattle.dob_query.specs.declared.questions.Question.TheVariants.{Moves, Best, Line, Draw}
 use Rattle.dob_query.specs.Endings.{AnswersOver, Ending, GivesLines}
 use Rattle.dob_query.specs.Looks.{GivesWhole, IsRefusedBy}
-use Rattle.dob_query.specs.Tables.{IsShut, IsTextOf, moves_lines}
+use Rattle.dob_query.specs.Played.{moves_lines, played_drawing}
+use Rattle.dob_query.specs.Tables.{IsShut, IsTextOf}
 use Rattle.dob_query.specs.ValuedMoves.{best_move_line, move_lines}
-use Rattle.dob_query.specs.Drawn.{played_drawing}
 use Rattle.dob_shelf.specs.Shelves.{ShelfChange}
 
 -- ---- the answer, where Has says which value a position has
@@ -49,10 +49,6 @@ IsToldBy Moves profile Has p = TellsMoves move_lines profile Has p
 IsToldBy Best profile Has p = TellsMoves best_move_line profile Has p
 IsToldBy (Line is_numbered) profile Has p = TellsPlay (moves_lines is_numbered) profile Has p
 IsToldBy Draw profile Has p = TellsPlay (played_drawing p) profile Has p
-
--- the header names the family and the format
-abbrev pub Names : Stream → Format → Family → Type 0
-Names stream format family = CountsClasses format family stream.bytes
 
 -- the position is of the family that the stream's header names, and the lines answer the question by its records
 pub record IsAnswerOf (question : Question) (stream : Stream) (position : Setup) (lines : List ℕ) : Type 0 where

@@ -1,11 +1,10 @@
 -- The line as far as it has come, and where it breaks off.
-use Rattle.std.proofs.Common.{◌≡◌, ℕ, inl, inr, refl, sym, subst, ◌∙◌, List, [], ◌∷◌, ◌++◌, Some, None, append-nil}
+use Rattle.std.proofs.Common.{◌≡◌, inl, inr, refl, subst, List, [], ◌∷◌, ◌++◌, Some, None, append-nil}
 use Rattle.dob_pieces.specs.declared.profile.Family.{Family}
 use Rattle.dob_pieces.specs.declared.setup.Setup.{Setup}
 use Rattle.dob_moves.specs.declared.game_move.Move.{Move}
 use Rattle.dob_moves.specs.Moves.{Goes}
 use Rattle.dob_moves.specs.Statuses.{CanCatch, IsFirstCatch}
-use Rattle.dob_moves.proofs.ProfileMoves.{Goes-is}
 use Rattle.dob_rank.specs.Families.{IsPositionOf}
 use Rattle.dob_value.specs.declared.value.Value.{Value}
 use Rattle.dob_value.proofs.Successors.{moves_keep_the_family}
@@ -17,7 +16,7 @@ use Rattle.dob_probe.proofs.Ways.{begins_more, line_after}
 use Rattle.dob_records.specs.declared.fault.Fault.{Fault}
 use Rattle.dob_records.specs.declared.fault.Fault.TheVariants.{File, Inconsistent, Memory}
 use Rattle.dob_records.specs.Faults.{IsFaultOfLine, IsGap}
-use Rattle.dob_records.specs.Records.{IsRecorded, LacksAlong, LacksRecord}
+use Rattle.dob_records.specs.Records.{IsRecorded, LacksRecord}
 use Rattle.dob_records.proofs.Recorded.{one_recorded}
 
 -- the moves are a beginning of the line of p, and lead to a position with that value

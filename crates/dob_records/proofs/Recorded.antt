@@ -1,5 +1,5 @@
 -- A position has one record, and the moves that are listed by records stand in the move order, whatever these say.
-use Rattle.std.proofs.Common.{◌≡◌, ℕ, ◌+◌, ◌<◌, ◌⊎◌, ◌↔◌, inl, inr, refl, sym, subst, ap, ◌∙◌, arith, List, [], length, get_or}
+use Rattle.std.proofs.Common.{◌≡◌, ℕ, ◌+◌, ◌<◌, ◌⊎◌, ◌↔◌, inl, inr, sym, subst, ap, ◌∙◌, arith, List, [], length, get_or}
 use Rattle.std.proofs.Common.{Some, AllPairs, Contains, slice_get, Result, Ok, Err, IfOk}
 use Rattle.std.proofs.lemmas.Option.{slice_get-get_or, same_Some}
 use Rattle.dob_pieces.specs.declared.profile.Family.{Family}

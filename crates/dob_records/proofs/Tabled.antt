@@ -13,7 +13,7 @@ use Rattle.dob_dbfile.specs.Format.{IsFile}
 use Rattle.dob_dbfile.proofs.Looked.{table_has_record, table_record}
 use Rattle.dob_dbfile.proofs.Written.{table_classes}
 use Rattle.dob_probe.specs.declared.by_value.ValuedMove.{ValuedMove}
-use Rattle.dob_probe.specs.Lines.{Continues, GivenBy, GoesOnTo, IsFirstTo, IsLine, LeadsTo}
+use Rattle.dob_probe.specs.Lines.{Continues, GivenBy, IsLine, LeadsTo}
 use Rattle.dob_probe.specs.ValuedMoves.{AreValuedMoves}
 use Rattle.dob_probe.proofs.ByValue.{moves_by, valued_by}
 use Rattle.dob_records.specs.Records.{IsRecorded}

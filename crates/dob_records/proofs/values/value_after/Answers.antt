@@ -34,9 +34,9 @@ returns-clause-said g c = λ stream shows.
     ok_weaker c.value_at.result (IsRecorded stream c.args.format family next)
     (λ (value : Value). (q : Setup) → Goes family.profile setup c.args.the_move q → IsRecorded stream c.args.format family q value)
     (λ value says q by.
-        let same = HasOutcome-is setup c.args.the_move next c.apply-next.ensures
-        ∙ sym (HasOutcome-is setup c.args.the_move q (goes family.profile setup c.args.the_move q by)) in
-        subst (λ (s : Setup). IsRecorded stream c.args.format family s value) same says)
+    let same = HasOutcome-is setup c.args.the_move next c.apply-next.ensures
+    ∙ sym (HasOutcome-is setup c.args.the_move q (goes family.profile setup c.args.the_move q by)) in
+    subst (λ (s : Setup). IsRecorded stream c.args.format family s value) same says)
     (c.value_at.ensures.said stream shows)
 
 pub returns-clause-fault : goal.returns-clause-fault
