@@ -50,12 +50,16 @@ IsToldBy Best profile Has p = TellsMoves best_move_line profile Has p
 IsToldBy (Line is_numbered) profile Has p = TellsPlay (moves_lines is_numbered) profile Has p
 IsToldBy Draw profile Has p = TellsPlay (played_drawing p) profile Has p
 
+-- the stream's header names the family and the format, and the position is of that family
+pub record IsOfNamed (stream : Stream) (position : Setup) (format : Format) (family : Family) : Type 0 where
+  pub named : CountsClasses format family stream.bytes
+  pub member : IsPositionOf family position
+
 -- the position is of the family that the stream's header names, and the lines answer the question by its records
 pub record IsAnswerOf (question : Question) (stream : Stream) (position : Setup) (lines : List ℕ) : Type 0 where
   pub format : Format
   pub family : Family
-  pub named : CountsClasses format family stream.bytes
-  pub member : IsPositionOf family position
+  pub by : IsOfNamed stream position format family
   pub told : IsToldBy question family.profile (IsRecorded stream format family) position lines
 
 -- ---- faults
@@ -74,25 +78,21 @@ BreaksFor Best stream format family p class = ⊥
 BreaksFor (Line is_numbered) stream format family p class = BreaksBy family (IsRecorded stream format family) p class
 BreaksFor Draw stream format family p class = BreaksBy family (IsRecorded stream format family) p class
 
--- a fault of answering by the records of a stream
-abbrev pub IsRecordsFault : Question → Stream → Format → Family → Setup → Fault → Type 0
-IsRecordsFault question stream format family p (File fault) = LacksFor question stream format family p fault
-IsRecordsFault question stream format family p (Table (table_fault.Inconsistent class)) = BreaksFor question stream format family p class
-IsRecordsFault question stream format family p Memory = Unit {0}
-IsRecordsFault question stream format family p _ = ⊥
-
--- the same where the header names such a family, of which the position is
-abbrev pub FailsBehind : Question → Stream → Setup → Fault → Type 0
-FailsBehind question stream p fault = (format : Format) × (family : Family)
-    × CountsClasses format family stream.bytes × IsPositionOf family p × IsRecordsFault question stream format family p fault
+-- a fault of answering by the records of a source that shows these streams, in that format and family
+abbrev pub IsRecordsFault : Question → (Stream → Type 0) → Format → Family → Setup → Fault → Type 0
+IsRecordsFault question Shows format family p (File fault) = (stream : Stream) → Shows stream → LacksFor question stream format family p fault
+IsRecordsFault question Shows format family p (Table (table_fault.Inconsistent class)) =
+    (stream : Stream) → Shows stream → BreaksFor question stream format family p class
+IsRecordsFault question Shows format family p Memory = Unit {0}
+IsRecordsFault question Shows format family p _ = ⊥
 
 -- A fault of asking a source that may give these streams: the header's, or that its family refuses the position, or of answering by the records; or memory
 -- failed.
 abbrev pub IsFaultOfAsking : Question → (Stream → Type 0) → Setup → Fault → Type 0
-IsFaultOfAsking question Gives p (File fault) = (stream : Stream) → Gives stream
-    → (fault ≡ file_fault.Memory) ⊎ (HasFrontFault stream fault ⊎ FailsBehind question stream p (File fault))
+IsFaultOfAsking question Gives p (File fault) = (stream : Stream) → Gives stream → (fault ≡ file_fault.Memory) ⊎ (HasFrontFault stream fault
+    ⊎ ((format : Format) × (family : Family) × IsOfNamed stream p format family × LacksFor question stream format family p fault))
 IsFaultOfAsking question Gives p (Table (table_fault.Inconsistent class)) = (stream : Stream) → Gives stream
-    → FailsBehind question stream p (Table (table_fault.Inconsistent class))
+    → (format : Format) × (family : Family) × IsOfNamed stream p format family × BreaksFor question stream format family p class
 IsFaultOfAsking question Gives p (Table table_fault.Memory) = ⊥
 IsFaultOfAsking question Gives p (Table fault) = (stream : Stream) → Gives stream → IsRefusedBy stream p fault
 IsFaultOfAsking question Gives p Memory = Unit {0}

@@ -156,8 +156,9 @@ impl From<dob_records::Fault> for Fault {
     fn from(given: dob_records::Fault) -> Fault {
         match given {
             dob_records::Fault::File(fault) => Fault::File(fault),
-            dob_records::Fault::Inconsistent(class) =>
-                Fault::Table(dob_probe::Fault::Inconsistent(class)),
+            dob_records::Fault::Inconsistent(class) => Fault::Table(dob_probe::Fault::Inconsistent(
+                class,
+            )),
             dob_records::Fault::Memory => Fault::Memory,
         }
     }

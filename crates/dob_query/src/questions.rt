@@ -97,16 +97,21 @@ fn answer_by_records<R: PlacedSource>(
     requires { IsPositionOf classes.now.family position.now.setup }
     ensures ok { (stream : Stream) → R.shows source.old stream → IfOk result (λ lines. IsToldBy question classes.now.family.profile
         (IsRecorded stream format classes.now.family) position.now.setup (string_bytes lines)) }
-    ensures fault { (stream : Stream) → R.shows source.old stream
-        → IfErr result (IsRecordsFault question stream format classes.now.family position.now.setup) }
+    ensures fault { IfErr result (IsRecordsFault question (R.shows source.old) format classes.now.family position.now.setup) }
     ensures shown { (stream : Stream) → R.shows source.old stream → R.shows source.new stream }
     ensures failed { R.has_failed source.new ≡ (R.has_failed source.old || is_io_error result) }
 {
     match question {
         Question::Moves => told_moves(alloc, source, format, classes, position),
         Question::Best => told_best(alloc, source, format, classes, position),
-        Question::Line { is_numbered } =>
-            told_line(alloc, source, format, classes, is_numbered, position),
+        Question::Line { is_numbered } => told_line(
+            alloc,
+            source,
+            format,
+            classes,
+            is_numbered,
+            position,
+        ),
         Question::Draw => told_drawing(alloc, source, format, classes, position),
     }
 }
@@ -122,8 +127,7 @@ fn told_moves<R: PlacedSource>(
     requires { IsPositionOf classes.now.family position.now.setup }
     ensures ok { (stream : Stream) → R.shows source.old stream → IfOk result (λ lines. IsToldBy Moves classes.now.family.profile
         (IsRecorded stream format classes.now.family) position.now.setup (string_bytes lines)) }
-    ensures fault { (stream : Stream) → R.shows source.old stream
-        → IfErr result (IsRecordsFault Moves stream format classes.now.family position.now.setup) }
+    ensures fault { IfErr result (IsRecordsFault Moves (R.shows source.old) format classes.now.family position.now.setup) }
     ensures shown { (stream : Stream) → R.shows source.old stream → R.shows source.new stream }
     ensures failed { R.has_failed source.new ≡ (R.has_failed source.old || is_io_error result) }
 {
@@ -142,8 +146,7 @@ fn told_best<R: PlacedSource>(
     requires { IsPositionOf classes.now.family position.now.setup }
     ensures ok { (stream : Stream) → R.shows source.old stream → IfOk result (λ lines. IsToldBy Best classes.now.family.profile
         (IsRecorded stream format classes.now.family) position.now.setup (string_bytes lines)) }
-    ensures fault { (stream : Stream) → R.shows source.old stream
-        → IfErr result (IsRecordsFault Best stream format classes.now.family position.now.setup) }
+    ensures fault { IfErr result (IsRecordsFault Best (R.shows source.old) format classes.now.family position.now.setup) }
     ensures shown { (stream : Stream) → R.shows source.old stream → R.shows source.new stream }
     ensures failed { R.has_failed source.new ≡ (R.has_failed source.old || is_io_error result) }
 {
@@ -163,8 +166,7 @@ fn told_line<R: PlacedSource>(
     requires { IsPositionOf classes.now.family position.now.setup }
     ensures ok { (stream : Stream) → R.shows source.old stream → IfOk result (λ lines. IsToldBy (Line is_numbered) classes.now.family.profile
         (IsRecorded stream format classes.now.family) position.now.setup (string_bytes lines)) }
-    ensures fault { (stream : Stream) → R.shows source.old stream
-        → IfErr result (IsRecordsFault (Line is_numbered) stream format classes.now.family position.now.setup) }
+    ensures fault { IfErr result (IsRecordsFault (Line is_numbered) (R.shows source.old) format classes.now.family position.now.setup) }
     ensures shown { (stream : Stream) → R.shows source.old stream → R.shows source.new stream }
     ensures failed { R.has_failed source.new ≡ (R.has_failed source.old || is_io_error result) }
 {
@@ -183,8 +185,7 @@ fn told_drawing<R: PlacedSource>(
     requires { IsPositionOf classes.now.family position.now.setup }
     ensures ok { (stream : Stream) → R.shows source.old stream → IfOk result (λ lines. IsToldBy Draw classes.now.family.profile
         (IsRecorded stream format classes.now.family) position.now.setup (string_bytes lines)) }
-    ensures fault { (stream : Stream) → R.shows source.old stream
-        → IfErr result (IsRecordsFault Draw stream format classes.now.family position.now.setup) }
+    ensures fault { IfErr result (IsRecordsFault Draw (R.shows source.old) format classes.now.family position.now.setup) }
     ensures shown { (stream : Stream) → R.shows source.old stream → R.shows source.new stream }
     ensures failed { R.has_failed source.new ≡ (R.has_failed source.old || is_io_error result) }
 {
