@@ -18,8 +18,10 @@ use Rattle.dob_query.proofs.ByPlace.{look_right}
 use Rattle.dob_query.proofs.EachLine.{each_right}
 use Rattle.dob_query.proofs.Placed.{look_each_right}
 use Rattle.dob_query.proofs.Reaching.{reach_right}
-use Rattle.dob_query.proofs.Rightly.{line_right, puzzles_right, show_right, stats_right}
-use Rattle.dob_query.proofs.TableFaults.{best_right, moves_right, probe_right}
+use Rattle.dob_query.specs.declared.questions.Question.TheVariants as question
+use Rattle.dob_query.proofs.Asking.{question_right}
+use Rattle.dob_query.proofs.Rightly.{puzzles_right, show_right, stats_right}
+use Rattle.dob_query.proofs.TableFaults.{probe_right}
 use Rattle.dob_cli.specs.Builds.{AnswersBuild}
 use Rattle.dob_cli.specs.Orders.{AllTold, AnswersOrder, AnswersRight, AreLinesFor, AreToldFor, IsByLines, reach_of, search_of}
 
@@ -62,13 +64,13 @@ module _ (c : ShelfChange) (e : Ending) where
   pub rightly : (o : Order) → AnswersOrder c o e → AnswersRight c o e
   rightly (Probe f t) answers = λ profile right. probe_right c profile f.now t.now e right (told_over c _ _ e answers)
   rightly (Each f) answers = λ profile right. each_right c profile f.now e right answers
-  rightly (Line f n t) answers = λ profile right. line_right c profile f.now e right n t.now (told_over c _ _ e answers)
+  rightly (Line f n t) answers = λ profile right. question_right c profile (question.Line n) f.now t.now e right (told_over c _ _ e answers)
   rightly (Look f t) answers = λ profile right. look_right c profile f.now t.now e right (told_over c _ _ e answers)
   rightly (LookEach f) answers = λ profile right. look_each_right c profile f.now e right answers
   rightly (Show (Some f) p t) answers = λ profile right. show_right c profile f.now e right (text_given p) t.now (told_over c _ _ e answers)
   rightly (Reach p (Some f) l w t) answers = λ profile right. reach_right c profile f.now e right (reach_of p l w) t.now (told_over c _ _ e answers)
-  rightly (Moves f t) answers = λ profile right. moves_right c profile f.now t.now e right (told_over c _ _ e answers)
-  rightly (Best f t) answers = λ profile right. best_right c profile f.now t.now e right (told_over c _ _ e answers)
+  rightly (Moves f t) answers = λ profile right. question_right c profile question.Moves f.now t.now e right (told_over c _ _ e answers)
+  rightly (Best f t) answers = λ profile right. question_right c profile question.Best f.now t.now e right (told_over c _ _ e answers)
   rightly (Stats f b) answers = λ profile right. stats_right c profile f.now e right b (told_over c _ _ e answers)
   rightly (Puzzles f d n k s b) answers = λ profile right.
       puzzles_right c profile f.now e right (search_of d n k s b) (told_over c _ _ e answers)

@@ -11,7 +11,8 @@ use Rattle.dob_query.specs.Program.{IsFaultOf, IsValueLineOf}
 use Rattle.dob_query.specs.Sizes.{AreCountLinesOf, IsCountFaultOf}
 use Rattle.dob_cli.specs.Builds.{AreBuildLines, IsBuildFault}
 use Rattle.dob_query.specs.Looks.{AnswersLookRight, GivesWhole, IsLookFault, IsLookLine}
-use Rattle.dob_query.specs.ValuedMoves.{AnswersBestRight, AnswersMovesRight, AreMoveLines, IsBestLine}
+use Rattle.dob_query.specs.declared.questions.Question.TheVariants as question
+use Rattle.dob_query.specs.Questions.{AnswersQuestionRight, AreAnswerLines, IsAskFault}
 use Rattle.dob_query.specs.Each.{AnswersEachRight, AnswersLines, AreEachLines, GivesAnswers, IsEachFault, IsGivenTo}
 use Rattle.dob_query.specs.LooksEach.{AnswersLookEachRight, ArePlaceLines, IsLookedFor, IsPlacesFault}
 use Rattle.dob_query.specs.Migrations.{AreMigrateLines, IsMigrateFault}
@@ -24,7 +25,7 @@ use Rattle.dob_query.specs.declared.puzzles.PuzzleSearch.{PuzzleSearch}
 use Rattle.dob_words.specs.Readings.{text_given}
 use Rattle.dob_query.specs.Shows.{AnswersShowRight, AreShowLines, IsShowFault, KeepsButPicture}
 use Rattle.dob_query.specs.Stats.{AnswersStatsRight, AreStatsLines, IsStatsFault}
-use Rattle.dob_query.specs.Tables.{AnswersLineRight, AnswersProbeRight, HasValueFile, IsCheckFault, IsCheckLine, IsFileOf, AreMovesLines, IsPositionFault, IsProbeLine}
+use Rattle.dob_query.specs.Tables.{AnswersProbeRight, HasValueFile, IsCheckFault, IsCheckLine, IsFileOf, IsPositionFault, IsProbeLine}
 
 -- which puzzles are looked for: so many, won in so many plies, behind a class and in the order of a seed where these are given
 abbrev pub search_of : ℕ → ℕ → Option ℕ → Option ℕ → Bool → PuzzleSearch
@@ -43,13 +44,13 @@ AreLinesFor c (Reach profile file has_levels is_watched position) = AreReachLine
 AreLinesFor c (Build profile set nodes file is_watched) = AreBuildLines c profile set.now nodes file.now
 AreLinesFor c (Probe file position) = IsProbeLine (c.before.has file.now) position.now
 AreLinesFor c (Each file) = λ lines. ⊥
-AreLinesFor c (Line file is_numbered position) = AreMovesLines (c.before.has file.now) is_numbered position.now
+AreLinesFor c (Line file is_numbered position) = AreAnswerLines (question.Line is_numbered) (c.before.has file.now) position.now
 AreLinesFor c (Check file is_watched) = IsCheckLine (c.before.has file.now)
 AreLinesFor c (Look file position) = IsLookLine (c.before.has file.now) position.now
 AreLinesFor c (LookEach file) = λ lines. ⊥
 AreLinesFor c (Show file picture position) = AreShowLines c (text_given file) (text_given picture) position.now
-AreLinesFor c (Moves file position) = AreMoveLines (c.before.has file.now) position.now
-AreLinesFor c (Best file position) = IsBestLine (c.before.has file.now) position.now
+AreLinesFor c (Moves file position) = AreAnswerLines question.Moves (c.before.has file.now) position.now
+AreLinesFor c (Best file position) = AreAnswerLines question.Best (c.before.has file.now) position.now
 AreLinesFor c (Stats file is_csv) = AreStatsLines (IsFileOf (c.before.has file.now)) is_csv
 AreLinesFor c (Puzzles file plies count from seed is_numbered) =
     ArePuzzleLines (IsFileOf (c.before.has file.now)) (search_of plies count from seed is_numbered)
@@ -66,13 +67,13 @@ IsFaultFor c (Reach profile file has_levels is_watched position) = IsReachFaultF
 IsFaultFor c (Build profile set nodes file is_watched) = IsBuildFault c profile set.now nodes file.now
 IsFaultFor c (Probe file position) = IsPositionFault (c.before.has file.now) position.now
 IsFaultFor c (Each file) = IsEachFault c file.now
-IsFaultFor c (Line file is_numbered position) = IsPositionFault (c.before.has file.now) position.now
+IsFaultFor c (Line file is_numbered position) = IsAskFault (question.Line is_numbered) (c.before.has file.now) position.now
 IsFaultFor c (Check file is_watched) = IsCheckFault (c.before.has file.now)
 IsFaultFor c (Look file position) = IsLookFault (c.before.has file.now) position.now
 IsFaultFor c (LookEach file) = IsPlacesFault c file.now
 IsFaultFor c (Show file picture position) = IsShowFault c (text_given file) (text_given picture) position.now
-IsFaultFor c (Moves file position) = IsPositionFault (c.before.has file.now) position.now
-IsFaultFor c (Best file position) = IsPositionFault (c.before.has file.now) position.now
+IsFaultFor c (Moves file position) = IsAskFault question.Moves (c.before.has file.now) position.now
+IsFaultFor c (Best file position) = IsAskFault question.Best (c.before.has file.now) position.now
 IsFaultFor c (Stats file is_csv) = IsStatsFault (c.before.has file.now)
 IsFaultFor c (Puzzles file plies count from seed is_numbered) = IsPuzzlesFault (c.before.has file.now) plies
 IsFaultFor c (Migrate file out) = IsMigrateFault c file.now out.now
@@ -124,15 +125,16 @@ ByValueFile c file IsRight = (profile : Profile) → HasValueFile (c.before.has 
 abbrev pub AnswersRight : ShelfChange → Order → Ending → Type 0
 AnswersRight c (Probe file position) e = ByValueFile c file.now (λ profile. AnswersProbeRight c profile file.now position.now e)
 AnswersRight c (Each file) e = ByValueFile c file.now (λ profile. AnswersEachRight c profile file.now e)
-AnswersRight c (Line file is_numbered position) e = ByValueFile c file.now (λ profile. AnswersLineRight c profile file.now is_numbered position.now e)
+AnswersRight c (Line file is_numbered position) e = ByValueFile c file.now
+    (λ profile. AnswersQuestionRight c profile (question.Line is_numbered) file.now position.now e)
 AnswersRight c (Look file position) e = ByValueFile c file.now (λ profile. AnswersLookRight c profile file.now position.now e)
 AnswersRight c (LookEach file) e = ByValueFile c file.now (λ profile. AnswersLookEachRight c profile file.now e)
 AnswersRight c (Show (Some file) picture position) e =
     ByValueFile c file.now (λ profile. AnswersShowRight c profile file.now (text_given picture) position.now e)
 AnswersRight c (Reach own (Some file) has_levels is_watched position) e =
     ByValueFile c file.now (λ profile. AnswersReachRight c profile file.now (reach_of own has_levels is_watched) position.now e)
-AnswersRight c (Moves file position) e = ByValueFile c file.now (λ profile. AnswersMovesRight c profile file.now position.now e)
-AnswersRight c (Best file position) e = ByValueFile c file.now (λ profile. AnswersBestRight c profile file.now position.now e)
+AnswersRight c (Moves file position) e = ByValueFile c file.now (λ profile. AnswersQuestionRight c profile question.Moves file.now position.now e)
+AnswersRight c (Best file position) e = ByValueFile c file.now (λ profile. AnswersQuestionRight c profile question.Best file.now position.now e)
 AnswersRight c (Stats file is_csv) e = ByValueFile c file.now (λ profile. AnswersStatsRight c profile file.now is_csv e)
 AnswersRight c (Puzzles file plies count from seed is_numbered) e =
     ByValueFile c file.now (λ profile. AnswersPuzzlesRight c profile file.now (search_of plies count from seed is_numbered) e)

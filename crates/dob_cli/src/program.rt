@@ -16,10 +16,10 @@ use dob_dbfile::{Lent, Sink, put_all, write_all};
 use dob_pieces::Profile;
 use dob_probe::Walk;
 use dob_query::{
-    Console, Fault, LineAnswers, Lines, PuzzleSearch, ReachSearch, Shelf, answer_best,
-    answer_certify, answer_check, answer_count, answer_each, answer_line, answer_look,
-    answer_look_each, answer_migrate, answer_moves, answer_probe, answer_puzzles, answer_reach,
-    answer_reply, answer_show, answer_stats, answer_value, answer_verify,
+    Console, Fault, LineAnswers, Lines, PuzzleSearch, Question, ReachSearch, Shelf, answer_certify,
+    answer_check, answer_count, answer_each, answer_look, answer_look_each, answer_migrate,
+    answer_probe, answer_puzzles, answer_question, answer_reach, answer_reply, answer_show,
+    answer_stats, answer_value, answer_verify,
 };
 use dob_words::command::{Order, Reading, read_words};
 use std::alloc::{AllocError, Global};
@@ -176,7 +176,7 @@ fn answer<S: Shelf>(
             file,
             is_numbered,
             position,
-        } => answer_line(alloc, shelf, file, is_numbered, position),
+        } => answer_question(alloc, shelf, file, Question::Line { is_numbered }, position),
         Order::Check { file, is_watched } => answer_check(rt, alloc, shelf, file, is_watched),
         Order::Look { file, position } => answer_look(alloc, shelf, file, position),
         Order::Show {
@@ -184,8 +184,10 @@ fn answer<S: Shelf>(
             picture,
             position,
         } => answer_show(alloc, shelf, file, picture, position),
-        Order::Moves { file, position } => answer_moves(alloc, shelf, file, position),
-        Order::Best { file, position } => answer_best(alloc, shelf, file, position),
+        Order::Moves { file, position } =>
+            answer_question(alloc, shelf, file, Question::Moves, position),
+        Order::Best { file, position } =>
+            answer_question(alloc, shelf, file, Question::Best, position),
         Order::Stats { file, is_csv } => answer_stats(rt, alloc, shelf, file, is_csv),
         Order::Puzzles {
             file,

@@ -7,7 +7,8 @@ pub mod EachLine  -- the answers to lines, one more at a time, and that what was
 pub mod ByPlace  -- by the file of a value table what is looked up is right
 pub mod Tallies  -- the tally of a list from those of its parts
 pub mod Statistics  -- the longest win and loss of a table are among its groups
-pub mod Rightly  -- by a value table's file lines, drawings, counts and puzzles are right
+pub mod Asking  -- the faults of the records, of the header and of opening the file are those of asking it, and by a value table's file the answer is right
+pub mod Rightly  -- by a value table's file drawings, counts and puzzles are right
 pub mod Showing  -- the faults of drawing a position, and of keeping its picture, are those of showing it
 pub mod Migrating  -- the faults of reading a file and of keeping its table are those of migrating it
 pub mod Puzzling  -- the lines of puzzles, and which classes they are of

@@ -1,19 +1,15 @@
--- By the file of a value table what is told of it is right: lines, drawings, counts and puzzles.
+-- By the file of a value table what is told of it is right: drawings, counts and puzzles.
 use Rattle.std.proofs.Common.{ℕ, Bool, List, Option, Some, subst}
 use Rattle.dob_pieces.specs.declared.profile.Profile.{Profile}
-use Rattle.dob_pieces.specs.declared.setup.Setup.{Setup}
-use Rattle.dob_moves.specs.declared.game_move.Move.{Move}
-use Rattle.dob_value.specs.declared.value.Value.{Value}
 use Rattle.dob_value.specs.Follows.{ClassTable}
-use Rattle.dob_value.specs.Values.{HasValue}
-use Rattle.dob_probe.specs.Lines.{GivenBy, IsLine}
-use Rattle.dob_probe.proofs.Best.{lines_are_best}
 use Rattle.dob_query.specs.Endings.{Ending}
 use Rattle.dob_query.specs.Puzzles.{AnswersPuzzles, AnswersPuzzlesRight, ArePuzzleLines, IsPuzzlesFault}
 use Rattle.dob_shelf.specs.Shelves.{ShelfChange}
 use Rattle.dob_query.specs.Shows.{AnswersShow, AnswersShowRight, AreRightShowLines, AreShowLines, IsShowFault}
 use Rattle.dob_query.specs.Stats.{AnswersStats, AnswersStatsRight, AreStatsLines, IsStatsFault}
-use Rattle.dob_query.specs.Tables.{AnswersLine, AnswersLineRight, AreMovesLines, AreRightMovesLines, HasValueFile, IsFileOf, IsPositionFault, IsRightFileOf}
+use Rattle.dob_query.specs.Tables.{HasValueFile, IsFileOf, IsRightFileOf}
+use Rattle.dob_query.specs.declared.questions.Question.TheVariants.{Draw}
+use Rattle.dob_query.proofs.Asking.{answer_right}
 use Rattle.dob_query.specs.declared.puzzles.PuzzleSearch.{PuzzleSearch}
 use Rattle.dob_query.proofs.TableFaults.{over_weaker, right_table}
 
@@ -21,29 +17,6 @@ module _ (Has : List ℕ → Type 0) (profile : Profile) (right : HasValueFile H
   -- the file's table is right
   right_file : (table : ClassTable) → IsFileOf Has table → IsRightFileOf Has profile table
   right_file table file = let is = right_table Has profile right table file in record { file = file; right = is.0; rules = is.1 }
-
-  -- what it gives a position is its value by definition, and the line by it the best play
-  value_by : (table : ClassTable) → IsFileOf Has table → (position : Setup) (value : Value) → GivenBy table position value → HasValue profile position value
-  value_by table file position value given =
-      let is = right_table Has profile right table file in
-      subst (λ (p : Profile). HasValue p position value) is.1 (is.0.values_are position value given.number.position given)
-
-  line_by : (table : ClassTable) → IsFileOf Has table → (position : Setup) (value : Value) (moves : List Move) → GivenBy table position value
-      → IsLine table.family.profile (GivenBy table) position moves → IsLine profile (HasValue profile) position moves
-  line_by table file position value moves given line =
-      let is = right_table Has profile right table file in
-      subst (λ (p : Profile). IsLine p (HasValue p) position moves) is.1 (lines_are_best table position moves is.0 given.number.position line)
-
-  moves_rightly : (is_numbered : Bool) (words lines : List ℕ) → AreMovesLines Has is_numbered words lines → AreRightMovesLines profile is_numbered words lines
-  moves_rightly is_numbered words lines told = record {
-    position = told.position;
-    named = told.named;
-    value = told.value;
-    right = value_by told.table told.file told.position told.value told.given;
-    moves = told.moves;
-    best_line = line_by told.table told.file told.position told.value told.moves told.given told.best_line;
-    same = told.same;
-  }
 
   stats_rightly : (is_csv : Bool) (lines : List ℕ) → AreStatsLines (IsFileOf Has) is_csv lines → AreStatsLines (IsRightFileOf Has profile) is_csv lines
   stats_rightly is_csv lines told = record {
@@ -66,28 +39,16 @@ module _ (Has : List ℕ → Type 0) (profile : Profile) (right : HasValueFile H
 
 show_rightly : (c : ShelfChange) (profile : Profile) (file : List ℕ) (picture : Option (List ℕ)) (words lines : List ℕ) → HasValueFile (c.before.has file) profile
     → AreShowLines c (Some file) picture words lines → AreRightShowLines c profile picture words lines
-show_rightly c profile file picture words lines right told =
-    let drawn = told.drawn in record {
-      position = told.position;
-      named = told.named;
-      drawn = record {
-        value = drawn.value;
-        right = value_by (c.before.has file) profile right drawn.table drawn.file told.position drawn.value drawn.given;
-        moves = drawn.moves;
-        best_line = line_by (c.before.has file) profile right drawn.table drawn.file told.position drawn.value drawn.moves drawn.given drawn.best_line;
-        same = drawn.same;
-      };
-      kept = told.kept;
-    }
+show_rightly c profile file picture words lines right told = record {
+  position = told.position;
+  named = told.named;
+  drawn = answer_right (c.before.has file) profile right told.position Draw lines told.drawn;
+  kept = told.kept;
+}
 
 -- ---- what the program does
 
 module _ (c : ShelfChange) (profile : Profile) (file : List ℕ) (e : Ending) (right : HasValueFile (c.before.has file) profile) where
-  pub line_right : (is_numbered : Bool) (words : List ℕ) → AnswersLine c file is_numbered words e → AnswersLineRight c profile file is_numbered words e
-  line_right is_numbered words =
-      over_weaker c (AreMovesLines (c.before.has file) is_numbered words) (AreRightMovesLines profile is_numbered words) (IsPositionFault (c.before.has file) words) e
-      (moves_rightly (c.before.has file) profile right is_numbered words)
-
   pub show_right : (picture : Option (List ℕ)) (words : List ℕ) → AnswersShow c (Some file) picture words e → AnswersShowRight c profile file picture words e
   show_right picture words =
       over_weaker c (AreShowLines c (Some file) picture words) (AreRightShowLines c profile picture words) (IsShowFault c (Some file) picture words) e

@@ -3,15 +3,13 @@ use Rattle.std.proofs.Common.{◌≡◌, ℕ, Bool, List, Option, Some, None, in
 use Rattle.std.specs.Prelude.{IsTrue}
 use Rattle.dob_pieces.specs.declared.setup.Setup.{Setup}
 use Rattle.dob_text.specs.declared.fault.TextFault.{TextFault}
-use Rattle.dob_value.specs.Follows.{ClassTable}
-use Rattle.dob_probe.specs.declared.fault.Fault as probing
-use Rattle.dob_probe.specs.declared.fault.Fault.TheVariants as table_fault
-use Rattle.dob_probe.specs.Faults.{IsFaultOfLine}
 use Rattle.dob_query.specs.declared.fault.Fault.{Fault}
 use Rattle.dob_query.specs.declared.fault.Fault.TheVariants.{Text, SetText, TooDeep, Run, File, Table, PuzzlePlies, Certificate, Memory, Io}
 use Rattle.dob_shelf.specs.Shelves.{Files, SameFiles, SameOthers, ShelfChange, ShelfState}
 use Rattle.dob_query.specs.Shows.{IsDrawingFault, IsFaultBy, IsPictureFault, IsShowFault}
-use Rattle.dob_query.specs.Tables.{IsFileOf, IsOpeningFault, IsProbingFault, IsTextOf}
+use Rattle.dob_query.specs.Tables.{IsTextOf}
+use Rattle.dob_query.specs.declared.questions.Question.TheVariants.{Draw}
+use Rattle.dob_query.specs.Questions.{IsAskingFault}
 use Rattle.dob_shelf.proofs.Shelves.{others_chain, others_kept}
 
 -- ---- files
@@ -25,38 +23,18 @@ others_after name Old Mid New same others = others_chain name Old Mid New (other
 
 -- ---- a fault of the file
 
-module _ (Has : List ℕ → Type 0) (position : Setup) where
-  pub opening_probes : (fault : Fault) → IsOpeningFault Has fault → IsProbingFault Has position fault
-  opening_probes (File f) holds = holds
-  opening_probes Io holds = holds
-  opening_probes Memory holds = tt
-  opening_probes (Text f) holds = absurd holds
-  opening_probes SetText holds = absurd holds
-  opening_probes TooDeep holds = absurd holds
-  opening_probes PuzzlePlies holds = absurd holds
-  opening_probes (Certificate f) holds = absurd holds
-  opening_probes (Run f) holds = absurd holds
-  opening_probes (Table f) holds = absurd holds
-
-  pub line_probes : (table : ClassTable) → IsFileOf Has table → (fault : probing.Fault) → IsFaultOfLine table position fault
-      → IsProbingFault Has position (Table fault)
-  line_probes table file table_fault.FarChick holds = (table, file, holds)
-  line_probes table file table_fault.OtherSet holds = (table, file, holds)
-  line_probes table file (table_fault.Inconsistent class) holds = (table, file, holds.1)
-  line_probes table file table_fault.Memory holds = tt
-
-pub probing_draws : (Has : Files) (file : List ℕ) (position : Setup) (fault : Fault) → IsProbingFault (Has file) position fault
+pub asking_draws : (Has : Files) (file : List ℕ) (position : Setup) (fault : Fault) → IsAskingFault Draw (Has file) position fault
     → IsDrawingFault Has (Some file) position fault
-probing_draws Has file position (File f) holds = holds
-probing_draws Has file position Io holds = holds
-probing_draws Has file position Memory holds = tt
-probing_draws Has file position (Text f) holds = absurd holds
-probing_draws Has file position SetText holds = absurd holds
-probing_draws Has file position TooDeep holds = absurd holds
-probing_draws Has file position PuzzlePlies holds = absurd holds
-probing_draws Has file position (Certificate f) holds = absurd holds
-probing_draws Has file position (Run f) holds = absurd holds
-probing_draws Has file position (Table f) holds = holds
+asking_draws Has file position (File f) holds = holds
+asking_draws Has file position Io holds = holds
+asking_draws Has file position Memory holds = tt
+asking_draws Has file position (Text f) holds = absurd holds
+asking_draws Has file position SetText holds = absurd holds
+asking_draws Has file position TooDeep holds = absurd holds
+asking_draws Has file position PuzzlePlies holds = absurd holds
+asking_draws Has file position (Certificate f) holds = absurd holds
+asking_draws Has file position (Run f) holds = absurd holds
+asking_draws Has file position (Table f) holds = holds
 
 -- ---- a fault of showing
 

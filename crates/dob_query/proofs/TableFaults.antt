@@ -10,9 +10,7 @@ use Rattle.dob_value.specs.Follows.{ClassTable, IsValueTable}
 use Rattle.dob_dbfile.proofs.Written.{same_files}
 use Rattle.dob_probe.specs.declared.fault.Fault as probing
 use Rattle.dob_probe.specs.declared.fault.Fault.TheVariants as table_fault
-use Rattle.dob_probe.specs.ValuedMoves.{AreValuedMoves}
-use Rattle.dob_probe.proofs.ByValue.{valued_rightly}
-use Rattle.dob_probe.specs.Faults.{IsFaultOfCheck, IsFaultOfLine, IsFaultOfMoves, IsRefusal}
+use Rattle.dob_probe.specs.Faults.{IsFaultOfCheck, IsRefusal}
 use Rattle.dob_query.specs.declared.fault.Fault.{Fault}
 use Rattle.dob_query.specs.declared.fault.Fault.TheVariants.{Text, SetText, TooDeep, Run, File, Table, PuzzlePlies, Certificate, Memory, Io}
 use Rattle.dob_shelf.specs.Shelves.{FailsWhere, ShelfChange, is_failed}
@@ -22,8 +20,6 @@ use Rattle.dob_shelf.specs.declared.shelf.ShelfFault.TheVariants as shelf_fault
 use Rattle.dob_query.specs.Endings.{Answers, AnswersOver, Ending}
 use Rattle.dob_query.specs.Each.{IsGivenTo}
 use Rattle.dob_query.specs.Program.{IsValueLineOf, IsValueOf}
-use Rattle.dob_query.specs.ValuedMoves.{AnswersBest, AnswersBestRight, AnswersMoves, AnswersMovesRight, AreMovesOf, AreRightMovesOf, TellsMoves, best_move_line, move_lines}
-use Rattle.dob_probe.specs.declared.by_value.ValuedMove.{ValuedMove}
 use Rattle.dob_query.specs.Tables.{AnswersProbe, AnswersProbeRight, HasValueFile, IsCheckFault, IsFileOf, IsOpeningFault, IsPositionFault, IsProbingFault, IsShut}
 use Rattle.dob_query.specs.Tables.{IsProbeLine, IsTextOf}
 
@@ -33,20 +29,6 @@ module _ (Has : List ℕ → Type 0) (table : ClassTable) (file : IsFileOf Has t
   check_fault_holds table_fault.OtherSet holds = absurd holds
   check_fault_holds (table_fault.Inconsistent class) holds = (table, file, holds)
   check_fault_holds table_fault.Memory holds = tt
-
-  pub line_fault_holds : (words : List ℕ) (position : Setup) (fault : probing.Fault) → IsTextOf words position →
-      IsFaultOfLine table position fault → IsPositionFault Has words (Table fault)
-  line_fault_holds words position table_fault.FarChick named holds = (position, named, (table, file, holds))
-  line_fault_holds words position table_fault.OtherSet named holds = (position, named, (table, file, holds))
-  line_fault_holds words position (table_fault.Inconsistent class) named holds = (position, named, (table, file, holds.1))
-  line_fault_holds words position table_fault.Memory named holds = (position, named, tt)
-
-  pub moves_fault_holds : (words : List ℕ) (position : Setup) (fault : probing.Fault) → IsTextOf words position →
-      IsFaultOfMoves table position fault → IsPositionFault Has words (Table fault)
-  moves_fault_holds words position table_fault.FarChick named holds = (position, named, (table, file, holds))
-  moves_fault_holds words position table_fault.OtherSet named holds = (position, named, (table, file, holds))
-  moves_fault_holds words position (table_fault.Inconsistent class) named holds = absurd holds
-  moves_fault_holds words position table_fault.Memory named holds = (position, named, tt)
 
   -- a position that the table refuses
   pub refusal_probes : (position : Setup) (fault : probing.Fault) → IsRefusal table.family position fault → IsProbingFault Has position (Table fault)
@@ -114,16 +96,6 @@ module _ (Has : List ℕ → Type 0) (profile : Profile) (file : HasValueFile Ha
   line_right words lines told =
       (told.value, value_right told.table told.file words told.value (told.position, told.named, told.given), told.same)
 
-  -- and the moves have the values told by definition
-  the_moves_right : (words : List ℕ) (the_moves : List ValuedMove) → AreMovesOf Has words the_moves → AreRightMovesOf profile words the_moves
-  the_moves_right words the_moves told =
-      let is = right_table told.table told.file in record {
-        position = told.position;
-        named = told.named;
-        valued = subst (λ (p : Profile). AreValuedMoves p (HasValue p) told.position the_moves) is.1
-            (valued_rightly told.table is.0 told.position told.member the_moves told.valued);
-      }
-
 -- where lines of one kind are of another one
 answers_weaker : (A B : List ℕ → Type 0) (Holds : Fault → Type 0) (e : Ending) → ((lines : List ℕ) → A lines → B lines)
     → Answers A Holds e → Answers B Holds e
@@ -145,22 +117,3 @@ pub probe_right : (c : ShelfChange) (profile : Profile) (file words : List ℕ) 
 probe_right c profile file words e right =
     over_weaker c (IsProbeLine (c.before.has file) words) (IsValueLineOf profile words) (IsPositionFault (c.before.has file) words) e
     (line_right (c.before.has file) profile right words)
-
--- of moves with their values, however they are told
-valued_moves_answered : (c : ShelfChange) (profile : Profile) (file words : List ℕ) (tell : List ValuedMove → List ℕ) (e : Ending)
-    → HasValueFile (c.before.has file) profile
-    → AnswersOver c (TellsMoves (AreMovesOf (c.before.has file) words) tell) (IsPositionFault (c.before.has file) words) e
-    → AnswersOver c (TellsMoves (AreRightMovesOf profile words) tell) (IsPositionFault (c.before.has file) words) e
-valued_moves_answered c profile file words tell e right =
-    over_weaker c (TellsMoves (AreMovesOf (c.before.has file) words) tell) (TellsMoves (AreRightMovesOf profile words) tell) (IsPositionFault (c.before.has file) words) e
-    (λ lines told. (told.0, the_moves_right (c.before.has file) profile right words told.0 told.1, told.2))
-
-pub moves_right : (c : ShelfChange) (profile : Profile) (file words : List ℕ) (e : Ending) → HasValueFile (c.before.has file) profile
-    → AnswersMoves c file words e → AnswersMovesRight c profile file words e
-moves_right c profile file words e right =
-    valued_moves_answered c profile file words move_lines e right
-
-pub best_right : (c : ShelfChange) (profile : Profile) (file words : List ℕ) (e : Ending) → HasValueFile (c.before.has file) profile
-    → AnswersBest c file words e → AnswersBestRight c profile file words e
-best_right c profile file words e right =
-    valued_moves_answered c profile file words best_move_line e right

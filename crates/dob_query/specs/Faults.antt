@@ -13,6 +13,8 @@ use Rattle.dob_stops.specs.declared.fault.Fault.TheVariants as run_fault
 use Rattle.dob_probe.specs.Faults as table
 use Rattle.dob_probe.specs.declared.fault.Fault.TheVariants as table_fault
 use Rattle.dob_pieces.specs.Bytes.{line_feed}
+use Rattle.dob_records.specs.declared.fault.Fault as records
+use Rattle.dob_records.specs.declared.fault.Fault.TheVariants as records_fault
 use Rattle.dob_shelf.specs.declared.shelf.ShelfFault as shelf
 use Rattle.dob_shelf.specs.declared.shelf.ShelfFault.TheVariants as shelf_fault
 use Rattle.dob_certificate.specs.Refusals as lists
@@ -100,3 +102,9 @@ fault_of_value value_fault.Memory = Memory
 abbrev pub fault_of_shelf : shelf.ShelfFault → Fault
 fault_of_shelf shelf_fault.Memory = Memory
 fault_of_shelf shelf_fault.Failed = Io
+
+-- a fault of asking the records of a file
+abbrev pub fault_of_records : records.Fault → Fault
+fault_of_records (records_fault.File fault) = File fault
+fault_of_records (records_fault.Inconsistent class) = Table (table_fault.Inconsistent class)
+fault_of_records records_fault.Memory = Memory

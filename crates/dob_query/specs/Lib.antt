@@ -4,8 +4,10 @@ pub mod Program
 pub mod Tables
 pub mod Each
 pub mod Looks
-pub mod Shows
+pub mod Played
 pub mod ValuedMoves
+pub mod Questions
+pub mod Shows
 pub mod Sizes
 pub mod Keeping
 pub mod Progress

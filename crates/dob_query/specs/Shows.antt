@@ -1,53 +1,26 @@
 -- What the program owes where it is asked to show a position.
-use Rattle.std.specs.Prelude.{◌≡◌, ◌⊎◌, ℕ, IsTrue, List, [], ◌∷◌, ◌++◌, Option, None, Some, Result, String}
+use Rattle.std.specs.Prelude.{◌≡◌, ◌⊎◌, ℕ, IsTrue, List, [], Option, None, Some, Result, String}
 use Rattle.dob_pieces.specs.declared.profile.Profile.TheVariants.{A}
 use Rattle.dob_pieces.specs.declared.setup.Setup.{Setup}
-use Rattle.dob_pieces.specs.Bytes.{line_feed}
 use Rattle.dob_text.specs.Drawings.{drawing_of}
 use Rattle.dob_text.specs.Pictures.{picture_of}
-use Rattle.dob_text.specs.MoveText.{numbered_text}
 use Rattle.dob_text.specs.Faults.{HasTextFault}
-use Rattle.dob_moves.specs.declared.game_move.Move.{Move}
-use Rattle.dob_value.specs.declared.value.Value.{Value}
 use Rattle.dob_pieces.specs.declared.profile.Profile.{Profile}
-use Rattle.dob_value.specs.Follows.{ClassTable}
 use Rattle.dob_value.specs.Values.{HasValue}
-use Rattle.dob_probe.specs.Lines.{GivenBy, IsLine}
 use Rattle.dob_query.specs.declared.fault.Fault.{Fault}
 use Rattle.dob_query.specs.declared.fault.Fault.TheVariants.{Text, Memory, Io}
 use Rattle.dob_query.specs.Endings.{AnswersOver, Ending, GivesLines, IsAnswered}
-use Rattle.dob_query.specs.Program.{value_line}
 use Rattle.dob_shelf.specs.Shelves.{Files, HasJust, SameFiles, SameOthers, ShelfChange}
-use Rattle.dob_query.specs.Tables.{IsFileOf, IsProbingFault, IsTextOf}
+use Rattle.dob_query.specs.Tables.{IsTextOf}
+use Rattle.dob_query.specs.declared.questions.Question.TheVariants.{Draw}
+use Rattle.dob_query.specs.Questions.{IsAnswerBy, IsAskingFault, IsToldBy}
 
 -- ---- lines
-
--- the drawing, and after an empty line the value and the moves of the line, each on a line with its number
-abbrev pub played_drawing : Setup → Value → List Move → List ℕ
-played_drawing position value moves = drawing_of position ++ (line_feed ∷ [] ++ (value_line value ++ numbered_text moves))
-
--- the lines draw the position, and give its value and its line by the file's table
-pub record AreDrawnBy (Has : List ℕ → Type 0) (position : Setup) (lines : List ℕ) : Type 0 where
-  pub table : ClassTable
-  pub file : IsFileOf Has table
-  pub value : Value
-  pub given : GivenBy table position value
-  pub moves : List Move
-  pub best_line : IsLine table.family.profile (GivenBy table) position moves
-  pub same : lines ≡ played_drawing position value moves
-
--- the lines draw the position, and give its value and its best play by definition and the rules of the profile
-pub record AreDrawnRight (profile : Profile) (position : Setup) (lines : List ℕ) : Type 0 where
-  pub value : Value
-  pub right : HasValue profile position value
-  pub moves : List Move
-  pub best_line : IsLine profile (HasValue profile) position moves
-  pub same : lines ≡ played_drawing position value moves
 
 -- the lines draw the position, by the file of that name where one is named
 abbrev pub AreDrawn : Files → Option (List ℕ) → Setup → List ℕ → Type 0
 AreDrawn Has None position lines = lines ≡ drawing_of position
-AreDrawn Has (Some file) position lines = AreDrawnBy (Has file) position lines
+AreDrawn Has (Some file) position lines = IsAnswerBy Draw (Has file) position lines
 
 -- where a picture is asked for, the file of that name has just these bytes on a shelf that tells its bytes
 abbrev pub IsKept : ShelfChange → Option (List ℕ) → List ℕ → Type 0
@@ -65,7 +38,7 @@ pub record AreShowLines (c : ShelfChange) (file picture : Option (List ℕ)) (wo
 pub record AreRightShowLines (c : ShelfChange) (profile : Profile) (picture : Option (List ℕ)) (words lines : List ℕ) : Type 0 where
   pub position : Setup
   pub named : IsTextOf words position
-  pub drawn : AreDrawnRight profile position lines
+  pub drawn : IsToldBy Draw profile (HasValue profile) position lines
   pub kept : IsKept c picture (picture_of position)
 
 -- ---- faults
@@ -73,7 +46,7 @@ pub record AreRightShowLines (c : ShelfChange) (profile : Profile) (picture : Op
 -- a fault of asking the file that is named, if one is
 abbrev pub IsFaultBy : Files → Option (List ℕ) → Setup → Fault → Type 0
 IsFaultBy Has None position fault = ⊥
-IsFaultBy Has (Some file) position fault = IsProbingFault (Has file) position fault
+IsFaultBy Has (Some file) position fault = IsAskingFault Draw (Has file) position fault
 
 -- a fault of drawing a position, by the file that is named if one is: the file's, or memory failed
 abbrev pub IsDrawingFault : Files → Option (List ℕ) → Setup → Fault → Type 0

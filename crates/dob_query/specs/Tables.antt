@@ -1,29 +1,25 @@
 -- What the program owes where it is asked for something of a database file.
-use Rattle.std.specs.Prelude.{◌≡◌, ◌⊎◌, ℕ, Bool, false, if◌then◌else◌, not, List, [], ◌∷◌, ◌++◌, codes, Result, String}
+use Rattle.std.specs.Prelude.{◌≡◌, ◌⊎◌, ℕ, List, [], ◌∷◌, ◌++◌, codes, Result, String}
 use Rattle.dob_pieces.specs.declared.profile.Profile.TheVariants.{A}
 use Rattle.dob_pieces.specs.declared.profile.Profile.{Profile}
 use Rattle.dob_pieces.specs.declared.setup.Setup.{Setup}
 use Rattle.dob_pieces.specs.Setups.{IsLegal}
 use Rattle.dob_text.specs.PositionText.{Spells}
 use Rattle.dob_text.specs.Faults as text
-use Rattle.dob_text.specs.MoveText.{move_text, numbered_text}
-use Rattle.dob_moves.specs.declared.game_move.Move.{Move}
 use Rattle.dob_value.specs.declared.value.Value.{Value}
-use Rattle.dob_value.specs.declared.value.Value.TheVariants.{Draw}
 use Rattle.dob_value.specs.Follows.{ClassTable, IsTable, IsValueTable}
-use Rattle.dob_value.specs.Values.{HasValue}
 use Rattle.dob_dbfile.specs.declared.fault.Fault as file
 use Rattle.dob_dbfile.specs.declared.fault.Fault.TheVariants as file_fault
 use Rattle.dob_dbfile.specs.Devices.{whole}
 use Rattle.dob_dbfile.specs.Faults as reading
 use Rattle.dob_dbfile.specs.Format.{IsFile}
 use Rattle.dob_probe.specs.declared.fault.Fault.TheVariants as table_fault
-use Rattle.dob_probe.specs.Lines.{GivenBy, IsLine, BreaksAt}
+use Rattle.dob_probe.specs.Lines.{GivenBy, BreaksAt}
 use Rattle.dob_probe.specs.Checks.{IsFirstBroken}
 use Rattle.dob_probe.specs.Faults.{IsRefusal}
 use Rattle.dob_query.specs.declared.fault.Fault.{Fault}
 use Rattle.dob_query.specs.declared.fault.Fault.TheVariants.{Text, File, Table, Memory, Io}
-use Rattle.dob_pieces.specs.Bytes.{line_feed, space}
+use Rattle.dob_pieces.specs.Bytes.{line_feed}
 use Rattle.dob_query.specs.Program.{IsValueLineOf, value_line}
 use Rattle.dob_shelf.specs.Shelves.{ShelfChange}
 use Rattle.dob_query.specs.Endings.{AnswersOver, Ending, GivesLines}
@@ -73,48 +69,6 @@ pub record IsProbeLine (Has : List ℕ → Type 0) (words lines : List ℕ) : Ty
   pub value : Value
   pub given : GivenBy table position value
   pub same : lines ≡ value_line value
-
--- a space where more moves follow
-abbrev pub space_before : List Move → List ℕ
-space_before [] = []
-space_before (move ∷ moves) = space ∷ []
-
--- the moves in turn, with a space between two
-abbrev pub moves_text : Bool → List Move → List ℕ
-moves_text second [] = []
-moves_text second (move ∷ moves) = move_text move second ++ space_before moves ++ moves_text (not second) moves
-
--- what is printed where there are no moves, by the position's value
-abbrev pub end_text : Value → List ℕ
-end_text Draw = codes "draw"
-end_text _ = codes "end"
-
--- the lines that give moves, of a position of that value: all on one, or each on its own with its number
-abbrev pub moves_lines : Bool → Value → List Move → List ℕ
-moves_lines is_numbered value [] = end_text value ++ line_feed ∷ []
-moves_lines is_numbered value moves = if is_numbered then numbered_text moves else moves_text false moves ++ line_feed ∷ []
-
--- the lines give the line of the text's position by the file's table, numbered where that is asked for
-pub record AreMovesLines (Has : List ℕ → Type 0) (is_numbered : Bool) (words lines : List ℕ) : Type 0 where
-  pub table : ClassTable
-  pub file : IsFileOf Has table
-  pub position : Setup
-  pub named : IsTextOf words position
-  pub value : Value
-  pub given : GivenBy table position value
-  pub moves : List Move
-  pub best_line : IsLine table.family.profile (GivenBy table) position moves
-  pub same : lines ≡ moves_lines is_numbered value moves
-
--- the lines give the best play from the text's position: the line by the values that positions have by definition and the rules of the profile
-pub record AreRightMovesLines (profile : Profile) (is_numbered : Bool) (words lines : List ℕ) : Type 0 where
-  pub position : Setup
-  pub named : IsTextOf words position
-  pub value : Value
-  pub right : HasValue profile position value
-  pub moves : List Move
-  pub best_line : IsLine profile (HasValue profile) position moves
-  pub same : lines ≡ moves_lines is_numbered value moves
 
 -- the line that says that a table is consistent
 abbrev pub consistent_line : List ℕ
@@ -172,10 +126,6 @@ IsCheckFault Has _ = ⊥
 abbrev pub GivesProbe : {X : Type 0} → List ℕ → List ℕ → Result (String X) Fault → ShelfChange → Type 0
 GivesProbe file words result c = GivesLines c (IsProbeLine (c.before.has file) words) (IsPositionFault (c.before.has file) words) result
 
-abbrev pub GivesLine : {X : Type 0} → List ℕ → Bool → List ℕ → Result (String X) Fault → ShelfChange → Type 0
-GivesLine file is_numbered words result c =
-    GivesLines c (AreMovesLines (c.before.has file) is_numbered words) (IsPositionFault (c.before.has file) words) result
-
 abbrev pub GivesCheck : {X : Type 0} → List ℕ → Result (String X) Fault → ShelfChange → Type 0
 GivesCheck file result c = GivesLines c (IsCheckLine (c.before.has file)) (IsCheckFault (c.before.has file)) result
 
@@ -187,10 +137,3 @@ AnswersProbe c file words = AnswersOver c (IsProbeLine (c.before.has file) words
 -- the same, where the lines give the value that the text's position has by definition, by the rules of the profile
 abbrev pub AnswersProbeRight : ShelfChange → Profile → List ℕ → List ℕ → Ending → Type 0
 AnswersProbeRight c profile file words = AnswersOver c (IsValueLineOf profile words) (IsPositionFault (c.before.has file) words)
-
-abbrev pub AnswersLine : ShelfChange → List ℕ → Bool → List ℕ → Ending → Type 0
-AnswersLine c file is_numbered words = AnswersOver c (AreMovesLines (c.before.has file) is_numbered words) (IsPositionFault (c.before.has file) words)
-
--- the same, where the lines give the best play by definition
-abbrev pub AnswersLineRight : ShelfChange → Profile → List ℕ → Bool → List ℕ → Ending → Type 0
-AnswersLineRight c profile file is_numbered words = AnswersOver c (AreRightMovesLines profile is_numbered words) (IsPositionFault (c.before.has file) words)

@@ -148,6 +148,22 @@ impl From<dob_probe::Fault> for Fault {
     }
 }
 
+impl From<dob_records::Fault> for Fault {
+    ghost use Rattle.dob_query.specs.Faults.{fault_of_records};
+
+    ghost from_gives = { λ given result. result ≡ fault_of_records given };
+
+    fn from(given: dob_records::Fault) -> Fault {
+        match given {
+            dob_records::Fault::File(fault) => Fault::File(fault),
+            dob_records::Fault::Inconsistent(class) => Fault::Table(dob_probe::Fault::Inconsistent(
+                class,
+            )),
+            dob_records::Fault::Memory => Fault::Memory,
+        }
+    }
+}
+
 impl From<ShelfFault> for Fault {
     ghost use Rattle.dob_query.specs.Faults.{fault_of_shelf};
 

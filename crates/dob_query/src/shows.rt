@@ -1,21 +1,17 @@
 // A position drawn for a reader who is new to the game, by a database file with its value and its line, and as a picture.
-ghost use Rattle.std.specs.Prelude.{◌≡◌, IfOk, string_bytes};
+ghost use Rattle.std.specs.Prelude.{◌≡◌, string_bytes};
 ghost use Rattle.dob_query.specs.Endings.{IsAnswered};
 ghost use Rattle.dob_words.specs.Readings.{text_given};
 ghost use Rattle.dob_shelf.specs.Shelves.{Leaving, SameFiles, SameOthers};
-ghost use Rattle.dob_query.specs.Shows.{AreDrawn, AreDrawnBy, IsDrawingFault, KeepsButPicture, played_drawing, GivesShow, KeepsPicture};
-ghost use Rattle.dob_query.specs.Tables.{IsProbingFault};
+ghost use Rattle.dob_query.specs.Shows.{AreDrawn, IsDrawingFault, KeepsButPicture, GivesShow, KeepsPicture};
 
 use crate::fault::{Fault, Lines};
 use crate::positions::position_named;
-use crate::tables::{best_play, open};
-use crate::values::line_of;
+use crate::questions::{Question, answer_of};
 use dob_dbfile::{Failed, put_all};
-use dob_moves::Move;
-use dob_pieces::{Memory, Position};
+use dob_pieces::Position;
 use dob_shelf::Shelf;
-use dob_text::{draw_position, picture_position, write_line};
-use dob_value::Value;
+use dob_text::{draw_position, picture_position};
 use std::alloc::Global;
 
 /// The lines that draw the position that the text names. Where a database file is named they give its value and its line too,
@@ -55,38 +51,8 @@ fn drawn_lines<S: Shelf>(
 {
     match file {
         None => Ok(draw_position(alloc, position)?),
-        Some(file) => lines_by_table(alloc, shelf, file, position),
+        Some(file) => answer_of(alloc, shelf, file, Question::Draw, position),
     }
-}
-
-// The lines that draw the position and give its value and its line by the table of the file.
-fn lines_by_table<S: Shelf>(alloc: Global, shelf: &mut S, file: &str, position: &Position) -> Lines
-    ensures answered { Leaving SameFiles S.state shelf.old shelf.new (λ c.
-        IsAnswered c (λ lines. AreDrawnBy (c.before.has file.now) position.now.setup (string_bytes lines))
-        (IsProbingFault (c.before.has file.now) position.now.setup) result) }
-    ensures told { (S.state shelf.new).tells ≡ (S.state shelf.old).tells }
-{
-    let table = open(alloc, shelf, file)?;
-    let (value, moves) = best_play(alloc, &table, position)?;
-    Ok(played_drawing(alloc, position, value, &moves)?)
-}
-
-// The position's drawing, its value and the moves of its line.
-fn played_drawing(
-    alloc: Global,
-    position: &Position,
-    value: Value,
-    moves: &[Move],
-) -> Result<String, Memory>
-    ensures { IfOk result (λ lines. string_bytes lines ≡ played_drawing position.now.setup value moves.now) }
-{
-    let mut lines = draw_position(alloc, position)?;
-    let told = line_of(alloc, value)?;
-    let played = write_line(alloc, moves)?;
-    lines.push_str("\n")?;
-    lines.push_str(told.as_str())?;
-    lines.push_str(played.as_str())?;
-    Ok(lines)
 }
 
 // Keeps the position's picture under the name. Where it can't be written its sink is given up.

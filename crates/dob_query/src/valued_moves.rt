@@ -1,52 +1,15 @@
-// The moves of a position with their values by the table of a database file: all of them, or the first.
+// The lines that tell moves with their values: all of them, or the first.
 ghost use Rattle.std.specs.Prelude.{◌≡◌, ◌++◌, IfOk, OnOk, flat_map, string_bytes};
-ghost use Rattle.dob_query.specs.ValuedMoves.{AreMovesOf, best_move_line, valued_move_line, move_lines, GivesBest, GivesMoves};
-ghost use Rattle.dob_shelf.specs.Shelves.{Leaving, SameFiles};
-ghost use Rattle.dob_query.specs.Endings.{IsAnswered};
-ghost use Rattle.dob_query.specs.Tables.{IsPositionFault};
+ghost use Rattle.dob_query.specs.ValuedMoves.{best_move_line, valued_move_line, move_lines};
 
-use crate::fault::{Fault, Lines};
-use crate::positions::file_and_position;
 use crate::values::line_of;
 use dob_pieces::Memory;
-use dob_probe::{ValuedMove, valued_moves};
-use dob_shelf::Shelf;
+use dob_probe::ValuedMove;
 use dob_text::write_move;
 use std::alloc::Global;
 
-/// The lines that give the moves of the position that the text names, each with its value by the table of the file.
-pub fn answer_moves<S: Shelf>(alloc: Global, shelf: &mut S, file: &str, text: &str) -> Lines
-    ensures { Leaving SameFiles S.state shelf.old shelf.new (GivesMoves file.now text.now result) }
-{
-    let the_moves = valued_moves_of(alloc, shelf, file, text)?;
-    Ok(move_lines(alloc, &the_moves)?)
-}
-
-/// The line that gives the first of these moves with its value: the first move of the best play.
-pub fn answer_best<S: Shelf>(alloc: Global, shelf: &mut S, file: &str, text: &str) -> Lines
-    ensures { Leaving SameFiles S.state shelf.old shelf.new (GivesBest file.now text.now result) }
-{
-    let the_moves = valued_moves_of(alloc, shelf, file, text)?;
-    Ok(best_move_line(alloc, &the_moves)?)
-}
-
-// The moves of the position that the text names, each with its value by the table of the file, best first.
-fn valued_moves_of<S: Shelf>(
-    alloc: Global,
-    shelf: &mut S,
-    file: &str,
-    text: &str,
-) -> Result<Vec<ValuedMove>, Fault>
-    ensures { Leaving SameFiles S.state shelf.old shelf.new (λ c.
-        IsAnswered c (λ the_moves. AreMovesOf (c.before.has file.now) text.now the_moves.items)
-        (IsPositionFault (c.before.has file.now) text.now) result) }
-{
-    let (table, position) = file_and_position(alloc, shelf, file, text)?;
-    Ok(valued_moves(alloc, &table, &position)?)
-}
-
-// The lines of the moves, or that there is none.
-fn move_lines(alloc: Global, the_moves: &[ValuedMove]) -> Result<String, Memory>
+/// The lines of the moves, or that there is none.
+pub(crate) fn move_lines(alloc: Global, the_moves: &[ValuedMove]) -> Result<String, Memory>
     ensures { IfOk result (λ lines. string_bytes lines ≡ move_lines the_moves.now) }
 {
     if the_moves.is_empty() {
@@ -56,8 +19,8 @@ fn move_lines(alloc: Global, the_moves: &[ValuedMove]) -> Result<String, Memory>
     }
 }
 
-// The line of the first move, or that there is none.
-fn best_move_line(alloc: Global, the_moves: &[ValuedMove]) -> Result<String, Memory>
+/// The line of the first move, or that there is none.
+pub(crate) fn best_move_line(alloc: Global, the_moves: &[ValuedMove]) -> Result<String, Memory>
     ensures { IfOk result (λ line. string_bytes line ≡ best_move_line the_moves.now) }
 {
     match the_moves {

@@ -21,9 +21,6 @@ returns-in-Reach g c = rw c.in-Reach.is (rw c.reach_of-search.ensures at c.answe
 pub returns-in-Probe : goal.returns-in-Probe
 returns-in-Probe g c = rw c.in-Probe.is c.answer_probe.ensures
 
-pub returns-in-Line : goal.returns-in-Line
-returns-in-Line g c = rw c.in-Line.is c.answer_line.ensures
-
 pub returns-in-Check : goal.returns-in-Check
 returns-in-Check g c = rw c.in-Check.is c.answer_check.ensures
 
@@ -33,14 +30,8 @@ returns-in-Look g c = rw c.in-Look.is c.answer_look.ensures
 pub returns-in-Build : goal.returns-in-Build
 returns-in-Build g c = rw c.in-Build.is c.answer_build.ensures
 
-pub returns-in-Moves : goal.returns-in-Moves
-returns-in-Moves g c = rw c.in-Moves.is c.answer_moves.ensures
-
 pub returns-in-Show : goal.returns-in-Show
 returns-in-Show g c = rw c.in-Show.is c.answer_show.ensures
-
-pub returns-in-Best : goal.returns-in-Best
-returns-in-Best g c = rw c.in-Best.is c.answer_best.ensures
 
 pub returns-in-Stats : goal.returns-in-Stats
 returns-in-Stats g c = rw c.in-Stats.is c.answer_stats.ensures

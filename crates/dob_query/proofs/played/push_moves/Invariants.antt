@@ -1,7 +1,7 @@
 -- The line so far, and then the text of the moves that are left, is the text of all moves; fewer are left each time.
 use Rattle.std.proofs.Common.{◌≡◌, ◌++◌, false, length, string_bytes}
-use Rattle.dob_query.specs.Tables.{moves_text}
-use Rattle.dob_query.proofs.tables.push_moves.Given as goal
+use Rattle.dob_query.specs.Played.{moves_text}
+use Rattle.dob_query.proofs.played.push_moves.Given as goal
 
 abbrev pub invariant-loop-first : goal.invariant-loop-first
 invariant-loop-first l =

@@ -1,0 +1,142 @@
+-- What the program owes where it is asked about a position by a database file of which only the header and the records that it needs are read.
+use Rattle.std.specs.Prelude.{◌≡◌, ◌⊎◌, ℕ, List, Result, String}
+use Rattle.dob_pieces.specs.declared.profile.Family.{Family}
+use Rattle.dob_pieces.specs.declared.profile.Profile.{Profile}
+use Rattle.dob_pieces.specs.declared.profile.Profile.TheVariants.{A}
+use Rattle.dob_pieces.specs.declared.setup.Setup.{Setup}
+use Rattle.dob_text.specs.Faults as text
+use Rattle.dob_moves.specs.declared.game_move.Move.{Move as GameMove}
+use Rattle.dob_rank.specs.Families.{IsPositionOf}
+use Rattle.dob_value.specs.declared.value.Value.{Value}
+use Rattle.dob_value.specs.Values.{HasValue}
+use Rattle.dob_dbfile.specs.declared.fault.Fault as file
+use Rattle.dob_dbfile.specs.declared.fault.Fault.TheVariants as file_fault
+use Rattle.dob_dbfile.specs.declared.header.Format.{Format}
+use Rattle.dob_dbfile.specs.Devices.{Stream, whole}
+use Rattle.dob_dbfile.specs.Faults.{CountsClasses}
+use Rattle.dob_dbfile.specs.Looking.{HasFrontFault}
+use Rattle.dob_probe.specs.declared.by_value.ValuedMove.{ValuedMove}
+use Rattle.dob_probe.specs.declared.fault.Fault.TheVariants as table_fault
+use Rattle.dob_probe.specs.Lines.{IsLine}
+use Rattle.dob_probe.specs.ValuedMoves.{AreValuedMoves}
+use Rattle.dob_records.specs.Faults.{BreaksBy}
+use Rattle.dob_records.specs.Records.{IsRecorded, LacksAlong, LacksNext}
+use Rattle.dob_query.specs.declared.fault.Fault.{Fault}
+use Rattle.dob_query.specs.declared.fault.Fault.TheVariants.{Text, File, Table, Memory, Io}
+use Rattle.dob_query.specs.declared.questions.Question.{Question}
+use Rattle.dob_query.specs.declared.questions.Question.TheVariants.{Moves, Best, Line, Draw}
+use Rattle.dob_query.specs.Endings.{AnswersOver, Ending, GivesLines}
+use Rattle.dob_query.specs.Looks.{GivesWhole, IsRefusedBy}
+use Rattle.dob_query.specs.Played.{moves_lines, played_drawing}
+use Rattle.dob_query.specs.Tables.{IsShut, IsTextOf}
+use Rattle.dob_query.specs.ValuedMoves.{best_move_line, move_lines}
+use Rattle.dob_shelf.specs.Shelves.{ShelfChange}
+
+-- ---- the answer, where Has says which value a position has
+
+-- the lines tell the moves of the position with their values
+abbrev pub TellsMoves : (List ValuedMove → List ℕ) → Profile → (Setup → Value → Type 0) → Setup → List ℕ → Type 0
+TellsMoves tell profile Has p lines = (the_moves : List ValuedMove) × AreValuedMoves profile Has p the_moves × (lines ≡ tell the_moves)
+
+-- the lines tell the position's value and its line
+abbrev pub TellsPlay : (Value → List GameMove → List ℕ) → Profile → (Setup → Value → Type 0) → Setup → List ℕ → Type 0
+TellsPlay tell profile Has p lines =
+    (value : Value) × (moves : List GameMove) × Has p value × IsLine profile Has p moves × (lines ≡ tell value moves)
+
+-- the lines answer the question of the position
+abbrev pub IsToldBy : Question → Profile → (Setup → Value → Type 0) → Setup → List ℕ → Type 0
+IsToldBy Moves profile Has p = TellsMoves move_lines profile Has p
+IsToldBy Best profile Has p = TellsMoves best_move_line profile Has p
+IsToldBy (Line is_numbered) profile Has p = TellsPlay (moves_lines is_numbered) profile Has p
+IsToldBy Draw profile Has p = TellsPlay (played_drawing p) profile Has p
+
+-- the stream's header names the family and the format, and the position is of that family
+pub record IsOfNamed (stream : Stream) (position : Setup) (format : Format) (family : Family) : Type 0 where
+  pub named : CountsClasses format family stream.bytes
+  pub member : IsPositionOf family position
+
+-- the position is of the family that the stream's header names, and the lines answer the question by its records
+pub record IsAnswerOf (question : Question) (stream : Stream) (position : Setup) (lines : List ℕ) : Type 0 where
+  pub format : Format
+  pub family : Family
+  pub by : IsOfNamed stream position format family
+  pub told : IsToldBy question family.profile (IsRecorded stream format family) position lines
+
+-- ---- faults
+
+-- a record that the question needs isn't whole
+abbrev pub LacksFor : Question → Stream → Format → Family → Setup → file.Fault → Type 0
+LacksFor Moves = LacksNext
+LacksFor Best = LacksNext
+LacksFor (Line is_numbered) = LacksAlong
+LacksFor Draw = LacksAlong
+
+-- where it asks for the line, that breaks off at the class
+abbrev pub BreaksFor : Question → Stream → Format → Family → Setup → ℕ → Type 0
+BreaksFor Moves stream format family p class = ⊥
+BreaksFor Best stream format family p class = ⊥
+BreaksFor (Line is_numbered) stream format family p class = BreaksBy family (IsRecorded stream format family) p class
+BreaksFor Draw stream format family p class = BreaksBy family (IsRecorded stream format family) p class
+
+-- a fault of answering by the records of a source that shows these streams, in that format and family
+abbrev pub IsRecordsFault : Question → (Stream → Type 0) → Format → Family → Setup → Fault → Type 0
+IsRecordsFault question Shows format family p (File fault) = (stream : Stream) → Shows stream → LacksFor question stream format family p fault
+IsRecordsFault question Shows format family p (Table (table_fault.Inconsistent class)) =
+    (stream : Stream) → Shows stream → BreaksFor question stream format family p class
+IsRecordsFault question Shows format family p Memory = Unit {0}
+IsRecordsFault question Shows format family p _ = ⊥
+
+-- A fault of asking a source that may give these streams: the header's, or that its family refuses the position, or of answering by the records; or memory
+-- failed.
+abbrev pub IsFaultOfAsking : Question → (Stream → Type 0) → Setup → Fault → Type 0
+IsFaultOfAsking question Gives p (File fault) = (stream : Stream) → Gives stream → (fault ≡ file_fault.Memory) ⊎ (HasFrontFault stream fault
+    ⊎ ((format : Format) × (family : Family) × IsOfNamed stream p format family × LacksFor question stream format family p fault))
+IsFaultOfAsking question Gives p (Table (table_fault.Inconsistent class)) = (stream : Stream) → Gives stream
+    → (format : Format) × (family : Family) × IsOfNamed stream p format family × BreaksFor question stream format family p class
+IsFaultOfAsking question Gives p (Table table_fault.Memory) = ⊥
+IsFaultOfAsking question Gives p (Table fault) = (stream : Stream) → Gives stream → IsRefusedBy stream p fault
+IsFaultOfAsking question Gives p Memory = Unit {0}
+IsFaultOfAsking question Gives p _ = ⊥
+
+-- ---- by the words; Has says which bytes the file has, where that is known
+
+-- the lines answer the question of the position by the file
+abbrev pub IsAnswerBy : Question → (List ℕ → Type 0) → Setup → List ℕ → Type 0
+IsAnswerBy question Has position lines = (bytes : List ℕ) → Has bytes → IsAnswerOf question (whole bytes) position lines
+
+-- the same of the position that a text names
+pub record AreAnswerLines (question : Question) (Has : List ℕ → Type 0) (words lines : List ℕ) : Type 0 where
+  pub position : Setup
+  pub named : IsTextOf words position
+  pub told : IsAnswerBy question Has position lines
+
+-- the lines answer it by the values that positions have by definition and the rules of the profile
+pub record AreRightAnswerLines (question : Question) (profile : Profile) (words lines : List ℕ) : Type 0 where
+  pub position : Setup
+  pub named : IsTextOf words position
+  pub told : IsToldBy question profile (HasValue profile) position lines
+
+-- a fault of asking the file for the position, or of opening it
+abbrev pub IsAskingFault : Question → (List ℕ → Type 0) → Setup → Fault → Type 0
+IsAskingFault question Has position Io = IsShut Has
+IsAskingFault question Has position fault = IsFaultOfAsking question (GivesWhole Has) position fault
+
+-- A fault of asking for the position of a text: the text's, or memory failed; the file is asked only where the text is a position's.
+abbrev pub IsAskFault : Question → (List ℕ → Type 0) → List ℕ → Fault → Type 0
+IsAskFault question Has words (Text fault) = text.HasTextFault A words fault
+IsAskFault question Has words Memory = Unit {0}
+IsAskFault question Has words fault = (position : Setup) × IsTextOf words position × IsAskingFault question Has position fault
+
+-- ---- what the call gives, and what the program does
+
+abbrev pub GivesAnswer : {X : Type 0} → Question → List ℕ → List ℕ → Result (String X) Fault → ShelfChange → Type 0
+GivesAnswer question file words result c =
+    GivesLines c (AreAnswerLines question (c.before.has file) words) (IsAskFault question (c.before.has file) words) result
+
+abbrev pub AnswersQuestion : ShelfChange → Question → List ℕ → List ℕ → Ending → Type 0
+AnswersQuestion c question file words = AnswersOver c (AreAnswerLines question (c.before.has file) words) (IsAskFault question (c.before.has file) words)
+
+-- the same, where the lines say what is right by definition and the rules of the profile
+abbrev pub AnswersQuestionRight : ShelfChange → Profile → Question → List ℕ → List ℕ → Ending → Type 0
+AnswersQuestionRight c profile question file words =
+    AnswersOver c (AreRightAnswerLines question profile words) (IsAskFault question (c.before.has file) words)

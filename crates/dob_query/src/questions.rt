@@ -1,0 +1,194 @@
+// What is asked of a position, and the answer by the header and the records of a database file that it needs.
+ghost use Rattle.std.specs.Prelude.{◌≡◌, ◌||◌, false, IfErr, IfOk, string_bytes};
+ghost use Rattle.dob_rank.specs.Families.{IsPositionOf};
+ghost use Rattle.dob_dbfile.specs.Devices.{Stream};
+ghost use Rattle.dob_records.specs.Records.{IsRecorded};
+ghost use Rattle.dob_shelf.specs.Shelves.{Leaving, SameFiles};
+ghost use Rattle.dob_query.specs.Endings.{GivesLines};
+ghost use Rattle.dob_query.specs.Faults.{is_io_error};
+ghost use Rattle.dob_query.specs.declared.questions.Question.TheVariants.{Moves, Best, Line, Draw};
+ghost use Rattle.dob_query.specs.Questions.{GivesAnswer, IsAnswerBy, IsAnswerOf, IsAskingFault, IsFaultOfAsking, IsRecordsFault, IsToldBy};
+
+use crate::fault::Lines;
+use crate::played::{moves_lines, played_drawing};
+use crate::positions::position_named;
+use crate::valued_moves::{best_move_line, move_lines};
+use dob_classes::Classes;
+use dob_dbfile::{Format, PlacedSource, read_classes};
+use dob_pieces::Position;
+use dob_probe::check_member;
+use dob_records::{line_by_records, moves_by_records};
+use dob_shelf::Shelf;
+use std::alloc::Global;
+
+/// What is asked of a position.
+#[derive(Clone, Copy)]
+pub enum Question {
+    /// Its moves with their values.
+    Moves,
+    /// The first of these.
+    Best,
+    /// Its line, each move on a line with its number where it is numbered.
+    Line { is_numbered: bool },
+    /// Its drawing, with its value and its line.
+    Draw,
+}
+
+/// The lines that answer the question of the position that the text names, by the header of the file and the records that it needs. The file is
+/// opened only where the text is a position's.
+pub fn answer_question<S: Shelf>(
+    alloc: Global,
+    shelf: &mut S,
+    file: &str,
+    question: Question,
+    text: &str,
+) -> Lines
+    ensures { Leaving SameFiles S.state shelf.old shelf.new (GivesAnswer question file.now text.now result) }
+{
+    let position = position_named(text)?;
+    answer_of(alloc, shelf, file, question, &position)
+}
+
+/// The same of a position.
+pub(crate) fn answer_of<S: Shelf>(
+    alloc: Global,
+    shelf: &mut S,
+    file: &str,
+    question: Question,
+    position: &Position,
+) -> Lines
+    ensures answered { Leaving SameFiles S.state shelf.old shelf.new (λ c.
+        GivesLines c (IsAnswerBy question (c.before.has file.now) position.now.setup) (IsAskingFault question (c.before.has file.now) position.now.setup) result) }
+    ensures told { (S.state shelf.new).tells ≡ (S.state shelf.old).tells }
+{
+    let mut source = shelf.find(file)?;
+    let answer = ask(alloc, &mut source, question, position);
+    shelf.close(source);
+    answer
+}
+
+// The lines by a source that is new.
+fn ask<R: PlacedSource>(
+    alloc: Global,
+    source: &mut R,
+    question: Question,
+    position: &Position,
+) -> Lines
+    requires { R.has_failed source.old ≡ false }
+    ensures ok { (stream : Stream) → R.gives source.old stream → R.shows source.old stream
+        → IfOk result (λ lines. IsAnswerOf question stream position.now.setup (string_bytes lines)) }
+    ensures fault { IfErr result (IsFaultOfAsking question (λ stream. R.gives source.old stream × R.shows source.old stream) position.now.setup) }
+    ensures failed { R.has_failed source.new ≡ is_io_error result }
+{
+    let (format, classes) = read_classes(alloc, source)?;
+    check_member(classes.family, position)?;
+    answer_by_records(alloc, source, format, &classes, question, position)
+}
+
+// The lines by the records.
+fn answer_by_records<R: PlacedSource>(
+    alloc: Global,
+    source: &mut R,
+    format: Format,
+    classes: &Classes,
+    question: Question,
+    position: &Position,
+) -> Lines
+    requires { IsPositionOf classes.now.family position.now.setup }
+    ensures ok { (stream : Stream) → R.shows source.old stream → IfOk result (λ lines. IsToldBy question classes.now.family.profile
+        (IsRecorded stream format classes.now.family) position.now.setup (string_bytes lines)) }
+    ensures fault { IfErr result (IsRecordsFault question (R.shows source.old) format classes.now.family position.now.setup) }
+    ensures shown { (stream : Stream) → R.shows source.old stream → R.shows source.new stream }
+    ensures failed { R.has_failed source.new ≡ (R.has_failed source.old || is_io_error result) }
+{
+    match question {
+        Question::Moves => told_moves(alloc, source, format, classes, position),
+        Question::Best => told_best(alloc, source, format, classes, position),
+        Question::Line { is_numbered } => told_line(
+            alloc,
+            source,
+            format,
+            classes,
+            is_numbered,
+            position,
+        ),
+        Question::Draw => told_drawing(alloc, source, format, classes, position),
+    }
+}
+
+// The moves with their values.
+fn told_moves<R: PlacedSource>(
+    alloc: Global,
+    source: &mut R,
+    format: Format,
+    classes: &Classes,
+    position: &Position,
+) -> Lines
+    requires { IsPositionOf classes.now.family position.now.setup }
+    ensures ok { (stream : Stream) → R.shows source.old stream → IfOk result (λ lines. IsToldBy Moves classes.now.family.profile
+        (IsRecorded stream format classes.now.family) position.now.setup (string_bytes lines)) }
+    ensures fault { IfErr result (IsRecordsFault Moves (R.shows source.old) format classes.now.family position.now.setup) }
+    ensures shown { (stream : Stream) → R.shows source.old stream → R.shows source.new stream }
+    ensures failed { R.has_failed source.new ≡ (R.has_failed source.old || is_io_error result) }
+{
+    let the_moves = moves_by_records(alloc, source, format, classes, position)?;
+    Ok(move_lines(alloc, &the_moves)?)
+}
+
+// The first of them.
+fn told_best<R: PlacedSource>(
+    alloc: Global,
+    source: &mut R,
+    format: Format,
+    classes: &Classes,
+    position: &Position,
+) -> Lines
+    requires { IsPositionOf classes.now.family position.now.setup }
+    ensures ok { (stream : Stream) → R.shows source.old stream → IfOk result (λ lines. IsToldBy Best classes.now.family.profile
+        (IsRecorded stream format classes.now.family) position.now.setup (string_bytes lines)) }
+    ensures fault { IfErr result (IsRecordsFault Best (R.shows source.old) format classes.now.family position.now.setup) }
+    ensures shown { (stream : Stream) → R.shows source.old stream → R.shows source.new stream }
+    ensures failed { R.has_failed source.new ≡ (R.has_failed source.old || is_io_error result) }
+{
+    let the_moves = moves_by_records(alloc, source, format, classes, position)?;
+    Ok(best_move_line(alloc, &the_moves)?)
+}
+
+// The line.
+fn told_line<R: PlacedSource>(
+    alloc: Global,
+    source: &mut R,
+    format: Format,
+    classes: &Classes,
+    is_numbered: bool,
+    position: &Position,
+) -> Lines
+    requires { IsPositionOf classes.now.family position.now.setup }
+    ensures ok { (stream : Stream) → R.shows source.old stream → IfOk result (λ lines. IsToldBy (Line is_numbered) classes.now.family.profile
+        (IsRecorded stream format classes.now.family) position.now.setup (string_bytes lines)) }
+    ensures fault { IfErr result (IsRecordsFault (Line is_numbered) (R.shows source.old) format classes.now.family position.now.setup) }
+    ensures shown { (stream : Stream) → R.shows source.old stream → R.shows source.new stream }
+    ensures failed { R.has_failed source.new ≡ (R.has_failed source.old || is_io_error result) }
+{
+    let (value, moves) = line_by_records(alloc, source, format, classes, position)?;
+    Ok(moves_lines(alloc, is_numbered, value, &moves)?)
+}
+
+// The drawing, with the value and the line.
+fn told_drawing<R: PlacedSource>(
+    alloc: Global,
+    source: &mut R,
+    format: Format,
+    classes: &Classes,
+    position: &Position,
+) -> Lines
+    requires { IsPositionOf classes.now.family position.now.setup }
+    ensures ok { (stream : Stream) → R.shows source.old stream → IfOk result (λ lines. IsToldBy Draw classes.now.family.profile
+        (IsRecorded stream format classes.now.family) position.now.setup (string_bytes lines)) }
+    ensures fault { IfErr result (IsRecordsFault Draw (R.shows source.old) format classes.now.family position.now.setup) }
+    ensures shown { (stream : Stream) → R.shows source.old stream → R.shows source.new stream }
+    ensures failed { R.has_failed source.new ≡ (R.has_failed source.old || is_io_error result) }
+{
+    let (value, moves) = line_by_records(alloc, source, format, classes, position)?;
+    Ok(played_drawing(alloc, position, value, &moves)?)
+}

@@ -1,0 +1,14 @@
+-- No move below the index leads to the value that is wanted, and the source shows what it showed.
+use Rattle.std.proofs.Common.{◌≡◌}
+use Rattle.dob_dbfile.specs.Devices.{Stream}
+use Rattle.dob_probe.proofs.Ways.{NoneBelow}
+use Rattle.dob_records.specs.Records.{IsRecorded}
+use Rattle.dob_records.proofs.lines.first_to.Given as goal
+
+abbrev pub invariant-loop-the_move : goal.invariant-loop-the_move
+invariant-loop-the_move g l = record {
+  shown : (stream : Stream) → g.R.Source.shows l.fn.source stream → g.R.Source.shows l.source stream;
+  none : (stream : Stream) → g.R.Source.shows l.fn.source stream
+      → NoneBelow l.classes.family.profile (IsRecorded stream l.format l.classes.family) l.position.setup l.wanted l.the_move-items l.the_move-index;
+  failed : g.R.Source.has_failed l.source ≡ g.R.Source.has_failed l.fn.source;
+}

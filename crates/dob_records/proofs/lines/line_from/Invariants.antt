@@ -1,0 +1,22 @@
+-- The moves so far begin the line and lead to a position of which the record says that value, whose distance falls.
+use Rattle.std.proofs.Common.{◌≡◌}
+use Rattle.dob_rank.specs.Families.{IsPositionOf}
+use Rattle.dob_value.specs.Follows.{IsEntry}
+use Rattle.dob_dbfile.specs.Devices.{Stream}
+use Rattle.dob_probe.proofs.Ways.{distance}
+use Rattle.dob_records.specs.Records.{IsRecorded}
+use Rattle.dob_records.proofs.Onward.{IsOnLine}
+use Rattle.dob_records.proofs.lines.line_from.Given as goal
+
+abbrev pub invariant-loop-catch : goal.invariant-loop-catch
+invariant-loop-catch g l = record {
+  member : IsPositionOf l.classes.family l.position.setup;
+  entry : IsEntry l.value;
+  shown : (stream : Stream) → g.R.Source.shows l.fn.source stream → g.R.Source.shows l.source stream;
+  on : (stream : Stream) → g.R.Source.shows l.fn.source stream → IsRecorded stream l.format l.classes.family l.fn.position.setup l.fn.value
+      → IsOnLine l.classes.family (IsRecorded stream l.format l.classes.family) l.fn.position.setup l.line.items l.position.setup l.value;
+  failed : g.R.Source.has_failed l.source ≡ g.R.Source.has_failed l.fn.source;
+}
+
+abbrev pub decreases-loop-catch : goal.decreases-loop-catch
+decreases-loop-catch g l = distance l.value

@@ -1,0 +1,18 @@
+-- The moves so far are listed, each with the value that its record says, and the source shows what it showed.
+use Rattle.std.proofs.Common.{◌≡◌, AllPairs}
+use Rattle.dob_dbfile.specs.Devices.{Stream}
+use Rattle.dob_probe.specs.ValuedMoves.{ComesBefore}
+use Rattle.dob_probe.proofs.ByValue.{AreListed}
+use Rattle.dob_records.specs.Records.{IsRecorded}
+use Rattle.dob_records.proofs.Recorded.{AreOfFirst}
+use Rattle.dob_records.proofs.listing.moves_in_order.Given as goal
+
+abbrev pub invariant-loop-the_move : goal.invariant-loop-the_move
+invariant-loop-the_move g l = record {
+  ordered : AllPairs ComesBefore l.list.items;
+  first : AreOfFirst l.the_moves l.the_move-index l.list.items;
+  shown : (stream : Stream) → g.R.Source.shows l.fn.source stream → g.R.Source.shows l.source stream;
+  listed : (stream : Stream) → g.R.Source.shows l.fn.source stream
+      → AreListed l.classes.family.profile (IsRecorded stream l.format l.classes.family) l.position.setup l.the_moves l.the_move-index l.list.items;
+  failed : g.R.Source.has_failed l.source ≡ g.R.Source.has_failed l.fn.source;
+}

@@ -1,0 +1,131 @@
+// The line of a position by the records of the positions on it and of those that their moves lead to.
+ghost use Rattle.std.specs.Prelude.{◌≡◌, ◌||◌, ◌++◌, ◌∷◌, [], IfErr, IfOk, OnOk};
+ghost use Rattle.dob_rank.specs.Families.{IsPositionOf};
+ghost use Rattle.dob_value.specs.Follows.{IsEntry};
+ghost use Rattle.dob_dbfile.specs.Devices.{Stream};
+ghost use Rattle.dob_moves.specs.Statuses.{CanCatch};
+ghost use Rattle.dob_probe.specs.Lines.{IsFirstTo, IsLine, value_wanted};
+ghost use Rattle.dob_records.specs.Faults.{IsFaultOfLine, IsGap, is_io_error};
+ghost use Rattle.dob_records.specs.Records.{IsRecorded};
+
+use crate::fault::Fault;
+use crate::values::{value_after, value_at};
+use dob_classes::Classes;
+use dob_dbfile::{Format, PlacedSource};
+use dob_moves::{Move, apply, first_catch, moves};
+use dob_pieces::{Memory, Position};
+use dob_value::Value;
+use std::alloc::Global;
+
+/// The value that the record of the position says, and its line as `line` of `dob_probe` gives it by a table. Of the file just the record of the position
+/// is read, and of each position on the line those of the positions that its moves lead to, up to the first one that has the value which the line needs.
+///
+/// # Errors
+///
+/// `File` where one of these records isn't whole or reading it fails; `Inconsistent` with the class at which the line goes on by the records, but no move
+/// leads to the value that it needs; `Memory`.
+pub fn line_by_records<R: PlacedSource>(
+    alloc: Global,
+    source: &mut R,
+    format: Format,
+    classes: &Classes,
+    position: &Position,
+) -> Result<(Value, Vec<Move>), Fault>
+    requires { IsPositionOf classes.now.family position.now.setup }
+    ensures value { (stream : Stream) → R.shows source.old stream
+        → IfOk result (λ play. IsRecorded stream format classes.now.family position.now.setup play.0) }
+    ensures line { (stream : Stream) → R.shows source.old stream → IfOk result (λ play.
+        IsLine classes.now.family.profile (IsRecorded stream format classes.now.family) position.now.setup play.1.items) }
+    ensures fault { (stream : Stream) → R.shows source.old stream → IfErr result (IsFaultOfLine stream format classes.now.family position.now.setup) }
+    ensures shown { (stream : Stream) → R.shows source.old stream → R.shows source.new stream }
+    ensures failed { R.has_failed source.new ≡ (R.has_failed source.old || is_io_error result) }
+{
+    let value = value_at(source, format, classes, position)?;
+    let line = line_from(alloc, source, format, classes, *position, value)?;
+    Ok((value, line))
+}
+
+// The line of the position, of which the record says that value.
+//
+// Errors: those of `line_by_records`.
+fn line_from<R: PlacedSource>(
+    alloc: Global,
+    source: &mut R,
+    format: Format,
+    classes: &Classes,
+    mut position: Position,
+    mut value: Value,
+) -> Result<Vec<Move>, Fault>
+    requires member { IsPositionOf classes.now.family position.setup }
+    requires entry { IsEntry value }
+    ensures line { (stream : Stream) → R.shows source.old stream → IsRecorded stream format classes.now.family position.setup value
+        → IfOk result (λ moves. IsLine classes.now.family.profile (IsRecorded stream format classes.now.family) position.setup moves.items) }
+    ensures fault { (stream : Stream) → R.shows source.old stream → IsRecorded stream format classes.now.family position.setup value
+        → IfErr result (IsFaultOfLine stream format classes.now.family position.setup) }
+    ensures shown { (stream : Stream) → R.shows source.old stream → R.shows source.new stream }
+    ensures failed { R.has_failed source.new ≡ (R.has_failed source.old || is_io_error result) }
+{
+    let mut line = Vec::new(alloc);
+    loop {
+        if let Some(catch) = first_catch(&position) {
+            push_move(&mut line, catch)?;
+            return Ok(line);
+        }
+        let Some(wanted) = value_wanted(value) else {
+            return Ok(line);
+        };
+        let (the_move, next) = first_to(alloc, source, format, classes, &position, wanted)?;
+        push_move(&mut line, the_move)?;
+        position = next;
+        value = wanted;
+    }
+}
+
+// Writes the move behind the others.
+fn push_move(line: &mut Vec<Move>, the_move: Move) -> Result<(), Memory>
+    ensures { OnOk result (line.new.items ≡ line.old.items ++ the_move ∷ []) }
+{
+    Ok(line.push(the_move)?)
+}
+
+// The value to which the line's next move leads from a position with that value, if there is such a move.
+fn value_wanted(value: Value) -> Option<Value>
+    requires { IsEntry value }
+    ensures { result ≡ value_wanted value }
+{
+    match value {
+        Value::Win(plies) => Some(Value::Loss(plies - 1)),
+        Value::Loss(0) | Value::Draw => None,
+        Value::Loss(plies) => Some(Value::Win(plies - 1)),
+    }
+}
+
+// The first move to a position of which the record says that value, and that position.
+//
+// Errors: `File` where a record isn't whole or reading it fails; `Inconsistent` with the position's class where no move leads to one; `Memory`.
+fn first_to<R: PlacedSource>(
+    alloc: Global,
+    source: &mut R,
+    format: Format,
+    classes: &Classes,
+    position: &Position,
+    wanted: Value,
+) -> Result<(Move, Position), Fault>
+    requires { IsPositionOf classes.now.family position.now.setup }
+    ensures found { (stream : Stream) → R.shows source.old stream → IfOk result (λ found.
+        IsFirstTo classes.now.family.profile (IsRecorded stream format classes.now.family) position.now.setup wanted found.0 found.1.setup) }
+    ensures member { IfOk result (λ found. IsPositionOf classes.now.family found.1.setup) }
+    ensures entry { OnOk result (IsEntry wanted) }
+    ensures missing { (stream : Stream) → R.shows source.old stream
+        → IfErr result (IsGap stream format classes.now.family position.now.setup wanted) }
+    ensures shown { (stream : Stream) → R.shows source.old stream → R.shows source.new stream }
+    ensures failed { R.has_failed source.new ≡ (R.has_failed source.old || is_io_error result) }
+{
+    let the_moves = moves(alloc, classes.family.profile, position)?;
+    for the_move in &the_moves {
+        if value_after(source, format, classes, position, *the_move)? == wanted {
+            return Ok((*the_move, apply(position, *the_move)));
+        }
+    }
+    Err(Fault::Inconsistent(classes.class_of(position)))
+}

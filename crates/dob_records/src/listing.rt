@@ -1,0 +1,88 @@
+// The moves of a position with their values by the records of the positions that they lead to, best first.
+ghost use Rattle.std.specs.Prelude.{◌≡◌, ◌||◌, [], ◌∷◌, IfErr, IfOk};
+ghost use Rattle.dob_moves.specs.Statuses.{AreMoves, CanCatch};
+ghost use Rattle.dob_rank.specs.Families.{IsPositionOf};
+ghost use Rattle.dob_value.specs.declared.value.Value.TheVariants.{Win};
+ghost use Rattle.dob_dbfile.specs.Devices.{Stream};
+ghost use Rattle.dob_probe.specs.ValuedMoves.{AreValuedMoves};
+ghost use Rattle.dob_records.specs.Faults.{IsFaultOfMoves, is_io_error};
+ghost use Rattle.dob_records.specs.Records.{IsRecorded};
+
+use crate::fault::Fault;
+use crate::values::value_after;
+use dob_classes::Classes;
+use dob_dbfile::{Format, PlacedSource};
+use dob_moves::{Move, first_catch, moves};
+use dob_pieces::{Memory, Position};
+use dob_probe::{ValuedMove, insert_by_value, value_seen};
+use dob_value::Value;
+use std::alloc::Global;
+
+/// The moves of the position, each with its value for the side that makes it, as `valued_moves` of `dob_probe` lists them by a table. Of the file just the
+/// records of the positions that they lead to are read, and none where the lion can be caught.
+///
+/// # Errors
+///
+/// `File` where one of these records isn't whole or reading it fails; `Memory`.
+pub fn moves_by_records<R: PlacedSource>(
+    alloc: Global,
+    source: &mut R,
+    format: Format,
+    classes: &Classes,
+    position: &Position,
+) -> Result<Vec<ValuedMove>, Fault>
+    requires { IsPositionOf classes.now.family position.now.setup }
+    ensures moves { (stream : Stream) → R.shows source.old stream → IfOk result (λ list.
+        AreValuedMoves classes.now.family.profile (IsRecorded stream format classes.now.family) position.now.setup list.items) }
+    ensures fault { (stream : Stream) → R.shows source.old stream → IfErr result (IsFaultOfMoves stream format classes.now.family position.now.setup) }
+    ensures shown { (stream : Stream) → R.shows source.old stream → R.shows source.new stream }
+    ensures failed { R.has_failed source.new ≡ (R.has_failed source.old || is_io_error result) }
+{
+    if let Some(the_move) = first_catch(position) {
+        return Ok(one_catch(alloc, the_move)?);
+    }
+    let the_moves = moves(alloc, classes.family.profile, position)?;
+    moves_in_order(alloc, source, format, classes, position, &the_moves)
+}
+
+// The catch of the lion alone.
+fn one_catch(alloc: Global, the_move: Move) -> Result<Vec<ValuedMove>, Memory>
+    ensures { IfOk result (λ list. list.items ≡ record { the_move = the_move; value = Win 1 } ∷ []) }
+{
+    let mut list = Vec::new(alloc);
+    let value = Value::Win(1);
+    list.push(ValuedMove { the_move, value })?;
+    Ok(list)
+}
+
+// Those moves of the position with their values, best first.
+//
+// Errors: those of `moves_by_records`.
+fn moves_in_order<R: PlacedSource>(
+    alloc: Global,
+    source: &mut R,
+    format: Format,
+    classes: &Classes,
+    position: &Position,
+    the_moves: &[Move],
+) -> Result<Vec<ValuedMove>, Fault>
+    requires member { IsPositionOf classes.now.family position.now.setup }
+    requires the_moves { AreMoves classes.now.family.profile position.now.setup the_moves.now }
+    requires free { ¬ CanCatch position.now.setup }
+    ensures moves { (stream : Stream) → R.shows source.old stream → IfOk result (λ list.
+        AreValuedMoves classes.now.family.profile (IsRecorded stream format classes.now.family) position.now.setup list.items) }
+    ensures fault { (stream : Stream) → R.shows source.old stream → IfErr result (IsFaultOfMoves stream format classes.now.family position.now.setup) }
+    ensures shown { (stream : Stream) → R.shows source.old stream → R.shows source.new stream }
+    ensures failed { R.has_failed source.new ≡ (R.has_failed source.old || is_io_error result) }
+{
+    let mut list = Vec::new(alloc);
+    for the_move in the_moves {
+        let value = value_seen(value_after(source, format, classes, position, *the_move)?);
+        let valued = ValuedMove {
+            the_move: *the_move,
+            value,
+        };
+        insert_by_value(&mut list, valued)?;
+    }
+    Ok(list)
+}
