@@ -10,19 +10,19 @@ use Rattle.dob_probe.specs.declared.puzzles.Puzzle.{Puzzle}
 use Rattle.dob_probe.specs.declared.walks.Walk.{Walk}
 use Rattle.dob_probe.specs.Puzzles.{ArePuzzles}
 
-module _ (puzzles : List Puzzle) (i : ℕ) (puzzle : Puzzle) (within : i < length puzzles) (here : puzzle ≡ get_or puzzles i puzzle) where
+module _ {X : Type 0} (items : List X) (i : ℕ) (item : X) (within : i < length items) (here : item ≡ get_or items i item) where
   -- the one that is gone over is one of the list
-  pub is_listed : Contains puzzles puzzle
-  is_listed = subst (λ (p : Puzzle). Contains puzzles p) (sym here) (Contains-get_or puzzles i puzzle within)
+  pub is_listed : Contains items item
+  is_listed = subst (λ (x : X). Contains items x) (sym here) (Contains-get_or items i item within)
 
   -- its line comes to those before
-  pub one_line_more : (f : Puzzle → List ℕ) (old new : List ℕ) → old ≡ flat_map f (take i puzzles) → new ≡ old ++ f puzzle
-      → new ≡ flat_map f (take (i + 1) puzzles)
+  pub one_line_more : (f : X → List ℕ) (old new : List ℕ) → old ≡ flat_map f (take i items) → new ≡ old ++ f item
+      → new ≡ flat_map f (take (i + 1) items)
   one_line_more f old new before grown =
-      grown ∙ (ap (λ (l : List ℕ). l ++ f puzzle) before ∙ sym (
-      ap (flat_map f) (take_more puzzles i puzzle within)
-      ∙ (flat_map-append f (take i puzzles) (get_or puzzles i puzzle ∷ [])
-      ∙ ap (λ (l : List ℕ). flat_map f (take i puzzles) ++ l) (append-nil (f (get_or puzzles i puzzle)) ∙ ap f (sym here)))
+      grown ∙ (ap (λ (l : List ℕ). l ++ f item) before ∙ sym (
+      ap (flat_map f) (take_more items i item within)
+      ∙ (flat_map-append f (take i items) (get_or items i item ∷ [])
+      ∙ ap (λ (l : List ℕ). flat_map f (take i items) ++ l) (append-nil (f (get_or items i item)) ∙ ap f (sym here)))
       ))
 
 -- a puzzle of a table is of one of its classes

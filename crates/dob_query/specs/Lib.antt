@@ -16,3 +16,4 @@ pub mod Reaches
 pub mod LooksEach
 pub mod Certificates
 pub mod Replying
+pub mod Zugzwangs

@@ -23,6 +23,7 @@ mod tables;
 mod tally;
 mod valued_moves;
 mod values;
+mod zugzwangs;
 
 pub use certificate_fault::CertificateFault;
 pub use certificates::answer_verify;
@@ -44,3 +45,4 @@ pub use stats::answer_stats;
 pub use tables::{answer_check, answer_line, answer_probe};
 pub use valued_moves::{answer_best, answer_moves};
 pub use values::answer_value;
+pub use zugzwangs::answer_zugzwangs;
