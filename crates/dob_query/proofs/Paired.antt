@@ -4,7 +4,6 @@ use Rattle.std.specs.Prelude.{Contains, IfSome}
 use Rattle.std.proofs.lemmas.List.{take-append-drop}
 use Rattle.std.proofs.lemmas.List.Elements.{Contains-append_left}
 use Rattle.dob_pieces.specs.declared.profile.Profile.{Profile}
-use Rattle.dob_rank.specs.Families.{classes_of}
 use Rattle.dob_value.specs.Follows.{ClassTable}
 use Rattle.dob_zugzwang.specs.declared.counts.PairCounts.{PairCounts}
 use Rattle.dob_zugzwang.specs.declared.pairs.Zugzwang.{Zugzwang}
@@ -17,10 +16,10 @@ use Rattle.dob_query.specs.Zugzwangs.{AnswersZugzwangs, AnswersZugzwangsRight, A
 use Rattle.dob_query.proofs.TableFaults.{over_weaker, right_table}
 use Rattle.dob_shelf.specs.Shelves.{ShelfChange}
 
-module _ (table : ClassTable) (pairs : List Zugzwang) (count : classes_of table.family ≡ length table.values) (are : ArePairs table pairs) where
+module _ (table : ClassTable) (pairs : List Zugzwang) (are : ArePairs table pairs) where
   -- they are of the table
   pub all_of_table : AreOfTable table pairs
-  all_of_table pair there = pair_within table count pair (are.sound pair there)
+  all_of_table pair there = pair_within table pair (are.sound pair there)
 
   -- the first ones too
   pub first_of_table : (listed : Option ℕ) → AreOfTable table (first_pairs listed pairs)

@@ -3,6 +3,7 @@ use Rattle.std.specs.Prelude.{◌≡◌, ◌<◌, ℕ, List, [], ◌∷◌, ◌+
 use Rattle.std.specs.Fmt.{decimal}
 use Rattle.dob_pieces.specs.declared.profile.Family.{Family}
 use Rattle.dob_pieces.specs.declared.profile.Profile.{Profile}
+use Rattle.dob_pieces.specs.declared.setup.Setup.{Setup}
 use Rattle.dob_pieces.specs.Bytes.{line_feed}
 use Rattle.dob_text.specs.PositionText.{text_of}
 use Rattle.dob_rank.specs.Families.{class_setup}
@@ -27,11 +28,14 @@ value_words (Win plies) = codes "win " ++ decimal plies
 value_words (Loss plies) = codes "loss " ++ decimal plies
 value_words Draw = codes "draw"
 
--- the representative of a pair's lower class, its value, and the value of its turn, as `.../..l/E.c/L.g - -  loss 26  loss 24`
+-- a position, its value, and the value of its turn, as `.../..l/E.c/L.g - -  loss 26  loss 24`
+abbrev pub pair_text : Setup → Zugzwang → List ℕ
+pair_text position pair =
+    text_of position ++ (codes "  " ++ (value_words pair.value ++ (codes "  " ++ (value_words pair.turn_value ++ line_feed ∷ []))))
+
+-- the same of a pair's lower class, whose representative is the position
 abbrev pub pair_line : Family → Zugzwang → List ℕ
-pair_line family pair =
-    text_of (class_setup family pair.class)
-    ++ (codes "  " ++ (value_words pair.value ++ (codes "  " ++ (value_words pair.turn_value ++ line_feed ∷ []))))
+pair_line family pair = pair_text (class_setup family pair.class) pair
 
 -- how many pairs are lost by both, and how many by one where the other draws
 abbrev pub count_text : PairCounts → List ℕ

@@ -3,12 +3,12 @@ ghost use Rattle.std.specs.Prelude.{◌≡◌, ◌++◌, ◌∷◌, [], IfOk, If
 ghost use Rattle.dob_pieces.specs.Bytes.{line_feed};
 ghost use Rattle.dob_zugzwang.specs.Counts.{AreCounts};
 ghost use Rattle.dob_zugzwang.specs.Pairs.{ArePairs};
-ghost use Rattle.dob_query.specs.Zugzwangs.{AreOfTable, GivesZugzwangs, IsOfTable, count_text, deepest_line, first_pairs, pair_line, value_words, zugzwang_lines};
+ghost use Rattle.dob_query.specs.Zugzwangs.{AreOfTable, GivesZugzwangs, IsOfTable, count_text, deepest_line, first_pairs, pair_line, pair_text, value_words, zugzwang_lines};
 ghost use Rattle.dob_shelf.specs.Shelves.{Leaving, SameFiles};
 
 use crate::fault::Lines;
 use crate::tables::open;
-use dob_pieces::Memory;
+use dob_pieces::{Memory, Position};
 use dob_shelf::Shelf;
 use dob_text::write_position;
 use dob_value::{Table, Value};
@@ -61,8 +61,9 @@ fn zugzwang_lines(
 {
     let mut lines = count_text(alloc, counts)?;
     let deepest = deepest_line(alloc, table, counts.deepest)?;
+    let listed = pair_lines(alloc, table, first)?;
     lines.push_str(deepest.as_str())?;
-    push_pairs(alloc, &mut lines, table, first)?;
+    lines.push_str(listed.as_str())?;
     Ok(lines)
 }
 
@@ -86,11 +87,7 @@ fn count_text(alloc: Global, counts: PairCounts) -> Result<String, Memory>
 }
 
 // The line of the deepest pair, or nothing where there is none.
-fn deepest_line(
-    alloc: Global,
-    table: &Table,
-    deepest: Option<Zugzwang>,
-) -> Result<String, Memory>
+fn deepest_line(alloc: Global, table: &Table, deepest: Option<Zugzwang>) -> Result<String, Memory>
     requires { IfSome deepest (IsOfTable table.now) }
     ensures { IfOk result (λ line. string_bytes line ≡ deepest_line table.now.family deepest) }
 {
@@ -103,20 +100,25 @@ fn deepest_line(
     }
 }
 
-// Writes the lines of the pairs at the end.
-fn push_pairs(
-    alloc: Global,
-    lines: &mut String,
-    table: &Table,
-    pairs: &[Zugzwang],
-) -> Result<(), Memory>
+// A line for each of the pairs.
+fn pair_lines(alloc: Global, table: &Table, pairs: &[Zugzwang]) -> Result<String, Memory>
     requires { AreOfTable table.now pairs.now }
-    ensures { OnOk result (string_bytes lines.new ≡ string_bytes lines.old ++ flat_map (pair_line table.now.family) pairs.now) }
+    ensures { IfOk result (λ lines. string_bytes lines ≡ flat_map (pair_line table.now.family) pairs.now) }
 {
+    let mut lines = String::new(alloc);
     for pair in pairs {
-        let line = pair_line(alloc, table, *pair)?;
-        lines.push_str(line.as_str())?;
+        push_pair(alloc, &mut lines, table, *pair)?;
     }
+    Ok(lines)
+}
+
+// Writes the line of the pair at the end.
+fn push_pair(alloc: Global, lines: &mut String, table: &Table, pair: Zugzwang) -> Result<(), Memory>
+    requires { IsOfTable table.now pair }
+    ensures { OnOk result (string_bytes lines.new ≡ string_bytes lines.old ++ pair_line table.now.family pair) }
+{
+    let line = pair_line(alloc, table, pair)?;
+    lines.push_str(line.as_str())?;
     Ok(())
 }
 
@@ -126,7 +128,15 @@ fn pair_line(alloc: Global, table: &Table, pair: Zugzwang) -> Result<String, Mem
     ensures { IfOk result (λ line. string_bytes line ≡ pair_line table.now.family pair) }
 {
     let position = table.classes().class_at(pair.class);
-    let text = write_position(alloc, &position)?;
+    let line = pair_text(alloc, &position, pair)?;
+    Ok(line)
+}
+
+// The line of the pair with that position.
+fn pair_text(alloc: Global, position: &Position, pair: Zugzwang) -> Result<String, Memory>
+    ensures { IfOk result (λ line. string_bytes line ≡ pair_text position.now.setup pair) }
+{
+    let text = write_position(alloc, position)?;
     let value = value_words(alloc, pair.value)?;
     let turn_value = value_words(alloc, pair.turn_value)?;
     three_texts(alloc, text.as_str(), value.as_str(), turn_value.as_str())

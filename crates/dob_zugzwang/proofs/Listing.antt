@@ -2,12 +2,11 @@
 use Rattle.std.proofs.Common.{◌≡◌, ℕ, zero, suc, ◌+◌, ◌≤◌, ◌<◌, inl, inr, refl, sym, ◌∙◌, subst, arith, List, [], ◌∷◌, length, get_or, Option, Some, None, AllPairs, Contains}
 use Rattle.std.specs.List.{AllZip, filter_map, range_with_len}
 use Rattle.std.proofs.lemmas.Bool.{cases_eq}
+use Rattle.std.proofs.lemmas.Option.{slice_get_within}
 use Rattle.std.proofs.lemmas.List.{get_or_default}
 use Rattle.std.proofs.lemmas.List.Elements.{Contains-append_right}
 use Rattle.std.proofs.lemmas.List.Kept.{AllPairs-cons}
 use Rattle.dob_pieces.proofs.Lists.{cons_cases}
-use Rattle.dob_rank.specs.Families.{class_number, classes_of}
-use Rattle.dob_classes.proofs.OfFamilies.FamilyNumbers.{IsInClass-class_number, class_number-below}
 use Rattle.dob_classes.proofs.OfFamilies.FamilyRepresentatives.{one_class}
 use Rattle.dob_value.specs.Follows.{ClassTable}
 use Rattle.dob_zugzwang.specs.declared.pairs.Zugzwang.{Zugzwang}
@@ -68,13 +67,12 @@ module _ (table : ClassTable) where
   found_from from (suc count) (Some pair ∷ found) at = take_in from count pair (Found found) at.0.0 at.0.1 (found_from (from + 1) count found at.1)
 
   -- a pair's class is one of the table's
-  pub pair_within : classes_of table.family ≡ length table.values → (pair : Zugzwang) → IsPair table pair → pair.class < length table.values
-  pair_within count pair is =
-      let family = table.family in
-      let position = is.1.in_class.position in
-      let low = class_number-below family is.0 position in
-      let same = one_class family is.0 pair.class (class_number family is.0) is.1.in_class (IsInClass-class_number family is.0 position) in
-      omega (arith, low, same, count)
+  pub pair_within : (pair : Zugzwang) → IsPair table pair → pair.class < length table.values
+  pair_within pair is =
+      let has = is.1.zugzwang.has in
+      let low = slice_get_within table.values has.class pair.value has.entry in
+      let same = one_class table.family is.0 pair.class has.class is.1.in_class has.number in
+      omega (arith, low, same)
 
   -- what is found of all classes is all pairs
   pub all_found : (count : ℕ) (found : List (Option Zugzwang)) → ((pair : Zugzwang) → IsPair table pair → pair.class < count)

@@ -30,4 +30,4 @@ returns g c =
     let places = chain.2 ∙ (λ i. nat_range (ends.0 i) (ends.1 i)) ∙ ap (range_with_len 0) count in
     let found : AllZip (IsPairAt table) (range_with_len 0 (length table.values)) chain.1
     = subst (λ (classes : List ℕ). AllZip (IsPairAt table) classes chain.1) places (AllZip-weaken _ (IsPairAt table) (λ class pair h. h) chain.0 chain.1 chain.3) in
-    subst (ArePairs table) (sym (done.2 ∙ chain.4)) (all_found table (length table.values) chain.1 (pair_within table c.classes.ensures.count) found)
+    subst (ArePairs table) (sym (done.2 ∙ chain.4)) (all_found table (length table.values) chain.1 (pair_within table) found)
