@@ -2,7 +2,7 @@
 
 # Help, each text whole, and the version.
 for words in '--help' '-h' 'help'; do helps dobutsu "$words"; done
-for form in value count reach build probe line check look show moves best stats puzzles migrate certify verify reply; do
+for form in value count reach build probe line check look show moves best stats zugzwangs puzzles migrate certify verify reply; do
     helps "$form" "$form" --help
     helps "$form" "$form" -h
     helps "$form" help "$form"
@@ -76,6 +76,9 @@ misused '--svg <OUT>' show --svg x --svg y "$position"
 misused "'--numbered'" show --numbered "$position"
 misused '--db <FILE>' stats
 misused "'a'" stats --db x a
+misused '--db <FILE>' zugzwangs --list 1
+misused "'x'" zugzwangs --db x --list x
+misused "'a'" zugzwangs --db x a
 misused '--plies <D>' puzzles --db x --count 1
 misused '--count <N>' puzzles --db x --plies 3
 misused "'x'" puzzles --db x --plies x --count 1

@@ -7,7 +7,7 @@ use Rattle.dob_words.specs.Forms.{Text}
 use Rattle.dob_words.specs.Words.{number_in, profile_named}
 use Rattle.dob_words.specs.Readings.{IsOrder, name_of_order, text_given}
 use Rattle.dob_words.specs.declared.command.Order.{Order}
-use Rattle.dob_words.specs.declared.command.Order.TheVariants.{Value, Reach, Build, Probe, Each, Line, Look, LookEach, Show, Moves, Best, Stats, Puzzles}
+use Rattle.dob_words.specs.declared.command.Order.TheVariants.{Value, Reach, Build, Probe, Each, Line, Look, LookEach, Show, Moves, Best, Stats, Zugzwangs, Puzzles}
 use Rattle.dob_query.specs.declared.fault.Fault.{Fault}
 use Rattle.dob_query.specs.Each.{AnswersLines, status_of_lines}
 use Rattle.dob_query.specs.Endings.{AnswersOver, Ending}
@@ -17,6 +17,7 @@ use Rattle.dob_query.specs.Tables.{AnswersProbe}
 use Rattle.dob_query.proofs.ByPlace.{look_right}
 use Rattle.dob_query.proofs.EachLine.{each_right}
 use Rattle.dob_query.proofs.Placed.{look_each_right}
+use Rattle.dob_query.proofs.Paired.{zugzwangs_right}
 use Rattle.dob_query.proofs.Reaching.{reach_right}
 use Rattle.dob_query.specs.declared.questions.Question.TheVariants as question
 use Rattle.dob_query.proofs.Asking.{question_right}
@@ -72,6 +73,7 @@ module _ (c : ShelfChange) (e : Ending) where
   rightly (Moves f t) answers = λ profile right. question_right c profile question.Moves f.now t.now e right (told_over c _ _ e answers)
   rightly (Best f t) answers = λ profile right. question_right c profile question.Best f.now t.now e right (told_over c _ _ e answers)
   rightly (Stats f b) answers = λ profile right. stats_right c profile f.now e right b (told_over c _ _ e answers)
+  rightly (Zugzwangs f n) answers = λ profile right. zugzwangs_right c profile f.now e right n (told_over c _ _ e answers)
   rightly (Puzzles f d n k s b) answers = λ profile right.
       puzzles_right c profile f.now e right (search_of d n k s b) (told_over c _ _ e answers)
   rightly o answers = tt

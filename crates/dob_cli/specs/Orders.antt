@@ -3,7 +3,7 @@ use Rattle.std.specs.Prelude.{◌≡◌, ℕ, Bool, false, List, Option, Result,
 use Rattle.dob_pieces.specs.declared.profile.Profile.{Profile}
 use Rattle.dob_query.specs.declared.fault.Fault.{Fault}
 use Rattle.dob_words.specs.declared.command.Order.{Order}
-use Rattle.dob_words.specs.declared.command.Order.TheVariants.{Value, Count, Reach, Build, Probe, Each, Line, Check, Look, LookEach, Show, Moves, Best, Stats, Puzzles, Migrate, Certify, Verify, Reply}
+use Rattle.dob_words.specs.declared.command.Order.TheVariants.{Value, Count, Reach, Build, Probe, Each, Line, Check, Look, LookEach, Show, Moves, Best, Stats, Zugzwangs, Puzzles, Migrate, Certify, Verify, Reply}
 use Rattle.dob_query.specs.declared.each.LineAnswers.{LineAnswers}
 use Rattle.dob_query.specs.Endings.{Ending, GivesLines}
 use Rattle.dob_shelf.specs.Shelves.{Files, SameFiles, SameOthers, ShelfChange}
@@ -25,7 +25,8 @@ use Rattle.dob_query.specs.declared.puzzles.PuzzleSearch.{PuzzleSearch}
 use Rattle.dob_words.specs.Readings.{text_given}
 use Rattle.dob_query.specs.Shows.{AnswersShowRight, AreShowLines, IsShowFault, KeepsButPicture}
 use Rattle.dob_query.specs.Stats.{AnswersStatsRight, AreStatsLines, IsStatsFault}
-use Rattle.dob_query.specs.Tables.{AnswersProbeRight, HasValueFile, IsCheckFault, IsCheckLine, IsFileOf, IsPositionFault, IsProbeLine}
+use Rattle.dob_query.specs.Tables.{AnswersProbeRight, HasValueFile, IsCheckFault, IsCheckLine, IsFileOf, IsOpeningFault, IsPositionFault, IsProbeLine}
+use Rattle.dob_query.specs.Zugzwangs.{AnswersZugzwangsRight, AreZugzwangLines}
 
 -- which puzzles are looked for: so many, won in so many plies, behind a class and in the order of a seed where these are given
 abbrev pub search_of : ℕ → ℕ → Option ℕ → Option ℕ → Bool → PuzzleSearch
@@ -52,6 +53,7 @@ AreLinesFor c (Show file picture position) = AreShowLines c (text_given file) (t
 AreLinesFor c (Moves file position) = AreAnswerLines question.Moves (c.before.has file.now) position.now
 AreLinesFor c (Best file position) = AreAnswerLines question.Best (c.before.has file.now) position.now
 AreLinesFor c (Stats file is_csv) = AreStatsLines (IsFileOf (c.before.has file.now)) is_csv
+AreLinesFor c (Zugzwangs file listed) = AreZugzwangLines (IsFileOf (c.before.has file.now)) listed
 AreLinesFor c (Puzzles file plies count from seed is_numbered) =
     ArePuzzleLines (IsFileOf (c.before.has file.now)) (search_of plies count from seed is_numbered)
 AreLinesFor c (Migrate file out) = AreMigrateLines c file.now out.now
@@ -75,6 +77,7 @@ IsFaultFor c (Show file picture position) = IsShowFault c (text_given file) (tex
 IsFaultFor c (Moves file position) = IsAskFault question.Moves (c.before.has file.now) position.now
 IsFaultFor c (Best file position) = IsAskFault question.Best (c.before.has file.now) position.now
 IsFaultFor c (Stats file is_csv) = IsStatsFault (c.before.has file.now)
+IsFaultFor c (Zugzwangs file listed) = IsOpeningFault (c.before.has file.now)
 IsFaultFor c (Puzzles file plies count from seed is_numbered) = IsPuzzlesFault (c.before.has file.now) plies
 IsFaultFor c (Migrate file out) = IsMigrateFault c file.now out.now
 IsFaultFor c (Certify file out most is_exact is_watched position) = IsCertifyFault c file.now out.now is_exact (most_entries most) position.now
@@ -136,6 +139,7 @@ AnswersRight c (Reach own (Some file) has_levels is_watched position) e =
 AnswersRight c (Moves file position) e = ByValueFile c file.now (λ profile. AnswersQuestionRight c profile question.Moves file.now position.now e)
 AnswersRight c (Best file position) e = ByValueFile c file.now (λ profile. AnswersQuestionRight c profile question.Best file.now position.now e)
 AnswersRight c (Stats file is_csv) e = ByValueFile c file.now (λ profile. AnswersStatsRight c profile file.now is_csv e)
+AnswersRight c (Zugzwangs file listed) e = ByValueFile c file.now (λ profile. AnswersZugzwangsRight c profile file.now listed e)
 AnswersRight c (Puzzles file plies count from seed is_numbered) e =
     ByValueFile c file.now (λ profile. AnswersPuzzlesRight c profile file.now (search_of plies count from seed is_numbered) e)
 AnswersRight c _ e = Unit {0}

@@ -19,7 +19,7 @@ use dob_query::{
     Console, Fault, LineAnswers, Lines, PuzzleSearch, Question, ReachSearch, Shelf, answer_certify,
     answer_check, answer_count, answer_each, answer_look, answer_look_each, answer_migrate,
     answer_probe, answer_puzzles, answer_question, answer_reach, answer_reply, answer_show,
-    answer_stats, answer_value, answer_verify,
+    answer_stats, answer_value, answer_verify, answer_zugzwangs,
 };
 use dob_words::command::{Order, Reading, read_words};
 use std::alloc::{AllocError, Global};
@@ -189,6 +189,7 @@ fn answer<S: Shelf>(
         Order::Best { file, position } =>
             answer_question(alloc, shelf, file, Question::Best, position),
         Order::Stats { file, is_csv } => answer_stats(rt, alloc, shelf, file, is_csv),
+        Order::Zugzwangs { file, listed } => answer_zugzwangs(rt, alloc, shelf, file, listed),
         Order::Puzzles {
             file,
             plies,

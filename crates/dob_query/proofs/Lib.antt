@@ -12,6 +12,7 @@ pub mod Rightly  -- by a value table's file drawings, counts and puzzles are rig
 pub mod Showing  -- the faults of drawing a position, and of keeping its picture, are those of showing it
 pub mod Migrating  -- the faults of reading a file and of keeping its table are those of migrating it
 pub mod Puzzling  -- the lines of puzzles, and which classes they are of
+pub mod Paired  -- the pairs of a table whose lines are written, and by a value table's file they are right
 pub mod Reaching  -- what can be reached, by rules or by a file, and how the lines tell it
 pub mod Placed  -- what lines come to by the records of a source is what is owed for looking for each
 pub mod Proven  -- the faults of a certificate's file and of its lists are those of verifying it, and of asking it for a reply

@@ -10,6 +10,15 @@ use Rattle.dob_probe.specs.declared.puzzles.Puzzle.{Puzzle}
 use Rattle.dob_probe.specs.declared.walks.Walk.{Walk}
 use Rattle.dob_probe.specs.Puzzles.{ArePuzzles}
 
+-- one item's line comes to those before
+pub next_line : {X : Type 0} → (f : X → List ℕ) (items : List X) (i : ℕ) (d : X) (old new : List ℕ) → i < length items → old ≡ flat_map f (take i items)
+    → new ≡ old ++ f (get_or items i d) → new ≡ flat_map f (take (i + 1) items)
+next_line {X} f items i d old new within before grown =
+    grown ∙ (ap (λ (l : List ℕ). l ++ f (get_or items i d)) before ∙ sym (
+    ap (flat_map f) (take_more items i d within)
+    ∙ (flat_map-append f (take i items) (get_or items i d ∷ []) ∙ ap (λ (l : List ℕ). flat_map f (take i items) ++ l) (append-nil (f (get_or items i d))))
+    ))
+
 module _ (puzzles : List Puzzle) (i : ℕ) (puzzle : Puzzle) (within : i < length puzzles) (here : puzzle ≡ get_or puzzles i puzzle) where
   -- the one that is gone over is one of the list
   pub is_listed : Contains puzzles puzzle
@@ -19,11 +28,7 @@ module _ (puzzles : List Puzzle) (i : ℕ) (puzzle : Puzzle) (within : i < lengt
   pub one_line_more : (f : Puzzle → List ℕ) (old new : List ℕ) → old ≡ flat_map f (take i puzzles) → new ≡ old ++ f puzzle
       → new ≡ flat_map f (take (i + 1) puzzles)
   one_line_more f old new before grown =
-      grown ∙ (ap (λ (l : List ℕ). l ++ f puzzle) before ∙ sym (
-      ap (flat_map f) (take_more puzzles i puzzle within)
-      ∙ (flat_map-append f (take i puzzles) (get_or puzzles i puzzle ∷ [])
-      ∙ ap (λ (l : List ℕ). flat_map f (take i puzzles) ++ l) (append-nil (f (get_or puzzles i puzzle)) ∙ ap f (sym here)))
-      ))
+      next_line f puzzles i puzzle old new within before (grown ∙ ap (λ (p : Puzzle). old ++ f p) here)
 
 -- a puzzle of a table is of one of its classes
 pub puzzle_within : (table : ClassTable) (walk : Walk) (plies count : ℕ) (puzzles list : List Puzzle) (puzzle : Puzzle) → ArePuzzles table walk plies count puzzles → list ≡ puzzles

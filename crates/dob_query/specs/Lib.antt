@@ -18,3 +18,4 @@ pub mod Reaches
 pub mod LooksEach
 pub mod Certificates
 pub mod Replying
+pub mod Zugzwangs

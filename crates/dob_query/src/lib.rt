@@ -25,6 +25,7 @@ mod tables;
 mod tally;
 mod valued_moves;
 mod values;
+mod zugzwangs;
 
 pub use certificate_fault::CertificateFault;
 pub use certificates::answer_verify;
@@ -46,3 +47,4 @@ pub use shows::answer_show;
 pub use stats::answer_stats;
 pub use tables::{answer_check, answer_probe};
 pub use values::answer_value;
+pub use zugzwangs::answer_zugzwangs;

@@ -1,7 +1,7 @@
 -- What is found of parts of the classes, one after the other.
-use Rattle.std.proofs.Common.{◌≡◌, ℕ, zero, suc, ◌+◌, ◌-◌, ◌*◌, ◌<◌, ◌≤◌, ◌⊎◌, ◌++◌, inl, inr, refl, sym, ap, ◌∙◌, subst, arith, List, [], ◌∷◌, length, take, drop, get_or, Contains, append-nil, append_assoc, map, min, Ok, Err, IfOk}
+use Rattle.std.proofs.Common.{◌≡◌, ℕ, zero, suc, ◌+◌, ◌-◌, ◌*◌, ◌<◌, ◌≤◌, ◌++◌, inl, inr, sym, ap, ◌∙◌, subst, arith, List, [], ◌∷◌, length, take, drop, get_or, Contains, append-nil, append_assoc, map, min, Ok, Err, IfOk}
 use Rattle.std.specs.Prelude.{MatchResult, Result, Vec}
-use Rattle.std.specs.List.{AllZip, flat_map, range_with_len, sum_by}
+use Rattle.std.specs.List.{AllZip, range_with_len}
 use Rattle.std.proofs.Math.Seq.{take-add}
 use Rattle.std.proofs.lemmas.List.{length-drop, length-take, take-append-drop, take_all, take_min, take_more}
 use Rattle.std.proofs.lemmas.List.Concat.{flat_map-append}
@@ -10,11 +10,9 @@ use Rattle.std.proofs.lemmas.List.Elements.{Contains-append_left, Contains-appen
 use Rattle.dob_pieces.specs.declared.profile.Family.{Family}
 use Rattle.dob_rank.specs.Families.{classes_of}
 use Rattle.dob_reach.specs.declared.parts.Part.{Part}
-use Rattle.dob_reach.specs.Counts.{Among}
-use Rattle.dob_reach.specs.Distances.{StepFrom}
 use Rattle.dob_reach.specs.Fronts.{AreExpanded, IsPartAt, opens_of, outcomes_of, part_at, part_count, parts_before}
 use Rattle.dob_reach.specs.Leads.{IsOpen, Leads}
-use Rattle.dob_reach.specs.Marks.{AreMarked, HasBits, HaveBits, IsMarked}
+use Rattle.dob_reach.specs.Marks.{AreMarked, HasBits, HaveBits}
 use Rattle.dob_reach.specs.Rounds.{AreMet}
 use Rattle.dob_reach.proofs.Counts.{among_few}
 use Rattle.dob_reach.proofs.Stepping.{class_low, expanded_both}

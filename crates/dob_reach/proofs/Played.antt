@@ -1,5 +1,5 @@
 -- Plays of moves and the classes that they come to.
-use Rattle.std.proofs.Common.{◌≡◌, ℕ, zero, suc, inl, inr, refl, sym, ap, ◌∙◌, subst, Bool, true}
+use Rattle.std.proofs.Common.{◌≡◌, ℕ, zero, suc, inl, inr, refl, sym, ◌∙◌, subst, Bool, true}
 use Rattle.dob_pieces.specs.declared.profile.Family.{Family}
 use Rattle.dob_pieces.specs.declared.setup.Setup.{Setup}
 use Rattle.dob_pieces.specs.Setups.{mirrored}
@@ -16,9 +16,9 @@ use Rattle.dob_rank.specs.Families.{IsInClass, IsPositionOf, RepresentsClass, cl
 use Rattle.dob_classes.proofs.OfFamilies.FamilyNumbers.{IsInClass-class_number, IsPositionOf-mirrored, class_number-mirrored}
 use Rattle.dob_classes.proofs.OfFamilies.FamilyRepresentatives.{one_class, one_representative, representative_is}
 use Rattle.dob_value.proofs.Successors.{moves_keep_the_family}
-use Rattle.dob_reach.specs.Distances.{IsReached, Met}
+use Rattle.dob_reach.specs.Distances.{Met}
 use Rattle.dob_reach.specs.Leads.{Leads}
-use Rattle.dob_reach.specs.Plays.{ClassesAreMet, IsPlay, PlaysMeetClasses, ReachedIsClosed, ReachedIsLeast}
+use Rattle.dob_reach.specs.Plays.{ClassesAreMet, PlaysMeetClasses, ReachedIsClosed, ReachedIsLeast}
 
 pub closed : ReachedIsClosed
 closed family from = ((0, refl), λ class other reached leads. (suc reached.0, (class, reached.1, leads)))

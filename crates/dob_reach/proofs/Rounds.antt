@@ -1,11 +1,11 @@
 -- What a round makes of what was marked, of any steps among numbers; and what is marked where nothing is left to go on from.
-use Rattle.std.proofs.Common.{◌≡◌, ℕ, zero, suc, ◌+◌, ◌<◌, ◌≤◌, ◌⊎◌, inl, inr, refl, sym, ◌∙◌, subst, arith, List, [], ◌∷◌, AllPairs, Contains}
+use Rattle.std.proofs.Common.{◌≡◌, ℕ, zero, suc, ◌+◌, ◌≤◌, inl, inr, refl, sym, subst, arith, List, [], ◌∷◌, Contains}
 use Rattle.std.proofs.lemmas.Bool.{cases_lt}
 use Rattle.dob_pieces.proofs.Lists.{cons_cases}
 use Rattle.dob_reach.specs.Distances.{HasDistance, IsReached, Met}
 use Rattle.dob_reach.specs.Marks.{IsMarked}
 use Rattle.dob_reach.specs.Rounds.{AreMet, IsMarkedWithin, IsNearer}
-use Rattle.dob_reach.proofs.Counts.{Apart, apart_first, first_in, none_in, stands_or}
+use Rattle.dob_reach.proofs.Counts.{apart_first, first_in, none_in, stands_or}
 
 -- a number has one distance
 pub one_distance : (Steps : ℕ → ℕ → Type 0) (from m n number : ℕ) → HasDistance Steps from m number → HasDistance Steps from n number → m ≡ n

@@ -1,5 +1,5 @@
 -- How many numbers have a property.
-use Rattle.std.specs.Prelude.{◌≡◌, ℕ, ◌+◌, ◌⊎◌, List, [], ◌∷◌, length, All, AllPairs, Contains}
+use Rattle.std.specs.Prelude.{◌≡◌, ℕ, ◌+◌, ◌⊎◌, List, [], ◌∷◌, length, AllPairs, Contains}
 
 -- Just so many numbers have the property: a list of that length has each of them once, and no other.
 pub record HasJust (P : ℕ → Type 0) (count : ℕ) : Type 0 where

@@ -27,6 +27,7 @@ name_of_order (order.Show _ _ _) = codes "show"
 name_of_order (order.Moves _ _) = codes "moves"
 name_of_order (order.Best _ _) = codes "best"
 name_of_order (order.Stats _ _) = codes "stats"
+name_of_order (order.Zugzwangs _ _) = codes "zugzwangs"
 name_of_order (order.Puzzles _ _ _ _ _ _) = codes "puzzles"
 name_of_order (order.Migrate _ _) = codes "migrate"
 name_of_order (order.Certify _ _ _ _ _ _) = codes "certify"
@@ -60,6 +61,8 @@ HasTexts texts (order.Show file picture position) = text_given file ∷ text_giv
 HasTexts texts (order.Moves file position) = Some file.now ∷ Some position.now ∷ [] ≡ texts
 HasTexts texts (order.Best file position) = Some file.now ∷ Some position.now ∷ [] ≡ texts
 HasTexts texts (order.Stats file is_csv) = (flag : Option Text) × (Some file.now ∷ flag ∷ [] ≡ texts) × (is_csv ≡ is_some flag)
+HasTexts texts (order.Zugzwangs file listed) =
+    (n : Option Text) × (Some file.now ∷ n ∷ [] ≡ texts) × IfSome n (λ t. is_number t ≡ true) × (listed ≡ option_map number_in n)
 HasTexts texts (order.Puzzles file plies count from seed is_numbered) =
     (d n : Text) × (f s flag : Option Text) × (Some file.now ∷ Some d ∷ Some n ∷ f ∷ s ∷ flag ∷ [] ≡ texts) × (is_number d ≡ true)
     × (plies ≡ number_in d) × (is_number n ≡ true) × (count ≡ number_in n) × (from ≡ option_map number_in f) × (seed ≡ option_map number_in s)

@@ -103,6 +103,12 @@ pub enum Order<'a> {
         file: &'a str,
         is_csv: bool,
     },
+    /// To print how many pairs of classes of the file's table whoever has to move would rather not move in, and the first of them, so many
+    /// where a number is given.
+    Zugzwangs {
+        file: &'a str,
+        listed: Option<u64>,
+    },
     /// To print the first positions of the file's table, so many, that are won in so many plies by one move alone: those behind a class where one is
     /// given, in the order that a seed makes where one is given, each with the number of its class where it is numbered.
     Puzzles {

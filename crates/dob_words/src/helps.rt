@@ -209,6 +209,21 @@ draws, and then `win D,N` or `loss D,N`, the least distance first.
 
 Example: dobutsu stats --db 000.db prints `classes 54` first, and with `--csv` `draw,4` below `value,classes`.";
 
+pub(crate) const ZUGZWANGS: &str =
+    "Positions in which neither side wants to move. The turn of a position is the same board with the other side to move. A win is worth 1,
+a draw 0 and a loss -1: where both can go on, and together are worth less than 0, whoever has to move would rather not. So they come
+in pairs, a position and its turn, each with its mirror images counted once. A file that `dobutsu check` calls consistent holds the
+values by definition.
+
+Answers: `lost by both N`, the pairs in which whoever has to move loses; `loss and draw N`, those in which one side loses where it has to
+move, and the other draws; and `deepest POSITION  loss D  loss D`, where there are pairs lost by both: the one whose shorter loss is
+the longest, of such ones that whose longer loss is, and of these the first in the file. The values are that of POSITION for the side
+to move, and that of its turn for the other side. With `--list N` then a line `POSITION  VALUE  VALUE` for each of the first N pairs in the
+order of the file, of either kind; POSITION is the one of the two that stands first there.
+
+Example: dobutsu zugzwangs --db 010.db, of one elephant, prints `lost by both 1`, `loss and draw 11` and
+`deepest .../.l./.../LE. - -  loss 4  loss 8`.";
+
 pub(crate) const PUZZLES: &str =
     "Exercises for a class: positions in which the side to move wins, and just one move wins soonest. All other moves are
 slower, or don't win. D counts the plies of both sides up to the catch of the lion or the lion's safe arrival, so `3` is: move,
@@ -308,6 +323,7 @@ pub(crate) fn help_of(name: &str) -> &'static str {
         "moves" => MOVES,
         "best" => BEST,
         "stats" => STATS,
+        "zugzwangs" => ZUGZWANGS,
         "puzzles" => PUZZLES,
         "migrate" => MIGRATE,
         "certify" => CERTIFY,

@@ -231,6 +231,24 @@ pub const ROWS: &[Row] = &[
         &[],
     ),
     (
+        "zugzwangs",
+        "Prints how many positions there are in which neither side wants to move, and the deepest",
+        &[
+            DB,
+            (
+                "list",
+                (
+                    "N",
+                    Kind::Number,
+                    Need::May,
+                    "The first N of them, a line each, behind the others",
+                ),
+            ),
+        ],
+        &[],
+        &[],
+    ),
+    (
         "puzzles",
         "Prints positions of a database file that just one move wins soonest",
         &[

@@ -88,6 +88,7 @@ pub(super) fn order_named<'a>(name: &str, inner: &ArgMatches<'a>) -> Option<Orde
             file: text(inner, "FILE"),
             is_csv: inner.get_str("csv").is_some(),
         }),
+        "zugzwangs" => Some(zugzwangs_order(inner)),
         "puzzles" => Some(puzzles_order(inner)),
         "migrate" => Some(Order::Migrate {
             file: text(inner, "FILE"),
@@ -131,6 +132,17 @@ fn build_order<'a>(inner: &ArgMatches<'a>) -> Order<'a>
         nodes: number_given(inner.get_str("N")),
         file: text(inner, "FILE"),
         is_watched: inner.get_str("progress").is_some(),
+    }
+}
+
+// What the matches of `zugzwangs` ask for.
+fn zugzwangs_order<'a>(inner: &ArgMatches<'a>) -> Order<'a>
+    requires { HasFit (form_named (codes "zugzwangs")) inner.now }
+    ensures { IsOrder (codes "zugzwangs") (texts_in (form_named (codes "zugzwangs")) inner.now) result }
+{
+    Order::Zugzwangs {
+        file: text(inner, "FILE"),
+        listed: number_given(inner.get_str("N")),
     }
 }
 

@@ -39,6 +39,9 @@ returns-in-Stats g c = rw c.in-Stats.is c.answer_stats.ensures
 pub returns-in-Migrate : goal.returns-in-Migrate
 returns-in-Migrate g c = rw c.in-Migrate.is c.answer_migrate.ensures
 
+pub returns-in-Zugzwangs : goal.returns-in-Zugzwangs
+returns-in-Zugzwangs g c = rw c.in-Zugzwangs.is c.answer_zugzwangs.ensures
+
 pub returns-in-Puzzles : goal.returns-in-Puzzles
 returns-in-Puzzles g c = rw c.in-Puzzles.is (rw c.search_of-search.ensures at c.answer_puzzles.ensures)
 

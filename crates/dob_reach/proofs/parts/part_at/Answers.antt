@@ -1,5 +1,5 @@
 -- The part ends where the next one begins, or with the classes.
-use Rattle.std.proofs.Common.{◌≡◌, ◌+◌, ◌-◌, ◌*◌, ◌≤◌, ℕ, List, arith, length, subst, sym, min, take, drop}
+use Rattle.std.proofs.Common.{◌≡◌, ◌+◌, ◌-◌, ◌*◌, ℕ, List, arith, length, subst, min}
 use Rattle.rayon.proofs.ListFacts.{IfOk-then}
 use Rattle.dob_reach.specs.Fronts.{AreExpanded}
 use Rattle.dob_reach.proofs.Parting.{cut_in, part_is}

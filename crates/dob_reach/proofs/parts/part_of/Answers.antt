@@ -1,5 +1,5 @@
 -- One class more each time, and then all of them.
-use Rattle.std.proofs.Common.{◌≡◌, ◌+◌, ◌<◌, ℕ, List, [], ◌∷◌, ◌++◌, arith, get_or, length, subst, sym, ap, ◌∙◌, take, refl}
+use Rattle.std.proofs.Common.{◌+◌, ℕ, List, [], ◌∷◌, ◌++◌, arith, get_or, subst, sym, take}
 use Rattle.std.proofs.lemmas.List.{length-take, take_all, take_more}
 use Rattle.std.proofs.lemmas.List.Elements.{Contains-get_or}
 use Rattle.dob_reach.specs.Fronts.{AreExpanded, one_if}

@@ -1,5 +1,5 @@
 -- The parts in their places, each looked at by itself.
-use Rattle.std.proofs.Common.{◌≡◌, ◌+◌, ◌-◌, ◌<◌, ◌≤◌, ℕ, List, ap, arith, length, subst, sym, ◌∙◌}
+use Rattle.std.proofs.Common.{◌-◌, ℕ, List, ap, arith, subst, ◌∙◌}
 use Rattle.std.specs.Prelude.{IfOk, Result}
 use Rattle.std.specs.List.{AllZip, range_with_len}
 use Rattle.rayon.specs.Numbers.{nat_range}

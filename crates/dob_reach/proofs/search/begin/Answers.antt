@@ -1,9 +1,7 @@
 -- The first class alone is marked.
-use Rattle.std.proofs.Common.{◌≡◌, ◌∙◌, ◌+◌, ◌≤◌, ◌∷◌, ◌++◌, ℕ, List, [], inl, inr, ap, arith, length, refl, subst, sym}
+use Rattle.std.proofs.Common.{◌∙◌, ◌∷◌, ◌++◌, ℕ, List, [], inl, inr, ap, arith, refl}
 use Rattle.std.proofs.lemmas.Bool.{cases_eq}
-use Rattle.dob_rank.specs.Families.{classes_of}
 use Rattle.dob_reach.specs.declared.search.Reached.{Reached}
-use Rattle.dob_reach.specs.Marks.{HasBits, IsMarked}
 use Rattle.dob_reach.proofs.Searched.{searched_begin}
 use Rattle.dob_reach.proofs.search.begin.Goals as goal
 

@@ -1,5 +1,5 @@
 -- One number more each time, and then all of them.
-use Rattle.std.proofs.Common.{◌+◌, ◌∷◌, ◌++◌, [], ◌∙◌, ℕ, List, ap, append_assoc, arith, get_or, subst, sym, take}
+use Rattle.std.proofs.Common.{◌∷◌, ◌++◌, [], ◌∙◌, ℕ, List, ap, append_assoc, arith, get_or, subst, sym, take}
 use Rattle.std.proofs.lemmas.List.{take_all, take_more}
 use Rattle.std.proofs.lemmas.List.Elements.{Contains-get_or}
 use Rattle.dob_reach.specs.Marks.{AreMarked}

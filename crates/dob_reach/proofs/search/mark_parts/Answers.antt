@@ -1,5 +1,5 @@
 -- One part more each time, and then all of them.
-use Rattle.std.proofs.Common.{◌≡◌, ◌+◌, ◌∷◌, ◌++◌, [], ◌∙◌, ℕ, List, ap, append_assoc, arith, get_or, subst, sym, take, Contains}
+use Rattle.std.proofs.Common.{◌++◌, ◌∙◌, ℕ, List, ap, append_assoc, arith, subst, sym, take, Contains}
 use Rattle.std.proofs.lemmas.List.{take_all}
 use Rattle.dob_reach.specs.declared.parts.Part.{Part}
 use Rattle.dob_reach.specs.Fronts.{outcomes_of}

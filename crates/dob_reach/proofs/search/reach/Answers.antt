@@ -1,5 +1,5 @@
 -- One round more each time, until no class is left to go on from.
-use Rattle.std.proofs.Common.{◌≡◌, ◌+◌, ◌∙◌, ◌<◌, ◌≤◌, ℕ, List, [], ap, arith, length, refl, subst, sym, vec_len}
+use Rattle.std.proofs.Common.{◌≡◌, ℕ, [], ap, arith, length, subst, sym, vec_len}
 use Rattle.std.proofs.lemmas.List.{nil_from_length}
 use Rattle.dob_reach.specs.Reached.{AreReachedFrom}
 use Rattle.dob_reach.specs.Searches.{IsSearched}

@@ -1,5 +1,5 @@
 -- Some parts more each time, and then all of them.
-use Rattle.std.proofs.Common.{◌≡◌, ◌+◌, ◌-◌, ◌∙◌, ◌≤◌, ◌<◌, ◌^◌, ◌++◌, ℕ, List, ap, arith, length, subst, sym}
+use Rattle.std.proofs.Common.{◌≡◌, ◌+◌, ◌-◌, ◌++◌, ℕ, List, ap, arith, subst, sym}
 use Rattle.std.specs.List.{AllZip, range_with_len}
 use Rattle.dob_reach.specs.declared.parts.Part.{Part}
 use Rattle.dob_reach.specs.Fronts.{AreExpanded, IsPartAt, opens_of, outcomes_of, parts_before}

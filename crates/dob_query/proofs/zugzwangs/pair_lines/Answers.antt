@@ -1,0 +1,14 @@
+-- Each pair gone over is one of the list, and its line comes to those before.
+use Rattle.std.proofs.Common.{string_bytes}
+use Rattle.std.proofs.lemmas.List.Elements.{Contains-get_or}
+use Rattle.dob_query.specs.Zugzwangs.{pair_line}
+use Rattle.dob_query.proofs.Puzzling.{next_line}
+use Rattle.dob_query.proofs.zugzwangs.pair_lines.Goals as goal
+
+pub push_pair-requires : goal.push_pair-requires
+push_pair-requires c = c.requires _ (Contains-get_or c.args.pairs.now c.loop-pair.pair-index _ c.loop-pair-test.true)
+
+pub loop-pair-preserved : goal.loop-pair-preserved
+loop-pair-preserved c =
+    next_line (pair_line c.args.table.now.family) c.args.pairs.now c.loop-pair.pair-index _ (string_bytes c.loop-pair.lines) (string_bytes c.push_pair.new.lines)
+    c.loop-pair-test.true c.loop-pair.invariant c.in_ok-push_pair.ensures

@@ -1,0 +1,74 @@
+-- The deepest pair, one pair more each time.
+use Rattle.std.proofs.Common.{◌≡◌, inl, inr, refl, sym, ◌∙◌, subst, arith, true, false, true≢false, List, [], ◌∷◌, ◌++◌, Option, Some, None}
+use Rattle.std.proofs.lemmas.List.Elements.{Contains-append_left, Contains-push, Contains-push_cases}
+use Rattle.dob_zugzwang.specs.declared.pairs.Zugzwang.{Zugzwang}
+use Rattle.dob_zugzwang.specs.Counts.{IsDeeper, IsDeepest, is_lost_by_both}
+
+-- no pair is deeper than itself
+pub not_itself : (pair : Zugzwang) → ¬ IsDeeper pair pair
+not_itself pair (inl less) = absurd (omega (arith, less))
+not_itself pair (inr (_, inl less)) = absurd (omega (arith, less))
+not_itself pair (inr (_, inr (_, less))) = absurd (omega (arith, less))
+
+-- what is deeper than a deeper one is deeper
+pub deeper_still : (a b c : Zugzwang) → IsDeeper a b → IsDeeper b c → IsDeeper a c
+deeper_still a b c (inl x) (inl y) = inl (omega (arith, x, y))
+deeper_still a b c (inl x) (inr (y, _)) = inl (omega (arith, x, y))
+deeper_still a b c (inr (x, _)) (inl y) = inl (omega (arith, x, y))
+deeper_still a b c (inr (x, inl s)) (inr (y, inl t)) = inr (omega (arith, x, y), inl (omega (arith, s, t)))
+deeper_still a b c (inr (x, inl s)) (inr (y, inr (t, _))) = inr (omega (arith, x, y), inl (omega (arith, s, t)))
+deeper_still a b c (inr (x, inr (s, _))) (inr (y, inl t)) = inr (omega (arith, x, y), inl (omega (arith, s, t)))
+deeper_still a b c (inr (x, inr (s, u))) (inr (y, inr (t, w))) = inr (omega (arith, x, y), inr (omega (arith, s, t), omega (arith, u, w)))
+
+pub none_yet : IsDeepest [] None
+none_yet pair there = absurd (omega (arith, there.1))
+
+module _ (done : List Zugzwang) (pair : Zugzwang) where
+  -- a pair that isn't lost by both changes nothing
+  pub passed : (best : Option Zugzwang) → is_lost_by_both pair ≡ false → IsDeepest done best → IsDeepest (done ++ pair ∷ []) best
+  passed None not_lost none = λ other there. elim (Contains-push_cases done pair other there) [
+    | inl earlier ↦ none other earlier
+    | inr same ↦ subst (λ (q : Zugzwang). is_lost_by_both q ≡ false) same not_lost
+  ]
+  passed (Some best) not_lost is = (
+    Contains-append_left done (pair ∷ []) best is.0,
+    is.1,
+    λ other there lost. elim (Contains-push_cases done pair other there) [
+      | inl earlier ↦ is.2 other earlier lost
+      | inr same ↦ absurd (true≢false (sym lost ∙ subst (λ (q : Zugzwang). is_lost_by_both q ≡ false) same not_lost))
+    ],
+  )
+
+  -- the first one that is
+  pub begun : (best : Option Zugzwang) → ((other : Zugzwang) → ¬ (best ≡ Some other)) → is_lost_by_both pair ≡ true → IsDeepest done best
+      → IsDeepest (done ++ pair ∷ []) (Some pair)
+  begun (Some best) fresh is_lost is = absurd (fresh best refl)
+  begun None fresh is_lost none = (
+    Contains-push done pair,
+    is_lost,
+    λ other there lost. elim (Contains-push_cases done pair other there) [
+      | inl earlier ↦ absurd (true≢false (sym lost ∙ none other earlier))
+      | inr same ↦ subst (λ (q : Zugzwang). ¬ IsDeeper q pair) same (not_itself pair)
+    ],
+  )
+
+  -- a deeper one takes the place of the best, and another one doesn't
+  pub replaced : (best : Zugzwang) → is_lost_by_both pair ≡ true → IsDeeper pair best → IsDeepest done (Some best) → IsDeepest (done ++ pair ∷ []) (Some pair)
+  replaced best is_lost deeper is = (
+    Contains-push done pair,
+    is_lost,
+    λ other there lost. elim (Contains-push_cases done pair other there) [
+      | inl earlier ↦ λ still. is.2 other earlier lost (deeper_still other pair best still deeper)
+      | inr same ↦ subst (λ (q : Zugzwang). ¬ IsDeeper q pair) same (not_itself pair)
+    ],
+  )
+
+  pub kept : (best : Zugzwang) → (¬ IsDeeper pair best) → IsDeepest done (Some best) → IsDeepest (done ++ pair ∷ []) (Some best)
+  kept best not_deeper is = (
+    Contains-append_left done (pair ∷ []) best is.0,
+    is.1,
+    λ other there lost. elim (Contains-push_cases done pair other there) [
+      | inl earlier ↦ is.2 other earlier lost
+      | inr same ↦ subst (λ (q : Zugzwang). ¬ IsDeeper q best) same not_deeper
+    ],
+  )

@@ -1,0 +1,19 @@
+-- The status says whether the position is open, and whether its turn is.
+use Rattle.std.proofs.Common.{subst, sym, ◌∙◌, true≢false}
+use Rattle.dob_moves.specs.declared.position_status.Status.TheVariants.{Open}
+use Rattle.dob_moves.specs.Statuses.{HasStatus}
+use Rattle.dob_moves.proofs.Cases.{one_status}
+use Rattle.dob_pieces.specs.declared.setup.Setup.{Setup}
+use Rattle.dob_zugzwang.proofs.pairs.open_turn.Goals as goal
+
+pub returns-then-not-is_open : goal.returns-then-not-is_open
+returns-then-not-is_open c = λ opens.
+    let yes = c.is_open.ensures.1 (one_status c.args.profile c.args.position.now.setup c.status.result Open c.status.ensures opens.0) in
+    absurd (true≢false (sym yes ∙ c.if-not-is_open.true))
+
+pub returns-else-is_open : goal.returns-else-is_open
+returns-else-is_open c = λ opens.
+    let turn = c.turn_of_open-turn.result.setup in
+    let there = subst (λ (s : Setup). HasStatus c.args.profile s Open) (sym c.turn_of_open-turn.ensures) opens.1 in
+    let yes = c.is_open-2.ensures.1 (one_status c.args.profile turn c.status-2.result Open c.status-2.ensures there) in
+    absurd (true≢false (sym yes ∙ c.if-is_open.false))
