@@ -284,7 +284,7 @@
     }
     // Behind how many representatives and how many places each option begins, where the digits before are those of the image.
     beginnings(chosen, digit) {
-      const key = `from ${chosen.join("|")}`;
+      const key = `${digit} from ${chosen.join("|")}`;
       let found = this.kept.get(key);
       if (!found) {
         let firsts = 0, places = 0;

@@ -126,8 +126,12 @@ fn reply_of(
             Ok(None) => Err(ReplyFault::Unlisted),
             Err(_) => Err(ReplyFault::Memory),
         },
+        Err(Refusal::Unsupported(class)) => {
+            let _ = class;
+            Err(ReplyFault::Unsupported)
+        }
+        Err(Refusal::Claim) => Err(ReplyFault::Unsupported),
         Err(Refusal::Memory) => Err(ReplyFault::Memory),
-        Err(_) => Err(ReplyFault::Unsupported),
     }
 }
 

@@ -5,7 +5,6 @@ use Rattle.std.specs.Ordering.{nat_cmp, ordering_index}
 use Rattle.std.proofs.lemmas.Bool.{cases_lt}
 use Rattle.std.proofs.lemmas.Bool.Decides.{nat_tests}
 use Rattle.std.proofs.lemmas.Cmp.{ranked}
-use Rattle.std.proofs.lemmas.List.{get_or_default}
 use Rattle.std.proofs.lemmas.List.FromFn.{length-map-range_with_len, get_or-map-range_with_len}
 use Rattle.std.proofs.lemmas.List.Sorted.{IsNonDecreasingBy-from_default}
 use Rattle.dob_pieces.specs.declared.profile.Family.{Family}
@@ -23,7 +22,7 @@ use Rattle.dob_classes.proofs.OfFamilies.FamilyNumbers.{IsInClass-class_number, 
 use Rattle.dob_classes.proofs.OfFamilies.FamilyRepresentatives.{one_class, one_of_class, same_representative}
 use Rattle.dob_certificate.specs.declared.entry.Entry.{Entry}
 use Rattle.dob_certificate.specs.Listed.{IsEntryFor}
-use Rattle.dobutsu_web.specs.Ranked.{ranked_setup, entry_by, entries_by, IsRankAt, AreRanks}
+use Rattle.dobutsu_web.specs.Ranked.{ranked_setup, entry_by, entries_by, AreRanks}
 
 -- ---- the position of a rank
 

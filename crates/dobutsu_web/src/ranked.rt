@@ -10,7 +10,6 @@ ghost use Rattle.dob_rank.specs.Order.{IsFirstOfTwo, RepresentativeOf};
 ghost use Rattle.dobutsu_web.specs.Ranked.{AreRanksIn, IsRankAt, entries_in, entry_in, ranked_setup};
 ghost use Rattle.dobutsu_web.specs.Within.{HasPlies};
 
-use dob_classes::representative;
 use dob_pieces::{Family, Position};
 use dob_rank::{rank, size, unrank};
 
@@ -73,7 +72,10 @@ fn rank_of_earlier(family: Family, position: &Position) -> u64
     requires { IsPositionOf family position.now.setup }
     ensures { (earlier : AnySetup) × RepresentativeOf position.now.setup earlier × IsPositionOf family earlier × (result ≡ rank_of family earlier) }
 {
-    rank(family.profile, &representative(family.profile, position))
+    let own = rank(family.profile, position);
+    let image = position.mirrored();
+    let other = rank(family.profile, &image);
+    if other < own { other } else { own }
 }
 
 /// The representative of the class at that place.

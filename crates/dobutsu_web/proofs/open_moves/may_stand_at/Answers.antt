@@ -1,6 +1,5 @@
 -- Steps stand at the places of their two squares, drops behind them.
-use Rattle.std.proofs.Common.{◌≡◌, ◌+◌, ◌*◌, ◌<◌, ◌&&◌, ◌∙◌, nat_lt, false, sym, subst, arith}
-use Rattle.std.specs.Option.{is_none}
+use Rattle.std.proofs.Common.{◌≡◌, ◌+◌, ◌*◌, ◌∙◌, false, sym, subst, arith}
 use Rattle.dob_moves.specs.Moves.{hand_place, first_drop}
 use Rattle.dobutsu_web.specs.Places.{NoneStands, leads_from}
 use Rattle.dobutsu_web.proofs.NoMoves.{no_step, no_drop}

@@ -1,5 +1,5 @@
 -- The lists say it of the position that was read.
-use Rattle.std.proofs.Common.{◌≡◌, inl, inr, rules, arith}
+use Rattle.std.proofs.Common.{inl, inr, rules, arith}
 use Rattle.std.proofs.lemmas.Bool.{cases_Bool}
 use Rattle.dob_certificate.proofs.Cases.{not_so}
 use Rattle.dobutsu_web.specs.Ranked.{entries_by}

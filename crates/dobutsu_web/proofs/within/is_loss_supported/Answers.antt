@@ -1,5 +1,5 @@
 -- By the status: where the game goes on, by each move.
-use Rattle.std.proofs.Common.{◌<◌, ◌≤◌, inl, arith}
+use Rattle.std.proofs.Common.{◌<◌, inl, arith}
 use Rattle.std.proofs.lemmas.Bool.Decides.{nat_tests}
 use Rattle.dob_moves.specs.declared.position_status.Status.TheVariants.{Caught, Open}
 use Rattle.dob_certificate.proofs.Cases.{said_no, said_yes, of_status, over_by, loss_caught, loss_soon, loss_open}

@@ -1,5 +1,4 @@
 -- The class's representative stands for it.
-use Rattle.dob_rank.specs.Families.{IsPositionOf, class_number}
 use Rattle.dob_classes.proofs.OfFamilies.FamilyNumbers.{class_number-below}
 use Rattle.std.proofs.Common.{slice_index}
 use Rattle.dob_certificate.proofs.Cases.{supports_lost_by}
