@@ -1,8 +1,8 @@
 -- By the file of a value table the moves that are answered have the values that they have by definition.
-use Rattle.std.proofs.Common.{◌≡◌, ◌<◌, ℕ, List, inl, inr, sym, subst}
+use Rattle.std.proofs.Common.{◌≡◌, ◌∙◌, ◌<◌, ℕ, List, inl, inr, sym, subst}
 use Rattle.dob_pieces.specs.declared.profile.Family.{Family}
 use Rattle.dob_pieces.specs.declared.setup.Setup.{Setup}
-use Rattle.dob_rank.specs.Families.{IsPositionOf, class_number, classes_of}
+use Rattle.dob_rank.specs.Families.{IsPositionOf, IsInClass, class_number, classes_of}
 use Rattle.dob_classes.proofs.OfFamilies.FamilyNumbers.{class_number-below, IsInClass-class_number}
 use Rattle.dob_classes.proofs.OfFamilies.FamilyRepresentatives.{one_class}
 use Rattle.dob_text.proofs.Whole.{same_spelled}

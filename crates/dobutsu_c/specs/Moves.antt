@@ -6,6 +6,7 @@ use Rattle.dob_moves.specs.declared.game_move.Move.{Move}
 use Rattle.dob_moves.specs.declared.position_status.Status.TheVariants.{Open}
 use Rattle.dob_moves.specs.Moves.{CanGo}
 use Rattle.dob_moves.specs.Statuses.{CanCatch, HasStatus}
+use Rattle.dob_value.specs.declared.value.Value.{Value}
 use Rattle.dob_dbfile.specs.declared.header.Format.{Format}
 use Rattle.dob_numbers.specs.declared.moves.MoveNumbers.{MoveNumbers}
 use Rattle.dob_numbers.specs.Moves.{move_numbers}

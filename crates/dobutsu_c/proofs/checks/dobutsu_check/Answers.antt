@@ -1,5 +1,5 @@
 -- What reading and checking give.
-use Rattle.std.proofs.Common.{◌∙◌, inl, inr, sym, ap, subst}
+use Rattle.std.proofs.Common.{◌≡◌, ◌∙◌, inl, inr, sym, ap, subst}
 use Rattle.dob_value.specs.Follows.{ClassTable, IsConsistent}
 use Rattle.dob_dbfile.specs.Devices.{whole}
 use Rattle.dob_probe.specs.Faults.{IsFaultOfCheck}
