@@ -123,12 +123,12 @@ uint32_t dobutsu_check(const uint8_t *file, size_t file_len, uint64_t *broken);
    15 to 17, 19, 20, 27, 32 to 38 or 23, and writes nothing. It takes 8 bytes of memory an entry and some millions for two pieces of each kind. */
 uint32_t dobutsu_verify(const uint8_t *file, size_t file_len, DobutsuClaim *claim, uint64_t *unsupported);
 
-/* The move that the bytes of a certificate's file give the position whose text that is: the first that catches the lion, or the first after which the other side
-   is lost within the fewest plies that the certificate says; `value` is a win within so many plies. Of a position that it says to be lost there is no move: the
-   numbers are 0, and `value` is a loss within so many plies. Answers 0 and writes that, which is right whoever made the certificate, since each of its lost
-   classes is looked at before, in the time and memory of dobutsu_verify. Or it writes nothing: 1 to 6 of the text, then a fault of the bytes as dobutsu_verify
-   has them, then 26, then 7 of the position in the certificate, 30 where an entry of the lost classes isn't supported, 41 where the certificate says
-   nothing of the position, or 23. */
+/* The move that the bytes of a certificate's file give the position whose text that is: the first that catches the lion, or the first after which the other
+   side is lost within the fewest plies that the certificate says; `value` is a win within so many plies. Of a position that it says to be lost there is no
+   move: the numbers are 0, and `value` is a loss within so many plies. Answers 0 and writes that, which is right whoever made the certificate, since each of
+   its lost classes is looked at before, in the time and memory of dobutsu_verify. Or it writes nothing: 1 to 6 of the text, then a fault of the bytes as
+   dobutsu_verify has them, then 26, then 7 of the position in the certificate, 30 where an entry of the lost classes isn't supported, 41 where the
+   certificate says nothing of the position, or 23. */
 uint32_t dobutsu_reply(const uint8_t *file, size_t file_len, const uint8_t *text, size_t text_len, DobutsuMove *reply);
 
 /* How many positions and how many classes (positions with their mirror images) a family has: so many chicks, elephants and giraffes, 0 to 2 each, by
