@@ -1,7 +1,7 @@
 /* Dobutsu shogi: values and moves by a database's file, its check, and the sizes of families. C99, and C++ too.
 
    Link with libdobutsu.a or libdobutsu.so. A call keeps nothing, starts no thread and touches no file: the bytes of a database's file are the caller's, read
-   or mapped as a whole. Only dobutsu_moves, dobutsu_moves_by, dobutsu_check and dobutsu_verify take memory, by malloc and realloc, and give all back by free.
+   or mapped as a whole. Only dobutsu_moves, dobutsu_moves_by, dobutsu_check, dobutsu_verify and dobutsu_reply take memory, by malloc and realloc, and give all back by free.
    No call makes a move, which examples/solve.c shows how to do, and none gives the position of a class. Files of both formats are read. Calls may be made by several
    threads at once, and none from a signal handler. Each pointer must be valid for as many items as its length says, aligned as its type is, and none may be
    null, also where a length is 0; what is written to is read and written by nobody else meanwhile, and a file's bytes stay as they are: where a mapped file
@@ -52,7 +52,8 @@ enum {
     DOBUTSU_ENTRY_COUNT = 35, /* it counts more entries than the family has classes */
     DOBUTSU_ENTRY_NUMBER = 36, /* an entry doesn't begin with a number in its fewest bytes */
     DOBUTSU_ENTRY_ORDER = 37, /* an entry's class isn't above the one before it */
-    DOBUTSU_ENTRY_CLASS = 38  /* the family has no class of an entry's number */
+    DOBUTSU_ENTRY_CLASS = 38, /* the family has no class of an entry's number */
+    DOBUTSU_UNLISTED = 41     /* the certificate says nothing of the position */
 };
 
 enum { DOBUTSU_DRAW = 0, DOBUTSU_WIN = 1, DOBUTSU_LOSS = 2 };
@@ -121,6 +122,14 @@ uint32_t dobutsu_check(const uint8_t *file, size_t file_len, uint64_t *broken);
    what is claimed, which then holds; 30 where an entry isn't supported, and writes the class of the first one; 31 where all are and don't show the claim; or
    15 to 17, 19, 20, 27, 32 to 38 or 23, and writes nothing. It takes 8 bytes of memory an entry and some millions for two pieces of each kind. */
 uint32_t dobutsu_verify(const uint8_t *file, size_t file_len, DobutsuClaim *claim, uint64_t *unsupported);
+
+/* The move that the bytes of a certificate's file give the position whose text that is: the first that catches the lion, or the first after which the other
+   side is lost within the fewest plies that the certificate says; `value` is a win within so many plies. Of a position that it says to be lost there is no
+   move: the numbers are 0, and `value` is a loss within so many plies. Answers 0 and writes that, which is right whoever made the certificate, since each of
+   its lost classes is looked at before, in the time and memory of dobutsu_verify. Or it writes nothing: 1 to 6 of the text, then a fault of the bytes as
+   dobutsu_verify has them, then 26, then 7 of the position in the certificate, 30 where an entry of the lost classes isn't supported, 41 where the
+   certificate says nothing of the position, or 23. */
+uint32_t dobutsu_reply(const uint8_t *file, size_t file_len, const uint8_t *text, size_t text_len, DobutsuMove *reply);
 
 /* How many positions and how many classes (positions with their mirror images) a family has: so many chicks, elephants and giraffes, 0 to 2 each, by
    profile 0 (A) or 1 (B, where no chick is dropped on its far row). Answers 0 and writes both, or 25 or else 27. The two places are different. */

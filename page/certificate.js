@@ -7,7 +7,6 @@ const Certificates = (() => {
   const TITLE = "DOBUCERT", HEAD = 28, DIGEST = 32, EVER = 65535, NEVER = 255; // NEVER is the byte of EVER
   const CLAIMS = ["draw", "win", "loss", "winWithin", "lossWithin"];
   const SLICE = 40; // milliseconds of checking, then the page is drawn
-  const MOST_CLASSES = 2 ** 32;
   const limits = { checked: 20000 }; // entries that are checked in plain JavaScript, which takes some milliseconds for each
 
   // ---- reading
@@ -250,12 +249,16 @@ const Certificates = (() => {
     }
     position() { return Core.positionAt(this.profile, this.pieces, this.root); }
   }
-  // Reads and checks a file's bytes: by the engine's proved call, or a small one in plain JavaScript with `tell` for the part that is done.
+  // Reads and checks a file's bytes: by the engine's proved call where that takes its claim, or a small one in plain JavaScript with `tell` for the part
+  // that is done.
   async function open(name, bytes, engine, tell) {
-    // the proved call counts the classes itself, which takes seconds here
-    const certificate = await read(bytes, engine.verify ? () => MOST_CLASSES : Core.countClasses), entries = certificate.lost.classes.length + certificate.held.classes.length;
-    const checked = engine.verify ? "proved" : entries <= limits.checked ? "plain" : "not";
-    if (checked === "proved") engine.verify(bytes);
+    const certificate = await read(bytes), entries = certificate.lost.classes.length + certificate.held.classes.length;
+    const checked = engine.isProved && engine.verifies(certificate) ? "proved" : entries <= limits.checked ? "plain" : "not";
+    if (checked === "proved") {
+      tell(0);
+      await new Promise((done) => setTimeout(done, 0)); // the page is drawn before the call, which takes seconds for the whole game's
+      engine.verify(certificate);
+    }
     if (checked === "plain") await check(certificate, tell);
     return new Open(name, certificate, checked, engine);
   }

@@ -282,6 +282,35 @@
       }
       return chosen;
     }
+    // Behind how many representatives and how many places each option begins, where the digits before are those of the image.
+    beginnings(chosen, digit) {
+      const key = `${digit} from ${chosen.join("|")}`;
+      let found = this.kept.get(key);
+      if (!found) {
+        let firsts = 0, places = 0;
+        found = this.options(chosen, digit).listed.map((option, at) => {
+          const begins = { option, firsts, places, isImage: this.image(chosen, digit, option) === at };
+          firsts += this.earlier(chosen, digit, at, option);
+          places += this.ways([...chosen, option], digit + 1);
+          return begins;
+        });
+        this.kept.set(key, found);
+      }
+      return found;
+    }
+    // How many places stand before the representative with so many before it.
+    placeAt(number) {
+      if (this.order) return number;
+      let chosen = [], place = 0;
+      for (let digit = 0; digit < 6; digit++) {
+        const begins = this.beginnings(chosen, digit).findLast(({ firsts }) => firsts <= number);
+        number -= begins.firsts;
+        place += begins.places;
+        if (!begins.isImage) return place + number;
+        chosen = [...chosen, begins.option];
+      }
+      return place;
+    }
   }
 
   const runOf = cached((profile, on, lions) => new Run(profile, on, lions));
@@ -347,6 +376,21 @@
     return { squares: squares.join(""), mover, enemy: pieces.map((n, i) => n - on[i] - mover[i]) };
   }
 
+  // The ranks of the representatives of classes, whose numbers ascend: how many positions of the same pieces and rules stand before each.
+  function ranksOf(profile, pieces, classes) {
+    const ranks = new Uint32Array(classes.length);
+    let next = 0, firsts = 0, places = 0; // how many classes and positions stand before a run
+    for (const on of product(pieces)) {
+      const runs = LIONS.map((lions) => runOf(profile, on, lions));
+      for (const run of handsOf(pieces, on).flatMap(() => runs)) {
+        for (; next < classes.length && classes[next] < firsts + run.count; next++) ranks[next] = places + run.placeAt(classes[next] - firsts);
+        firsts += run.count;
+        places += run.size;
+      }
+    }
+    return ranks;
+  }
+
   // ---- records
 
   const recordOf = ([low, high]) => low + 256 * high;
@@ -404,7 +448,7 @@
 
   root.DobutsuCore = {
     engine, Fault, readPosition, writePosition, check, turned, mirrored, setOf, isAllowed, statusAndMoves, apply, grows, moveText, squareName,
-    classNumber, positionAt, countClasses, recordOf, recordBy, valueOf, afterMove, goodness, readHeader, isOwn, kindOf, STEPS, KINDS,
+    classNumber, positionAt, ranksOf, countClasses, recordOf, recordBy, valueOf, afterMove, goodness, readHeader, isOwn, kindOf, STEPS, KINDS,
   };
   if (typeof module === "object") module.exports = root.DobutsuCore;
 })(typeof window === "object" ? window : globalThis);

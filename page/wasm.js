@@ -20,7 +20,7 @@ window.DobutsuWasm = {
     const OUT_AT = at(OUT), ROW_ARGS = [at(ROW), BigInt(ROW_LEN)];
 
     const NAMES = { 1: "Shape", 2: "Letter", 3: "Hand", 4: "Lions", 5: "Count", 6: "FarLion", 15: "Truncated", 16: "Magic", 17: "SetByte", 18: "ClassCount", 19: "Trailing", 20: "Digest", 23: "Memory", 26: "FarChick", 27: "ProfileByte", 30: "Unsupported", 31: "Claim" };
-    const NO_MOVE = 28, PLACES = 180, NO_SQUARE = 12, MOST_CLASSES = (1n << 64n) - 1n;
+    const NO_MOVE = 28, UNSUPPORTED = 30, PLACES = 180, NO_SQUARE = 12, MOST_CLASSES = (1n << 64n) - 1n;
     const STATUSES = ["open", "caught", "tried", "stuck"], KINDS = ["draw", "win", "loss"], LETTERS = "CEGHL";
     const accept = (answer) => { if (answer) throw new Core.Fault(`E${answer} ${NAMES[answer] || "Call"}`); };
 
@@ -109,18 +109,39 @@ window.DobutsuWasm = {
       return { set, profile, classes: Number(long(0)), first: Number(long(8)) };
     }
 
-    // Throws why the bytes are no certificate that shows what it claims. They lie behind the module's memory while it checks them.
-    function verify(data) {
-      const place = grow(Math.ceil(data.length / PAGE));
-      new Uint8Array(calls.memory.buffer, place, data.length).set(data);
-      accept(calls.dobutsu_verify(BigInt(place), BigInt(data.length), OUT_AT, OUT_AT + 32n));
+    // Room behind the module's memory for a certificate's list, which is kept for the next one.
+    let room = { place: 0, bytes: 0 };
+    function roomFor(bytes) {
+      if (bytes > room.bytes) {
+        const pages = Math.ceil(bytes / PAGE);
+        room = { place: grow(pages), bytes: PAGE * pages };
+      }
+      return room.place;
+    }
+    // Puts a list there: the ranks of its classes' representatives, and their plies. Gives the words for a call.
+    function giveList(ranks, plies) {
+      const place = roomFor(4 * ranks.length + 2 * plies.length), behind = place + 4 * ranks.length;
+      new Uint32Array(calls.memory.buffer, place, ranks.length).set(ranks);
+      new Uint16Array(calls.memory.buffer, behind, plies.length).set(plies);
+      return [place, ranks.length, behind, plies.length].map(BigInt);
+    }
+
+    // Whether the proved call checks such a certificate: one that claims a win or a loss within so many plies, by a list of lost classes alone.
+    const verifies = ({ claim, held }) => claim.endsWith("Within") && held.classes.length === 0;
+    // Throws why a certificate doesn't prove what it claims. The position is that of its root.
+    function verify({ profile, pieces, root, claim, plies, lost }) {
+      const position = Core.positionAt(profile, pieces, root);
+      if (classOf(profile, position) !== root) throw new Core.Fault("E33 RootClass");
+      const list = giveList(Core.ranksOf(profile, pieces, lost.classes), lost.plies);
+      const answer = calls.dobutsu_within(...ask(profile, position), claim === "winWithin" ? 1 : 0, plies, ...list, OUT_AT);
+      if (answer === UNSUPPORTED) throw new Core.Fault(`E30 Unsupported class ${lost.classes[Number(long(0))]}`);
+      accept(answer);
     }
 
     // Once, against the other engine: a module that doesn't run here as it should isn't taken.
     const lions = Core.readPosition("..l/.../.C./.L. - -");
     if (classOf("A", lions) !== Core.classNumber("A", lions)) throw new Error("another class number");
     const valueOf = (record) => told(calls.dobutsu_value, record), afterMove = (record) => told(calls.dobutsu_value_of_move, record);
-    const engine = { isProved: true, moves, classOf, classAfter, apply, moveText, valueOf, afterMove, readHeader };
-    return calls.dobutsu_verify ? { ...engine, verify } : engine;
+    return { isProved: true, moves, classOf, classAfter, apply, moveText, valueOf, afterMove, readHeader, verifies, verify };
   },
 };

@@ -68,7 +68,7 @@ class Maker:
 
 def claims(checks, screen, program):
     """Each kind of claim: what is said of the file and of its position."""
-    maker, by = Maker(program), "checked by proved code" if screen.js("!!Game.engine().verify") else "checked by plain JavaScript"
+    maker, by = Maker(program), "checked by plain JavaScript"  # the proved call takes no held classes
     for root, claim, plies, value, words in [
         (LOSS, "loss", 6, "loss 6", "Forest, to move, loses: Sky wins in 6 plies."),
         (LOSS, "loss within", 8, "loss within 6", "Forest, to move, loses: Sky wins in at most 6 plies."),
@@ -93,6 +93,8 @@ def solution(checks, screen, program):
         held.clear()
 
     screen.give(maker.write("lost.cert", LOSS, "loss within", 6, only_lost))
+    by = "proved code" if screen.js("Game.engine().isProved") else "plain JavaScript"
+    checks.expect("by what it was checked", screen.files(), [[f"lost.cert certificate of set 100, rules A: a position, loss within 6; checked by {by}", False]])
     screen.enter(LOSS)
     db, position = read_db.open_db(maker.path), read_db.read_position(LOSS)
     wanted = {}
@@ -129,8 +131,6 @@ def solution(checks, screen, program):
 def unchecked(checks, screen, program):
     """A large certificate isn't checked in plain JavaScript, and the page says so; one that says nothing true is open then."""
     maker = Maker(program)
-    if screen.js("!!Game.engine().verify"):
-        return
     screen.js("Certificates.limits.checked = 10")
     screen.give(maker.write("large.cert", LOSS, "loss", 6))
     english = "large.cert certificate of set 100, rules A: a position, loss 6; not checked here: dobutsu verify checks it"
@@ -197,4 +197,55 @@ def given(checks, screen, program):
         browser.close()
 
 
-PARTS = {"claims": claims, "solution": solution, "unchecked": unchecked, "wrong": wrong, "given": given}
+def parsed(whole):
+    """The head and the lost entries of a certificate whose held list is empty."""
+    count, held = struct.unpack("<II", whole[20:28])
+    assert held == 0
+    entries, place, last = [], 28, -1
+    for _ in range(count):
+        step, shift = 0, 0
+        while True:
+            byte = whole[place]
+            step, shift, place = step + (byte % 128 << shift), shift + 7, place + 1
+            if byte < 128:
+                break
+        last += step
+        entries.append((last, whole[place]))
+        place += 1
+    return bytearray(whole[:20]), entries
+
+
+def sealed(head, entries):
+    body = bytes(head) + struct.pack("<II", len(entries), 0) + listed(entries)
+    return body + hashlib.sha256(body).digest()
+
+
+def whole_game(checks, screen, program):
+    """The whole game's certificates: the proved call passes them in seconds, and refuses them with a claim, an entry or a number changed."""
+    is_proved, path = screen.js("Game.engine().isProved"), program.folder / "spoilt.cert"
+    for rules in "AB":
+        source = pathlib.Path(__file__).resolve().parents[2] / "testdata" / f"222_{rules}.cert"
+        by = "checked by proved code" if is_proved else "not checked here: dobutsu verify checks it"
+        screen.afresh()
+        screen.give(source)
+        said = f"222_{rules}.cert certificate of set 222, rules {rules}: the second player wins the game, loss within 78; {by}"
+        checks.expect(f"{rules}: the file", screen.files(), [[said, False]])
+        if not is_proved:
+            continue
+        head, entries = parsed(source.read_bytes())
+        root = struct.unpack("<I", head[14:18])[0]
+        late = next(place for place, (_, plies) in enumerate(entries) if plies == 60)
+        without_root = [entry for entry in entries if entry[0] != root]
+        soon = [(of, 2 if place == late else plies) for place, (of, plies) in enumerate(entries)]
+        for name, lost, plies, words in [
+            ("a claim of 76", entries, 76, "The certificate's entries don't show its claim. (E31)"),
+            ("no entry of the root", without_root, 78, "The certificate's entries don't show its claim. (E31)"),
+            ("a loss in 60 told as one in 2", soon, 78, "An entry of the certificate isn't shown by the others. (E30)"),
+            ("every second entry", entries[::2], 78, "An entry of the certificate isn't shown by the others. (E30)"),
+        ]:
+            path.write_bytes(sealed(head[:19] + bytes([plies]), lost))
+            screen.give(path)
+            checks.expect(f"{rules}: {name}", screen.files()[-1], [f"spoilt.cert {words}", True])
+
+
+PARTS = {"claims": claims, "solution": solution, "unchecked": unchecked, "wrong": wrong, "given": given, "whole": whole_game}

@@ -1,5 +1,5 @@
 // node page/test/wasm.test.js MODULE [N [CORE]]: the proved engine against the one in plain JavaScript (page/core.js unless it is named), on N random positions of
-// set 111 and others in both profiles, with each of their moves, and on headers that are spoilt.
+// set 111 and others in both profiles, with each of their moves, on headers that are spoilt, and on the whole game's certificates, spoilt ones among them.
 "use strict";
 const fs = require("fs"), path = require("path"), zlib = require("zlib");
 const [module_, count = "2000", core = path.join(__dirname, "..", "core.js")] = process.argv.slice(2);
@@ -85,6 +85,24 @@ const faultOf = (call) => { try { return JSON.stringify(call()); } catch (fault)
   for (const [squares, hands, fault] of [["L..L.......l", [0, 0, 0], "E4 Lions"], ["L....CCC...l", [0, 0, 0], "E5 Count"], [".........Ll.", [0, 0, 0], "E6 FarLion"]])
     same(squares, fault, faultOf(() => proved.classOf("A", { squares, mover: hands, enemy: hands })));
   same("a chick on its far row", "E26 FarChick", faultOf(() => proved.moves("B", { squares: "L......l..C.", mover: [0, 0, 0], enemy: [0, 0, 0] })));
+
+  // the whole game's certificates prove what they claim, and no more, and not without an entry or with a false one
+  global.DobutsuCore = Core;
+  const Certificates = require(path.join(page, "certificate.js"));
+  for (const rules of "AB") {
+    const certificate = await Certificates.read(new Uint8Array(fs.readFileSync(path.join(page, "..", "testdata", `222_${rules}.cert`))));
+    const { classes, plies } = certificate.lost, root = classes.indexOf(certificate.root), late = plies.indexOf(60);
+    const without = (place) => ({ classes: classes.filter((_, i) => i !== place), plies: plies.filter((_, i) => i !== place) });
+    const false_ = plies.map((it, i) => (i === late ? 2 : it)), twice = classes.map((it, i) => (i === 9 ? classes[8] : it));
+    for (const [what, change, fault] of [
+      ["whole", {}, undefined], ["a claim of 76", { plies: 76 }, "E31 Claim"], ["a win", { claim: "winWithin" }, "E31 Claim"], ["no root", { lost: without(root) }, "E31 Claim"],
+      ["a false entry", { lost: { classes, plies: false_ } }, `E30 Unsupported class ${classes[late]}`],
+      ["plies missing", { lost: { classes, plies: plies.slice(1) } }, "E29 Call"], ["a class twice", { lost: { classes: twice, plies } }, "E29 Call"],
+    ]) same(`222_${rules}.cert: ${what}`, fault, faultOf(() => proved.verify({ ...certificate, ...change })));
+    same(`222_${rules}.cert: is taken`, true, proved.verifies(certificate));
+  }
+  const exact = await Certificates.read(new Uint8Array(fs.readFileSync(path.join(page, "..", "testdata", "one_chick.cert"))));
+  same("one_chick.cert: isn't taken", false, proved.verifies(exact));
   console.log(`${path.basename(module_)}: ${asked} positions, ${compared} answers compared, ${bad} differ`);
   process.exit(bad || !asked ? 1 : 0);
 })();

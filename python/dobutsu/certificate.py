@@ -83,6 +83,7 @@ class Certificate:
     def reply(self, text: str) -> tuple[str, int] | None:
         """The move of the position by which its side wins soonest, by the lost classes, and within how many plies; none where no move leads there.
 
-        Raises `Fault` where the text is no position (E1 to E6) or not of the certificate's set and rules (E7, E26).
+        Raises `Fault` where the text is no position (E1 to E6) or not of the certificate's set and rules (E7, E26). By the library the lost classes are
+        looked at each time, so that the move wins whoever made the file, or E30 is raised: a second for the starting layout's certificate.
         """
-        return self._plain.reply(text)
+        return self._library.reply(self._data, text) if self._library else self._plain.reply(text)

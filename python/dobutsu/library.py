@@ -14,11 +14,12 @@ from .value import Move, Value
 NAMES = {
     1: "Shape", 2: "Letter", 3: "Hand", 4: "Lions", 5: "Count", 6: "FarLion", 7: "OtherSet", 15: "Truncated", 16: "Magic", 17: "SetByte",
     18: "ClassCount", 19: "Trailing", 20: "Digest", 21: "Inconsistent", 23: "Memory", 25: "SetText", 26: "FarChick", 27: "ProfileByte",
-    31: "Claim", 32: "Version", 33: "RootClass", 34: "ClaimByte", 35: "EntryCount", 36: "EntryNumber", 37: "EntryOrder", 38: "EntryClass",
+    30: "Unsupported", 31: "Claim", 32: "Version", 33: "RootClass", 34: "ClaimByte", 35: "EntryCount", 36: "EntryNumber", 37: "EntryOrder", 38: "EntryClass",
 }  # fmt: skip
 KINDS = "CEGHL"
 VALUES = "draw", "win", "loss"
 FROM_HAND = 12
+UNLISTED = 41
 MOST_MOVES = 64  # room for a first try: no position was seen to have more than 38
 
 
@@ -150,12 +151,14 @@ class LibraryFile:
 
 
 class Verifier:
-    """The library's check of certificates. Raises OSError where the library can't be loaded, AttributeError where it lacks the call."""
+    """The library's calls for certificates. Raises OSError where the library can't be loaded, AttributeError where it lacks one."""
 
     def __init__(self, path: str) -> None:
-        self.call = ctypes.CDLL(path).dobutsu_verify
-        self.call.argtypes = [ctypes.c_char_p, ctypes.c_size_t, ctypes.POINTER(CClaim), ctypes.POINTER(ctypes.c_uint64)]
-        self.call.restype = ctypes.c_uint32
+        library, bytes_at, size = ctypes.CDLL(path), ctypes.c_char_p, ctypes.c_size_t
+        self.call, self.reply_call = library.dobutsu_verify, library.dobutsu_reply
+        self.call.argtypes = [bytes_at, size, ctypes.POINTER(CClaim), ctypes.POINTER(ctypes.c_uint64)]
+        self.reply_call.argtypes = [bytes_at, size, bytes_at, size, ctypes.POINTER(CMove)]
+        self.call.restype = self.reply_call.restype = ctypes.c_uint32
 
     def verify(self, data: bytes) -> None:
         """Raises `Fault` where the bytes are no certificate's file that proves its claim."""
@@ -164,6 +167,16 @@ class Verifier:
         if fault == 30:
             raise Fault(f"E30 Unsupported class {unsupported.value}")
         refuse(fault)
+
+    def reply(self, data: bytes, text: str) -> tuple[str, int] | None:
+        """The move that the bytes of a certificate give the position, and within how many plies it wins; none where they give none."""
+        words, found = text.encode("utf-8", "surrogatepass"), CMove()
+        fault = self.reply_call(data, len(data), words, len(words), found)
+        if fault == UNLISTED:
+            return None
+        refuse(fault)
+        move = found.move()
+        return (move.text, move.value.plies) if move.value.kind == "win" else None
 
 
 def refuse(fault: int) -> None:

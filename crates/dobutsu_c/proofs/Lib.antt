@@ -4,3 +4,4 @@ mod ByFile  -- by the file of a value table the moves answered are right
 mod Indexed  -- what is held and asked by an index
 mod IndexedMoves  -- the moves that are listed by an index
 mod Certified  -- a certificate's file whose claim isn't proved
+mod Replied  -- what a certificate says of a position

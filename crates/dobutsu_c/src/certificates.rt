@@ -63,8 +63,8 @@ pub extern "C" fn dobutsu_verify(
     }
 }
 
-// The number of a defect.
-fn defect_number(defect: Defect) -> u32
+/// The number of a defect.
+pub(crate) fn defect_number(defect: Defect) -> u32
     ensures number { result ≡ defect_number defect }
     ensures positive { result ≢ 0 }
     ensures other { result ≢ 30 }

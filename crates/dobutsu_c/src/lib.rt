@@ -15,5 +15,6 @@ mod moves_by;
 mod numbers;
 mod probe_by;
 mod probes;
+mod replies;
 mod value;
 mod version;

@@ -153,8 +153,8 @@ pub(crate) fn write_moves(places: &mut [DobutsuMove], list: &[ValuedMove])
     }
 }
 
-// The move with its value, as it is shown.
-fn shown_move(the_move: Move, value: DobutsuValue) -> DobutsuMove
+/// The move with its value, as it is shown.
+pub(crate) fn shown_move(the_move: Move, value: DobutsuValue) -> DobutsuMove
     ensures { result ≡ shown_move the_move value }
 {
     let MoveNumbers {

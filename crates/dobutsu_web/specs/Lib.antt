@@ -4,3 +4,6 @@ pub mod Values
 pub mod Steps
 pub mod Texts
 pub mod Headers
+pub mod Places
+pub mod Ranked
+pub mod Within

@@ -1,0 +1,15 @@
+-- The search ends at the rank, or no place has it.
+use Rattle.std.proofs.Common.{ℕ, Ok, Err, rules}
+use Rattle.std.proofs.lemmas.List.Sorted.{answers_always}
+use Rattle.dobutsu_web.proofs.Ranks.{searched}
+use Rattle.dobutsu_web.proofs.ranked.place_of.Goals as goal
+
+pub returns-in-Ok : goal.returns-in-Ok
+returns-in-Ok c =
+    (searched c.args.ranks.now c.requires c.args.rank (Ok c.in-Ok.place) c.in-Ok.ensures.bound
+    (c.in-Ok.ensures.position (λ (x : ℕ). x) (answers_always _ _ _ (λ f a r g called. search rules)))).found
+
+pub returns-in-Err : goal.returns-in-Err
+returns-in-Err c =
+    (searched c.args.ranks.now c.requires c.args.rank (Err c.in-Err.field-0) c.in-Err.ensures.bound
+    (c.in-Err.ensures.position (λ (x : ℕ). x) (answers_always _ _ _ (λ f a r g called. search rules)))).absent

@@ -1,0 +1,31 @@
+-- What stands after a move is a position of the same family, and the only one to which the move goes.
+use Rattle.std.proofs.Common.{sym, ◌∙◌}
+use Rattle.dob_moves.specs.declared.position_status.Status.TheVariants.{Open}
+use Rattle.dob_moves.proofs.ByProfile.{can_go, goes}
+use Rattle.dob_moves.proofs.Outcomes.{HasOutcome-is}
+use Rattle.dob_moves.proofs.ProfileMoves.{goes_there, status_there}
+use Rattle.dob_value.proofs.Successors.{moves_keep_the_family}
+use Rattle.dobutsu_web.proofs.within.after.Goals as goal
+
+pub apply-requires-clause-open : goal.apply-requires-clause-open
+apply-requires-clause-open c = status_there c.args.family.profile c.args.position.now.setup Open c.args.position.now.legal c.requires.goes_on
+
+pub apply-requires-clause-can_go : goal.apply-requires-clause-can_go
+apply-requires-clause-can_go c = can_go c.args.family.profile c.args.position.now.setup c.args.the_move c.requires.the_move
+
+pub returns-clause-member : goal.returns-clause-member
+returns-clause-member c =
+    let profile = c.args.family.profile in
+    let setup = c.args.position.now.setup in
+    moves_keep_the_family c.args.family setup c.args.the_move c.apply.result.setup c.requires.member c.requires.goes_on
+    (goes_there profile setup c.args.the_move c.apply.result.setup c.requires.the_move c.apply.ensures)
+
+pub returns-clause-goes : goal.returns-clause-goes
+returns-clause-goes c = goes_there c.args.family.profile c.args.position.now.setup c.args.the_move c.apply.result.setup c.requires.the_move c.apply.ensures
+
+pub returns-clause-alone : goal.returns-clause-alone
+returns-clause-alone c = λ q by.
+    let profile = c.args.family.profile in
+    let setup = c.args.position.now.setup in
+    HasOutcome-is setup c.args.the_move c.apply.result.setup c.apply.ensures
+    ∙ sym (HasOutcome-is setup c.args.the_move q (goes profile setup c.args.the_move q by))
