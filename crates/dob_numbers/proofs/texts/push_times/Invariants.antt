@@ -1,7 +1,7 @@
 -- So many letters stand at the end.
 use Rattle.std.proofs.Common.{◌≡◌, ◌+◌, ◌++◌, replicate}
 use Rattle.arrayvec.specs.ArrayVec.{array_vec_len}
-use Rattle.dobutsu_web.proofs.texts.push_times.Given as goal
+use Rattle.dob_numbers.proofs.texts.push_times.Given as goal
 
 abbrev pub invariant-loop-i : goal.invariant-loop-i
 invariant-loop-i l =

@@ -3,7 +3,7 @@ use Rattle.std.proofs.Common.{arith}
 use Rattle.dob_pieces.specs.declared.kind.HandKind.TheVariants as hand
 use Rattle.dob_pieces.specs.declared.setup.Setup.{Setup}
 use Rattle.dob_pieces.specs.Setups.{IsLegal, total}
-use Rattle.dobutsu_web.specs.Texts.{AreFew}
+use Rattle.dob_numbers.specs.Texts.{AreFew}
 
 pub few_own : (p : Setup) → IsLegal p → AreFew p.hands.mover
 unfolding total

@@ -1,6 +1,6 @@
 -- The rows and slashes, one after another.
 use Rattle.dob_text.proofs.Joins.{seven}
-use Rattle.dobutsu_web.proofs.texts.push_board.Goals as goal
+use Rattle.dob_numbers.proofs.texts.push_board.Goals as goal
 
 pub returns-clause-items : goal.returns-clause-items
 returns-clause-items c =
