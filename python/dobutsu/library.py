@@ -22,7 +22,7 @@ NAMES = {
 KINDS = "CEGHL"
 VALUES = "draw", "win", "loss"
 FROM_HAND = 12
-LETTERS = ".CEGHLceghl"  # what stands on a square, by its number
+LETTERS = b".CEGHLceghl".ljust(256, b"?")  # what stands on a square, by its number
 POSITION_LEN = 18  # twelve squares, and three kinds in two hands
 ANSWER = struct.Struct("=III")  # a fault, and a value's kind and plies
 MOST_MOVES = 64  # room for a first try: no position was seen to have more than 38
@@ -126,7 +126,8 @@ class Library:
         found = (ctypes.c_uint8 * (POSITION_LEN * count))()
         refuse(self.calls.dobutsu_class_at(*pieces, PROFILES.index(rules), first, found, count))
         numbers = bytes(found)
-        return [position_text(numbers[start : start + POSITION_LEN]) for start in range(0, len(numbers), POSITION_LEN)]
+        letters = numbers.translate(LETTERS).decode("ascii")
+        return [position_text(numbers, letters, start) for start in range(0, len(numbers), POSITION_LEN)]
 
 
 @functools.cache
@@ -211,10 +212,10 @@ def fault_of(number: int) -> Fault:
     return Fault(f"E{number} {NAMES.get(number, 'Unknown')}")
 
 
-def position_text(numbers: bytes) -> str:
-    """The text of a position's numbers."""
-    board = "".join([LETTERS[number] for number in numbers[:12]])
-    return f"{board[9:]}/{board[6:9]}/{board[3:6]}/{board[:3]} {hand_of(numbers[12:15], 'CEG')} {hand_of(numbers[15:], 'ceg')}"
+def position_text(numbers: bytes, letters: str, at: int) -> str:
+    """The text of the position whose numbers begin there, with the letters that they stand for on the board."""
+    rows = f"{letters[at + 9 : at + 12]}/{letters[at + 6 : at + 9]}/{letters[at + 3 : at + 6]}/{letters[at : at + 3]}"
+    return f"{rows} {hand_of(numbers[at + 12 : at + 15], 'CEG')} {hand_of(numbers[at + 15 : at + 18], 'ceg')}"
 
 
 @functools.cache

@@ -103,7 +103,7 @@ class Table:
     def probe_many(self, positions: Iterable[Asked]) -> list[Union[Value, Fault]]:
         """The value of each position, or the `Fault` that `table[position]` would raise for it: here it is an answer, and isn't raised.
 
-        By the library it is one call, for some hundred thousands a second.
+        By the library it is one call, for more than a hundred thousand a second.
 
         >>> Table("testdata/lions_alone_2.db").probe_many(["..l/.../L../... - -", "..l/.../L../... C -"])
         [Value('win', 3), Fault('E7 OtherSet')]
@@ -147,7 +147,7 @@ class Table:
     def positions(self, first: int = 0, end: int | None = None) -> Iterator[tuple[str, Value]]:
         """The position of each class with its value, in the order of the file, from the class of the first number to that before the end.
 
-        By the library it gives some hundred thousands a second, by plain Python some thousands.
+        By the library it gives some hundred thousand a second, by plain Python some thousands.
 
         >>> [f"{text} = {value}" for text, value in Table("testdata/lions_alone_2.db").positions(2, 4)]
         ['.../.../l../L.. - - = win 1', '.../.../.l./L.. - - = win 1']
