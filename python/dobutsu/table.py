@@ -159,8 +159,18 @@ class Table:
         if not (0 <= first <= db.count and 0 <= end <= db.count):
             raise IndexError(f"classes {first} to {end} of {db.count}")
         if self._library:
-            return positions_by(self._library, db, first, end)
+            return self._positions(self._library, first, end)
         return ((text, Value.read(value)) for text, value in db.positions(first, end))
+
+    def _positions(self, library: LibraryFile, first: int, end: int) -> Iterator[tuple[str, Value]]:
+        """The same by the library, many at a time."""
+        for start in range(first, end, MANY):
+            count, db = min(MANY, end - start), self._open()
+            place = db.start + 2 * start
+            records = struct.unpack(f"<{count}H", db.data[place : place + 2 * count])
+            for text, record in zip(library.positions(start, count), records):
+                self._open()
+                yield text, recorded(record)
 
     def stats(self) -> Stats:
         """How many classes have which value. It looks at each record: a second for some ten million."""
@@ -194,15 +204,6 @@ def nearest_library() -> Library | None:
         except (OSError, AttributeError):
             pass
     return None
-
-
-def positions_by(library: LibraryFile, db: plain.Db, first: int, end: int) -> Iterator[tuple[str, Value]]:
-    """Each class's position with its value, by the library, many at a time."""
-    for start in range(first, end, MANY):
-        count = min(MANY, end - start)
-        place = db.start + 2 * start
-        records = struct.unpack(f"<{count}H", db.data[place : place + 2 * count])
-        yield from zip(library.positions(start, count), map(recorded, records))
 
 
 @functools.cache
