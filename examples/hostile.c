@@ -384,6 +384,18 @@ static void ask_position(const uint8_t *file, size_t length, const uint64_t *wor
     }
 }
 
+/* Asks for the text of each fault and of what is none. */
+static void ask_names(void)
+{
+    uint32_t fault;
+    for (fault = 0; fault < 60; fault++) {
+        DobutsuText *text = blank(&value_room, sizeof *text);
+        if (dobutsu_fault_text(fault < 50 ? fault : UINT32_MAX - fault, text) != text->length || text->length > sizeof text->bytes
+            || !is_kept(&value_room, sizeof *text, sizeof *text))
+            exit(30);
+    }
+}
+
 /* Asks for the position, and for it with each of its numbers changed. */
 static void ask_positions(const uint8_t *bytes, size_t length, const char *text)
 {
@@ -412,6 +424,7 @@ static void ask_all(uint8_t *bytes, size_t length, const char *text)
     ask_by_others(bytes, length, text);
     ask_many(bytes, length, text);
     ask_positions(bytes, length, text);
+    ask_names();
     for (n = 0; n <= length; n++)
         ask(bytes, n, text, text_len);
     for (n = 0; n < text_len; n++)

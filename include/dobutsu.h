@@ -235,6 +235,10 @@ uint32_t dobutsu_class(const DobutsuPosition *position, uint32_t profile, uint64
 uint32_t dobutsu_class_at(uint32_t chicks, uint32_t elephants, uint32_t giraffes, uint32_t profile, uint64_t first, DobutsuPosition *positions,
                           size_t positions_len);
 
+/* The text of a fault, as the program prints it: "E7 OtherSet". The class that it prints behind 21 and 30 isn't there. Answers how many bytes the text has; 0 for a
+   number that is none of the faults above, whose text is empty. */
+uint32_t dobutsu_fault_text(uint32_t fault, DobutsuText *text);
+
 /* The version, which is that of the program. */
 DobutsuVersion dobutsu_version(void);
 

@@ -29,6 +29,26 @@ same=yes
 compile "$work/version.c" -o "$work/version" || same=no
 "$work/version" >"$work/out" 2>&1 && [ "$(cat "$work/out")" = "$("$program" --version)" ] || same=no
 note "the version of dobutsu.h is that of the library and the program: $(head -1 "$work/out")" "$same"
+# A fault's text is the one that the program prints, and that of docs/FAULTS.md.
+cat >"$work/faults.c" <<'C'
+#include "dobutsu.h"
+#include <stdio.h>
+int main(void)
+{
+    DobutsuText text;
+    unsigned fault;
+    for (fault = 0; fault < 100; fault++)
+        if (dobutsu_fault_text(fault, &text) == text.length && text.length > 0)
+            printf("%.*s\n", (int)text.length, (const char *)text.bytes);
+    return dobutsu_fault_text(UINT32_MAX, &text) != 0 || text.length != 0;
+}
+C
+same=yes
+compile "$work/faults.c" -o "$work/faults" || same=no
+"$work/faults" >"$work/out" 2>&1 || same=no
+[ "$(grep -c . "$work/out")" = 30 ] && [ "$(grep -v -e '^E28 NoMove$' -e '^E29 Index$' "$work/out" | cut -d' ' -f1,2)" = \
+    "$(sed -n 's/^| `\(E[0-9]* [A-Za-z]*\)[` ].*/\1/p' docs/FAULTS.md | grep -vxE 'E(8|9|1[0-4]|22|39|4[0-9]) .*' | sort -t E -k 2 -n -u)" ] || same=no
+note "dobutsu_fault_text says what docs/FAULTS.md does: $(tail -1 "$work/out")" "$same"
 same=yes
 compile -O2 examples/hostile.c -o "$work/hostile" || same=no
 for name in lions_alone one_chick lions_alone_2; do "$work/hostile" "testdata/$name.db" "$position" >"$work/out" 2>&1 || same=no; done

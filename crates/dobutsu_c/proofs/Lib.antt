@@ -6,3 +6,4 @@ mod Indexed  -- what is held and asked by an index
 mod Answered  -- the answers of many calls
 mod IndexedMoves  -- the moves that are listed by an index
 mod Certified  -- a certificate's file whose claim isn't proved
+mod Named  -- what faults are called

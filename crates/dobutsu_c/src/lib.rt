@@ -10,6 +10,7 @@ mod class_by;
 mod classes;
 mod counts;
 mod fault;
+mod fault_names;
 mod index;
 mod many;
 mod moves;
