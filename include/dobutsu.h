@@ -2,7 +2,8 @@
 
    Link with libdobutsu.a or libdobutsu.so. A call keeps nothing, starts no thread and touches no file: the bytes of a database's file are the caller's, read
    or mapped as a whole. Only dobutsu_moves, dobutsu_moves_by, dobutsu_steps, dobutsu_make, dobutsu_class_at, dobutsu_check and dobutsu_verify take memory, by
-   malloc and realloc, and give all back by free. Files of both formats are read. examples/search.c plays by these calls. Calls may be made by several threads at once, and none from a signal handler. Each pointer must be valid for as many items as its length says, aligned as its type is, and none may be
+   malloc and realloc, and give all back by free. Files of both formats are read. examples/search.c finds values by these calls. Calls may be made by several
+   threads at once, and none from a signal handler. Each pointer must be valid for as many items as its length says, aligned as its type is, and none may be
    null, also where a length is 0; what is written to is read and written by nobody else meanwhile, and a file's bytes stay as they are: where a mapped file
    is cut the system ends the program. */
 
