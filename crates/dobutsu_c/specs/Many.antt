@@ -25,8 +25,8 @@ start_at ends (suc place) = get_or ends place 0
 abbrev pub text_at : List ℕ → List ℕ → ℕ → List ℕ
 text_at texts ends place = take (get_or ends place 0 - start_at ends place) (drop (start_at ends place) texts)
 
--- The answer of a position's text: with the index of the file's family the value or the fault that the text has without one, where the value is right by the file
--- of a value table; and with any numbers what is told by them. A fault leaves the value as it was.
+-- The answer of a position's text: with the index of the file's family the value or the fault that the text has without one, where the value is right by the
+-- file of a value table; and with any numbers what is told by them. A fault leaves the value as it was.
 pub record IsAnswer (file index text : List ℕ) (old new : DobutsuAnswer) : Type 0 where
   pub told : IsIndexFor file index → (value : Value) → IsTold file text value → (new.fault ≡ 0) × (new.value ≡ shown value)
   pub fault : IsIndexFor file index → (fault : Fault) → HasProbeFault file text fault → new.fault ≡ fault_number fault
