@@ -50,6 +50,7 @@ pub extern "C" fn dobutsu_steps(
     ensures status { result ≡ 0 → (family : AnyFamily) × (setup : AnySetup) × (of : AnyStatus) × IsNumbersAsked position.now profile family setup
         × HasStatus family.profile setup of × (status_is.new ≡ status_number of) }
     ensures refused { result ≢ 0 → (result ≡ 23) ⊎ IsRefused position.now profile result }
+    ensures memory { result ≡ 23 → (family : AnyFamily) × (setup : AnySetup) × IsNumbersAsked position.now profile family setup }
     ensures unchanged { result ≢ 0 → (steps.new ≡ steps.old) × (count.new ≡ count.old) × (status_is.new ≡ status_is.old) }
 {
     let asked = match ask_numbers(position, profile) {
@@ -83,6 +84,7 @@ pub extern "C" fn dobutsu_make(
     ensures none { result ≡ 28 → (family : AnyFamily) × (setup : AnySetup) × IsNumbersAsked position.now profile family setup
         × ((the_move : AnyMove) → HasStatus family.profile setup Open → CanGo family.profile setup the_move → shown_step the_move ≢ step.now) }
     ensures refused { result ≢ 0 → result ≢ 28 → (result ≡ 23) ⊎ IsRefused position.now profile result }
+    ensures memory { result ≡ 23 → (family : AnyFamily) × (setup : AnySetup) × IsNumbersAsked position.now profile family setup }
     ensures unchanged { result ≢ 0 → after.new ≡ after.old }
 {
     let asked = match ask_numbers(position, profile) {
