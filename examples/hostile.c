@@ -1,8 +1,9 @@
-/* Asks a file for a position in each state that a caller may hand over: hostile FILE POSITION. Of the file the first n bytes are asked, for n from 0 to
-   its length; then all of it with one byte changed, for each byte of the first 32 and of the last; with a header that claims each other set; and for the
-   first n bytes of the position. It asks for the value, the moves into no room, into too little and into enough, and whether the file is
-   consistent; for the value and the moves by the index of the file's family too. Then the file is asked by the first n numbers of the index, by all of them
-   with one changed, and by the index of each other family.
+/* Asks a file for a position in each state that a caller may hand over: hostile FILE POSITION. Of the file the first n bytes are asked, for n from 0 to its
+   length; then all of it with one byte changed, for each byte of the first 32 and of the last; with a header that claims each other set; and for the first n
+   bytes of the position. It asks for the value, the moves into no room, into too little and into enough, and whether the file is consistent; for the value
+   and the moves by the index of the file's family too. Then the file is asked by the first n numbers of the index, by all of them with one changed, and by
+   the index of each other family; and for many texts at once, that end anywhere. Last comes the position with each of its numbers changed: its text, its
+   moves into as much room, what comes of each move and of moves with each of their numbers changed, its class, and that class's position.
 
    All that is handed over lies against a page that nobody may touch, once behind it and once before it. What a call reads can't be written, and of what it
    writes all else must stay as it was. So a call that touches what isn't its own ends the program with status 20, whatever the library was built by. Prints
@@ -31,7 +32,7 @@ static unsigned long answers[32], checks[32], by_index[32];
 static uint64_t *index_words;
 static size_t index_len;
 static uint32_t index_set[3], index_profile;
-static Room file_room, text_room, index_room, value_room, moves_room, number_room;
+static Room file_room, text_room, index_room, value_room, moves_room, number_room, status_room, answers_room, position_room, step_room;
 static int guard; /* where the page lies against which all is put */
 
 static void touched(int number)
@@ -248,6 +249,171 @@ static void ask(const uint8_t *bytes, size_t length, const char *text, size_t te
     checks[checked]++;
 }
 
+/* Asks for many texts at once, whose ends lie anywhere: each answer is that of one call, a fault leaves the value, and nothing else is written. */
+static void ask_many(const uint8_t *bytes, size_t length, const char *text)
+{
+    size_t text_len = strlen(text), room, n;
+    const uint64_t ends[] = {text_len, 0, text_len, text_len / 2, UINT64_MAX, 3, text_len + 1, UINT64_MAX, UINT64_MAX - 1, text_len};
+    const size_t most = sizeof ends / sizeof *ends;
+    const uint8_t *file = lent(&file_room, bytes, length), *texts = lent(&text_room, text, text_len);
+    const uint64_t *held = lent(&number_room, ends, sizeof ends), *words = lent(&index_room, index_words, index_len * sizeof *words);
+    for (room = 0; room <= most + 1; room++) {
+        DobutsuAnswer *answers = blank(&answers_room, room * sizeof *answers);
+        size_t count = room < most ? room : most;
+        if (dobutsu_probe_many(file, length, words, index_len, texts, text_len, held, most, answers, room) != count
+            || !is_kept(&answers_room, room * sizeof *answers, count * sizeof *answers))
+            exit(21);
+        for (n = 0; n < count; n++) {
+            uint64_t start = n == 0 ? 0 : ends[n - 1], end = ends[n] < text_len ? ends[n] : text_len;
+            DobutsuValue value;
+            memset(&value, FILL, sizeof value);
+            start = start < end ? start : end;
+            if (answers[n].fault != dobutsu_probe_by(file, length, words, index_len, texts + start, (size_t)(end - start), &value)
+                || memcmp(&answers[n].value, &value, sizeof value) != 0)
+                exit(21);
+        }
+    }
+}
+
+/* Makes a move that has these numbers; whether there is such a move. */
+static int make(const DobutsuPosition *position, uint32_t profile, const DobutsuStep *numbers)
+{
+    const DobutsuStep *step = lent(&step_room, numbers, sizeof *step);
+    DobutsuPosition *after = blank(&answers_room, sizeof *after);
+    uint32_t fault = dobutsu_make(position, profile, step, after);
+    DobutsuText text;
+    if ((fault != DOBUTSU_OK && fault != DOBUTSU_NO_MOVE) || !is_kept(&answers_room, sizeof *after, fault == DOBUTSU_OK ? sizeof *after : 0)
+        || (fault == DOBUTSU_OK && dobutsu_write(after, &text) != DOBUTSU_OK))
+        exit(23);
+    return fault == DOBUTSU_OK;
+}
+
+/* Each move of an open position can be made, no move of another one, and none with a number changed but one that is listed too. */
+static void make_all(const DobutsuPosition *position, uint32_t profile, const DobutsuStep *steps, size_t count, int open)
+{
+    static const uint32_t changes[] = {1, 2, 12, UINT32_MAX};
+    size_t n, k, m, part;
+    for (n = 0; n < count; n++) {
+        if (make(position, profile, &steps[n]) != open)
+            exit(24);
+        for (part = 0; part < 5; part++)
+            for (k = 0; k < sizeof changes / sizeof *changes; k++) {
+                DobutsuStep changed = steps[n];
+                int listed = 0;
+                ((uint32_t *)&changed)[part] ^= changes[k];
+                for (m = 0; m < count; m++)
+                    listed |= memcmp(&changed, &steps[m], sizeof changed) == 0;
+                if (make(position, profile, &changed) != (listed && open))
+                    exit(24);
+            }
+    }
+}
+
+/* Asks for the moves of a position without a file, and makes them. */
+static void ask_steps(const DobutsuPosition *position, uint32_t profile, uint32_t wanted)
+{
+    DobutsuStep all[DOBUTSU_MOST_MOVES];
+    size_t n, count = 0;
+    for (n = 0; n < 3; n++) {
+        DobutsuStep *steps = blank(&moves_room, rooms[n] * sizeof *steps);
+        uint64_t *number = blank(&number_room, sizeof *number);
+        uint32_t *status = blank(&status_room, sizeof *status);
+        uint32_t fault = dobutsu_steps(position, profile, steps, rooms[n], number, status);
+        int told = fault == DOBUTSU_OK;
+        if (fault != wanted || !is_kept(&number_room, sizeof *number, told ? sizeof *number : 0)
+            || !is_kept(&status_room, sizeof *status, told ? sizeof *status : 0) || (told && (*number > DOBUTSU_MOST_MOVES || *status > DOBUTSU_STUCK)))
+            exit(22);
+        count = !told ? 0 : *number < rooms[n] ? (size_t)*number : rooms[n];
+        if (!is_kept(&moves_room, rooms[n] * sizeof *steps, count * sizeof *steps))
+            exit(22);
+        memcpy(all, steps, count * sizeof *steps);
+        if (told && n == 2)
+            make_all(position, profile, all, count, *status == DOBUTSU_OPEN);
+    }
+}
+
+/* The position's class has a position of that class, in a room for three or behind the last. */
+static void ask_class(const DobutsuPosition *position, uint32_t profile, uint32_t wanted)
+{
+    uint64_t *number = blank(&number_room, sizeof *number), class_number, again, positions, classes;
+    uint32_t fault = dobutsu_class(position, profile, number);
+    size_t room;
+    if (fault != wanted || !is_kept(&number_room, sizeof *number, fault == DOBUTSU_OK ? sizeof *number : 0))
+        exit(25);
+    class_number = fault == DOBUTSU_OK ? *number : 0;
+    if (dobutsu_count(index_set[0], index_set[1], index_set[2], profile, &positions, &classes) != DOBUTSU_OK)
+        return;
+    for (room = 0; room < 4; room++) {
+        DobutsuPosition *found = blank(&answers_room, room * sizeof *found);
+        fault = dobutsu_class_at(index_set[0], index_set[1], index_set[2], profile, class_number, found, room);
+        if (fault != (class_number + room > classes ? DOBUTSU_NO_CLASS : DOBUTSU_OK)
+            || !is_kept(&answers_room, room * sizeof *found, fault == DOBUTSU_OK ? room * sizeof *found : 0))
+            exit(26);
+        if (fault == DOBUTSU_OK && room > 0 && (dobutsu_class(&found[room - 1], profile, &again) != DOBUTSU_OK || again != class_number + room - 1))
+            exit(26);
+        if (dobutsu_class_at(index_set[0], index_set[1], index_set[2], profile, UINT64_MAX, found, room) != DOBUTSU_NO_CLASS)
+            exit(26);
+    }
+}
+
+/* Asks for a position by its numbers. */
+static void ask_position(const uint8_t *file, size_t length, const uint64_t *words, const DobutsuPosition *numbers)
+{
+    const DobutsuPosition *position = lent(&position_room, numbers, sizeof *position);
+    DobutsuText *text = blank(&value_room, sizeof *text);
+    DobutsuPosition again;
+    DobutsuAnswer *answer = blank(&answers_room, sizeof *answer);
+    DobutsuValue value;
+    uint32_t fault = dobutsu_write(position, text), profile;
+    if (!is_kept(&value_room, sizeof *text, fault == DOBUTSU_OK ? sizeof *text : 0)
+        || (fault == DOBUTSU_OK
+            && (dobutsu_read(text->bytes, text->length, &again) != DOBUTSU_OK || memcmp(&again, position, sizeof again) != 0)))
+        exit(27);
+    memset(&value, FILL, sizeof value);
+    if (dobutsu_probe_positions(file, length, words, index_len, position, 1, answer, 1) != 1 || !is_kept(&answers_room, sizeof *answer, sizeof *answer)
+        || answer->fault != (fault != DOBUTSU_OK ? fault : dobutsu_probe_by(file, length, words, index_len, text->bytes, text->length, &value))
+        || memcmp(&answer->value, &value, sizeof value) != 0)
+        exit(28);
+    for (profile = 0; profile < 3; profile++) {
+        uint64_t class_number;
+        uint32_t wanted = dobutsu_class(position, profile, &class_number);
+        if (profile == 2 ? wanted != DOBUTSU_PROFILE_BYTE : wanted != fault && (fault != DOBUTSU_OK || wanted != DOBUTSU_FAR_CHICK || profile == 0))
+            exit(29);
+        ask_steps(position, profile, wanted);
+        ask_class(position, profile, wanted);
+    }
+}
+
+/* Asks for the text of each fault and of what is none. */
+static void ask_names(void)
+{
+    uint32_t fault;
+    for (fault = 0; fault < 60; fault++) {
+        DobutsuText *text = blank(&value_room, sizeof *text);
+        if (dobutsu_fault_text(fault < 50 ? fault : UINT32_MAX - fault, text) != text->length || text->length > sizeof text->bytes
+            || !is_kept(&value_room, sizeof *text, sizeof *text))
+            exit(30);
+    }
+}
+
+/* Asks for the position, and for it with each of its numbers changed. */
+static void ask_positions(const uint8_t *bytes, size_t length, const char *text)
+{
+    const uint8_t *file = lent(&file_room, bytes, length);
+    const uint64_t *words = lent(&index_room, index_words, index_len * sizeof *words);
+    DobutsuPosition read, changed;
+    unsigned number;
+    size_t part;
+    if (dobutsu_read((const uint8_t *)text, strlen(text), &read) != DOBUTSU_OK)
+        exit(27);
+    for (part = 0; part < sizeof read; part++)
+        for (number = 0; number < 256; number = number == 12 ? 254 : number + 1) {
+            changed = read;
+            ((uint8_t *)&changed)[part] = (uint8_t)number;
+            ask_position(file, length, words, &changed);
+        }
+}
+
 /* Asks the file in each state. */
 static void ask_all(uint8_t *bytes, size_t length, const char *text)
 {
@@ -256,6 +422,9 @@ static void ask_all(uint8_t *bytes, size_t length, const char *text)
     unsigned set;
     memcpy(header, bytes, sizeof header);
     ask_by_others(bytes, length, text);
+    ask_many(bytes, length, text);
+    ask_positions(bytes, length, text);
+    ask_names();
     for (n = 0; n <= length; n++)
         ask(bytes, n, text, text_len);
     for (n = 0; n < text_len; n++)
@@ -300,9 +469,13 @@ int main(int argc, char **argv)
     file_room = room_for(MOST_BYTES);
     text_room = room_for(strlen(argv[2]));
     index_room = room_for(MOST_BYTES);
-    value_room = room_for(sizeof(DobutsuValue));
+    value_room = room_for(sizeof(DobutsuText));
     moves_room = room_for(DOBUTSU_MOST_MOVES * sizeof(DobutsuMove));
-    number_room = room_for(sizeof(uint64_t));
+    number_room = room_for(10 * sizeof(uint64_t));
+    status_room = room_for(sizeof(uint32_t));
+    answers_room = room_for(11 * sizeof(DobutsuAnswer));
+    position_room = room_for(sizeof(DobutsuPosition));
+    step_room = room_for(sizeof(DobutsuStep));
     for (n = 0; n < 3; n++)
         index_set[n] = bytes[8 + n];
     index_profile = bytes[7] == '1' ? 0 : bytes[12];

@@ -1,8 +1,8 @@
-/* Dobutsu shogi: values and moves by a database's file, its check, and the sizes of families. C99, and C++ too.
+/* Dobutsu shogi: positions and their moves; values and moves by a database's file; its check, and the sizes of families. C99, and C++ too.
 
    Link with libdobutsu.a or libdobutsu.so. A call keeps nothing, starts no thread and touches no file: the bytes of a database's file are the caller's, read
-   or mapped as a whole. Only dobutsu_moves, dobutsu_moves_by, dobutsu_check, dobutsu_verify and dobutsu_reply take memory, by malloc and realloc, and give all back by free.
-   No call makes a move, which examples/solve.c shows how to do, and none gives the position of a class. Files of both formats are read. Calls may be made by several
+   or mapped as a whole. Only dobutsu_moves, dobutsu_moves_by, dobutsu_steps, dobutsu_make, dobutsu_class_at, dobutsu_check, dobutsu_verify and dobutsu_reply
+   take memory, by malloc and realloc, and give all back by free. Files of both formats are read. examples/search.c finds values by these calls. Calls may be made by several
    threads at once, and none from a signal handler. Each pointer must be valid for as many items as its length says, aligned as its type is, and none may be
    null, also where a length is 0; what is written to is read and written by nobody else meanwhile, and a file's bytes stay as they are: where a mapped file
    is cut the system ends the program. */
@@ -22,7 +22,8 @@ extern "C" {
 #define DOBUTSU_VERSION_MINOR 1
 #define DOBUTSU_VERSION_PATCH 0
 
-/* Faults, by the numbers that the program prints behind an E. A call that answers one has written nothing; only dobutsu_check writes at 21, a class. */
+/* Faults, by the numbers that the program prints behind an E. A call that answers one has written nothing; but dobutsu_check writes at 21 and
+   dobutsu_verify at 30, a class. The calls that answer many write each answer's fault. */
 enum {
     DOBUTSU_OK = 0,
     DOBUTSU_SHAPE = 1,        /* the text isn't a board, a space, a hand, a space and a hand */
@@ -43,11 +44,13 @@ enum {
     DOBUTSU_SET_TEXT = 25,    /* a number of pieces is above 2 */
     DOBUTSU_FAR_CHICK = 26,   /* the file's rules let no chick stand where one of the position does */
     DOBUTSU_PROFILE_BYTE = 27, /* the number is that of no profile of the rules */
+    DOBUTSU_NO_MOVE = 28,     /* the position has no such move, or has ended */
     DOBUTSU_INDEX = 29, /* the numbers are no index of the family, or too few */
     DOBUTSU_UNSUPPORTED = 30, /* the other entries of a certificate don't show one of them */
     DOBUTSU_CLAIM = 31,       /* its entries don't show what it claims */
     DOBUTSU_VERSION = 32,     /* a certificate is of another version */
     DOBUTSU_ROOT_CLASS = 33,  /* the family has no class of the root's number */
+    DOBUTSU_NO_CLASS = 33,    /* it has no class of a number that is asked for */
     DOBUTSU_CLAIM_BYTE = 34,  /* it claims nothing known */
     DOBUTSU_ENTRY_COUNT = 35, /* it counts more entries than the family has classes */
     DOBUTSU_ENTRY_NUMBER = 36, /* an entry doesn't begin with a number in its fewest bytes */
@@ -61,7 +64,16 @@ enum { DOBUTSU_DRAW = 0, DOBUTSU_WIN = 1, DOBUTSU_LOSS = 2 };
 /* Kinds of pieces, and where a piece comes from that is dropped. */
 enum { DOBUTSU_CHICK = 0, DOBUTSU_ELEPHANT = 1, DOBUTSU_GIRAFFE = 2, DOBUTSU_HEN = 3, DOBUTSU_LION = 4, DOBUTSU_FROM_HAND = 12 };
 
-/* A hint for how much room to give dobutsu_moves: no position was seen to have more moves, but nothing proves it. What `count` says decides. */
+/* What stands on a square: 0 where nothing does, else DOBUTSU_MOVER or DOBUTSU_ENEMY and the piece's kind: DOBUTSU_ENEMY + DOBUTSU_LION is the lion of the side
+   that isn't to move. */
+enum { DOBUTSU_MOVER = 1, DOBUTSU_ENEMY = 6 };
+
+/* The status of a position: open, the enemy lion can be caught, the enemy lion has reached its far row (the side to move has lost), or there is no move (it has
+   lost too). */
+enum { DOBUTSU_OPEN = 0, DOBUTSU_CAUGHT = 1, DOBUTSU_TRIED = 2, DOBUTSU_STUCK = 3 };
+
+/* A hint for how much room to give dobutsu_moves and dobutsu_steps: no position was seen to have more moves, but nothing proves it. What `count` says
+   decides. */
 enum { DOBUTSU_MOST_MOVES = 38 };
 
 /* A value for the side to move: a kind, and in how many plies it can be forced at the least; 0 for a draw. */
@@ -81,6 +93,42 @@ typedef struct {
     uint32_t grows;
     DobutsuValue value;
 } DobutsuMove;
+
+/* The same without a value: it is laid out as a DobutsuMove begins. */
+typedef struct {
+    uint32_t kind;
+    uint32_t from;
+    uint32_t to;
+    uint32_t catches;
+    uint32_t grows;
+} DobutsuStep;
+
+/* How many pieces of each kind lie in a hand. */
+typedef struct {
+    uint8_t chicks;
+    uint8_t elephants;
+    uint8_t giraffes;
+} DobutsuHand;
+
+/* A position as the side to move sees it: what stands on a1, b1, c1, a2 and so on to c4, and the hands. It has no room between its parts, so that two are the
+   same where their bytes are. It needn't be a legal position: each call says what it answers then. */
+typedef struct {
+    uint8_t board[12];
+    DobutsuHand mover;
+    DobutsuHand enemy;
+} DobutsuPosition;
+
+/* One of many answers: the fault, and where it is 0 the value. */
+typedef struct {
+    uint32_t fault;
+    DobutsuValue value;
+} DobutsuAnswer;
+
+/* A text: the first `length` of these bytes. No zero byte ends it. */
+typedef struct {
+    uint32_t length;
+    uint8_t bytes[32];
+} DobutsuText;
 
 /* What a certificate claims: of the first position of class `root` of the family of so many chicks, elephants and giraffes by profile 0 (A) or 1 (B), a
    value's kind in so many plies, or where `within` is 1 within so many; 0 plies for a draw. */
@@ -144,10 +192,10 @@ uint64_t dobutsu_index_words(uint32_t chicks, uint32_t elephants, uint32_t giraf
    fewer than dobutsu_index_words says. It takes some hundredths of a second for two pieces of each kind. */
 uint32_t dobutsu_index(uint32_t chicks, uint32_t elephants, uint32_t giraffes, uint32_t profile, uint64_t *words, size_t words_len);
 
-/* What dobutsu_probe and dobutsu_moves give, by an index. With the index of the file's family as dobutsu_index wrote it the answers are just theirs, and right
-   where the file is the family's table. With any other numbers a call still returns and reads nothing outside of them. It answers the value of some record of the
-   file, or all moves by the values of such records; or a fault that dobutsu_probe may answer, or 29: where the first number isn't that of an index of the
-   file's family, where the third or how many there are isn't what it has, or where they lead outside of the file. */
+/* What dobutsu_probe and dobutsu_moves give, by an index. With the index of the file's family as dobutsu_index wrote it the answers are just theirs, and
+   right where the file is the family's table. With any other numbers a call still returns and reads nothing outside of them. It answers the value of some
+   record of the file, or all moves by the values of such records; or a fault that dobutsu_probe may answer, or 29: where the first number isn't that of an
+   index of the file's family, where the third or how many there are isn't what it has, or where they lead outside of the file. */
 uint32_t dobutsu_probe_by(const uint8_t *file, size_t file_len, const uint64_t *words, size_t words_len, const uint8_t *text, size_t text_len,
                           DobutsuValue *answer);
 uint32_t dobutsu_moves_by(const uint8_t *file, size_t file_len, const uint64_t *words, size_t words_len, const uint8_t *text, size_t text_len,
@@ -157,6 +205,50 @@ uint32_t dobutsu_moves_by(const uint8_t *file, size_t file_len, const uint64_t *
    a file of format 2. Answers 0 and writes it, or 1 to 6 of the text, 25 or 27 of the family, 29, 26 or 7. Of other numbers holds what is said above. */
 uint32_t dobutsu_class_by(uint32_t chicks, uint32_t elephants, uint32_t giraffes, uint32_t profile, const uint64_t *words, size_t words_len,
                           const uint8_t *text, size_t text_len, uint64_t *class_number);
+
+/* What dobutsu_probe_by answers of many positions: the texts stand one behind the other in `texts`, and `ends` says for each where it ends and the next
+   begins. (A text that ends before it begins is empty, and what lies behind the bytes isn't there, so that any numbers may be given.) For each text, as far
+   as there are answers, the fault is written, and the value where that is 0; where it isn't the value is left as it was. Answers how many answers it has
+   written: the less of `ends_len` and `answers_len`. The others are left as they were. */
+uint64_t dobutsu_probe_many(const uint8_t *file, size_t file_len, const uint64_t *words, size_t words_len, const uint8_t *texts, size_t texts_len,
+                            const uint64_t *ends, size_t ends_len, DobutsuAnswer *answers, size_t answers_len);
+
+/* The same of positions: the fault is that of dobutsu_probe_by for the position's text, or 2 or 4 to 6 as dobutsu_write answers. */
+uint64_t dobutsu_probe_positions(const uint8_t *file, size_t file_len, const uint64_t *words, size_t words_len, const DobutsuPosition *positions,
+                                 size_t positions_len, DobutsuAnswer *answers, size_t answers_len);
+
+/* ---- Positions, without a file. `profile` is 0 (A) or 1 (B). A call on a DobutsuPosition with a profile answers 27 where there is no such profile; else 2
+   where a number of the board is above 10, 4 to 6 as of a text; else 26 where rules B don't let a chick stand where one does; and then writes nothing. */
+
+/* The position of a text. Answers 0 and writes it; or the text's fault, 1 to 6, and writes nothing. */
+uint32_t dobutsu_read(const uint8_t *text, size_t text_len, DobutsuPosition *position);
+
+/* The text of a position. Answers 0 and writes it; or 2 or 4 to 6, and writes nothing. */
+uint32_t dobutsu_write(const DobutsuPosition *position, DobutsuText *text);
+
+/* The status of a position, and its moves in the order of moves. Where the enemy lion can be caught there is its first catch alone, and no move where the
+   position is lost already. Answers 0, writes the status, how many moves there are, and the first of them, as many as there is room for; or a fault as
+   above, or 23 where memory ran out, and writes nothing. */
+uint32_t dobutsu_steps(const DobutsuPosition *position, uint32_t profile, DobutsuStep *steps, size_t steps_len, uint64_t *count, uint32_t *status);
+
+/* The position after a move of an open position, as the side sees it that moves next. Answers 0 and writes it; or a fault as above, 28 where the position isn't
+   open or dobutsu_steps doesn't list that very move, or 23; and writes nothing. The catch of a lion leads to no position, so it is
+   never made. `after` is another place than `position`. */
+uint32_t dobutsu_make(const DobutsuPosition *position, uint32_t profile, const DobutsuStep *step, DobutsuPosition *after);
+
+/* The number of the position's class among those of its pieces. Answers 0 and writes it; or a fault as above, and writes nothing. It takes some hundredths of a
+   second for two pieces of each kind: dobutsu_class_by doesn't. */
+uint32_t dobutsu_class(const DobutsuPosition *position, uint32_t profile, uint64_t *class_number);
+
+/* The first positions of the classes `first`, `first` + 1 and so on of a family, as many as there is room for: the position that stands for the class, of which
+   the other one is the mirror image. Answers 0 and writes them all; or 25 or else 27 as dobutsu_count does, 33 where the family has fewer classes, or 23; and
+   writes nothing. It takes some hundredths of a second for two pieces of each kind, and then less than a microsecond a class: ask for many at once. */
+uint32_t dobutsu_class_at(uint32_t chicks, uint32_t elephants, uint32_t giraffes, uint32_t profile, uint64_t first, DobutsuPosition *positions,
+                          size_t positions_len);
+
+/* The text of a fault, as the program prints it: "E7 OtherSet". The class that it prints behind 21 and 30 isn't there. Answers how many bytes the text has;
+   0 for a number that is none of the faults above, whose text is empty. */
+uint32_t dobutsu_fault_text(uint32_t fault, DobutsuText *text);
 
 /* The version, which is that of the program. */
 DobutsuVersion dobutsu_version(void);

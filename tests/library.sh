@@ -29,15 +29,35 @@ same=yes
 compile "$work/version.c" -o "$work/version" || same=no
 "$work/version" >"$work/out" 2>&1 && [ "$(cat "$work/out")" = "$("$program" --version)" ] || same=no
 note "the version of dobutsu.h is that of the library and the program: $(head -1 "$work/out")" "$same"
+# A fault's text is the one that the program prints, and that of docs/FAULTS.md.
+cat >"$work/faults.c" <<'C'
+#include "dobutsu.h"
+#include <stdio.h>
+int main(void)
+{
+    DobutsuText text;
+    unsigned fault;
+    for (fault = 0; fault < 100; fault++)
+        if (dobutsu_fault_text(fault, &text) == text.length && text.length > 0)
+            printf("%.*s\n", (int)text.length, (const char *)text.bytes);
+    return dobutsu_fault_text(UINT32_MAX, &text) != 0 || text.length != 0;
+}
+C
+same=yes
+compile "$work/faults.c" -o "$work/faults" || same=no
+"$work/faults" >"$work/out" 2>&1 || same=no
+[ "$(grep -c . "$work/out")" = 30 ] && [ "$(grep -v -e '^E28 NoMove$' -e '^E29 Index$' "$work/out" | cut -d' ' -f1,2)" = \
+    "$(sed -n 's/^| `\(E[0-9]* [A-Za-z]*\)[` ].*/\1/p' docs/FAULTS.md | grep -vxE 'E(8|9|1[0-4]|22|39|4[0-9]) .*' | sort -t E -k 2 -n -u)" ] || same=no
+note "dobutsu_fault_text says what docs/FAULTS.md does: $(tail -1 "$work/out")" "$same"
 same=yes
 compile -O2 examples/hostile.c -o "$work/hostile" || same=no
 for name in lions_alone one_chick lions_alone_2; do "$work/hostile" "testdata/$name.db" "$position" >"$work/out" 2>&1 || same=no; done
 note "examples/hostile.c over cut and changed files and indexes: $(tail -1 "$work/out")" "$same"
-# Libraries that read past a file, past an index, before a text, and that write past the moves, and into the file.
+# Libraries that read past a file, past an index, before a text, past a position, and that write past the moves, past the answers, and into the file.
 same=yes
-for planted in READ_PAST_FILE READ_PAST_INDEX READ_BEFORE_TEXT WRITE_PAST_MOVES WRITE_FILE; do
-    compile -O2 -DPLANTED="$planted" -Wl,--wrap=dobutsu_probe,--wrap=dobutsu_probe_by,--wrap=dobutsu_moves examples/hostile.c tests/planted.c \
-        -o "$work/planted" || same=no
+wraps=--wrap=dobutsu_probe,--wrap=dobutsu_probe_by,--wrap=dobutsu_moves,--wrap=dobutsu_probe_many,--wrap=dobutsu_write
+for planted in READ_PAST_FILE READ_PAST_INDEX READ_BEFORE_TEXT WRITE_PAST_MOVES WRITE_FILE WRITE_PAST_ANSWERS READ_PAST_POSITION; do
+    compile -O2 -DPLANTED="$planted" -Wl,"$wraps" examples/hostile.c tests/planted.c -o "$work/planted" || same=no
     for name in lions_alone lions_alone_2; do
         status=0
         "$work/planted" "testdata/$name.db" "$position" >"$work/out" 2>&1 || status=$?
@@ -106,6 +126,53 @@ for name in {A,B}_{100,111}; do
     [ -s "$work/printed" ] && cmp -s "$work/printed" "$work/printed_c" || same=no
 done
 note "examples/solve.c prints what moves and line do, by files of two sets and both profiles" "$same"
+# The search finds what the file says, however deep it looks itself; and without a file each value that is forced within as many plies.
+same=yes
+compile -O2 examples/search.c -o "$work/search" || same=no
+for name in {A,B}_100 A_111; do
+    while IFS= read -r text; do "$program" probe --db "$work/$name.db" "$text"; done <"$work/$name.asked" >"$work/printed"
+    for depth in 1 2 3; do
+        "$work/search" "$depth" "$work/$name.db" <"$work/$name.asked" >"$work/printed_c" 2>&1 || same=no
+        [ -s "$work/printed" ] && cmp -s "$work/printed" "$work/printed_c" || same=no
+    done
+    case "$name" in B*) continue ;; esac
+    sed -E '/^(win|loss) [0-5]$/!s/.*/unknown/' "$work/printed" >"$work/forced"
+    "$work/search" 5 <"$work/$name.asked" >"$work/printed_c" 2>&1 || same=no
+    grep -q '^loss [1-4]$' "$work/forced" && cmp -s "$work/forced" "$work/printed_c" || same=no
+done
+printf '%s\n' 'x' '..l/.../L../...' | "$work/search" 1 >"$work/printed_c" && [ "$(cat "$work/printed_c")" = $'E1\nE1' ] || same=no
+note "examples/search.c finds what probe prints, by files and without" "$same"
+# An index of another family is refused before any class is counted: 200 times in seconds, where counting once takes some hundredths of one.
+same=yes
+python3 - "$release/libdobutsu.so" "$work/long.db" >"$work/out" 2>&1 <<'PYTHON' || same=no
+import ctypes
+import mmap
+import sys
+import time
+sys.path.insert(0, "python")
+from dobutsu import library
+calls = library.load(sys.argv[1])
+classes = calls.class_count("A", (2, 2, 2))
+with open(sys.argv[2], "wb") as file:
+    file.write(b"DOBUTSU2" + bytes([2, 2, 2, 2, 0]) + classes.to_bytes(8, "little"))
+    file.truncate(21 + 2 * classes + 32)
+with open(sys.argv[2], "rb") as file:
+    data = mmap.mmap(file.fileno(), 0, access=mmap.ACCESS_COPY)
+whole = calls.index("A", (2, 2, 2))
+short = (ctypes.c_uint64 * (len(whole) - 1))(*whole[: len(whole) - 1])
+wrong = [short, calls.index("A", (2, 2, 1)), calls.index("B", (2, 2, 2)), calls.index("A", (0, 0, 0))]
+held, text, value = (ctypes.c_char * len(data)).from_buffer(data), b"gle/.c./.C./ELG - -", library.CValue(7, 7)
+start = time.monotonic()
+for turn in range(200):
+    index = wrong[turn % len(wrong)]
+    assert calls.calls.dobutsu_probe_by(held, len(held), index, len(index), text, len(text), value) == 29 and (value.kind, value.plies) == (7, 7)
+taken = time.monotonic() - start
+assert calls.calls.dobutsu_probe_by(held, len(held), whole, len(whole), text, len(text), value) == 0 and (value.kind, value.plies) == (0, 0)
+assert taken < 2, taken
+print("200 refusals in", round(taken, 3), "s")
+PYTHON
+rm -f "$work/long.db"
+note "an index of another family, or that lacks its end, is refused at once: $(tail -1 "$work/out")" "$same"
 # A file whose digest is right, and the value of whose class 1 isn't: the library names the class that the program does.
 same=yes
 python3 - "$release/libdobutsu.so" testdata/lions_alone_2.db "$work/wrong.db" >"$work/printed_c" 2>&1 <<'PYTHON' || same=no

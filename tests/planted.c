@@ -2,11 +2,14 @@
 
 #include "dobutsu.h"
 
-enum { READ_PAST_FILE = 1, READ_PAST_INDEX, WRITE_PAST_MOVES, WRITE_FILE, READ_BEFORE_TEXT };
+enum { READ_PAST_FILE = 1, READ_PAST_INDEX, WRITE_PAST_MOVES, WRITE_FILE, READ_BEFORE_TEXT, WRITE_PAST_ANSWERS, READ_PAST_POSITION };
 
 uint32_t __real_dobutsu_probe(const uint8_t *, size_t, const uint8_t *, size_t, DobutsuValue *);
 uint32_t __real_dobutsu_probe_by(const uint8_t *, size_t, const uint64_t *, size_t, const uint8_t *, size_t, DobutsuValue *);
 uint32_t __real_dobutsu_moves(const uint8_t *, size_t, const uint8_t *, size_t, DobutsuMove *, size_t, uint64_t *);
+uint64_t __real_dobutsu_probe_many(const uint8_t *, size_t, const uint64_t *, size_t, const uint8_t *, size_t, const uint64_t *, size_t, DobutsuAnswer *,
+                                   size_t);
+uint32_t __real_dobutsu_write(const DobutsuPosition *, DobutsuText *);
 
 static volatile uint64_t seen;
 
@@ -37,4 +40,20 @@ uint32_t __wrap_dobutsu_moves(const uint8_t *file, size_t file_len, const uint8_
     if (PLANTED == WRITE_PAST_MOVES && fault == DOBUTSU_OK && *count > moves_len)
         moves[moves_len].kind = 1;
     return fault;
+}
+
+uint64_t __wrap_dobutsu_probe_many(const uint8_t *file, size_t file_len, const uint64_t *words, size_t words_len, const uint8_t *texts, size_t texts_len,
+                                   const uint64_t *ends, size_t ends_len, DobutsuAnswer *answers, size_t answers_len)
+{
+    uint64_t count = __real_dobutsu_probe_many(file, file_len, words, words_len, texts, texts_len, ends, ends_len, answers, answers_len);
+    if (PLANTED == WRITE_PAST_ANSWERS && ends_len > answers_len)
+        answers[answers_len].fault = 1;
+    return count;
+}
+
+uint32_t __wrap_dobutsu_write(const DobutsuPosition *position, DobutsuText *text)
+{
+    if (PLANTED == READ_PAST_POSITION)
+        seen = ((const volatile uint8_t *)(position + 1))[0];
+    return __real_dobutsu_write(position, text);
 }

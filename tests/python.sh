@@ -73,7 +73,7 @@ note "the SFEN of Fairy-Stockfish's variant, both ways: $(tail -1 "$work/out")" 
 # Asks each engine, as the words say, for the value, the moves and the line of each position of standard input, and for what `stats` counts.
 cat >"$work/ask.py" <<'PYTHON'
 import sys
-from dobutsu import Fault, Table
+from dobutsu import Fault, Table, plain
 library = None if sys.argv[1] == "plain" else sys.argv[1]
 with Table(sys.argv[2], library) as table:
     assert table.engine == ("libdobutsu 0.1.0" if library else "plain Python"), table.engine
@@ -84,6 +84,11 @@ with Table(sys.argv[2], library) as table:
             print(*table.line(text))
         except Fault as fault:
             print(f"E{fault.number}")
+    walked = list(table.positions())
+    assert table.probe_many(text for text, _ in walked) == [value for _, value in walked] and len(walked) == len(table)
+    for number in range(0, len(walked), max(1, len(walked) // 100)):
+        position = plain.position_at(table.rules, tuple(map(int, table.set)), number)
+        assert walked[number][0] == plain.write_position(position), number
     stats = table.stats()
     for kind in ("win", "loss", "draw"):
         print(kind, stats.count(kind))
@@ -162,6 +167,18 @@ assert list(table.positions(2, 4)) == list(table.positions())[2:4]
 for numbers in (-3, 2), (0, -1), (55,), (0, 55), (-1, None):
     raises(IndexError, table.positions, *numbers)
 
+# many positions by one call, whatever they are
+many = [text, Position(text), other, far, "", "x", "\ud800", "..l/.../L../... - \udc80", "\0", text]
+for some in (many, [each for each in many if str(each).isascii()], list(table), [text], []):
+    answers = table.probe_many(iter(some))
+    assert len(answers) == len(some)
+    for each, answer in zip(some, answers):
+        if each in table:
+            assert answer == table[each], each
+        else:
+            assert type(answer) is Fault and str(answer) == raises(Fault, table.__getitem__, each), each
+raises(TypeError, table.probe_many, [text, 3])
+
 # what is in a table
 assert text in table and Position(text) in table and other not in table and "" not in table and 3 not in table and None not in table
 assert all(each in table for each in table) and table.get(text) == table[Position(text)] == Value("win", 3)
@@ -191,7 +208,7 @@ walk = table.positions()
 next(walk)
 table.close()
 table.close()
-calls = [(table.__getitem__, text), (table.get, text), (table.__contains__, text), (table.moves, text), (table.line, text), (table.positions,), (table.stats,)]
+calls = [(table.__getitem__, text), (table.get, text), (table.__contains__, text), (table.moves, text), (table.line, text), (table.positions,), (table.stats,), (table.probe_many, [])]
 for call, *words in [*calls, (len, table), (iter, table), (next, walk), (lambda: table.set,), (lambda: table.rules,)]:
     raises(ValueError, call, *words)
 with Table("testdata/one_chick_2.db", library) as inner:

@@ -1,14 +1,17 @@
 """The shared library `libdobutsu.so`, over ctypes: its calls on the bytes of a file that is mapped."""
 from __future__ import annotations
 
+import array
 import ctypes
 import functools
+import itertools
 import os
 import pathlib
-from collections.abc import Iterator
-from typing import Any
+import struct
+from collections.abc import Iterator, Sequence
+from typing import Any, Union
 
-from .plain import PROFILES, Fault, Pieces
+from .plain import PROFILES, Fault, Pieces, hand_text
 from .value import Move, Value
 
 NAMES = {
@@ -20,6 +23,9 @@ KINDS = "CEGHL"
 VALUES = "draw", "win", "loss"
 FROM_HAND = 12
 UNLISTED = 41
+LETTERS = b".CEGHLceghl".ljust(256, b"?")  # what stands on a square, by its number
+POSITION_LEN = 18  # twelve squares, and three kinds in two hands
+ANSWER = struct.Struct("=III")  # a fault, and a value's kind and plies
 MOST_MOVES = 64  # room for a first try: no position was seen to have more than 38
 
 
@@ -88,7 +94,10 @@ class Library:
         calls.dobutsu_index.argtypes = [number] * 4 + [words_at, size]
         calls.dobutsu_probe_by.argtypes = [*asked, ctypes.POINTER(CValue)]
         calls.dobutsu_moves_by.argtypes = [*asked, ctypes.POINTER(CMove), size, words_at]
-        for call in (calls.dobutsu_count, calls.dobutsu_index, calls.dobutsu_probe_by, calls.dobutsu_moves_by):
+        calls.dobutsu_probe_many.argtypes = [*asked, words_at, size, bytes_at, size]
+        calls.dobutsu_probe_many.restype = ctypes.c_uint64
+        calls.dobutsu_class_at.argtypes = [number] * 4 + [ctypes.c_uint64, bytes_at, size]
+        for call in (calls.dobutsu_count, calls.dobutsu_index, calls.dobutsu_probe_by, calls.dobutsu_moves_by, calls.dobutsu_class_at):
             call.restype = number
         calls.dobutsu_version.restype = CVersion
         self.calls = calls
@@ -113,6 +122,15 @@ class Library:
         return words
 
 
+    def positions(self, rules: str, pieces: Pieces, first: int, count: int) -> list[str]:
+        """The texts of the positions by which that many classes stand, from the first number on."""
+        found = (ctypes.c_uint8 * (POSITION_LEN * count))()
+        refuse(self.calls.dobutsu_class_at(*pieces, PROFILES.index(rules), first, found, count))
+        numbers = bytes(found)
+        letters = numbers.translate(LETTERS).decode("ascii")
+        return [position_text(numbers, letters, start) for start in range(0, len(numbers), POSITION_LEN)]
+
+
 @functools.cache
 def load(path: str) -> Library:
     return Library(path)
@@ -133,6 +151,25 @@ class LibraryFile:
         answer = CValue()
         refuse(self.library.calls.dobutsu_probe_by(*self.asked(text), answer))
         return answer.value()
+
+    def values(self, texts: Sequence[str]) -> list[Union[Value, Fault]]:
+        """The value of each text, or its fault."""
+        if not texts:
+            return []
+        joined = "".join(texts)
+        if joined.isascii():
+            words, sizes = joined.encode("ascii"), map(len, texts)
+        else:
+            each = [text.encode("utf-8", "surrogatepass") for text in texts]
+            words, sizes = b"".join(each), map(len, each)
+        ends = (ctypes.c_uint64 * len(texts)).from_buffer(array.array("Q", itertools.accumulate(sizes)))
+        answers = (ctypes.c_uint8 * (ANSWER.size * len(texts)))()
+        held, index = self.held, self.index
+        self.library.calls.dobutsu_probe_many(held, len(held), index, len(index), words, len(words), ends, len(ends), answers, len(ends))
+        return [fault_of(fault) if fault else value_of(kind, plies) for fault, kind, plies in ANSWER.iter_unpack(answers)]
+
+    def positions(self, first: int, count: int) -> list[str]:
+        return self.library.positions(self.rules, self.pieces, first, count)
 
     def moves(self, text: str) -> list[Move]:
         count = ctypes.c_uint64(MOST_MOVES)
@@ -181,4 +218,20 @@ class Verifier:
 
 def refuse(fault: int) -> None:
     if fault:
-        raise Fault(f"E{fault} {NAMES.get(fault, 'Unknown')}")
+        raise fault_of(fault)
+
+
+def fault_of(number: int) -> Fault:
+    return Fault(f"E{number} {NAMES.get(number, 'Unknown')}")
+
+
+def position_text(numbers: bytes, letters: str, at: int) -> str:
+    """The text of the position whose numbers begin there, with the letters that they stand for on the board."""
+    rows = f"{letters[at + 9 : at + 12]}/{letters[at + 6 : at + 9]}/{letters[at + 3 : at + 6]}/{letters[at : at + 3]}"
+    return f"{rows} {hand_of(numbers[at + 12 : at + 15], 'CEG')} {hand_of(numbers[at + 15 : at + 18], 'ceg')}"
+
+
+@functools.cache
+def hand_of(numbers: bytes, letters: str) -> str:
+    chicks, elephants, giraffes = numbers
+    return hand_text((chicks, elephants, giraffes), letters) or "-"

@@ -1,9 +1,11 @@
 """A database file as a table of values."""
 from __future__ import annotations
 
+import functools
 import mmap
 import os
-from collections.abc import Iterator
+import struct
+from collections.abc import Iterable, Iterator
 from types import TracebackType
 from typing import TypeVar, Union
 
@@ -13,6 +15,7 @@ from .plain import Fault
 from .position import Position, after_move
 from .value import Move, Stats, Value
 
+MANY = 1 << 16  # how many classes' positions are asked of the library at once
 Asked = Union[str, Position]
 Default = TypeVar("Default")
 
@@ -97,6 +100,19 @@ class Table:
         except Fault:
             return default
 
+    def probe_many(self, positions: Iterable[Asked]) -> list[Union[Value, Fault]]:
+        """The value of each position, or the `Fault` that `table[position]` would raise for it: here it is an answer, and isn't raised.
+
+        By the library it is one call, for more than a hundred thousand a second.
+
+        >>> Table("testdata/lions_alone_2.db").probe_many(["..l/.../L../... - -", "..l/.../L../... C -"])
+        [Value('win', 3), Fault('E7 OtherSet')]
+        """
+        db, texts = self._open(), [text_of(position) for position in positions]
+        if self._library:
+            return self._library.values(texts)
+        return [plain_value(db, text) for text in texts]
+
     def __contains__(self, position: object) -> bool:
         """Whether it is a position of the file's set and rules, or the text of one."""
         return isinstance(position, (str, Position)) and self.get(position) is not None
@@ -131,7 +147,7 @@ class Table:
     def positions(self, first: int = 0, end: int | None = None) -> Iterator[tuple[str, Value]]:
         """The position of each class with its value, in the order of the file, from the class of the first number to that before the end.
 
-        It goes by plain Python, some thousands a second, so split a large table among processes.
+        By the library it gives some hundred thousand a second, by plain Python some thousands.
 
         >>> [f"{text} = {value}" for text, value in Table("testdata/lions_alone_2.db").positions(2, 4)]
         ['.../.../l../L.. - - = win 1', '.../.../.l./L.. - - = win 1']
@@ -142,7 +158,19 @@ class Table:
         end = db.count if end is None else end
         if not (0 <= first <= db.count and 0 <= end <= db.count):
             raise IndexError(f"classes {first} to {end} of {db.count}")
+        if self._library:
+            return self._positions(self._library, first, end)
         return ((text, Value.read(value)) for text, value in db.positions(first, end))
+
+    def _positions(self, library: LibraryFile, first: int, end: int) -> Iterator[tuple[str, Value]]:
+        """The same by the library, many at a time."""
+        for start in range(first, end, MANY):
+            count, db = min(MANY, end - start), self._open()
+            place = db.start + 2 * start
+            records = struct.unpack(f"<{count}H", db.data[place : place + 2 * count])
+            for text, record in zip(library.positions(start, count), records):
+                self._open()
+                yield text, recorded(record)
 
     def stats(self) -> Stats:
         """How many classes have which value. It looks at each record: a second for some ten million."""
@@ -176,6 +204,19 @@ def nearest_library() -> Library | None:
         except (OSError, AttributeError):
             pass
     return None
+
+
+@functools.cache
+def recorded(record: int) -> Value:
+    """The value of a class's record."""
+    return Value.read(plain.value_text(record))
+
+
+def plain_value(db: plain.Db, text: str) -> Union[Value, Fault]:
+    try:
+        return Value.read(db.value(text))
+    except Fault as fault:
+        return fault
 
 
 def text_of(position: Asked) -> str:

@@ -2,3 +2,6 @@ pub mod Faults
 pub mod Moves
 pub mod Profiles
 pub mod Values
+pub mod Cells
+pub mod Statuses
+pub mod Texts

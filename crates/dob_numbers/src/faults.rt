@@ -1,8 +1,9 @@
 // The numbers of faults, which the program prints behind an `E`.
 ghost use Rattle.std.specs.Prelude.{◌≡◌, ◌≢◌};
-ghost use Rattle.dob_numbers.specs.Faults.{file_number, text_number};
+ghost use Rattle.dob_numbers.specs.Faults.{file_number, position_number, text_number};
 
 use dob_dbfile::Fault as FileFault;
+use dob_pieces::PositionFault;
 use dob_text::TextFault;
 
 /// The number of a text's fault.
@@ -18,6 +19,18 @@ pub fn text_number(fault: TextFault) -> u32
         TextFault::Count => 5,
         TextFault::FarLion => 6,
         TextFault::FarChick => 26,
+    }
+}
+
+/// The number of the fault of what stands on a board and lies in the hands.
+pub fn position_number(fault: PositionFault) -> u32
+    ensures number { result ≡ position_number fault }
+    ensures positive { result ≢ 0 }
+{
+    match fault {
+        PositionFault::Lions => 4,
+        PositionFault::Count => 5,
+        PositionFault::FarLion => 6,
     }
 }
 

@@ -1,12 +1,18 @@
 // What programs in other languages see of positions, values and faults: numbers. The libraries for them (`dobutsu_c`, `dobutsu_web`) make their structs of these.
 #![tactic(auto)]
 
+mod cells;
 mod faults;
 mod moves;
 mod profiles;
+mod statuses;
+mod texts;
 mod values;
 
-pub use faults::{file_number, text_number};
+pub use cells::{cell_number, cell_of};
+pub use faults::{file_number, position_number, text_number};
 pub use moves::{MoveNumbers, move_numbers};
 pub use profiles::{profile_number, profile_of};
+pub use statuses::status_number;
+pub use texts::{DobutsuText, position_text, written};
 pub use values::{outcome_number, plies_of};

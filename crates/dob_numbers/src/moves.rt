@@ -1,5 +1,5 @@
 // A move as numbers.
-ghost use Rattle.std.specs.Prelude.{◌≡◌};
+ghost use Rattle.std.specs.Prelude.{◌≡◌, ◌≤◌};
 ghost use Rattle.dob_numbers.specs.Moves.{flag, hand_number, kind_number, move_numbers};
 
 use dob_moves::Move;
@@ -55,9 +55,10 @@ fn square_number(square: Square) -> u32
     square.index() as u32
 }
 
-// The number of a kind.
-fn kind_number(kind: Kind) -> u32
-    ensures { result ≡ kind_number kind }
+/// The number of a kind.
+pub(crate) fn kind_number(kind: Kind) -> u32
+    ensures number { result ≡ kind_number kind }
+    ensures bound { result ≤ 4 }
 {
     match kind {
         Kind::Chick => 0,

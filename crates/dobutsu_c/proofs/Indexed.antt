@@ -1,5 +1,5 @@
 -- What is held and asked by an index of the file's family is what is held and asked without it.
-use Rattle.std.proofs.Common.{◌≡◌, ◌∙◌, ◌≤◌, ◌+◌, ◌*◌, ◌^◌, ℕ, List, Option, Some, None, refl, sym, inl, inr, subst, ap, arith, length, take, drop, get_or}
+use Rattle.std.proofs.Common.{◌≡◌, ◌∙◌, ◌≤◌, ◌+◌, ◌-◌, ◌*◌, ◌/◌, ◌^◌, ℕ, List, Option, Some, None, refl, sym, inl, inr, subst, ap, arith, length, take, drop, get_or}
 use Rattle.dob_pieces.specs.declared.profile.Family.{Family}
 use Rattle.dob_pieces.specs.declared.profile.Profile.{Profile}
 use Rattle.dob_pieces.specs.declared.profile.Profile.TheVariants.{A, B}
@@ -11,6 +11,7 @@ use Rattle.dob_rank.proofs.Positions.Sets.{same_numbers}
 use Rattle.dob_value.specs.declared.value.Value.{Value}
 use Rattle.dob_index.specs.Index.{IsIndex, IsMarked}
 use Rattle.dob_dbfile.specs.declared.header.Format.{Format}
+use Rattle.dob_dbfile.specs.declared.header.Format.TheVariants.{First, Second}
 use Rattle.dob_dbfile.specs.Devices.{whole}
 use Rattle.dob_dbfile.specs.Format.{count_bytes}
 use Rattle.dob_dbfile.specs.Faults.{NamesFamily, IsNoLonger, count_place, header_len}
@@ -22,8 +23,8 @@ use Rattle.dob_numbers.specs.Profiles.{profile_number}
 use Rattle.dobutsu_c.specs.Counts.{IsFamily}
 use Rattle.dobutsu_c.specs.declared.fault.Fault.{Fault}
 use Rattle.dobutsu_c.specs.Faults.{fault_number}
-use Rattle.dobutsu_c.specs.Probes.{IsTextOf, AreRead, IsAsked, IsGiven, HasProbeFault}
-use Rattle.dobutsu_c.specs.ByIndex.{IsIndexFor, IsHeldBy, IsAskedBy, IsGivenBy, AreNoIndex, HasByFault, HasHeldFault, number_by}
+use Rattle.dobutsu_c.specs.Probes.{IsTextOf, AreRead, IsAsked, IsGiven, IsTold, HasProbeFault}
+use Rattle.dobutsu_c.specs.ByIndex.{IsIndexFor, IsLongFor, IsHeldBy, IsAskedBy, IsGivenBy, AreNoIndex, IsToldBy, HasByFault, HasFileFault, HasHeldFault, number_by}
 use Rattle.dobutsu_c.proofs.Exact.{no_text_fault, no_file_fault, no_fault, one_fault}
 
 -- ---- one family has those numbers
@@ -57,6 +58,24 @@ pub held_right : (file index : List ℕ) (format : Format) (family : Family) (cl
 held_right file index format family classes named bytes long is =
     (is, (((named, bytes ∙ ap count_bytes is), omega (arith, long, is)), omega (arith, long, is)))
 
+-- a file of a family is as long as its classes need, which half of what is left of its length are
+header_bound : (format : Format) → (20 ≤ header_len format) × (header_len format ≤ 21)
+header_bound First = (omega arith, omega arith)
+header_bound Second = (omega arith, omega arith)
+
+pub long_classes : (file : List ℕ) (format : Format) (family : Family) → IsNoLonger format family (whole file)
+    → (length file - 52) / 2 ≡ classes_of family
+long_classes file format family is =
+    let bound = header_bound format in
+    omega (arith, bound.0, bound.1, is.0.1, is.1)
+
+pub same_classes : (file : List ℕ) (format f : Format) (family g : Family) (classes : ℕ) → IsLongFor file format family classes
+    → IsNoLonger f g (whole file) → (family ≡ g) × (classes ≡ classes_of g)
+same_classes file format f family g classes is whole =
+    let head = same_head format f family g file is.named whole.0.0.0 in
+    let header : header_len format ≡ header_len f = ap header_len head.0 in
+    (head.1, omega (arith, header, is.long, whole.0.1, whole.1))
+
 -- there is something and nothing
 pub both : {X : Type 0} (found : Option X) (x : X) → found ≡ None → found ≡ Some x → ⊥
 both found x none some = (let e : (let o : Option _ = None in o) ≡ Some x = sym none ∙ some in cc)
@@ -69,7 +88,24 @@ by_file file text index setup (Asked (File fault)) named is = (setup, named, is.
 by_file file text index setup (Asked (Text fault)) named is = absurd is
 by_file file text index setup (Asked FarChick) named is = absurd is
 by_file file text index setup (Asked OtherSet) named is = absurd is
-by_file file text index setup Index named is = (is.0, is.1, setup, named, (is.3, inl is.2))
+by_file file text index setup Index named is = (
+  is.0,
+  is.1,
+  setup,
+  named,
+  elim is.2 [
+    | inl unmarked ↦ inl unmarked
+    | inr whole ↦ inr (whole.1, inl whole.0)
+  ],
+)
+
+pub by_file_fault : (file index : List ℕ) (fault : ByFault) → HasFileFault file fault
+    → ((format : Format) (family : Family) → IsNoLonger format family (whole file) → IsIndex family index → ⊥) → HasHeldFault file index fault
+by_file_fault file index (Asked (File fault)) is wrong = is
+by_file_fault file index (Asked (Text fault)) is wrong = absurd is
+by_file_fault file index (Asked FarChick) is wrong = absurd is
+by_file_fault file index (Asked OtherSet) is wrong = absurd is
+by_file_fault file index Index is wrong = (is.0, is.1, inr (is.2, wrong is.0 is.1 is.2))
 
 pub read_by : (file text index : List ℕ) (format : Format) (family : Family) (classes : ℕ) (setup : Setup) → IsIndexFor file index → IsTextOf text setup
     → IsHeldBy file index format family classes → AreRead file text format family setup
@@ -83,14 +119,27 @@ pub given_by : (file index : List ℕ) (format : Format) (family : Family) (clas
     → IsGivenBy file index format family classes setup value → IsGiven file format family setup value
 given_by file index format family classes setup value index_is given = (given.class, given.right index_is, given.read)
 
+-- what is told by the index of the family is what is told without one
+pub told_by_right : (file text index : List ℕ) (value : Value) → IsIndexFor file index → IsToldBy file text index value → IsTold file text value
+told_by_right file text index value for is = (
+  is.0,
+  is.1,
+  is.3,
+  asked_by file text index is.0 is.1 is.2 is.3 for is.4,
+  given_by file index is.0 is.1 is.2 is.3 value (for is.0 is.1 is.4.held.named) is.5,
+)
+
 -- ---- faults
 
 -- the numbers are no index of the family that the file names
 no_index : (file index : List ℕ) (format : Format) (family : Family) (setup : Setup) → IsIndexFor file index → AreNoIndex file index format family setup → ⊥
-no_index file index format family setup for wrong = wrong.0 (elim wrong.1 [
-  | inl read ↦ for format family read.0.0.0
-  | inr fits ↦ for format family fits.1.named
-])
+no_index file index format family setup for wrong = elim wrong [
+  | inl unmarked ↦ unmarked.0 (for format family unmarked.2.named).marked
+  | inr none ↦ none.0 (elim none.1 [
+    | inl read ↦ for format family read.0.0.0
+    | inr fits ↦ for format family fits.1.named
+  ])
+]
 
 pub some_fault_by : (file text index : List ℕ) (given : ByFault) → IsIndexFor file index → HasByFault file text index given
     → (fault : Fault) × HasProbeFault file text fault × (number_by given ≡ fault_number fault)
@@ -122,10 +171,9 @@ marked_by : (file index : List ℕ) (format f : Format) (family g : Family) (cla
 marked_by file index format f family g classes held names wrong =
     wrong (subst (λ (p : Family). IsMarked p index) (same_head format f family g file held.named names).1 held.marked)
 
-pub not_unmarked : (file text index : List ℕ) (format f : Format) (family g : Family) (classes : ℕ) (setup s : Setup)
-    → IsAskedBy file text index format family classes setup → AreRead file text f g s → (IsMarked g index → ⊥) → ⊥
-not_unmarked file text index format f family g classes setup s is read wrong =
-    marked_by file index format f family g classes is.held read.1.0.0.0 wrong
+pub not_unmarked : (file text index : List ℕ) (format f : Format) (family g : Family) (classes : ℕ) (s : Setup)
+    → IsHeldBy file index format family classes → AreRead file text f g s → (IsMarked g index → ⊥) → ⊥
+not_unmarked file text index format f family g classes s held read wrong = marked_by file index format f family g classes held read.1.0.0.0 wrong
 
 pub unmarked_fault : (file text index : List ℕ) (format : Format) (family : Family) (setup : Setup) (given : ByFault)
     → AreRead file text format family setup → (IsMarked family index → ⊥) → HasByFault file text index given → number_by given ≡ 29

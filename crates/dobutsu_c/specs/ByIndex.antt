@@ -1,5 +1,5 @@
 -- What is asked of a file by an index of its family.
-use Rattle.std.specs.Prelude.{◌≡◌, ◌≢◌, ◌⊎◌, ℕ, ◌+◌, ◌*◌, ◌<◌, List, length}
+use Rattle.std.specs.Prelude.{◌≡◌, ◌≢◌, ◌⊎◌, ℕ, ◌+◌, ◌*◌, ◌<◌, List, length, take, drop}
 use Rattle.dob_pieces.specs.declared.profile.Family.{Family}
 use Rattle.dob_pieces.specs.declared.profile.Profile.TheVariants.{A}
 use Rattle.dob_pieces.specs.declared.setup.Setup.{Setup}
@@ -13,7 +13,8 @@ use Rattle.dob_index.specs.Index.{IsIndex, IsMarked}
 use Rattle.dob_dbfile.specs.declared.header.Format.{Format}
 use Rattle.dob_dbfile.specs.Devices.{whole}
 use Rattle.dob_dbfile.specs.declared.fault.Fault.TheVariants as file_fault
-use Rattle.dob_dbfile.specs.Faults.{NamesFamily, HasReadFault, IsNoLonger, header_len}
+use Rattle.dob_dbfile.specs.Faults.{NamesFamily, HasReadFault, IsNoLonger, count_place, header_len}
+use Rattle.dob_dbfile.specs.Format.{count_bytes}
 use Rattle.dob_dbfile.specs.Looking.{HasRecord}
 use Rattle.dobutsu_c.specs.declared.fault.Fault.TheVariants.{Text, File, FarChick, OtherSet}
 use Rattle.dobutsu_c.specs.declared.by_index.ByFault.{ByFault}
@@ -26,6 +27,12 @@ use Rattle.dobutsu_c.specs.Probes.{IsTextOf}
 -- the numbers are the index of the family that the file names
 abbrev pub IsIndexFor : List ℕ → List ℕ → Type 0
 IsIndexFor file index = (format : Format) (family : Family) → NamesFamily format family file → IsIndex family index
+
+-- the file names the family, counts so many classes, and is as long as they need
+pub record IsLongFor (file : List ℕ) (format : Format) (family : Family) (classes : ℕ) : Type 0 where
+  pub named : NamesFamily format family file
+  pub counted : take 8 (drop (count_place format) file) ≡ count_bytes classes
+  pub long : length file ≡ header_len format + 2 * classes + 32
 
 -- the file names the family, the numbers are marked as an index of it, and the file has so many classes; as many as the family, where they are its index
 pub record IsHeldBy (file index : List ℕ) (format : Format) (family : Family) (classes : ℕ) : Type 0 where
@@ -56,10 +63,15 @@ IsToldBy file text index value = (format : Format) × (family : Family) × (clas
 abbrev pub AreReadBy : List ℕ → List ℕ → List ℕ → Format → Family → ℕ → Setup → Type 0
 AreReadBy file text index format family classes setup = IsTextOf text setup × IsHeldBy file index format family classes
 
--- they are no index of the file's family: the file has no fault that is looked for; or they fit it, and lead outside of it
+abbrev pub AreUnmarked : List ℕ → List ℕ → Format → Family → Type 0
+AreUnmarked file index format family = (¬ IsMarked family index) × (classes : ℕ) × IsLongFor file format family classes
+
+-- they are no index of the file's family: it is as long as it says, and they aren't marked so; or the file has no fault that is looked for; or they fit it, and
+-- lead outside of it
 abbrev pub AreNoIndex : List ℕ → List ℕ → Format → Family → Setup → Type 0
-AreNoIndex file index format family setup =
-    (¬ IsIndex family index) × (IsNoLonger format family (whole file) ⊎ ((classes : ℕ) × IsHeldBy file index format family classes × IsPositionOf family setup))
+AreNoIndex file index format family setup = (AreUnmarked file index format family
+    ⊎ ((¬ IsIndex family index) × (IsNoLonger format family (whole file)
+    ⊎ ((classes : ℕ) × IsHeldBy file index format family classes × IsPositionOf family setup))))
 
 -- the first fault, whatever the numbers are
 abbrev pub HasByFault : List ℕ → List ℕ → List ℕ → ByFault → Type 0
@@ -75,10 +87,17 @@ abbrev pub number_by : ByFault → ℕ
 number_by (Asked fault) = fault_number fault
 number_by Index = 29
 
--- a fault of the file, or of the numbers where it has none
+-- a fault of the file, or that it has none
+abbrev pub HasFileFault : List ℕ → ByFault → Type 0
+HasFileFault file (Asked (File fault)) = HasReadFault (whole file) fault × (fault ≢ file_fault.Digest)
+HasFileFault file Index = (format : Format) × (family : Family) × IsNoLonger format family (whole file)
+HasFileFault file _ = ⊥
+
+-- a fault of the file, or of the numbers
 abbrev pub HasHeldFault : List ℕ → List ℕ → ByFault → Type 0
 HasHeldFault file index (Asked (File fault)) = HasReadFault (whole file) fault × (fault ≢ file_fault.Digest)
-HasHeldFault file index Index = (format : Format) × (family : Family) × IsNoLonger format family (whole file) × ¬ IsIndex family index
+HasHeldFault file index Index = (format : Format) × (family : Family)
+    × (AreUnmarked file index format family ⊎ (IsNoLonger format family (whole file) × ¬ IsIndex family index))
 HasHeldFault file index _ = ⊥
 
 -- Why the number of a position's class isn't answered by an index, as a fault's number: the numbers aren't marked as an index of the family; or they are, and its

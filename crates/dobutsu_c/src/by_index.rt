@@ -1,6 +1,6 @@
 // What is asked of a file whose bytes are held, by the numbers of an index: a position of its family. Where they are the index of that family, the answer is
 // that without one. By any other numbers it is the value of some record of the file, or a fault: one that an index has too, or that they are none.
-ghost use Rattle.std.specs.Prelude.{◌≡◌, ◌≢◌, None, IfSome, MatchOption, MatchResult};
+ghost use Rattle.std.specs.Prelude.{◌≡◌, ◌≢◌, ℕ, List, MatchOption, MatchResult};
 ghost use Rattle.dob_pieces.specs.declared.profile.Family.{Family as AnyFamily};
 ghost use Rattle.dob_dbfile.specs.declared.header.Format.{Format as AnyFormat};
 ghost use Rattle.dob_dbfile.specs.Devices.{whole};
@@ -8,7 +8,8 @@ ghost use Rattle.dob_dbfile.specs.Faults.{IsNoLonger};
 ghost use Rattle.dob_rank.specs.Families.{IsPositionOf};
 ghost use Rattle.dob_value.specs.Follows.{IsEntry};
 ghost use Rattle.dob_index.specs.Index.{IsIndex};
-ghost use Rattle.dobutsu_c.specs.ByIndex.{IsHeldBy, IsAskedBy, IsGivenBy, HasByFault, HasHeldFault};
+ghost use Rattle.dobutsu_c.specs.ByIndex.{IsLongFor, IsHeldBy, IsAskedBy, IsGivenBy, IsToldBy, HasByFault, HasFileFault, HasHeldFault};
+ghost use Rattle.dobutsu_c.specs.Probes.{IsTextOf};
 
 use crate::asked::is_of_set;
 use crate::fault::Fault;
@@ -18,6 +19,12 @@ use dob_index::{class_by, classes_in, is_index_of};
 use dob_pieces::{Family, Position, Profile};
 use dob_text::read_position_bytes;
 use dob_value::Value;
+
+// How many bytes a file of the first format has beside its records: in the second there is one more, so that half of what is left is the number of classes.
+const LEAST_LEN: u64 = 52;
+
+// The greatest number of classes that a file is asked for.
+const MOST_CLASSES: u64 = 1 << 42;
 
 /// A fault of what is asked, or that the numbers are no index of the file's family.
 #[derive(Clone, Copy)]
@@ -62,10 +69,18 @@ pub(crate) fn ask_by(file: &[u8], index: &[u64], text: &[u8]) -> Result<AskedBy,
         (λ asked. IsAskedBy file.now text.now index.now asked.held.format asked.held.family asked.held.classes asked.position.setup)
         (HasByFault file.now text.now index.now) }
 {
-    let position = match read_position_bytes(Profile::A, text) {
-        Ok(position) => position,
-        Err(fault) => return Err(ByFault::Asked(Fault::Text(fault))),
-    };
+    match read_position_bytes(Profile::A, text) {
+        Ok(position) => ask_at(file, index, position),
+        Err(fault) => Err(ByFault::Asked(Fault::Text(fault))),
+    }
+}
+
+/// The same of a position, which is that of its text.
+pub(crate) fn ask_at(file: &[u8], index: &[u64], position: Position) -> Result<AskedBy, ByFault>
+    ensures { (text : List ℕ) → IsTextOf text position.setup → MatchResult result
+        (λ asked. IsAskedBy file.now text index.now asked.held.format asked.held.family asked.held.classes asked.position.setup)
+        (HasByFault file.now text index.now) }
+{
     let held = match held_by(file, index) {
         Ok(held) => held,
         Err(fault) => return Err(fault),
@@ -79,33 +94,73 @@ pub(crate) fn ask_by(file: &[u8], index: &[u64], text: &[u8]) -> Result<AskedBy,
     Ok(AskedBy { held, position })
 }
 
-// The file's format, family and number of classes, or the first fault of the file and the index. The classes are counted only where these don't fit each other.
+/// The value of the position whose text that is, or the first fault.
+pub(crate) fn probe_by(file: &[u8], index: &[u64], text: &[u8]) -> Result<Value, ByFault>
+    ensures { MatchResult result (IsToldBy file.now text.now index.now) (HasByFault file.now text.now index.now) }
+{
+    match read_position_bytes(Profile::A, text) {
+        Ok(position) => probe_at(file, index, position),
+        Err(fault) => Err(ByFault::Asked(Fault::Text(fault))),
+    }
+}
+
+/// The value of a position, which is that of its text, or the first fault.
+pub(crate) fn probe_at(file: &[u8], index: &[u64], position: Position) -> Result<Value, ByFault>
+    ensures { (text : List ℕ) → IsTextOf text position.setup → MatchResult result
+        (IsToldBy file.now text index.now)
+        (HasByFault file.now text index.now) }
+{
+    let asked = match ask_at(file, index, position) {
+        Ok(asked) => asked,
+        Err(fault) => return Err(fault),
+    };
+    match value_by(file, index, asked.held, &asked.position) {
+        Some(value) => Ok(value),
+        None => Err(ByFault::Index),
+    }
+}
+
+// The file's format, family and number of classes, or the first fault of the file and the index. The family's classes are counted only where the file is
+// longer or shorter than it says, or the index is marked as one of the file's family and says another number.
 fn held_by(file: &[u8], index: &[u64]) -> Result<HeldBy, ByFault>
     ensures { MatchResult result
         (λ held. IsHeldBy file.now index.now held.format held.family held.classes)
         (HasHeldFault file.now index.now) }
 {
-    if let Some(held) = held_with(file, index) {
-        return Ok(held);
+    let Some(held) = held_as_long(file) else {
+        return Err(fault_of(file));
+    };
+    if !is_index_of(held.family, index) {
+        return Err(ByFault::Index);
     }
-    match held_family(file) {
-        Ok(_) => Err(ByFault::Index),
-        Err(fault) => Err(ByFault::Asked(Fault::File(fault))),
+    if classes_in(index) == held.classes {
+        Ok(held)
+    } else {
+        Err(fault_of(file))
     }
 }
 
-// The value where file and index fit each other.
-fn held_with(file: &[u8], index: &[u64]) -> Option<HeldBy>
-    ensures some { IfSome result (λ held. IsHeldBy file.now index.now held.format held.family held.classes) }
-    ensures none { (format : AnyFormat) (family : AnyFamily) → IsIndex family index.now → IsNoLonger format family (whole file.now) → result ≢ None }
+// The first fault of the file, or that it has none and the index is wrong.
+fn fault_of(file: &[u8]) -> ByFault
+    ensures { HasFileFault file.now result }
 {
-    let classes = classes_in(index);
-    let Some((format, family)) = held_counted(file, classes) else {
-        return None;
-    };
-    if !is_index_of(family, index) {
+    match held_family(file) {
+        Ok(_) => ByFault::Index,
+        Err(fault) => ByFault::Asked(Fault::File(fault)),
+    }
+}
+
+// The file's format and family, and as many classes as its header counts, where it is as long as they need.
+fn held_as_long(file: &[u8]) -> Option<HeldBy>
+    ensures { MatchOption result
+        ((format : AnyFormat) (family : AnyFamily) → ¬ IsNoLonger format family (whole file.now))
+        (λ held. IsLongFor file.now held.format held.family held.classes) }
+{
+    let classes = (file.len() as u64).saturating_sub(LEAST_LEN) / 2;
+    if classes > MOST_CLASSES {
         return None;
     }
+    let (format, family) = held_counted(file, classes)?;
     Some(HeldBy {
         format,
         family,

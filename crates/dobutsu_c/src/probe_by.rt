@@ -14,8 +14,7 @@ ghost use Rattle.dobutsu_c.specs.Faults.{fault_number};
 ghost use Rattle.dobutsu_c.specs.Probes.{IsTextOf, AreRead, IsTold, HasProbeFault, shown};
 ghost use Rattle.dobutsu_c.specs.ByIndex.{IsIndexFor, IsToldBy, HasByFault, number_by};
 
-use crate::by_index::{ask_by, value_by};
-use crate::numbers::INDEX;
+use crate::by_index::probe_by;
 use crate::value::{DobutsuValue, shown};
 
 /// What `dobutsu_probe` answers of the position, by the index of the file's family as `dobutsu_index` wrote it: the same value, or the same fault. By any other
@@ -40,15 +39,11 @@ pub extern "C" fn dobutsu_probe_by(
         → result ≡ 29 }
     ensures unchanged { result ≢ 0 → answer.new ≡ answer.old }
 {
-    let asked = match ask_by(file, index, text) {
-        Ok(asked) => asked,
-        Err(fault) => return fault.number(),
-    };
-    match value_by(file, index, asked.held, &asked.position) {
-        Some(value) => {
+    match probe_by(file, index, text) {
+        Ok(value) => {
             *answer = shown(value);
             0
         }
-        None => INDEX,
+        Err(fault) => fault.number(),
     }
 }

@@ -3,8 +3,6 @@ use Rattle.std.specs.Prelude.{◌≡◌, ◌⊎◌, ℕ, List}
 use Rattle.dob_pieces.specs.declared.profile.Family.{Family}
 use Rattle.dob_pieces.specs.declared.setup.Setup.{Setup}
 use Rattle.dob_moves.specs.declared.game_move.Move.{Move}
-use Rattle.dob_moves.specs.declared.position_status.Status.{Status}
-use Rattle.dob_moves.specs.declared.position_status.Status.TheVariants.{Caught, Tried, Stuck, Open}
 use Rattle.dob_pieces.specs.declared.profile.Profile.{Profile}
 use Rattle.dob_moves.specs.AtPlaces.{IsMoveAt, IsCatchAt}
 use Rattle.dob_moves.specs.Moves.{Goes}
@@ -14,12 +12,6 @@ use Rattle.dob_numbers.specs.Moves.{move_numbers}
 use Rattle.dobutsu_web.specs.declared.steps.DobutsuStep.{DobutsuStep}
 use Rattle.dobutsu_web.specs.Asked.{IsTextAsked}
 use Rattle.dobutsu_web.specs.Rows.{IsClassBy}
-
-abbrev pub status_number : Status → ℕ
-status_number Open = 0
-status_number Caught = 1
-status_number Tried = 2
-status_number Stuck = 3
 
 -- the numbers of a move, and the block of what it leads to
 abbrev pub with_block : MoveNumbers → ℕ → DobutsuStep

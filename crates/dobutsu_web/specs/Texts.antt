@@ -1,25 +1,14 @@
 -- Texts as other languages see them.
-use Rattle.std.specs.Prelude.{◌≡◌, ℕ, ◌≤◌, ◌==◌, List, not, take, length}
-use Rattle.dob_pieces.specs.declared.hand.Hand.{Hand}
+use Rattle.std.specs.Prelude.{ℕ, ◌==◌, List, not}
 use Rattle.dob_pieces.specs.declared.profile.Family.{Family}
 use Rattle.dob_pieces.specs.declared.setup.Setup.{Setup}
 use Rattle.dob_moves.specs.declared.game_move.Move.{Move}
 use Rattle.dob_text.specs.MoveText.{move_text}
 use Rattle.dob_text.specs.PositionText.{text_of}
-use Rattle.dobutsu_web.specs.declared.texts.DobutsuText.{DobutsuText}
+use Rattle.dob_numbers.specs.declared.texts.DobutsuText.{DobutsuText}
+use Rattle.dob_numbers.specs.Texts.{IsText}
 use Rattle.dobutsu_web.specs.Asked.{IsTextAsked}
 use Rattle.dobutsu_web.specs.Steps.{IsMoveAtPlace, IsOutcomeAt}
-
--- its first bytes are these
-pub record IsText (text : DobutsuText) (bytes : List ℕ) : Type 0 where
-  pub size : text.length ≡ length bytes
-  pub front : take (length bytes) text.bytes ≡ bytes
-
--- at most two of each kind are in the hand
-pub record AreFew (hand : Hand) : Type 0 where
-  pub chicks : hand.chicks ≤ 2
-  pub elephants : hand.elephants ≤ 2
-  pub giraffes : hand.giraffes ≤ 2
 
 -- the text of the move, or of the step that catches the lion, at that place
 abbrev pub IsToldMoveText : List ℕ → ℕ → ℕ → ℕ → DobutsuText → Type 0

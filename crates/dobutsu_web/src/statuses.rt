@@ -5,11 +5,12 @@ ghost use Rattle.dob_pieces.specs.declared.setup.Setup.{Setup as AnySetup};
 ghost use Rattle.dob_moves.specs.declared.position_status.Status.{Status as AnyStatus};
 ghost use Rattle.dob_moves.specs.MoveLists.{moves_of};
 ghost use Rattle.dob_moves.specs.Statuses.{HasStatus};
+ghost use Rattle.dob_numbers.specs.Statuses.{status_number};
 ghost use Rattle.dobutsu_web.specs.Asked.{IsTextAsked, IsRefused};
-ghost use Rattle.dobutsu_web.specs.Steps.{status_number};
 
 use crate::asked::ask;
-use dob_moves::{Status, status_and_count};
+use dob_moves::status_and_count;
+use dob_numbers::status_number;
 
 /// The status of the position, 0 where it is open, 1 where the enemy lion can be caught, 2 where it has tried, 3 where there is no move, and
 /// how many moves it has, 0 where it isn't open. It answers 0 and writes both, or a fault as `dobutsu_class` does.
@@ -33,17 +34,5 @@ pub extern "C" fn dobutsu_status(
             0
         }
         Err(refusal) => refusal.number(),
-    }
-}
-
-// The number of a status.
-fn status_number(status: Status) -> u32
-    ensures { result ≡ status_number status }
-{
-    match status {
-        Status::Open => 0,
-        Status::Caught => 1,
-        Status::Tried => 2,
-        Status::Stuck => 3,
     }
 }

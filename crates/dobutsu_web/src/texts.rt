@@ -1,27 +1,20 @@
 // Texts of moves and of what they lead to, written into a room of their own, since no memory is taken.
-ghost use Rattle.std.specs.Prelude.{◌≡◌, ◌≢◌, ◌<◌, ◌≤◌, ◌+◌, ◌++◌, replicate};
+ghost use Rattle.std.specs.Prelude.{◌≡◌, ◌≢◌, ◌≤◌, ◌+◌, ◌++◌};
 ghost use Rattle.arrayvec.specs.ArrayVec.{array_vec_len};
 ghost use Rattle.dob_text.specs.MoveText.{side_of, seen, square_text, move_text};
-ghost use Rattle.dob_text.specs.PositionText.{row_text, board_text, hand_text, text_of};
+ghost use Rattle.dob_numbers.specs.Texts.{IsText};
 ghost use Rattle.dobutsu_web.specs.Asked.{IsRefused};
 ghost use Rattle.dobutsu_web.specs.Steps.{HasNone, HasNoMove};
-ghost use Rattle.dobutsu_web.specs.Texts.{IsText, AreFew, IsToldMoveText, IsToldOutcome};
+ghost use Rattle.dobutsu_web.specs.Texts.{IsToldMoveText, IsToldOutcome};
 
 use crate::asked::ask;
 use crate::numbers::NO_MOVE;
 use crate::steps::{move_by_place, outcome_of};
 use arrayvec::ArrayVec;
 use dob_moves::{Move, move_at};
-use dob_pieces::{Hand, Kind, Piece, Position, Side, Square};
-use dob_text::{cell_letter, piece_letter};
-
-/// A text: the first `length` of these bytes.
-#[repr(C)]
-#[derive(Clone, Copy)]
-pub struct DobutsuText {
-    pub length: u32,
-    pub bytes: [u8; 32],
-}
+use dob_numbers::{DobutsuText, position_text, written};
+use dob_pieces::{Side, Square};
+use dob_text::piece_letter;
 
 /// The text of the move or catch that `dobutsu_move` finds at that place. `second` is not 0 where the side that moves isn't the one that moves first in a
 /// line: its letter is then in lower case, and its squares are turned back. It answers 0 and writes the text, or 28 or a fault as `dobutsu_move` does.
@@ -73,86 +66,6 @@ pub extern "C" fn dobutsu_after(
             None => NO_MOVE,
         },
         Err(refusal) => refusal.number(),
-    }
-}
-
-// The bytes as a text.
-fn written(letters: &ArrayVec<u8, 32>) -> DobutsuText
-    ensures { IsText result letters.now.items }
-{
-    let mut bytes = [0; 32];
-    let count = letters.len();
-    bytes[..count].copy_from_slice(letters.as_slice());
-    DobutsuText {
-        length: count as u32,
-        bytes,
-    }
-}
-
-// The text of a position.
-fn position_text(position: &Position) -> DobutsuText
-    ensures { IsText result (text_of position.now.setup) }
-{
-    let mut letters = ArrayVec::new();
-    push_board(&mut letters, &position.setup.board);
-    letters.push(b' ');
-    push_hand(&mut letters, Side::Mover, position.setup.hands.mover);
-    letters.push(b' ');
-    push_hand(&mut letters, Side::Enemy, position.setup.hands.enemy);
-    written(&letters)
-}
-
-// Writes the rows at the end, row 4 first.
-fn push_board(letters: &mut ArrayVec<u8, 32>, board: &[Option<Piece>; Square::COUNT])
-    requires { array_vec_len letters.old + 15 ≤ 32 }
-    ensures items { letters.new.items ≡ letters.old.items ++ board_text board.now }
-    ensures size { array_vec_len letters.new ≡ array_vec_len letters.old + 15 }
-{
-    push_row(letters, board, 9);
-    letters.push(b'/');
-    push_row(letters, board, 6);
-    letters.push(b'/');
-    push_row(letters, board, 3);
-    letters.push(b'/');
-    push_row(letters, board, 0);
-}
-
-// Writes the letters of a row at the end, from its first square on.
-fn push_row(letters: &mut ArrayVec<u8, 32>, board: &[Option<Piece>; Square::COUNT], square: usize)
-    requires square { square + 2 < 12 }
-    requires room { array_vec_len letters.old + 3 ≤ 32 }
-    ensures items { letters.new.items ≡ letters.old.items ++ row_text board.now square }
-    ensures size { array_vec_len letters.new ≡ array_vec_len letters.old + 3 }
-{
-    letters.push(cell_letter(board[square]));
-    letters.push(cell_letter(board[square + 1]));
-    letters.push(cell_letter(board[square + 2]));
-}
-
-// Writes a hand at the end, a dash for an empty one.
-fn push_hand(letters: &mut ArrayVec<u8, 32>, side: Side, hand: Hand)
-    requires few { AreFew hand }
-    requires room { array_vec_len letters.old + 6 ≤ 32 }
-    ensures items { letters.new.items ≡ letters.old.items ++ hand_text side hand }
-    ensures size { array_vec_len letters.new ≤ array_vec_len letters.old + 6 }
-{
-    if hand.chicks == 0 && hand.elephants == 0 && hand.giraffes == 0 {
-        letters.push(b'-');
-    } else {
-        push_times(letters, piece_letter(side, Kind::Chick), hand.chicks);
-        push_times(letters, piece_letter(side, Kind::Elephant), hand.elephants);
-        push_times(letters, piece_letter(side, Kind::Giraffe), hand.giraffes);
-    }
-}
-
-// Writes a letter that many times at the end.
-fn push_times(letters: &mut ArrayVec<u8, 32>, letter: u8, count: u8)
-    requires { array_vec_len letters.old + count ≤ 32 }
-    ensures items { letters.new.items ≡ letters.old.items ++ replicate count letter }
-    ensures size { array_vec_len letters.new ≡ array_vec_len letters.old + count }
-{
-    for _i in 0..count {
-        letters.push(letter);
     }
 }
 

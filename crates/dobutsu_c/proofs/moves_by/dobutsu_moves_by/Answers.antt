@@ -76,7 +76,7 @@ pub returns-in-Ok-Some-clause-unmarked : goal.returns-in-Ok-Some-clause-unmarked
 returns-in-Ok-Some-clause-unmarked c = λ format family setup read wrong.
     let asked = c.in-Ok.asked in
     absurd (not_unmarked c.args.file.now c.args.text.now c.args.index.now asked.held.format format asked.held.family family asked.held.classes
-    asked.position.setup setup c.in-Ok.ensures read wrong)
+    setup c.in-Ok.ensures.held read wrong)
 
 pub returns-in-Err-valued_moves_by-clause-fault : goal.returns-in-Err-valued_moves_by-clause-fault
 returns-in-Err-valued_moves_by-clause-fault c = λ for fault holds.
@@ -92,7 +92,7 @@ pub returns-in-Err-valued_moves_by-clause-unmarked : goal.returns-in-Err-valued_
 returns-in-Err-valued_moves_by-clause-unmarked c = λ format family setup read wrong.
     let asked = c.in-Ok.asked in
     absurd (not_unmarked c.args.file.now c.args.text.now c.args.index.now asked.held.format format asked.held.family family asked.held.classes
-    asked.position.setup setup c.in-Ok.ensures read wrong)
+    setup c.in-Ok.ensures.held read wrong)
 
 pub returns-in-Err-clause-refused : goal.returns-in-Err-clause-refused
 returns-in-Err-clause-refused c = λ for some.
@@ -109,7 +109,7 @@ returns-in-Ok-None-clause-refused_by c = λ some.
         held.family,
         asked.position.setup,
         c.in-Ok.ensures.named,
-        (
+        inr (
           none_of c.in-Ok-None.field-0 _ _ c.in-Ok-None.field-0-is c.in-Ok-None.ensures,
           inr (held.classes, c.in-Ok.ensures.held, c.in-Ok.ensures.member),
         ),

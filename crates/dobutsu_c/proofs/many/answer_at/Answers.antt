@@ -1,0 +1,15 @@
+-- A position's answer is that of its text.
+use Rattle.std.proofs.Common.{refl, inl}
+use Rattle.dob_text.specs.PositionText.{text_of}
+use Rattle.dobutsu_c.proofs.Answered.{answered}
+use Rattle.dobutsu_c.proofs.many.answer_at.Goals as goal
+
+pub returns-in-Ok : goal.returns-in-Ok
+returns-in-Ok c =
+    let position = c.in-Ok.position in inl (
+      position.setup,
+      position.legal,
+      c.in-Ok.ensures,
+      answered c.args.file.now c.args.index.now (text_of position.setup) c.args.old c.answer_of.result c.probe_at.result
+          (c.probe_at.ensures (text_of position.setup) (position.legal, record { squares = position.legal.squares; spelled = refl })) c.answer_of.ensures,
+    )

@@ -1,0 +1,17 @@
+-- The list that is written is the one that was made.
+use Rattle.std.proofs.Common.{rules, List, subst}
+use Rattle.dob_moves.specs.declared.game_move.Move.{Move}
+use Rattle.dobutsu_c.specs.Steps.{AreWrittenSteps}
+use Rattle.dobutsu_c.proofs.steps.dobutsu_steps.Goals as goal
+
+pub returns-in-Ok-steps_of-clause-told : goal.returns-in-Ok-steps_of-clause-told
+returns-in-Ok-steps_of-clause-told c = λ none.
+    let asked = c.in-Ok.asked in (
+      asked.family,
+      asked.position.setup,
+      c.in-Ok-steps_of.list.items,
+      c.in-Ok.ensures,
+      c.in-Ok-steps_of.ensures,
+      subst (λ (list : List Move). AreWrittenSteps list c.args.steps.now c.write_steps.new.places) c.deref.ensures.value c.write_steps.ensures,
+      search rules,
+    )

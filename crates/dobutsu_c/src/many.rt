@@ -1,0 +1,115 @@
+// The values of many positions by one call.
+ghost use Rattle.std.specs.Prelude.{◌≡◌, ◌≢◌, ◌-◌, min, length, take, drop, MatchResult};
+ghost use Rattle.dobutsu_c.specs.Many.{IsAnswer, AreAnswers, IsAnswerAt, AreAnswersAt};
+ghost use Rattle.dobutsu_c.specs.ByIndex.{number_by};
+ghost use Rattle.dobutsu_c.specs.Probes.{shown};
+
+use crate::by_index::{ByFault, probe_at, probe_by};
+use crate::positions::{DobutsuPosition, position_of};
+use crate::value::{DobutsuValue, shown};
+use dob_value::Value;
+
+/// The answer of one position: a fault's number or 0, and where it is 0 the value.
+#[repr(C)]
+#[derive(Clone, Copy)]
+pub struct DobutsuAnswer {
+    pub fault: u32,
+    pub value: DobutsuValue,
+}
+
+/// What `dobutsu_probe_by` answers of each of many texts, which stand in one row of bytes: `ends` says where each ends, and the next begins there. A text that
+/// would begin or end behind the bytes is as long as they are, and one that would end before it begins is empty. For each text it writes the number that
+/// `dobutsu_probe_by` answers, and where that is 0 the value; where it isn't the value is left as it was. It answers how many places of `answers` it has
+/// written, the less of how many there are and how many texts; the others are left as they were. It takes no memory.
+#[unsafe(no_mangle)]
+pub extern "C" fn dobutsu_probe_many(
+    file: &[u8],
+    index: &[u64],
+    texts: &[u8],
+    ends: &[u64],
+    answers: &mut [DobutsuAnswer],
+) -> u64
+    ensures answers { AreAnswers file.now index.now texts.now ends.now answers.old answers.new }
+    ensures count { result ≡ min (length ends.now) (length answers.old) }
+{
+    let count = ends.len().min(answers.len());
+    let mut start = 0;
+    for place in 0..count {
+        let end = ends[place];
+        answers[place] = answer_by(file, index, text_between(texts, start, end), answers[place]);
+        start = end;
+    }
+    count as u64
+}
+
+/// The same of positions by their numbers: for each it writes what `dobutsu_probe_by` answers of its text, or 2 or 4 to 6 as `dobutsu_write` does where the
+/// numbers are no position.
+#[unsafe(no_mangle)]
+pub extern "C" fn dobutsu_probe_positions(
+    file: &[u8],
+    index: &[u64],
+    positions: &[DobutsuPosition],
+    answers: &mut [DobutsuAnswer],
+) -> u64
+    ensures answers { AreAnswersAt file.now index.now positions.now answers.old answers.new }
+    ensures count { result ≡ min (length positions.now) (length answers.old) }
+{
+    let count = positions.len().min(answers.len());
+    for place in 0..count {
+        answers[place] = answer_at(file, index, &positions[place], answers[place]);
+    }
+    count as u64
+}
+
+// The bytes between two places, as far as there are any.
+fn text_between(texts: &[u8], start: u64, end: u64) -> &[u8]
+    ensures { result.now ≡ take (end - start) (drop start texts.now) }
+{
+    let size = texts.len();
+    let end = size.min(end as usize);
+    let start = end.min(start as usize);
+    &texts[start..end]
+}
+
+// The answer of a text; a fault keeps the value.
+fn answer_by(file: &[u8], index: &[u64], text: &[u8], old: DobutsuAnswer) -> DobutsuAnswer
+    ensures { IsAnswer file.now index.now text.now old result }
+{
+    answer_of(probe_by(file, index, text), old)
+}
+
+// The answer of a position's numbers; a fault keeps the value.
+fn answer_at(
+    file: &[u8],
+    index: &[u64],
+    numbers: &DobutsuPosition,
+    old: DobutsuAnswer,
+) -> DobutsuAnswer
+    ensures { IsAnswerAt file.now index.now numbers.now old result }
+{
+    match position_of(numbers) {
+        Ok(position) => answer_of(probe_at(file, index, position), old),
+        Err(fault) => DobutsuAnswer {
+            fault: fault.number(),
+            value: old.value,
+        },
+    }
+}
+
+// What is told of a value or a fault.
+fn answer_of(probed: Result<Value, ByFault>, old: DobutsuAnswer) -> DobutsuAnswer
+    ensures { MatchResult probed
+        (λ value. (result.fault ≡ 0) × (result.value ≡ shown value))
+        (λ fault. (result.fault ≡ number_by fault) × (result.fault ≢ 0) × (result.value ≡ old.value)) }
+{
+    match probed {
+        Ok(value) => DobutsuAnswer {
+            fault: 0,
+            value: shown(value),
+        },
+        Err(fault) => DobutsuAnswer {
+            fault: fault.number(),
+            value: old.value,
+        },
+    }
+}
