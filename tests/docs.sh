@@ -1,5 +1,6 @@
-# The pages: what they name exists, and what a script makes is as it makes it.
+# The pages: what they name exists, they keep their lengths, and what a script makes is as it makes it.
 
+# tools/check-pages tests the lengths too: README.md has at most 1,400 words, all pages together at most 36,000.
 good=no
 if tools/check-pages >"$work/out"; then good=yes; fi
 note "tools/check-pages: $(head -1 "$work/out")" "$good"
@@ -30,3 +31,10 @@ note "tools/unused: $(head -1 "$work/out")" "$good"
 good=no
 if tools/results-page --check 2>"$work/out"; then good=yes; fi
 note "tools/results-page --check: $(head -1 "$work/out")" "$good"
+# A crate's calls with their docs and the clauses of their contracts.
+good=no
+if tools/calls dob_moves apply >"$work/out" && grep -q 'HasOutcome' "$work/out" && grep -q 'The position that a move leads to' "$work/out"; then good=yes; fi
+note "tools/calls dob_moves apply: $(head -1 "$work/out")" "$good"
+good=no
+if tools/planted --list dob_link >"$work/out" && grep -q 'last batch first' "$work/out" && grep -q -e ' -- ' "$work/out"; then good=yes; fi
+note "tools/planted --list dob_link: $(head -1 "$work/out")" "$good"

@@ -19,7 +19,7 @@ same=yes
 cmp -s "$release/chick.db" testdata/one_chick_2.db || same=no
 rm -f "$release/chick.db"
 ! ldd "$release/dobutsu" >"$work/out" 2>&1 || same=no
-for name in README.md USE.md QUESTIONS.md FORMAT.md RULES.md CLASSES.md PROVED libdobutsu.pc dobutsu.h dobutsu.html libdobutsu.a libdobutsu.so dobutsu.1 \
+for name in README.md USE.md FORMAT.md RULES.md CLASSES.md PROVED libdobutsu.pc dobutsu.h dobutsu.html libdobutsu.a libdobutsu.so dobutsu.1 \
     completions/{dobutsu.bash,_dobutsu,dobutsu.fish}; do
     [ -s "$release/$name" ] || same=no
 done
