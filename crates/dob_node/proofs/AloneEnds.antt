@@ -1,5 +1,5 @@
 -- One node that owns all classes: the values that it shows, and its end.
-use Rattle.std.proofs.Common.{◌≡◌, ℕ, zero, suc, ◌<◌, ◌⊎◌, inl, inr, sym, ap, ◌∙◌, subst, arith, List, ◌++◌, lit<, ◌==◌, ◌%◌}
+use Rattle.std.proofs.Common.{◌≡◌, ℕ, zero, suc, ◌<◌, ◌⊎◌, inl, inr, sym, ap, ◌∙◌, subst, arith, List, ◌++◌, lit<, ◌==◌}
 use Rattle.std.proofs.lemmas.List.{take_all, append-nil}
 use Rattle.dob_pieces.specs.declared.profile.Family.{Family}
 use Rattle.dob_rank.specs.Families.{classes_of}
@@ -9,7 +9,7 @@ use Rattle.dob_value.specs.Follows.{IsEntry, AreGiven, IsValueTable}
 use Rattle.dob_unmove.specs.Edges.{predecessors}
 use Rattle.dob_share.specs.declared.news.Settlement.{Settlement}
 use Rattle.dob_share.specs.declared.opening.Opening.{Opening}
-use Rattle.dob_share.specs.Shares.{IsOwn, status_at, cell_at, HasValueNow}
+use Rattle.dob_share.specs.Shares.{status_at, cell_at, HasValueNow}
 use Rattle.dob_update.specs.Items.{items_from}
 use Rattle.dob_node.specs.Histories.{value_of, AreValuesBelow}
 use Rattle.dob_node.specs.Openings.{AreOpenings}
@@ -18,7 +18,7 @@ use Rattle.dob_node.specs.NodeViews.{NodeView}
 use Rattle.dob_node.specs.Alone.{alone_history, alone_applied, alone_items, cells_below, HasCome, HasMade, IsDone, IsUnderWay}
 use Rattle.dob_node.proofs.Kept.{last_now-entry}
 use Rattle.dob_node.proofs.ShownValues.{value_shown, values_given}
-use Rattle.dob_node.proofs.AloneParts.{one_owner, cell_below}
+use Rattle.dob_node.proofs.AloneParts.{cell_below}
 use Rattle.dob_node.proofs.Ends.{lawful_is_right}
 
 -- ---- values
@@ -39,13 +39,6 @@ module _ (node : NodeView) (steps : ℕ) (made : HasMade steps node) (class : �
   pub shows_entry : (v : Value) → HasValueNow node.share class v → IsEntry v
   shows_entry v is = subst (λ w. IsEntry w) (sym (shows v is))
       (last_now-entry (λ s. s.class == class) Draw history tt (lawful.entries 0 (lit< tt)))
-
-  -- and it is the node's own
-  pub shows_own : IsOwn node.share class
-  shows_own = (made.1.sound.kept.owned class).1 (
-    subst (λ (m : ℕ). class % m ≡ node.id) (sym made.1.alone.0) (one_owner class ∙ sym made.1.alone.1),
-    low,
-  )
 
 -- ---- the end
 

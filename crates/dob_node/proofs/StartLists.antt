@@ -1,6 +1,6 @@
 -- The settlements of the start: how many there are, where each stands, and that they are those of the opening.
-use Rattle.std.proofs.Common.{◌≡◌, ℕ, zero, suc, ◌+◌, ◌*◌, ◌<◌, ◌≤◌, inl, inr, refl, sym, ap, ◌∙◌, subst, arith, add-one}
-use Rattle.std.proofs.Common.{List, [], ◌∷◌, ◌++◌, length, Option, None, Some, slice_get, get_or}
+use Rattle.std.proofs.Common.{◌≡◌, ℕ, zero, suc, ◌+◌, ◌*◌, ◌<◌, ◌≤◌, inl, inr, refl, sym, ap, ◌∙◌, subst, arith}
+use Rattle.std.proofs.Common.{List, [], ◌∷◌, ◌++◌, length, Option, Some, slice_get, get_or}
 use Rattle.std.specs.List.{All}
 use Rattle.std.proofs.lemmas.List.{length-append, get_or_append_left}
 use Rattle.std.proofs.lemmas.List.Elements.{All-append, All-nil, All-cons}
@@ -27,18 +27,6 @@ use Rattle.dob_node.proofs.Opens.{one_settles, status_listed}
 
 -- ---- how many there are
 
-pub settles_none : (status : Status) → opening_value status ≡ None → settles status ≡ 0
-settles_none Open is = refl
-settles_none Caught is = absurd cc
-settles_none Tried is = absurd cc
-settles_none Stuck is = absurd cc
-
-pub settles_some : (status : Status) (now : Value) → opening_value status ≡ Some now → settles status ≡ 1
-settles_some Open now is = absurd cc
-settles_some Caught now is = refl
-settles_some Tried now is = refl
-settles_some Stuck now is = refl
-
 settles_most : (status : Status) → settles status ≤ 1
 settles_most Open = omega arith
 settles_most Caught = omega arith
@@ -52,10 +40,6 @@ settled_few status (suc k) =
     let rest : settled_among status k ≤ k = settled_few status k in
     let one : settles (status k) ≤ 1 = settles_most (status k) in
     omega arith
-
--- one place more
-pub settled_on : (status : ℕ → Status) (place : ℕ) → settled_among status (place + 1) ≡ settled_among status place + settles (status place)
-settled_on status place = rw add-one (refl)
 
 pub start_length : (status : ℕ → Status) (n id k : ℕ) → length (start_settlements status n id k) ≡ settled_among status k
 start_length status n id zero = refl

@@ -217,13 +217,6 @@ impl Node {
         are_empty(&self.core.outboxes)
     }
 
-    /// Whether it has expanded all that its history has.
-    pub fn is_expanded(&self) -> bool
-        ensures { IsTrue result ↔ (self.now.expanded ≡ length self.now.history.settlements) }
-    {
-        self.core.expanded == self.core.history.len()
-    }
-
     /// The level of the first settlement that isn't expanded: its distance, and 1 of each one of the opening. None where all are expanded.
     pub fn level(&self) -> Option<u16>
         requires { IsSound self.now }

@@ -9,8 +9,7 @@ use Rattle.std.proofs.lemmas.Bool.{cases_eq}
 use Rattle.std.proofs.lemmas.List.{get_or-replicate, get_or_default}
 use Rattle.std.proofs.lemmas.Nat.{mul-add-lt, same_from_place}
 use Rattle.dob_safra.specs.declared.token.Token.{Token}
-use Rattle.dob_safra.specs.Tokens.{passed_on}
-use Rattle.dob_safra.specs.Rings.{Ring, sum_below, counter, Raises, CountsStay, Posts, Takes, Passes, IsLawfulRing}
+use Rattle.dob_safra.specs.Rings.{Ring, sum_below, counter, Raises, CountsStay, Posts, Takes, IsLawfulRing}
 use Rattle.dob_world.specs.declared.detector.Detector.{Detector}
 use Rattle.dob_world.specs.Shown.{ring_of}
 use Rattle.dob_world.specs.Standing.{IsCounted}
@@ -193,22 +192,6 @@ module _ (n : ℕ) (posted taken : List ℕ) (black : List Bool) (token : Token)
       where
         up : Raises n ring_was.taken (λ k l. slice_index (set taken (i * n + j) now) (k * n + l)) i j
         up = raised n taken i j was now low_i low_j whole there more
-
-  -- the token passed
-  pub passes_shown : (i : ℕ) (after : Token) → i < n → length black ≡ n → token.at ≡ i →
-      after ≡ passed_on n token (counter n ring_was i) (slice_index_or black i false) →
-      Passes n ring_was i (shown n posted taken (set black i false) after announced)
-  passes_shown i after low whole at is = record {
-    at = at;
-    posted = λ k l low_k low_l. refl;
-    taken = λ k l low_k low_l. refl;
-    colours = record {
-      colour_is = get_or-set_same black i false false (omega (arith, low, whole));
-      others = λ k low_k apart. get_or-set_other black i k false false apart;
-    };
-    token = is;
-    announced = refl;
-  }
 
 -- the counters of a ring at its start
 pub opened_counter : (n : ℕ) (posted taken : List ℕ) (counters : List ℤ) (black : List Bool) (token : Token) (announced : Bool) →

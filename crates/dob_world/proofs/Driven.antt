@@ -32,18 +32,6 @@ pub record Partway (old new : World) (upto : ℕ) : Type 0 where
   pub quiet : new.steps ≡ old.steps → (state_of new ≡ state_of old)
       × ((place : ℕ) → place < upto → CanHappen (setting_of old) (state_of old) (round_event old.node_count place) → ⊥)
 
-pub none_made : (world : World) → IsStanding world → world.failed ≡ None → Partway world world 0
-none_made world standing going = record {
-  setting = refl;
-  after = (refl, omega arith);
-  standing = standing;
-  going = going;
-  least = omega arith;
-  most = omega arith;
-  done = λ less. absurd (omega (arith, less));
-  quiet = λ same. (refl, λ place low. absurd (omega arith));
-}
-
 -- the events done from one world to the next, and from there
 steps_between : (a b c : ℕ) → a ≤ b → b ≤ c → (b - a) + (c - b) ≡ c - a
 steps_between a b c low high = omega arith
