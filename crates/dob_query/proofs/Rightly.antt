@@ -8,12 +8,12 @@ use Rattle.dob_value.specs.Follows.{ClassTable}
 use Rattle.dob_value.specs.Values.{HasValue}
 use Rattle.dob_probe.specs.Lines.{GivenBy, IsLine}
 use Rattle.dob_probe.proofs.Best.{lines_are_best}
-use Rattle.dob_query.specs.Endings.{Ending}
-use Rattle.dob_query.specs.Puzzles.{AnswersPuzzles, AnswersPuzzlesRight, ArePuzzleLines, IsPuzzlesFault}
+use Rattle.dob_query.specs.Endings.{AnswersOver, Ending}
+use Rattle.dob_query.specs.Puzzles.{AnswersPuzzlesRight, ArePuzzleLines, IsPuzzlesFault}
 use Rattle.dob_shelf.specs.Shelves.{ShelfChange}
-use Rattle.dob_query.specs.Shows.{AnswersShow, AnswersShowRight, AreRightShowLines, AreShowLines, IsShowFault}
-use Rattle.dob_query.specs.Stats.{AnswersStats, AnswersStatsRight, AreStatsLines, IsStatsFault}
-use Rattle.dob_query.specs.Tables.{AnswersLine, AnswersLineRight, AreMovesLines, AreRightMovesLines, HasValueFile, IsFileOf, IsPositionFault, IsRightFileOf}
+use Rattle.dob_query.specs.Shows.{AnswersShowRight, AreRightShowLines, AreShowLines, IsShowFault}
+use Rattle.dob_query.specs.Stats.{AnswersStatsRight, AreStatsLines, IsStatsFault}
+use Rattle.dob_query.specs.Tables.{AnswersLineRight, AreMovesLines, AreRightMovesLines, HasValueFile, IsFileOf, IsPositionFault, IsRightFileOf}
 use Rattle.dob_query.specs.declared.puzzles.PuzzleSearch.{PuzzleSearch}
 use Rattle.dob_query.proofs.TableFaults.{over_weaker, right_table}
 
@@ -83,22 +83,26 @@ show_rightly c profile file picture words lines right told =
 -- ---- what the program does
 
 module _ (c : ShelfChange) (profile : Profile) (file : List ℕ) (e : Ending) (right : HasValueFile (c.before.has file) profile) where
-  pub line_right : (is_numbered : Bool) (words : List ℕ) → AnswersLine c file is_numbered words e → AnswersLineRight c profile file is_numbered words e
+  pub line_right : (is_numbered : Bool) (words : List ℕ)
+      → AnswersOver c (AreMovesLines (c.before.has file) is_numbered words) (IsPositionFault (c.before.has file) words) e → AnswersLineRight c profile file is_numbered words e
   line_right is_numbered words =
       over_weaker c (AreMovesLines (c.before.has file) is_numbered words) (AreRightMovesLines profile is_numbered words) (IsPositionFault (c.before.has file) words) e
       (moves_rightly (c.before.has file) profile right is_numbered words)
 
-  pub show_right : (picture : Option (List ℕ)) (words : List ℕ) → AnswersShow c (Some file) picture words e → AnswersShowRight c profile file picture words e
+  pub show_right : (picture : Option (List ℕ)) (words : List ℕ)
+      → AnswersOver c (AreShowLines c (Some file) picture words) (IsShowFault c (Some file) picture words) e → AnswersShowRight c profile file picture words e
   show_right picture words =
       over_weaker c (AreShowLines c (Some file) picture words) (AreRightShowLines c profile picture words) (IsShowFault c (Some file) picture words) e
       (λ lines. show_rightly c profile file picture words lines right)
 
-  pub stats_right : (is_csv : Bool) → AnswersStats c file is_csv e → AnswersStatsRight c profile file is_csv e
+  pub stats_right : (is_csv : Bool)
+      → AnswersOver c (AreStatsLines (IsFileOf (c.before.has file)) is_csv) (IsStatsFault (c.before.has file)) e → AnswersStatsRight c profile file is_csv e
   stats_right is_csv =
       over_weaker c (AreStatsLines (IsFileOf (c.before.has file)) is_csv) (AreStatsLines (IsRightFileOf (c.before.has file) profile) is_csv) (IsStatsFault (c.before.has file)) e
       (stats_rightly (c.before.has file) profile right is_csv)
 
-  pub puzzles_right : (search : PuzzleSearch) → AnswersPuzzles c file search e → AnswersPuzzlesRight c profile file search e
+  pub puzzles_right : (search : PuzzleSearch)
+      → AnswersOver c (ArePuzzleLines (IsFileOf (c.before.has file)) search) (IsPuzzlesFault (c.before.has file) search.plies) e → AnswersPuzzlesRight c profile file search e
   puzzles_right search =
       over_weaker c (ArePuzzleLines (IsFileOf (c.before.has file)) search) (ArePuzzleLines (IsRightFileOf (c.before.has file) profile) search) (IsPuzzlesFault (c.before.has file) search.plies) e
       (puzzles_rightly (c.before.has file) profile right search)

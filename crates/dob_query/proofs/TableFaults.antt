@@ -22,7 +22,7 @@ use Rattle.dob_shelf.specs.declared.shelf.ShelfFault.TheVariants as shelf_fault
 use Rattle.dob_query.specs.Endings.{Answers, AnswersOver, Ending}
 use Rattle.dob_query.specs.Each.{IsGivenTo}
 use Rattle.dob_query.specs.Program.{IsValueLineOf, IsValueOf}
-use Rattle.dob_query.specs.ValuedMoves.{AnswersBest, AnswersBestRight, AnswersMoves, AnswersMovesRight, AreMovesOf, AreRightMovesOf, TellsMoves, best_move_line, move_lines}
+use Rattle.dob_query.specs.ValuedMoves.{AnswersBestRight, AnswersMovesRight, AreMoveLines, AreMovesOf, AreRightMovesOf, IsBestLine, TellsMoves, best_move_line, move_lines}
 use Rattle.dob_probe.specs.declared.by_value.ValuedMove.{ValuedMove}
 use Rattle.dob_query.specs.Tables.{AnswersProbe, AnswersProbeRight, HasValueFile, IsCheckFault, IsFileOf, IsOpeningFault, IsPositionFault, IsProbingFault, IsShut}
 use Rattle.dob_query.specs.Tables.{IsProbeLine, IsTextOf}
@@ -156,11 +156,11 @@ valued_moves_answered c profile file words tell e right =
     (λ lines told. (told.0, the_moves_right (c.before.has file) profile right words told.0 told.1, told.2))
 
 pub moves_right : (c : ShelfChange) (profile : Profile) (file words : List ℕ) (e : Ending) → HasValueFile (c.before.has file) profile
-    → AnswersMoves c file words e → AnswersMovesRight c profile file words e
+    → AnswersOver c (AreMoveLines (c.before.has file) words) (IsPositionFault (c.before.has file) words) e → AnswersMovesRight c profile file words e
 moves_right c profile file words e right =
     valued_moves_answered c profile file words move_lines e right
 
 pub best_right : (c : ShelfChange) (profile : Profile) (file words : List ℕ) (e : Ending) → HasValueFile (c.before.has file) profile
-    → AnswersBest c file words e → AnswersBestRight c profile file words e
+    → AnswersOver c (IsBestLine (c.before.has file) words) (IsPositionFault (c.before.has file) words) e → AnswersBestRight c profile file words e
 best_right c profile file words e right =
     valued_moves_answered c profile file words best_move_line e right

@@ -188,9 +188,6 @@ AnswersProbe c file words = AnswersOver c (IsProbeLine (c.before.has file) words
 abbrev pub AnswersProbeRight : ShelfChange → Profile → List ℕ → List ℕ → Ending → Type 0
 AnswersProbeRight c profile file words = AnswersOver c (IsValueLineOf profile words) (IsPositionFault (c.before.has file) words)
 
-abbrev pub AnswersLine : ShelfChange → List ℕ → Bool → List ℕ → Ending → Type 0
-AnswersLine c file is_numbered words = AnswersOver c (AreMovesLines (c.before.has file) is_numbered words) (IsPositionFault (c.before.has file) words)
-
--- the same, where the lines give the best play by definition
+-- what the program answers where the lines give the best play by definition
 abbrev pub AnswersLineRight : ShelfChange → Profile → List ℕ → Bool → List ℕ → Ending → Type 0
 AnswersLineRight c profile file is_numbered words = AnswersOver c (AreRightMovesLines profile is_numbered words) (IsPositionFault (c.before.has file) words)

@@ -62,18 +62,10 @@ GivesMoves file words result c = GivesLines c (AreMoveLines (c.before.has file) 
 abbrev pub GivesBest : {X : Type 0} → List ℕ → List ℕ → Result (String X) Fault → ShelfChange → Type 0
 GivesBest file words result c = GivesLines c (IsBestLine (c.before.has file) words) (IsPositionFault (c.before.has file) words) result
 
--- what the program does where it is asked for the moves of the position that a text names
-abbrev pub AnswersMoves : ShelfChange → List ℕ → List ℕ → Ending → Type 0
-AnswersMoves c file words = AnswersOver c (AreMoveLines (c.before.has file) words) (IsPositionFault (c.before.has file) words)
-
--- the same, where the lines give the values that the moves have by definition
+-- what the program answers where the lines give the values that the moves have by definition
 abbrev pub AnswersMovesRight : ShelfChange → Profile → List ℕ → List ℕ → Ending → Type 0
 AnswersMovesRight c profile file words =
     AnswersOver c (TellsMoves (AreRightMovesOf profile words) move_lines) (IsPositionFault (c.before.has file) words)
-
--- what the program does where it is asked for the first of these moves
-abbrev pub AnswersBest : ShelfChange → List ℕ → List ℕ → Ending → Type 0
-AnswersBest c file words = AnswersOver c (IsBestLine (c.before.has file) words) (IsPositionFault (c.before.has file) words)
 
 abbrev pub AnswersBestRight : ShelfChange → Profile → List ℕ → List ℕ → Ending → Type 0
 AnswersBestRight c profile file words =
