@@ -22,12 +22,12 @@ use Rattle.dob_query.specs.declared.fault.Fault.TheVariants.{Text, SetText, TooD
 use Rattle.dob_query.specs.Faults.{fault_of_shelf}
 use Rattle.dob_shelf.specs.declared.shelf.ShelfFault.{ShelfFault}
 use Rattle.dob_shelf.specs.declared.shelf.ShelfFault.TheVariants as shelf_fault
-use Rattle.dob_query.specs.Endings.{Ending}
+use Rattle.dob_query.specs.Endings.{AnswersOver, Ending}
 use Rattle.dob_shelf.specs.Shelves.{ShelfChange}
 use Rattle.dob_query.specs.Program.{IsValueLineOf, IsValueOf}
 use Rattle.dob_value.specs.declared.value.Value.{Value}
 use Rattle.dob_query.specs.Tables.{HasValueFile, IsTextOf}
-use Rattle.dob_query.specs.Looks.{AnswersLook, AnswersLookRight, HasLookFault, IsFaultOfLook, IsLookFault, IsLookLine, IsLookedUp}
+use Rattle.dob_query.specs.Looks.{AnswersLookRight, HasLookFault, IsFaultOfLook, IsLookFault, IsLookLine, IsLookedUp}
 use Rattle.dob_query.proofs.TableFaults.{is_shut, over_weaker}
 
 -- by the file of a value table what is looked up is the value that the position has by definition
@@ -59,7 +59,7 @@ line_right Has profile words lines file told =
     (told.value, looked_right Has profile words told.value file (told.position, told.named, told.found), told.same)
 
 pub look_right : (c : ShelfChange) (profile : Profile) (file words : List ℕ) (e : Ending) → HasValueFile (c.before.has file) profile
-    → AnswersLook c file words e → AnswersLookRight c profile file words e
+    → AnswersOver c (IsLookLine (c.before.has file) words) (IsLookFault (c.before.has file) words) e → AnswersLookRight c profile file words e
 look_right c profile file words e right =
     over_weaker c (IsLookLine (c.before.has file) words) (IsValueLineOf profile words) (IsLookFault (c.before.has file) words) e
     (λ lines. line_right (c.before.has file) profile words lines right)

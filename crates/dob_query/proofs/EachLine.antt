@@ -12,7 +12,7 @@ use Rattle.dob_query.specs.declared.fault.Fault.{Fault}
 use Rattle.dob_query.specs.declared.fault.Fault.TheVariants.{Text, SetText, TooDeep, Run, File, Table, PuzzlePlies, Certificate, Memory, Io}
 use Rattle.dob_shelf.specs.declared.shelf.ShelfFault.{ShelfFault}
 use Rattle.dob_shelf.specs.declared.shelf.ShelfFault.TheVariants as shelf_fault
-use Rattle.dob_query.specs.Each.{AnswersEach, AnswersEachRight, AnswersLines, AreAnswers, AreEachLines, IsAnswer, IsEachFault, IsGivenTo, TellsLinesOf, answer_line, status_of_lines}
+use Rattle.dob_query.specs.Each.{AnswersEachRight, AnswersLines, AreAnswers, AreEachLines, IsAnswer, IsEachFault, IsGivenTo, TellsLinesOf, answer_line, status_of_lines}
 use Rattle.dob_query.specs.Endings.{Ending, TellsAs, TellsMemory, TellsOneFault, ended}
 use Rattle.dob_query.specs.Faults.{fault_of_shelf, is_io}
 use Rattle.dob_query.specs.Program.{IsValueOf}
@@ -176,7 +176,7 @@ lines_right c profile file right is_refused text told = record {
       (answer_right (c.before.has file) profile right told.table told.whole) told.input is_refused text told.told;
 }
 
-pub each_right : (c : ShelfChange) (profile : Profile) (file : List ℕ) (e : Ending) → HasValueFile (c.before.has file) profile → AnswersEach c file e
-    → AnswersEachRight c profile file e
+pub each_right : (c : ShelfChange) (profile : Profile) (file : List ℕ) (e : Ending) → HasValueFile (c.before.has file) profile
+    → AnswersLines c (AreEachLines IsGivenTo c file) (IsEachFault c file) e → AnswersEachRight c profile file e
 each_right c profile file e right =
     lines_weaker c (AreEachLines IsGivenTo c file) (IsEachFault c file) (AreEachLines (λ table. IsValueOf profile) c file) e (lines_right c profile file right)

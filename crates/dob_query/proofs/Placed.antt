@@ -16,7 +16,8 @@ use Rattle.dob_query.specs.Faults.{fault_of_shelf, is_io}
 use Rattle.dob_shelf.specs.declared.shelf.ShelfFault.{ShelfFault}
 use Rattle.dob_shelf.specs.declared.shelf.ShelfFault.TheVariants as shelf_fault
 use Rattle.dob_query.specs.Looks.{GivesWhole, IsAskedFor}
-use Rattle.dob_query.specs.LooksEach.{AnswersLookEach, AnswersLookEachRight, ArePlaceLines, EndsRecords, IsClassOf, IsLookedFor, IsPlaceAnswer, IsPlacesFault}
+use Rattle.dob_query.specs.Each.{AnswersLines}
+use Rattle.dob_query.specs.LooksEach.{AnswersLookEachRight, ArePlaceLines, EndsRecords, IsClassOf, IsLookedFor, IsPlaceAnswer, IsPlacesFault}
 use Rattle.dob_query.specs.LooksEach.{IsRecordAnswer, IsRecordEnd, TellsRecords}
 use Rattle.dob_query.specs.Program.{IsValueOf}
 use Rattle.dob_shelf.specs.Shelves.{ShelfChange}
@@ -161,7 +162,7 @@ right_answer Has profile file line (Ok value) is = looked_right Has profile line
 right_answer Has profile file line (Err fault) is = is
 
 pub look_each_right : (c : ShelfChange) (profile : Profile) (name : List ℕ) (e : Ending) → HasValueFile (c.before.has name) profile
-    → AnswersLookEach c name e → AnswersLookEachRight c profile name e
+    → AnswersLines c (ArePlaceLines (IsLookedFor (GivesWhole (c.before.has name))) c name) (IsPlacesFault c name) e → AnswersLookEachRight c profile name e
 look_each_right c profile name e file =
     lines_weaker c (ArePlaceLines (IsLookedFor (GivesWhole (c.before.has name))) c name) (IsPlacesFault c name) (ArePlaceLines (IsValueOf profile) c name) e
     (λ is_refused text told. record {

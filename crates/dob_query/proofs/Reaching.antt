@@ -1,8 +1,8 @@
 -- What can be reached, by rules or by a file, and how the lines tell it.
 use Rattle.std.proofs.Common.{◌≡◌, ℕ, suc, ◌+◌, ◌++◌, List, Some, ap, arith, get_or}
 use Rattle.dob_pieces.specs.declared.profile.Profile.{Profile}
-use Rattle.dob_query.specs.Endings.{Ending}
-use Rattle.dob_query.specs.Reaches.{AnswersReach, AnswersReachRight, AreReachLinesBy, level_line, level_lines}
+use Rattle.dob_query.specs.Endings.{AnswersOver, Ending}
+use Rattle.dob_query.specs.Reaches.{AnswersReachRight, AreReachLinesBy, AreReachLinesFor, IsReachFaultFor, level_line, level_lines}
 use Rattle.dob_query.specs.declared.reaches.ReachSearch.{ReachSearch}
 use Rattle.dob_query.specs.Tables.{HasValueFile, IsFileOf, IsPositionFault, IsRightFileOf}
 use Rattle.dob_query.proofs.TableFaults.{over_weaker, right_table}
@@ -28,7 +28,8 @@ module _ (c : ShelfChange) (profile : Profile) (file : List ℕ) (e : Ending) (r
     same = told.same;
   }
 
-  pub reach_right : (search : ReachSearch) (words : List ℕ) → AnswersReach c search (Some file) words e → AnswersReachRight c profile file search words e
+  pub reach_right : (search : ReachSearch) (words : List ℕ)
+      → AnswersOver c (AreReachLinesFor c.before.has search (Some file) words) (IsReachFaultFor c.before.has search (Some file) words) e → AnswersReachRight c profile file search words e
   reach_right search words =
       over_weaker c (AreReachLinesBy (IsFileOf (c.before.has file)) search words) (AreReachLinesBy (IsRightFileOf (c.before.has file) profile) search words)
       (IsPositionFault (c.before.has file) words) e (reach_rightly search words)

@@ -2,11 +2,11 @@
 use Rattle.std.proofs.Common.{ℕ, Bool, List, Option, Some, subst}
 use Rattle.dob_pieces.specs.declared.profile.Profile.{Profile}
 use Rattle.dob_value.specs.Follows.{ClassTable}
-use Rattle.dob_query.specs.Endings.{Ending}
-use Rattle.dob_query.specs.Puzzles.{AnswersPuzzles, AnswersPuzzlesRight, ArePuzzleLines, IsPuzzlesFault}
+use Rattle.dob_query.specs.Endings.{AnswersOver, Ending}
+use Rattle.dob_query.specs.Puzzles.{AnswersPuzzlesRight, ArePuzzleLines, IsPuzzlesFault}
 use Rattle.dob_shelf.specs.Shelves.{ShelfChange}
-use Rattle.dob_query.specs.Shows.{AnswersShow, AnswersShowRight, AreRightShowLines, AreShowLines, IsShowFault}
-use Rattle.dob_query.specs.Stats.{AnswersStats, AnswersStatsRight, AreStatsLines, IsStatsFault}
+use Rattle.dob_query.specs.Shows.{AnswersShowRight, AreRightShowLines, AreShowLines, IsShowFault}
+use Rattle.dob_query.specs.Stats.{AnswersStatsRight, AreStatsLines, IsStatsFault}
 use Rattle.dob_query.specs.Tables.{HasValueFile, IsFileOf, IsRightFileOf}
 use Rattle.dob_query.specs.declared.questions.Question.TheVariants.{Draw}
 use Rattle.dob_query.proofs.Asking.{answer_right}
@@ -49,17 +49,20 @@ show_rightly c profile file picture words lines right told = record {
 -- ---- what the program does
 
 module _ (c : ShelfChange) (profile : Profile) (file : List ℕ) (e : Ending) (right : HasValueFile (c.before.has file) profile) where
-  pub show_right : (picture : Option (List ℕ)) (words : List ℕ) → AnswersShow c (Some file) picture words e → AnswersShowRight c profile file picture words e
+  pub show_right : (picture : Option (List ℕ)) (words : List ℕ)
+      → AnswersOver c (AreShowLines c (Some file) picture words) (IsShowFault c (Some file) picture words) e → AnswersShowRight c profile file picture words e
   show_right picture words =
       over_weaker c (AreShowLines c (Some file) picture words) (AreRightShowLines c profile picture words) (IsShowFault c (Some file) picture words) e
       (λ lines. show_rightly c profile file picture words lines right)
 
-  pub stats_right : (is_csv : Bool) → AnswersStats c file is_csv e → AnswersStatsRight c profile file is_csv e
+  pub stats_right : (is_csv : Bool)
+      → AnswersOver c (AreStatsLines (IsFileOf (c.before.has file)) is_csv) (IsStatsFault (c.before.has file)) e → AnswersStatsRight c profile file is_csv e
   stats_right is_csv =
       over_weaker c (AreStatsLines (IsFileOf (c.before.has file)) is_csv) (AreStatsLines (IsRightFileOf (c.before.has file) profile) is_csv) (IsStatsFault (c.before.has file)) e
       (stats_rightly (c.before.has file) profile right is_csv)
 
-  pub puzzles_right : (search : PuzzleSearch) → AnswersPuzzles c file search e → AnswersPuzzlesRight c profile file search e
+  pub puzzles_right : (search : PuzzleSearch)
+      → AnswersOver c (ArePuzzleLines (IsFileOf (c.before.has file)) search) (IsPuzzlesFault (c.before.has file) search.plies) e → AnswersPuzzlesRight c profile file search e
   puzzles_right search =
       over_weaker c (ArePuzzleLines (IsFileOf (c.before.has file)) search) (ArePuzzleLines (IsRightFileOf (c.before.has file) profile) search) (IsPuzzlesFault (c.before.has file) search.plies) e
       (puzzles_rightly (c.before.has file) profile right search)

@@ -104,13 +104,6 @@ GivesAnswers c AreLines = IsAnswered c (λ answers. AreLines answers.is_refused 
 abbrev pub GivesEach : List ℕ → Result LineAnswers Fault → ShelfChange → Type 0
 GivesEach file result c = GivesAnswers c (AreEachLines IsGivenTo c file) (IsEachFault c file) result
 
-abbrev pub AnswersEachBy : (ClassTable → List ℕ → Value → Type 0) → ShelfChange → List ℕ → Ending → Type 0
-AnswersEachBy IsTold c file = AnswersLines c (AreEachLines IsTold c file) (IsEachFault c file)
-
--- what the program does where it is asked by the file for each line
-abbrev pub AnswersEach : ShelfChange → List ℕ → Ending → Type 0
-AnswersEach = AnswersEachBy IsGivenTo
-
--- the same, where a value printed is the one that the line's position has by definition, by the rules of the profile
+-- what the program answers where a value printed is the one that the line's position has by definition, by the rules of the profile
 abbrev pub AnswersEachRight : ShelfChange → Profile → List ℕ → Ending → Type 0
-AnswersEachRight c profile = AnswersEachBy (λ table. IsValueOf profile) c
+AnswersEachRight c profile file = AnswersLines c (AreEachLines (λ table. IsValueOf profile) c file) (IsEachFault c file)

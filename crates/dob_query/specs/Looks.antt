@@ -83,10 +83,6 @@ IsLookFault Has words fault = (position : Setup) × IsTextOf words position × I
 abbrev pub GivesLook : {X : Type 0} → List ℕ → List ℕ → Result (String X) Fault → ShelfChange → Type 0
 GivesLook file words result c = GivesLines c (IsLookLine (c.before.has file) words) (IsLookFault (c.before.has file) words) result
 
--- what the program does where it is asked to look
-abbrev pub AnswersLook : ShelfChange → List ℕ → List ℕ → Ending → Type 0
-AnswersLook c file words = AnswersOver c (IsLookLine (c.before.has file) words) (IsLookFault (c.before.has file) words)
-
--- the same, where the line gives the value that the text's position has by definition, by the rules of the profile
+-- what the program answers where the line gives the value that the text's position has by definition, by the rules of the profile
 abbrev pub AnswersLookRight : ShelfChange → Profile → List ℕ → List ℕ → Ending → Type 0
 AnswersLookRight c profile file words = AnswersOver c (IsValueLineOf profile words) (IsLookFault (c.before.has file) words)

@@ -107,9 +107,6 @@ EndsRecords Gives Shows known _ = ⊥
 abbrev pub GivesLookEach : List ℕ → Result LineAnswers Fault → ShelfChange → Type 0
 GivesLookEach file result c = GivesAnswers c (ArePlaceLines (IsLookedFor (GivesWhole (c.before.has file))) c file) (IsPlacesFault c file) result
 
-abbrev pub AnswersLookEach : ShelfChange → List ℕ → Ending → Type 0
-AnswersLookEach c file = AnswersLines c (ArePlaceLines (IsLookedFor (GivesWhole (c.before.has file))) c file) (IsPlacesFault c file)
-
--- the same, where a value printed is the one that the line's position has by definition, by the rules of the profile
+-- what the program answers where a value printed is the one that the line's position has by definition, by the rules of the profile
 abbrev pub AnswersLookEachRight : ShelfChange → Profile → List ℕ → Ending → Type 0
 AnswersLookEachRight c profile file = AnswersLines c (ArePlaceLines (IsValueOf profile) c file) (IsPlacesFault c file)

@@ -62,12 +62,7 @@ abbrev pub GivesPuzzles : {X : Type 0} → List ℕ → PuzzleSearch → Result 
 GivesPuzzles file search result c =
     GivesLines c (ArePuzzleLines (IsFileOf (c.before.has file)) search) (IsPuzzlesFault (c.before.has file) search.plies) result
 
--- what the program does where it is asked for puzzles
-abbrev pub AnswersPuzzles : ShelfChange → List ℕ → PuzzleSearch → Ending → Type 0
-AnswersPuzzles c file search =
-    AnswersOver c (ArePuzzleLines (IsFileOf (c.before.has file)) search) (IsPuzzlesFault (c.before.has file) search.plies)
-
--- the same, where the values of the table are right by the rules of the profile
+-- what the program answers where the values of the table are right by the rules of the profile
 abbrev pub AnswersPuzzlesRight : ShelfChange → Profile → List ℕ → PuzzleSearch → Ending → Type 0
 AnswersPuzzlesRight c profile file search =
     AnswersOver c (ArePuzzleLines (IsRightFileOf (c.before.has file) profile) search) (IsPuzzlesFault (c.before.has file) search.plies)

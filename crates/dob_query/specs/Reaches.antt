@@ -103,10 +103,7 @@ IsReachFaultFor Has search (Some file) words = IsPositionFault (Has file) words
 abbrev pub GivesReach : {X : Type 0} → ReachSearch → Option (List ℕ) → List ℕ → Result (String X) Fault → ShelfChange → Type 0
 GivesReach search file words result c = GivesLines c (AreReachLinesFor c.before.has search file words) (IsReachFaultFor c.before.has search file words) result
 
-abbrev pub AnswersReach : ShelfChange → ReachSearch → Option (List ℕ) → List ℕ → Ending → Type 0
-AnswersReach c search file words = AnswersOver c (AreReachLinesFor c.before.has search file words) (IsReachFaultFor c.before.has search file words)
-
--- the same by a file whose values are right by the rules of the profile
+-- what the program answers by a file whose values are right by the rules of the profile
 abbrev pub AnswersReachRight : ShelfChange → Profile → List ℕ → ReachSearch → List ℕ → Ending → Type 0
 AnswersReachRight c profile file search words =
     AnswersOver c (AreReachLinesBy (IsRightFileOf (c.before.has file) profile) search words) (IsPositionFault (c.before.has file) words)

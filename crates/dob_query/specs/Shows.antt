@@ -92,10 +92,6 @@ abbrev pub KeepsButPicture : Option (List ℕ) → Files → Files → Type 0
 KeepsButPicture None = SameFiles
 KeepsButPicture (Some name) = SameOthers name
 
--- what the program does where it is asked to show the position that a text names
-abbrev pub AnswersShow : ShelfChange → Option (List ℕ) → Option (List ℕ) → List ℕ → Ending → Type 0
-AnswersShow c file picture words = AnswersOver c (AreShowLines c file picture words) (IsShowFault c file picture words)
-
--- the same, by a file whose values are right
+-- what the program answers by a file whose values are right
 abbrev pub AnswersShowRight : ShelfChange → Profile → List ℕ → Option (List ℕ) → List ℕ → Ending → Type 0
 AnswersShowRight c profile file picture words = AnswersOver c (AreRightShowLines c profile picture words) (IsShowFault c (Some file) picture words)

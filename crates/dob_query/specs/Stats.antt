@@ -100,11 +100,7 @@ IsStatsFault Has fault = IsOpeningFault Has fault
 abbrev pub GivesStats : {X : Type 0} → List ℕ → Bool → Result (String X) Fault → ShelfChange → Type 0
 GivesStats file is_csv result c = GivesLines c (AreStatsLines (IsFileOf (c.before.has file)) is_csv) (IsStatsFault (c.before.has file)) result
 
--- what the program does where it is asked for the statistics of a file
-abbrev pub AnswersStats : ShelfChange → List ℕ → Bool → Ending → Type 0
-AnswersStats c file is_csv = AnswersOver c (AreStatsLines (IsFileOf (c.before.has file)) is_csv) (IsStatsFault (c.before.has file))
-
--- the same, where the values that are counted are right by the rules of the profile
+-- what the program answers where the values that are counted are right by the rules of the profile
 abbrev pub AnswersStatsRight : ShelfChange → Profile → List ℕ → Bool → Ending → Type 0
 AnswersStatsRight c profile file is_csv =
     AnswersOver c (AreStatsLines (IsRightFileOf (c.before.has file) profile) is_csv) (IsStatsFault (c.before.has file))
