@@ -18,7 +18,7 @@ use Rattle.dob_query.specs.declared.fault.Fault.TheVariants.{Text, SetText, TooD
 use Rattle.dob_query.specs.declared.questions.Question.{Question}
 use Rattle.dob_query.specs.declared.questions.Question.TheVariants.{Look, Moves, Best, Line, Draw}
 use Rattle.dob_query.specs.Endings.{Ending}
-use Rattle.dob_query.specs.Faults.{fault_of_shelf, is_io}
+use Rattle.dob_query.specs.Faults.{fault_of_shelf, is_io_error}
 use Rattle.dob_shelf.specs.declared.shelf.ShelfFault.{ShelfFault}
 use Rattle.dob_shelf.specs.declared.shelf.ShelfFault.TheVariants as shelf_fault
 use Rattle.dob_query.specs.Questions.{GivesWhole, IsRecordsFault, IsToldBy, LacksFor}
@@ -135,12 +135,12 @@ err_weaker P Q (Err fault) weaker is = weaker fault is
 
 module _ (question : Question) (Shows : Stream → Type 0) (format : Format) (family : Family) (line : List ℕ) (position : Setup) where
   -- why the family refuses its position
-  pub refused_line : {X : Type 0} (fault : probing.Fault) → IsTextOf line position → IsRefusal family position fault
+  pub refused_line : (X : Type 0) (fault : probing.Fault) → IsTextOf line position → IsRefusal family position fault
       → GivesRecordAnswer {X = X} question Shows format family line (Err (Table fault))
-  refused_line table_fault.FarChick named refused = (position, named, refused)
-  refused_line table_fault.OtherSet named refused = (position, named, refused)
-  refused_line (table_fault.Inconsistent class) named refused = absurd refused
-  refused_line table_fault.Memory named refused = absurd refused
+  refused_line X table_fault.FarChick named refused = (position, named, refused)
+  refused_line X table_fault.OtherSet named refused = (position, named, refused)
+  refused_line X (table_fault.Inconsistent class) named refused = absurd refused
+  refused_line X table_fault.Memory named refused = absurd refused
 
   -- what the records give of it
   pub told_line : {X : Type 0} (result : Result (String X) Fault) → IsTextOf line position → IsPositionOf family position
@@ -187,26 +187,45 @@ module _ (question : Question) (Shows : Stream → Type 0) (format : Format) (fa
   lacks_io Draw same stream bytes position lacks = lacks.2.fails.1
 
   -- and what ends all is that it failed, or memory
-  pub line_ends : {X : Type 0} (fault : Fault) → GivesRecordAnswer {X = X} question Shows format family line (Err fault) → ends_all fault ≡ true
+  pub line_ends : (X : Type 0) (fault : Fault) → GivesRecordAnswer {X = X} question Shows format family line (Err fault) → ends_all fault ≡ true
       → IsRecordEnd Shows fault
-  line_ends Memory is ends = tt
-  line_ends (File (file_fault.Io bytes)) is ends = λ stream shows. lacks_io question refl stream bytes is.0 (is.3 stream shows)
-  line_ends (File file_fault.Truncated) is ends = absurd (true≢false (sym ends))
-  line_ends (File file_fault.Magic) is ends = absurd (true≢false (sym ends))
-  line_ends (File file_fault.SetByte) is ends = absurd (true≢false (sym ends))
-  line_ends (File file_fault.ClassCount) is ends = absurd (true≢false (sym ends))
-  line_ends (File file_fault.Trailing) is ends = absurd (true≢false (sym ends))
-  line_ends (File file_fault.Digest) is ends = absurd (true≢false (sym ends))
-  line_ends (File file_fault.Memory) is ends = absurd (true≢false (sym ends))
-  line_ends (File file_fault.ProfileByte) is ends = absurd (true≢false (sym ends))
-  line_ends (Text fault) is ends = absurd (true≢false (sym ends))
-  line_ends (Table fault) is ends = absurd (true≢false (sym ends))
-  line_ends SetText is ends = absurd is
-  line_ends TooDeep is ends = absurd is
-  line_ends (Run fault) is ends = absurd is
-  line_ends PuzzlePlies is ends = absurd is
-  line_ends (Certificate f) is ends = absurd is
-  line_ends Io is ends = absurd is
+  line_ends X Memory is ends = tt
+  line_ends X (File (file_fault.Io bytes)) is ends = λ stream shows. lacks_io question refl stream bytes is.0 (is.3 stream shows)
+  line_ends X (File file_fault.Truncated) is ends = absurd (true≢false (sym ends))
+  line_ends X (File file_fault.Magic) is ends = absurd (true≢false (sym ends))
+  line_ends X (File file_fault.SetByte) is ends = absurd (true≢false (sym ends))
+  line_ends X (File file_fault.ClassCount) is ends = absurd (true≢false (sym ends))
+  line_ends X (File file_fault.Trailing) is ends = absurd (true≢false (sym ends))
+  line_ends X (File file_fault.Digest) is ends = absurd (true≢false (sym ends))
+  line_ends X (File file_fault.Memory) is ends = absurd (true≢false (sym ends))
+  line_ends X (File file_fault.ProfileByte) is ends = absurd (true≢false (sym ends))
+  line_ends X (Text fault) is ends = absurd (true≢false (sym ends))
+  line_ends X (Table fault) is ends = absurd (true≢false (sym ends))
+  line_ends X SetText is ends = absurd is
+  line_ends X TooDeep is ends = absurd is
+  line_ends X (Run fault) is ends = absurd is
+  line_ends X PuzzlePlies is ends = absurd is
+  line_ends X (Certificate f) is ends = absurd is
+  line_ends X Io is ends = absurd is
+
+-- bytes are refused where their answer is
+pub bytes_refused : {X : Type 0} (result : Result (String X) Fault) → is_err result ≡ is_err (bytes_of result)
+bytes_refused (Ok text) = refl
+bytes_refused (Err fault) = refl
+
+-- and no device failed where nothing ends all
+pub none_fails : {X : Type 0} (result : Result X Fault) → ends_all_in result ≡ false → is_io_error result ≡ false
+none_fails (Ok x) goes = refl
+none_fails (Err Memory) goes = absurd (true≢false goes)
+none_fails (Err (Text fault)) goes = goes
+none_fails (Err SetText) goes = goes
+none_fails (Err TooDeep) goes = goes
+none_fails (Err (Run fault)) goes = goes
+none_fails (Err (File fault)) goes = goes
+none_fails (Err (Table fault)) goes = goes
+none_fails (Err PuzzlePlies) goes = goes
+none_fails (Err (Certificate f)) goes = goes
+none_fails (Err Io) goes = goes
 
 -- what ends all by fewer streams
 pub end_weaker : (Shows Fewer : Stream → Type 0) → ((stream : Stream) → Fewer stream → Shows stream) → (fault : Fault) → IsRecordEnd Shows fault
