@@ -24,9 +24,6 @@ returns-in-Probe g c = rw c.in-Probe.is c.answer_probe.ensures
 pub returns-in-Check : goal.returns-in-Check
 returns-in-Check g c = rw c.in-Check.is c.answer_check.ensures
 
-pub returns-in-Look : goal.returns-in-Look
-returns-in-Look g c = rw c.in-Look.is c.answer_look.ensures
-
 pub returns-in-Build : goal.returns-in-Build
 returns-in-Build g c = rw c.in-Build.is c.answer_build.ensures
 
