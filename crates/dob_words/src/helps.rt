@@ -179,8 +179,8 @@ move, which go up; small letters are those of the other side, which go down. A h
 that were caught and can be dropped again.
 
 With `--db FILE` an empty line follows, then the position's value and its best play, as `dobutsu look` and
-`dobutsu line --numbered` print them: the digest of the file isn't read. With `--svg OUT` the board is drawn as a picture too, for a browser: the
-file OUT is made anew or overwritten, as `dobutsu build --help` says of its own.
+`dobutsu line --numbered` print them; the digest of the file isn't read. With `--svg OUT` the board is drawn as a picture
+too, for a browser: the file OUT is made anew or overwritten, as `dobutsu build --help` says of its own.
 
 Example: dobutsu show \"gle/.c./.C./ELG - -\" draws the board that a game begins with.
 `dobutsu value --help` says how a position is written.";
