@@ -61,7 +61,8 @@ pub(crate) fn answer_of<S: Shelf>(
     position: &Position,
 ) -> Lines
     ensures answered { Leaving SameFiles S.state shelf.old shelf.new (λ c.
-        GivesLines c (IsAnswerBy question (c.before.has file.now) position.now.setup) (IsAskingFault question (c.before.has file.now) position.now.setup) result) }
+        GivesLines c (IsAnswerBy question (c.before.has file.now) position.now.setup)
+        (IsAskingFault question (c.before.has file.now) position.now.setup) result) }
     ensures told { (S.state shelf.new).tells ≡ (S.state shelf.old).tells }
 {
     let mut source = shelf.find(file)?;

@@ -47,3 +47,15 @@ returns-in-Verify g c = rw c.in-Verify.is c.answer_verify.ensures
 
 pub returns-in-Reply : goal.returns-in-Reply
 returns-in-Reply g c = rw c.in-Reply.is c.answer_reply.ensures
+
+pub returns-in-Line : goal.returns-in-Line
+returns-in-Line g c = rw c.in-Line.is c.answer_question.ensures
+
+pub returns-in-Look : goal.returns-in-Look
+returns-in-Look g c = rw c.in-Look.is c.answer_question-in-Look.ensures
+
+pub returns-in-Moves : goal.returns-in-Moves
+returns-in-Moves g c = rw c.in-Moves.is c.answer_question-in-Moves.ensures
+
+pub returns-in-Best : goal.returns-in-Best
+returns-in-Best g c = rw c.in-Best.is c.answer_question-in-Best.ensures
