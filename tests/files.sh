@@ -119,6 +119,22 @@ answers_of look 1 "$position"'\n.../.../..l/L.. - -\n' 'E15 Truncated\nloss 2\n'
 expect 3 '' "$(failed_at "$work/none.db" "$gone")" look --each --db "$work/none.db"
 expect 1 '' 'dobutsu: E15 Truncated' look --each --db /dev/null
 expect 3 '' "$(failed_at 'standard input' "$folder")" look --each --db "$lions" <"$work"
+# moves, the first of them and lines for each: an empty line stands behind an answer of several lines; of a file that is cut the record that isn't whole
+# is told
+asked="$position"'\n..l/.../L../... - x\n.../.../..l/L.. - -\n..l/.../.../L.. C -\n.l./.../.L./... - -\n'
+answers_of moves 1 "$position"'\n..l/.../L../... - x\n.../.../..l/L.. - -\n' \
+    'La2-a3 win 3\nLa2-b2 draw\nLa2-a1 loss 8\nLa2-b1 loss 6\nLa2-b3 loss 2\n\nE3 Hand\n\nLa1-b1 loss 2\nLa1-a2 loss 2\nLa1-b2 loss 2\n\n' --db "$lions"
+answers_of best 1 "$position"'\n..l/.../L../... - x\n.../.../..l/L.. - -\n..l/.../.../L.. C -\n.../L../.../..l - -' \
+    'La2-a3 win 3\nE3 Hand\nLa1-b1 loss 2\nE7 OtherSet\nend\n' --db "$lions"
+answers_of line 1 "$asked" 'La2-a3 lc4-b4 La3xb4\nE3 Hand\nLa1-b1 lc2xb1\nE7 OtherSet\ndraw\n' --db "$lions"
+answers_of line 1 "$asked" '1. La2-a3\n2. lc4-b4\n3. La3xb4\n\nE3 Hand\n\n1. La1-b1\n2. lc2xb1\n\nE7 OtherSet\n\ndraw\n\n' --db "$lions" --numbered
+answers_of line 1 "$position"'\n' 'E15 Truncated\n' --db "$work/cut.db"
+for word in moves best line; do
+    answers_of "$word" 0 '' '' --db "$lions"
+    expect 3 '' "$(failed_at "$work/none.db" "$gone")" "$word" --each --db "$work/none.db"
+    expect 1 '' 'dobutsu: E15 Truncated' "$word" --each --db /dev/null
+    expect 3 '' "$(failed_at 'standard input' "$folder")" "$word" --each --db "$lions" <"$work"
+done
 # positions that one move alone wins soonest; a length that no puzzle has is refused before the file is looked for
 expect 0 '.../..l/L../... - -  La2-a3
 ..l/.../L../... - -  La2-a3

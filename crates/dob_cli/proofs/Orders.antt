@@ -1,5 +1,5 @@
 -- What is owed for an order is right by a value table's file, and is owed for the words that ask for it.
-use Rattle.std.proofs.Common.{◌≡◌, ◌∙◌, ℕ, List, [], ◌∷◌, Option, Some, None, ap, codes, false, inl, inr, option_map, refl, subst, sym, true, true≢false}
+use Rattle.std.proofs.Common.{◌≡◌, ◌∙◌, ℕ, Bool, List, [], ◌∷◌, Option, Some, None, ap, codes, false, inl, inr, option_map, refl, subst, sym, true, true≢false}
 use Rattle.std.specs.Borrow.{Bor}
 use Rattle.std.specs.Str.{bytes_eq}
 use Rattle.dob_pieces.specs.declared.profile.Profile.{Profile}
@@ -7,16 +7,15 @@ use Rattle.dob_words.specs.Forms.{Text}
 use Rattle.dob_words.specs.Words.{number_in, profile_named}
 use Rattle.dob_words.specs.Readings.{IsOrder, name_of_order, text_given}
 use Rattle.dob_words.specs.declared.command.Order.{Order}
-use Rattle.dob_words.specs.declared.command.Order.TheVariants.{Value, Reach, Build, Probe, Each, Line, Look, LookEach, Show, Moves, Best, Stats, Zugzwangs, Puzzles}
+use Rattle.dob_words.specs.declared.command.Order.TheVariants.{Value, Reach, Build, Probe, Each, Line, Look, LookEach, MovesEach, BestEach, LineEach, Show, Moves, Best, Stats, Zugzwangs, Puzzles}
 use Rattle.dob_query.specs.declared.fault.Fault.{Fault}
 use Rattle.dob_query.specs.Each.{AnswersLines, status_of_lines}
 use Rattle.dob_query.specs.Endings.{AnswersOver, Ending}
 use Rattle.dob_query.specs.Program.{AnswersValue}
 use Rattle.dob_shelf.specs.Shelves.{ShelfChange}
 use Rattle.dob_query.specs.Tables.{AnswersProbe}
-use Rattle.dob_query.proofs.ByPlace.{look_right}
 use Rattle.dob_query.proofs.EachLine.{each_right}
-use Rattle.dob_query.proofs.Placed.{look_each_right}
+use Rattle.dob_query.proofs.Placed.{question_each_right}
 use Rattle.dob_query.proofs.Paired.{zugzwangs_right}
 use Rattle.dob_query.proofs.Reaching.{reach_right}
 use Rattle.dob_query.specs.declared.questions.Question.TheVariants as question
@@ -28,7 +27,9 @@ use Rattle.dob_cli.specs.Orders.{AllTold, AnswersOrder, AnswersRight, AreLinesFo
 
 -- ---- an order that isn't for each line of standard input
 
-module _ (o : Order) (not_each : (file : Bor Text) → o ≡ Each file → ⊥) (not_look : (file : Bor Text) → o ≡ LookEach file → ⊥) where
+module _ (o : Order) (not_each : (file : Bor Text) → o ≡ Each file → ⊥) (not_look : (file : Bor Text) → o ≡ LookEach file → ⊥)
+    (not_moves : (file : Bor Text) → o ≡ MovesEach file → ⊥) (not_best : (file : Bor Text) → o ≡ BestEach file → ⊥)
+    (not_line : (file : Bor Text) (is_numbered : Bool) → o ≡ LineEach file is_numbered → ⊥) where
   -- lines tell it
   pub is_by_lines : IsByLines o
   is_by_lines = go o refl
@@ -36,6 +37,9 @@ module _ (o : Order) (not_each : (file : Bor Text) → o ≡ Each file → ⊥) 
       go : (x : Order) → o ≡ x → IsByLines x
       go (Each f) is = absurd (not_each f is)
       go (LookEach f) is = absurd (not_look f is)
+      go (MovesEach f) is = absurd (not_moves f is)
+      go (BestEach f) is = absurd (not_best f is)
+      go (LineEach f n) is = absurd (not_line f n is)
       go x is = tt
 
   -- and none of them is refused
@@ -45,6 +49,9 @@ module _ (o : Order) (not_each : (file : Bor Text) → o ≡ Each file → ⊥) 
       go : (x : Order) → o ≡ x → AreLinesFor c x lines → AreToldFor c x false lines
       go (Each f) is told = absurd told
       go (LookEach f) is told = absurd told
+      go (MovesEach f) is told = absurd told
+      go (BestEach f) is told = absurd told
+      go (LineEach f n) is told = absurd told
       go x is told = (refl, told)
 
 -- so it is answered by lines, with status 0
@@ -66,8 +73,11 @@ module _ (c : ShelfChange) (e : Ending) where
   rightly (Probe f t) answers = λ profile right. probe_right c profile f.now t.now e right (told_over c _ _ e answers)
   rightly (Each f) answers = λ profile right. each_right c profile f.now e right answers
   rightly (Line f n t) answers = λ profile right. question_right c profile (question.Line n) f.now t.now e right (told_over c _ _ e answers)
-  rightly (Look f t) answers = λ profile right. look_right c profile f.now t.now e right (told_over c _ _ e answers)
-  rightly (LookEach f) answers = λ profile right. look_each_right c profile f.now e right answers
+  rightly (Look f t) answers = λ profile right. question_right c profile question.Look f.now t.now e right (told_over c _ _ e answers)
+  rightly (LookEach f) answers = λ profile right. question_each_right c profile question.Look f.now e right answers
+  rightly (MovesEach f) answers = λ profile right. question_each_right c profile question.Moves f.now e right answers
+  rightly (BestEach f) answers = λ profile right. question_each_right c profile question.Best f.now e right answers
+  rightly (LineEach f n) answers = λ profile right. question_each_right c profile (question.Line n) f.now e right answers
   rightly (Show (Some f) p t) answers = λ profile right. show_right c profile f.now e right (text_given p) t.now (told_over c _ _ e answers)
   rightly (Reach p (Some f) l w t) answers = λ profile right. reach_right c profile f.now e right (reach_of p l w) t.now (told_over c _ _ e answers)
   rightly (Moves f t) answers = λ profile right. question_right c profile question.Moves f.now t.now e right (told_over c _ _ e answers)

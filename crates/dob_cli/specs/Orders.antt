@@ -3,18 +3,18 @@ use Rattle.std.specs.Prelude.{◌≡◌, ℕ, Bool, false, List, Option, Result,
 use Rattle.dob_pieces.specs.declared.profile.Profile.{Profile}
 use Rattle.dob_query.specs.declared.fault.Fault.{Fault}
 use Rattle.dob_words.specs.declared.command.Order.{Order}
-use Rattle.dob_words.specs.declared.command.Order.TheVariants.{Value, Count, Reach, Build, Probe, Each, Line, Check, Look, LookEach, Show, Moves, Best, Stats, Zugzwangs, Puzzles, Migrate, Certify, Verify, Reply}
+use Rattle.dob_words.specs.declared.command.Order.TheVariants.{Value, Count, Reach, Build, Probe, Each, Line, Check, Look, LookEach, MovesEach, BestEach, LineEach, Show, Moves, Best, Stats, Zugzwangs, Puzzles, Migrate, Certify, Verify, Reply}
 use Rattle.dob_query.specs.declared.each.LineAnswers.{LineAnswers}
 use Rattle.dob_query.specs.Endings.{Ending, GivesLines}
 use Rattle.dob_shelf.specs.Shelves.{Files, SameFiles, SameOthers, ShelfChange}
 use Rattle.dob_query.specs.Program.{IsFaultOf, IsValueLineOf}
 use Rattle.dob_query.specs.Sizes.{AreCountLinesOf, IsCountFaultOf}
 use Rattle.dob_cli.specs.Builds.{AreBuildLines, IsBuildFault}
-use Rattle.dob_query.specs.Looks.{AnswersLookRight, GivesWhole, IsLookFault, IsLookLine}
+use Rattle.dob_query.specs.declared.questions.Question.{Question}
 use Rattle.dob_query.specs.declared.questions.Question.TheVariants as question
-use Rattle.dob_query.specs.Questions.{AnswersQuestionRight, AreAnswerLines, IsAskFault}
+use Rattle.dob_query.specs.Questions.{AnswersQuestionRight, AreAnswerLines, GivesWhole, IsAskFault}
 use Rattle.dob_query.specs.Each.{AnswersEachRight, AnswersLines, AreEachLines, GivesAnswers, IsEachFault, IsGivenTo}
-use Rattle.dob_query.specs.LooksEach.{AnswersLookEachRight, ArePlaceLines, IsLookedFor, IsPlacesFault}
+use Rattle.dob_query.specs.QuestionsEach.{AnswersLine, AnswersQuestionEachRight, ArePlaceLines, IsPlacesFault}
 use Rattle.dob_query.specs.Migrations.{AreMigrateLines, IsMigrateFault}
 use Rattle.dob_query.specs.Reaches.{AnswersReachRight, AreReachLinesFor, IsReachFaultFor}
 use Rattle.dob_query.specs.declared.reaches.ReachSearch.{ReachSearch}
@@ -47,8 +47,11 @@ AreLinesFor c (Probe file position) = IsProbeLine (c.before.has file.now) positi
 AreLinesFor c (Each file) = λ lines. ⊥
 AreLinesFor c (Line file is_numbered position) = AreAnswerLines (question.Line is_numbered) (c.before.has file.now) position.now
 AreLinesFor c (Check file is_watched) = IsCheckLine (c.before.has file.now)
-AreLinesFor c (Look file position) = IsLookLine (c.before.has file.now) position.now
+AreLinesFor c (Look file position) = AreAnswerLines question.Look (c.before.has file.now) position.now
 AreLinesFor c (LookEach file) = λ lines. ⊥
+AreLinesFor c (MovesEach file) = λ lines. ⊥
+AreLinesFor c (BestEach file) = λ lines. ⊥
+AreLinesFor c (LineEach file is_numbered) = λ lines. ⊥
 AreLinesFor c (Show file picture position) = AreShowLines c (text_given file) (text_given picture) position.now
 AreLinesFor c (Moves file position) = AreAnswerLines question.Moves (c.before.has file.now) position.now
 AreLinesFor c (Best file position) = AreAnswerLines question.Best (c.before.has file.now) position.now
@@ -71,8 +74,11 @@ IsFaultFor c (Probe file position) = IsPositionFault (c.before.has file.now) pos
 IsFaultFor c (Each file) = IsEachFault c file.now
 IsFaultFor c (Line file is_numbered position) = IsAskFault (question.Line is_numbered) (c.before.has file.now) position.now
 IsFaultFor c (Check file is_watched) = IsCheckFault (c.before.has file.now)
-IsFaultFor c (Look file position) = IsLookFault (c.before.has file.now) position.now
+IsFaultFor c (Look file position) = IsAskFault question.Look (c.before.has file.now) position.now
 IsFaultFor c (LookEach file) = IsPlacesFault c file.now
+IsFaultFor c (MovesEach file) = IsPlacesFault c file.now
+IsFaultFor c (BestEach file) = IsPlacesFault c file.now
+IsFaultFor c (LineEach file is_numbered) = IsPlacesFault c file.now
 IsFaultFor c (Show file picture position) = IsShowFault c (text_given file) (text_given picture) position.now
 IsFaultFor c (Moves file position) = IsAskFault question.Moves (c.before.has file.now) position.now
 IsFaultFor c (Best file position) = IsAskFault question.Best (c.before.has file.now) position.now
@@ -96,16 +102,26 @@ KeepsFiles _ = SameFiles
 abbrev pub IsByLines : Order → Type 0
 IsByLines (Each file) = ⊥
 IsByLines (LookEach file) = ⊥
+IsByLines (MovesEach file) = ⊥
+IsByLines (BestEach file) = ⊥
+IsByLines (LineEach file is_numbered) = ⊥
 IsByLines _ = Unit {0}
 
 -- such lines, of which none is refused
 abbrev pub AllTold : (List ℕ → Type 0) → Bool → List ℕ → Type 0
 AllTold AreLines is_refused lines = (is_refused ≡ false) × AreLines lines
 
+-- the lines answer the question of the position of each line of standard input
+abbrev pub AreEachAnswers : ShelfChange → Question → List ℕ → Bool → List ℕ → Type 0
+AreEachAnswers c asked file = ArePlaceLines (AnswersLine asked (GivesWhole (c.before.has file))) asked c file
+
 -- the lines are right for the order, where a line is refused or none is
 abbrev pub AreToldFor : ShelfChange → Order → Bool → List ℕ → Type 0
 AreToldFor c (Each file) = AreEachLines IsGivenTo c file.now
-AreToldFor c (LookEach file) = ArePlaceLines (IsLookedFor (GivesWhole (c.before.has file.now))) c file.now
+AreToldFor c (LookEach file) = AreEachAnswers c question.Look file.now
+AreToldFor c (MovesEach file) = AreEachAnswers c question.Moves file.now
+AreToldFor c (BestEach file) = AreEachAnswers c question.Best file.now
+AreToldFor c (LineEach file is_numbered) = AreEachAnswers c (question.Line is_numbered) file.now
 AreToldFor c order = AllTold (AreLinesFor c order)
 
 -- what a call gives that finds the lines for the order
@@ -130,8 +146,12 @@ AnswersRight c (Probe file position) e = ByValueFile c file.now (λ profile. Ans
 AnswersRight c (Each file) e = ByValueFile c file.now (λ profile. AnswersEachRight c profile file.now e)
 AnswersRight c (Line file is_numbered position) e = ByValueFile c file.now
     (λ profile. AnswersQuestionRight c profile (question.Line is_numbered) file.now position.now e)
-AnswersRight c (Look file position) e = ByValueFile c file.now (λ profile. AnswersLookRight c profile file.now position.now e)
-AnswersRight c (LookEach file) e = ByValueFile c file.now (λ profile. AnswersLookEachRight c profile file.now e)
+AnswersRight c (Look file position) e = ByValueFile c file.now (λ profile. AnswersQuestionRight c profile question.Look file.now position.now e)
+AnswersRight c (LookEach file) e = ByValueFile c file.now (λ profile. AnswersQuestionEachRight c profile question.Look file.now e)
+AnswersRight c (MovesEach file) e = ByValueFile c file.now (λ profile. AnswersQuestionEachRight c profile question.Moves file.now e)
+AnswersRight c (BestEach file) e = ByValueFile c file.now (λ profile. AnswersQuestionEachRight c profile question.Best file.now e)
+AnswersRight c (LineEach file is_numbered) e =
+    ByValueFile c file.now (λ profile. AnswersQuestionEachRight c profile (question.Line is_numbered) file.now e)
 AnswersRight c (Show (Some file) picture position) e =
     ByValueFile c file.now (λ profile. AnswersShowRight c profile file.now (text_given picture) position.now e)
 AnswersRight c (Reach own (Some file) has_levels is_watched position) e =

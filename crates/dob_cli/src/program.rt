@@ -17,9 +17,9 @@ use dob_pieces::Profile;
 use dob_probe::Walk;
 use dob_query::{
     Console, Fault, LineAnswers, Lines, PuzzleSearch, Question, ReachSearch, Shelf, answer_certify,
-    answer_check, answer_count, answer_each, answer_look, answer_look_each, answer_migrate,
-    answer_probe, answer_puzzles, answer_question, answer_reach, answer_reply, answer_show,
-    answer_stats, answer_value, answer_verify, answer_zugzwangs,
+    answer_check, answer_count, answer_each, answer_migrate, answer_probe, answer_puzzles,
+    answer_question, answer_question_each, answer_reach, answer_reply, answer_show, answer_stats,
+    answer_value, answer_verify, answer_zugzwangs,
 };
 use dob_words::command::{Order, Reading, read_words};
 use std::alloc::{AllocError, Global};
@@ -128,7 +128,15 @@ fn answers_for<S: Shelf>(
 {
     match order {
         Order::Each(file) => answer_each(alloc, shelf, file),
-        Order::LookEach(file) => answer_look_each(alloc, shelf, file),
+        Order::LookEach(file) => answer_question_each(alloc, shelf, file, Question::Look),
+        Order::MovesEach(file) => answer_question_each(alloc, shelf, file, Question::Moves),
+        Order::BestEach(file) => answer_question_each(alloc, shelf, file, Question::Best),
+        Order::LineEach { file, is_numbered } => answer_question_each(
+            alloc,
+            shelf,
+            file,
+            Question::Line { is_numbered },
+        ),
         _ => {
             let lines = answer(rt, alloc, order, shelf)?;
             Ok(LineAnswers {
@@ -172,22 +180,41 @@ fn answer<S: Shelf>(
         Order::Probe { file, position } => answer_probe(alloc, shelf, file, position),
         Order::Each(_) => unreachable!(),
         Order::LookEach(_) => unreachable!(),
+        Order::MovesEach(_) => unreachable!(),
+        Order::BestEach(_) => unreachable!(),
+        Order::LineEach { .. } => unreachable!(),
         Order::Line {
             file,
             is_numbered,
             position,
         } => answer_question(alloc, shelf, file, Question::Line { is_numbered }, position),
         Order::Check { file, is_watched } => answer_check(rt, alloc, shelf, file, is_watched),
-        Order::Look { file, position } => answer_look(alloc, shelf, file, position),
+        Order::Look { file, position } => answer_question(
+            alloc,
+            shelf,
+            file,
+            Question::Look,
+            position,
+        ),
         Order::Show {
             file,
             picture,
             position,
         } => answer_show(alloc, shelf, file, picture, position),
-        Order::Moves { file, position } =>
-            answer_question(alloc, shelf, file, Question::Moves, position),
-        Order::Best { file, position } =>
-            answer_question(alloc, shelf, file, Question::Best, position),
+        Order::Moves { file, position } => answer_question(
+            alloc,
+            shelf,
+            file,
+            Question::Moves,
+            position,
+        ),
+        Order::Best { file, position } => answer_question(
+            alloc,
+            shelf,
+            file,
+            Question::Best,
+            position,
+        ),
         Order::Stats { file, is_csv } => answer_stats(rt, alloc, shelf, file, is_csv),
         Order::Zugzwangs { file, listed } => answer_zugzwangs(rt, alloc, shelf, file, listed),
         Order::Puzzles {

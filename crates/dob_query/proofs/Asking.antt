@@ -28,12 +28,11 @@ use Rattle.dob_records.proofs.Tabled.{given_by_record, line_by, listed_by, recor
 use Rattle.dob_query.specs.declared.fault.Fault.{Fault}
 use Rattle.dob_query.specs.declared.fault.Fault.TheVariants.{Text, SetText, TooDeep, Run, File, Table, PuzzlePlies, Certificate, Memory, Io}
 use Rattle.dob_query.specs.declared.questions.Question.{Question}
-use Rattle.dob_query.specs.declared.questions.Question.TheVariants.{Moves, Best, Line, Draw}
+use Rattle.dob_query.specs.declared.questions.Question.TheVariants.{Look, Moves, Best, Line, Draw}
 use Rattle.std.specs.Prelude.{Err, IfOk, Ok, Result}
 use Rattle.dob_query.specs.Endings.{Ending, IsAnswered}
 use Rattle.dob_query.specs.Faults.{fault_of_shelf}
-use Rattle.dob_query.specs.Looks.{GivesWhole}
-use Rattle.dob_query.specs.Questions.{AnswersQuestion, AnswersQuestionRight, AreAnswerLines, AreRightAnswerLines, IsAnswerOf, IsAskFault, IsAskingFault, IsFaultOfAsking, IsOfNamed, IsRecordsFault, IsToldBy, TellsMoves, TellsPlay}
+use Rattle.dob_query.specs.Questions.{GivesWhole, AnswersQuestion, AnswersQuestionRight, AreAnswerLines, AreRightAnswerLines, IsAnswerOf, IsAskFault, IsAskingFault, IsFaultOfAsking, IsOfNamed, IsRecordsFault, IsToldBy, TellsMoves, TellsPlay}
 use Rattle.dob_query.specs.Tables.{HasValueFile, IsTextOf}
 use Rattle.dob_shelf.specs.declared.shelf.ShelfFault.{ShelfFault}
 use Rattle.dob_shelf.specs.declared.shelf.ShelfFault.TheVariants as shelf_fault
@@ -155,6 +154,12 @@ module _ (Has : List ℕ → Type 0) (profile : Profile) (file : HasValueFile Ha
 
   told_right : (question : Question) (format : Format) (lines : List ℕ) → IsOfNamed (whole file.bytes) p format table.family
       → IsToldBy question table.family.profile (IsRecorded (whole file.bytes) format table.family) p lines → IsToldBy question profile (HasValue profile) p lines
+  told_right Look format lines by told = (
+    told.0,
+    subst (λ (rules : Profile). HasValue rules p told.0) file.rules
+        (file.right.values_are p told.0 by.member (given_by_record table file.bytes format file.right.table file.file by.named p told.0 told.1)),
+    told.2,
+  )
   told_right Moves format lines by told = (told.0, moves_right format told.0 by told.1, told.2)
   told_right Best format lines by told = (told.0, moves_right format told.0 by told.1, told.2)
   told_right (Line is_numbered) format lines by told =

@@ -22,56 +22,59 @@ use Rattle.dob_query.proofs.TableFaults.{value_right}
 
 -- ---- one more line
 
-module _ (Is : List ℕ → Result Value Fault → Type 0) where
+module _ (A : Type 0) (Is : List ℕ → A → Type 0) where
   -- an answer behind the others, to the line behind the others
-  are_more : (ls : List (List ℕ)) (xs : List (Result Value Fault)) (line : List ℕ) (answer : Result Value Fault) → AreAnswers Is ls xs
-      → Is line answer → AreAnswers Is (ls ++ line ∷ []) (xs ++ answer ∷ [])
+  are_more : (ls : List (List ℕ)) (xs : List A) (line : List ℕ) (answer : A) → AreAnswers Is ls xs → Is line answer
+      → AreAnswers Is (ls ++ line ∷ []) (xs ++ answer ∷ [])
   are_more [] [] line answer are is = (is, tt)
   are_more [] (a ∷ xs) line answer are is = absurd are
   are_more (l ∷ ls) [] line answer are is = absurd are
   are_more (l ∷ ls) (a ∷ xs) line answer are is = (are.0, are_more ls xs line answer are.1 is)
 
--- its line comes to the others
-lines_more : (xs : List (Result Value Fault)) (answer : Result Value Fault) → flat_map answer_line (xs ++ answer ∷ []) ≡ flat_map answer_line xs ++ answer_line answer
-lines_more [] answer = append-nil (answer_line answer)
-lines_more (a ∷ xs) answer = ap (λ (l : List ℕ). answer_line a ++ l) (lines_more xs answer) ∙ sym (append_assoc (answer_line a) (flat_map answer_line xs) (answer_line answer))
+-- its lines come to the others
+lines_more : (A : Type 0) (tell : A → List ℕ) (xs : List A) (answer : A) → flat_map tell (xs ++ answer ∷ []) ≡ flat_map tell xs ++ tell answer
+lines_more A tell [] answer = append-nil (tell answer)
+lines_more A tell (a ∷ xs) answer =
+    ap (λ (l : List ℕ). tell a ++ l) (lines_more A tell xs answer) ∙ sym (append_assoc (tell a) (flat_map tell xs) (tell answer))
 
 -- and that it is refused
-refused_more : (xs : List (Result Value Fault)) (answer : Result Value Fault) → list_any is_err (xs ++ answer ∷ []) ≡ (list_any is_err xs || is_err answer)
-refused_more [] answer = or-false (is_err answer)
-refused_more (a ∷ xs) answer = ap (λ (b : Bool). is_err a || b) (refused_more xs answer) ∙ either (is_err a) (list_any is_err xs) (is_err answer)
+refused_more : (A : Type 0) (refuses : A → Bool) (xs : List A) (answer : A) → list_any refuses (xs ++ answer ∷ []) ≡ (list_any refuses xs || refuses answer)
+refused_more A refuses [] answer = or-false (refuses answer)
+refused_more A refuses (a ∷ xs) answer =
+    ap (λ (b : Bool). refuses a || b) (refused_more A refuses xs answer) ∙ either (refuses a) (list_any refuses xs) (refuses answer)
   where
     either : (x y z : Bool) → (x || (y || z)) ≡ ((x || y) || z)
     either true y z = refl
     either false y z = refl
 
 -- the lines up to what is left are answered
-pub record AreAnswered (Is : List ℕ → Result Value Fault → Type 0) (input left : List ℕ) (is_refused : Bool) (text : List ℕ) : Type 0 where
+pub record AreAnswered (A : Type 0) (tell : A → List ℕ) (refuses : A → Bool) (Is : List ℕ → A → Type 0) (input left : List ℕ) (is_refused : Bool)
+    (text : List ℕ) : Type 0 where
   pub before : List (List ℕ)
-  pub answers : List (Result Value Fault)
+  pub answers : List A
   pub split : lines_of input ≡ before ++ lines_of left
   pub each : AreAnswers Is before answers
-  pub same : text ≡ flat_map answer_line answers
-  pub refused : is_refused ≡ list_any is_err answers
+  pub same : text ≡ flat_map tell answers
+  pub refused : is_refused ≡ list_any refuses answers
 
-module _ (Is : List ℕ → Result Value Fault → Type 0) (input : List ℕ) where
-  pub none_answered : (is_refused : Bool) (text : List ℕ) → is_refused ≡ false → text ≡ [] → AreAnswered Is input input is_refused text
+module _ (A : Type 0) (tell : A → List ℕ) (refuses : A → Bool) (Is : List ℕ → A → Type 0) (input : List ℕ) where
+  pub none_answered : (is_refused : Bool) (text : List ℕ) → is_refused ≡ false → text ≡ [] → AreAnswered A tell refuses Is input input is_refused text
   none_answered is_refused text none empty = record { before = []; answers = []; split = refl; each = tt; same = empty; refused = none }
 
-  pub one_answered : (left rest line : List ℕ) (answer : Result Value Fault) (was_refused is_refused : Bool) (old new : List ℕ)
-      → AreAnswered Is input left was_refused old → lines_of left ≡ line ∷ lines_of rest → Is line answer
-      → new ≡ old ++ answer_line answer → is_refused ≡ (was_refused || is_err answer) → AreAnswered Is input rest is_refused new
+  pub one_answered : (left rest line : List ℕ) (answer : A) (was_refused is_refused : Bool) (old new : List ℕ)
+      → AreAnswered A tell refuses Is input left was_refused old → lines_of left ≡ line ∷ lines_of rest → Is line answer
+      → new ≡ old ++ tell answer → is_refused ≡ (was_refused || refuses answer) → AreAnswered A tell refuses Is input rest is_refused new
   one_answered left rest line answer was_refused is_refused old new are first is grown refused = record {
     before = are.before ++ line ∷ [];
     answers = are.answers ++ answer ∷ [];
     split = are.split ∙ (ap (λ (l : List (List ℕ)). are.before ++ l) first ∙ sym (append_assoc are.before (line ∷ []) (lines_of rest)));
-    each = are_more Is are.before are.answers line answer are.each is;
-    same = grown ∙ (ap (λ (l : List ℕ). l ++ answer_line answer) are.same ∙ sym (lines_more are.answers answer));
-    refused = refused ∙ (ap (λ (b : Bool). b || is_err answer) are.refused ∙ sym (refused_more are.answers answer));
+    each = are_more A Is are.before are.answers line answer are.each is;
+    same = grown ∙ (ap (λ (l : List ℕ). l ++ tell answer) are.same ∙ sym (lines_more A tell are.answers answer));
+    refused = refused ∙ (ap (λ (b : Bool). b || refuses answer) are.refused ∙ sym (refused_more A refuses are.answers answer));
   }
 
-  pub all_answered : (left : List ℕ) (is_refused : Bool) (text : List ℕ) → AreAnswered Is input left is_refused text → lines_of left ≡ []
-      → TellsLinesOf Is input is_refused text
+  pub all_answered : (left : List ℕ) (is_refused : Bool) (text : List ℕ) → AreAnswered A tell refuses Is input left is_refused text → lines_of left ≡ []
+      → TellsLinesOf A tell refuses Is input is_refused text
   all_answered left is_refused text are none = record {
     answers = are.answers;
     each = subst (λ (ls : List (List ℕ)). AreAnswers Is ls are.answers)
@@ -142,18 +145,19 @@ module _ (c : ShelfChange) (AreLines : Bool → List ℕ → Type 0) (Holds : Fa
   }))
 
 -- answers of one kind are of another one
-pub answers_are : (Is Other : List ℕ → Result Value Fault → Type 0) → ((line : List ℕ) (answer : Result Value Fault) → Is line answer → Other line answer)
-    → (ls : List (List ℕ)) (xs : List (Result Value Fault)) → AreAnswers Is ls xs → AreAnswers Other ls xs
-answers_are Is Other weaker [] [] are = tt
-answers_are Is Other weaker [] (a ∷ xs) are = absurd are
-answers_are Is Other weaker (l ∷ ls) [] are = absurd are
-answers_are Is Other weaker (l ∷ ls) (a ∷ xs) are = (weaker l a are.0, answers_are Is Other weaker ls xs are.1)
+pub answers_are : (A : Type 0) (Is Other : List ℕ → A → Type 0) → ((line : List ℕ) (answer : A) → Is line answer → Other line answer)
+    → (ls : List (List ℕ)) (xs : List A) → AreAnswers Is ls xs → AreAnswers Other ls xs
+answers_are A Is Other weaker [] [] are = tt
+answers_are A Is Other weaker [] (a ∷ xs) are = absurd are
+answers_are A Is Other weaker (l ∷ ls) [] are = absurd are
+answers_are A Is Other weaker (l ∷ ls) (a ∷ xs) are = (weaker l a are.0, answers_are A Is Other weaker ls xs are.1)
 
-pub tells_are : (Is Other : List ℕ → Result Value Fault → Type 0) → ((line : List ℕ) (answer : Result Value Fault) → Is line answer → Other line answer)
-    → (input : List ℕ) (is_refused : Bool) (text : List ℕ) → TellsLinesOf Is input is_refused text → TellsLinesOf Other input is_refused text
-tells_are Is Other weaker input is_refused text told = record {
+pub tells_are : (A : Type 0) (tell : A → List ℕ) (refuses : A → Bool) (Is Other : List ℕ → A → Type 0)
+    → ((line : List ℕ) (answer : A) → Is line answer → Other line answer) → (input : List ℕ) (is_refused : Bool) (text : List ℕ)
+    → TellsLinesOf A tell refuses Is input is_refused text → TellsLinesOf A tell refuses Other input is_refused text
+tells_are A tell refuses Is Other weaker input is_refused text told = record {
   answers = told.answers;
-  each = answers_are Is Other weaker (lines_of input) told.answers told.each;
+  each = answers_are A Is Other weaker (lines_of input) told.answers told.each;
   same = told.same;
   refused = told.refused;
 }
@@ -172,7 +176,7 @@ lines_right c profile file right is_refused text told = record {
   whole = told.whole;
   input = told.input;
   read = told.read;
-  told = tells_are (IsAnswer (IsGivenTo told.table) told.table) (IsAnswer (IsValueOf profile) told.table)
+  told = tells_are (Result Value Fault) answer_line is_err (IsAnswer (IsGivenTo told.table) told.table) (IsAnswer (IsValueOf profile) told.table)
       (answer_right (c.before.has file) profile right told.table told.whole) told.input is_refused text told.told;
 }
 

@@ -4,7 +4,6 @@ pub mod Endings  -- lines or a fault that were told are what is owed
 pub mod TableFaults  -- the faults of a table are those of the file it was read from, and by a value table's file what is told is right
 pub mod FirstLine  -- the first line of bytes, by the place of their first line feed
 pub mod EachLine  -- the answers to lines, one more at a time, and that what was told of them is owed and right
-pub mod ByPlace  -- by the file of a value table what is looked up is right
 pub mod Tallies  -- the tally of a list from those of its parts
 pub mod Statistics  -- the longest win and loss of a table are among its groups
 pub mod Asking  -- the faults of the records, of the header and of opening the file are those of asking it, and by a value table's file the answer is right
@@ -14,6 +13,6 @@ pub mod Migrating  -- the faults of reading a file and of keeping its table are 
 pub mod Puzzling  -- the lines of puzzles, and which classes they are of
 pub mod Paired  -- the pairs of a table whose lines are written, and by a value table's file they are right
 pub mod Reaching  -- what can be reached, by rules or by a file, and how the lines tell it
-pub mod Placed  -- what lines come to by the records of a source is what is owed for looking for each
+pub mod Placed  -- what lines come to by the records of a source is what is owed for asking for each
 pub mod Proven  -- the faults of a certificate's file and of its lists are those of verifying it, and of asking it for a reply
 pub mod MadeFaults  -- the faults of reading a file, of making a certificate and of keeping its bytes are those of certifying

@@ -39,7 +39,7 @@ IsAnswer IsTold table line (Ok value) = IsTold line value
 IsAnswer IsTold table line (Err fault) = IsLineFault table line fault
 
 -- these are what the lines come to, one for each, in their order; by Is an answer is a line's
-abbrev pub AreAnswers : (List ℕ → Result Value Fault → Type 0) → List (List ℕ) → List (Result Value Fault) → Type 0
+abbrev pub AreAnswers : {A : Type 0} → (List ℕ → A → Type 0) → List (List ℕ) → List A → Type 0
 AreAnswers Is [] [] = Unit {0}
 AreAnswers Is (line ∷ more) (answer ∷ answers) = Is line answer × AreAnswers Is more answers
 AreAnswers Is _ _ = ⊥
@@ -51,13 +51,18 @@ abbrev pub answer_line : Result Value Fault → List ℕ
 answer_line (Ok value) = value_line value
 answer_line (Err fault) = fault_text fault ++ line_feed ∷ []
 
--- The text gives what the lines of the input come to, a line for each, and whether one was refused. The lines of bytes are std's `lines`: they
+-- The text gives what the lines of the input come to, each as it is told, and whether one was refused. The lines of bytes are std's `lines`: they
 -- end at line feeds, a carriage return before one is dropped, and an empty rest after the last is no line.
-pub record TellsLinesOf (Is : List ℕ → Result Value Fault → Type 0) (input : List ℕ) (is_refused : Bool) (text : List ℕ) : Type 0 where
-  pub answers : List (Result Value Fault)
+pub record TellsLinesOf (A : Type 0) (tell : A → List ℕ) (refuses : A → Bool) (Is : List ℕ → A → Type 0) (input : List ℕ) (is_refused : Bool)
+    (text : List ℕ) : Type 0 where
+  pub answers : List A
   pub each : AreAnswers Is (lines_of input) answers
-  pub same : text ≡ flat_map answer_line answers
-  pub refused : is_refused ≡ list_any is_err answers
+  pub same : text ≡ flat_map tell answers
+  pub refused : is_refused ≡ list_any refuses answers
+
+-- the same where each line comes to a value, or is refused
+abbrev pub TellsValuesOf : (List ℕ → Result Value Fault → Type 0) → List ℕ → Bool → List ℕ → Type 0
+TellsValuesOf = TellsLinesOf (Result Value Fault) answer_line is_err
 
 -- it answers so by the table of the file, of standard input's bytes, where these are known
 pub record AreEachLines (IsTold : ClassTable → List ℕ → Value → Type 0) (c : ShelfChange) (file : List ℕ) (is_refused : Bool) (text : List ℕ) : Type 0 where
@@ -65,7 +70,7 @@ pub record AreEachLines (IsTold : ClassTable → List ℕ → Value → Type 0) 
   pub whole : IsFileOf (c.before.has file) table
   pub input : List ℕ
   pub read : (known : List ℕ) → c.before.input ≡ Some known → input ≡ known
-  pub told : TellsLinesOf (IsAnswer (IsTold table) table) input is_refused text
+  pub told : TellsValuesOf (IsAnswer (IsTold table) table) input is_refused text
 
 -- A fault that ends all: one of opening the file, or memory failed, or the file couldn't be opened. Or standard input failed, of which
 -- nothing was known.

@@ -3,7 +3,6 @@ pub mod Endings
 pub mod Program
 pub mod Tables
 pub mod Each
-pub mod Looks
 pub mod Played
 pub mod ValuedMoves
 pub mod Questions
@@ -15,7 +14,7 @@ pub mod Migrations
 pub mod Stats
 pub mod Puzzles
 pub mod Reaches
-pub mod LooksEach
+pub mod QuestionsEach
 pub mod Certificates
 pub mod Replying
 pub mod Zugzwangs

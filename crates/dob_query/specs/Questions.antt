@@ -16,23 +16,29 @@ use Rattle.dob_dbfile.specs.Devices.{Stream, whole}
 use Rattle.dob_dbfile.specs.Faults.{CountsClasses}
 use Rattle.dob_dbfile.specs.Looking.{HasFrontFault}
 use Rattle.dob_probe.specs.declared.by_value.ValuedMove.{ValuedMove}
+use Rattle.dob_probe.specs.declared.fault.Fault as probing
 use Rattle.dob_probe.specs.declared.fault.Fault.TheVariants as table_fault
+use Rattle.dob_probe.specs.Faults.{IsRefusal}
 use Rattle.dob_probe.specs.Lines.{IsLine}
 use Rattle.dob_probe.specs.ValuedMoves.{AreValuedMoves}
 use Rattle.dob_records.specs.Faults.{BreaksBy}
-use Rattle.dob_records.specs.Records.{IsRecorded, LacksAlong, LacksNext}
+use Rattle.dob_records.specs.Records.{IsRecorded, LacksAlong, LacksNext, LacksRecord}
 use Rattle.dob_query.specs.declared.fault.Fault.{Fault}
 use Rattle.dob_query.specs.declared.fault.Fault.TheVariants.{Text, File, Table, Memory, Io}
 use Rattle.dob_query.specs.declared.questions.Question.{Question}
-use Rattle.dob_query.specs.declared.questions.Question.TheVariants.{Moves, Best, Line, Draw}
+use Rattle.dob_query.specs.declared.questions.Question.TheVariants.{Look, Moves, Best, Line, Draw}
 use Rattle.dob_query.specs.Endings.{AnswersOver, Ending, GivesLines}
-use Rattle.dob_query.specs.Looks.{GivesWhole, IsRefusedBy}
+use Rattle.dob_query.specs.Program.{value_line}
 use Rattle.dob_query.specs.Played.{moves_lines, played_drawing}
 use Rattle.dob_query.specs.Tables.{IsShut, IsTextOf}
 use Rattle.dob_query.specs.ValuedMoves.{best_move_line, move_lines}
 use Rattle.dob_shelf.specs.Shelves.{ShelfChange}
 
 -- ---- the answer, where Has says which value a position has
+
+-- the line tells the position's value
+abbrev pub TellsValue : (Setup → Value → Type 0) → Setup → List ℕ → Type 0
+TellsValue Has p lines = (value : Value) × Has p value × (lines ≡ value_line value)
 
 -- the lines tell the moves of the position with their values
 abbrev pub TellsMoves : (List ValuedMove → List ℕ) → Profile → (Setup → Value → Type 0) → Setup → List ℕ → Type 0
@@ -45,6 +51,7 @@ TellsPlay tell profile Has p lines =
 
 -- the lines answer the question of the position
 abbrev pub IsToldBy : Question → Profile → (Setup → Value → Type 0) → Setup → List ℕ → Type 0
+IsToldBy Look profile Has p = TellsValue Has p
 IsToldBy Moves profile Has p = TellsMoves move_lines profile Has p
 IsToldBy Best profile Has p = TellsMoves best_move_line profile Has p
 IsToldBy (Line is_numbered) profile Has p = TellsPlay (moves_lines is_numbered) profile Has p
@@ -66,6 +73,7 @@ pub record IsAnswerOf (question : Question) (stream : Stream) (position : Setup)
 
 -- a record that the question needs isn't whole
 abbrev pub LacksFor : Question → Stream → Format → Family → Setup → file.Fault → Type 0
+LacksFor Look = LacksRecord
 LacksFor Moves = LacksNext
 LacksFor Best = LacksNext
 LacksFor (Line is_numbered) = LacksAlong
@@ -73,6 +81,7 @@ LacksFor Draw = LacksAlong
 
 -- where it asks for the line, that breaks off at the class
 abbrev pub BreaksFor : Question → Stream → Format → Family → Setup → ℕ → Type 0
+BreaksFor Look stream format family p class = ⊥
 BreaksFor Moves stream format family p class = ⊥
 BreaksFor Best stream format family p class = ⊥
 BreaksFor (Line is_numbered) stream format family p class = BreaksBy family (IsRecorded stream format family) p class
@@ -85,6 +94,11 @@ IsRecordsFault question Shows format family p (Table (table_fault.Inconsistent c
     (stream : Stream) → Shows stream → BreaksFor question stream format family p class
 IsRecordsFault question Shows format family p Memory = Unit {0}
 IsRecordsFault question Shows format family p _ = ⊥
+
+-- the header names a family that refuses the position
+abbrev pub IsRefusedBy : Stream → Setup → probing.Fault → Type 0
+IsRefusedBy stream position fault =
+    (format : Format) × (family : Family) × CountsClasses format family stream.bytes × IsRefusal family position fault
 
 -- A fault of asking a source that may give these streams: the header's, or that its family refuses the position, or of answering by the records; or memory
 -- failed.
@@ -99,6 +113,10 @@ IsFaultOfAsking question Gives p Memory = Unit {0}
 IsFaultOfAsking question Gives p _ = ⊥
 
 -- ---- by the words; Has says which bytes the file has, where that is known
+
+-- the file gives that stream
+abbrev pub GivesWhole : (List ℕ → Type 0) → Stream → Type 0
+GivesWhole Has stream = (bytes : List ℕ) × Has bytes × (stream ≡ whole bytes)
 
 -- the lines answer the question of the position by the file
 abbrev pub IsAnswerBy : Question → (List ℕ → Type 0) → Setup → List ℕ → Type 0

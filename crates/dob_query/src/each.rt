@@ -1,6 +1,6 @@
 // The answers to the lines of standard input, by the table of a database file.
-ghost use Rattle.std.specs.Prelude.{◌≡◌, ◌++◌, ◌||◌, [], false, IfOk, OnOk, is_err, string_bytes};
-ghost use Rattle.dob_query.specs.Each.{IsAnswer, IsGivenTo, TellsLinesOf, answer_line, status_of_lines, GivesEach};
+ghost use Rattle.std.specs.Prelude.{◌≡◌, ◌++◌, ◌||◌, [], false, IfOk, OnOk, string_bytes};
+ghost use Rattle.dob_query.specs.Each.{IsAnswer, IsGivenTo, TellsValuesOf, answer_line, status_of_lines, GivesEach};
 ghost use Rattle.dob_shelf.specs.Shelves.{Leaving, SameFiles};
 
 use crate::fault::Fault;
@@ -40,14 +40,13 @@ impl LineAnswers {
         }
     }
 
-    /// Adds an answer behind the others.
-    pub(crate) fn add(&mut self, alloc: Global, answer: Result<Value, Fault>) -> Result<(), Memory>
-        ensures lines { OnOk result (string_bytes self.new.lines ≡ string_bytes self.old.lines ++ answer_line answer) }
-        ensures refused { OnOk result (self.new.is_refused ≡ (self.old.is_refused || is_err answer)) }
+    /// Adds the lines of an answer behind the others, of a line that may be refused.
+    pub(crate) fn add(&mut self, lines: &str, is_refused: bool) -> Result<(), Memory>
+        ensures lines { OnOk result (string_bytes self.new.lines ≡ string_bytes self.old.lines ++ lines.now) }
+        ensures refused { OnOk result (self.new.is_refused ≡ (self.old.is_refused || is_refused)) }
     {
-        let line = answer_line(alloc, answer)?;
-        self.lines.push_str(line.as_str())?;
-        self.is_refused |= answer.is_err();
+        self.lines.push_str(lines)?;
+        self.is_refused |= is_refused;
         Ok(())
     }
 }
@@ -63,12 +62,14 @@ pub fn answer_each<S: Shelf>(alloc: Global, shelf: &mut S, file: &str) -> Result
 
 // The answers to the lines of the bytes.
 fn answers_to(alloc: Global, table: &Table, input: &[u8]) -> Result<LineAnswers, Memory>
-    ensures { IfOk result (λ answers. TellsLinesOf (IsAnswer (IsGivenTo table.now) table.now) input.now answers.is_refused (string_bytes answers.lines)) }
+    ensures { IfOk result (λ answers. TellsValuesOf (IsAnswer (IsGivenTo table.now) table.now) input.now answers.is_refused (string_bytes answers.lines)) }
 {
     let mut answers = LineAnswers::none(alloc);
     let mut left = input;
     while let Some((line, rest)) = first_line(left) {
-        answers.add(alloc, answer_to(table, line))?;
+        let answer = answer_to(table, line);
+        let told = answer_line(alloc, answer)?;
+        answers.add(told.as_str(), answer.is_err())?;
         left = rest;
     }
     Ok(answers)

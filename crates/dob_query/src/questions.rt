@@ -6,24 +6,27 @@ ghost use Rattle.dob_records.specs.Records.{IsRecorded};
 ghost use Rattle.dob_shelf.specs.Shelves.{Leaving, SameFiles};
 ghost use Rattle.dob_query.specs.Endings.{GivesLines};
 ghost use Rattle.dob_query.specs.Faults.{is_io_error};
-ghost use Rattle.dob_query.specs.declared.questions.Question.TheVariants.{Moves, Best, Line, Draw};
+ghost use Rattle.dob_query.specs.declared.questions.Question.TheVariants.{Look, Moves, Best, Line, Draw};
 ghost use Rattle.dob_query.specs.Questions.{GivesAnswer, IsAnswerBy, IsAnswerOf, IsAskingFault, IsFaultOfAsking, IsRecordsFault, IsToldBy};
 
 use crate::fault::Lines;
 use crate::played::{moves_lines, played_drawing};
 use crate::positions::position_named;
 use crate::valued_moves::{best_move_line, move_lines};
+use crate::values::line_of;
 use dob_classes::Classes;
 use dob_dbfile::{Format, PlacedSource, read_classes};
 use dob_pieces::Position;
 use dob_probe::check_member;
-use dob_records::{line_by_records, moves_by_records};
+use dob_records::{line_by_records, moves_by_records, value_at};
 use dob_shelf::Shelf;
 use std::alloc::Global;
 
 /// What is asked of a position.
 #[derive(Clone, Copy)]
 pub enum Question {
+    /// Its value.
+    Look,
     /// Its moves with their values.
     Moves,
     /// The first of these.
@@ -58,7 +61,8 @@ pub(crate) fn answer_of<S: Shelf>(
     position: &Position,
 ) -> Lines
     ensures answered { Leaving SameFiles S.state shelf.old shelf.new (λ c.
-        GivesLines c (IsAnswerBy question (c.before.has file.now) position.now.setup) (IsAskingFault question (c.before.has file.now) position.now.setup) result) }
+        GivesLines c (IsAnswerBy question (c.before.has file.now) position.now.setup)
+        (IsAskingFault question (c.before.has file.now) position.now.setup) result) }
     ensures told { (S.state shelf.new).tells ≡ (S.state shelf.old).tells }
 {
     let mut source = shelf.find(file)?;
@@ -85,8 +89,8 @@ fn ask<R: PlacedSource>(
     answer_by_records(alloc, source, format, &classes, question, position)
 }
 
-// The lines by the records.
-fn answer_by_records<R: PlacedSource>(
+/// The lines by the records of a source in that format, of which the classes' family has the position.
+pub(crate) fn answer_by_records<R: PlacedSource>(
     alloc: Global,
     source: &mut R,
     format: Format,
@@ -102,6 +106,7 @@ fn answer_by_records<R: PlacedSource>(
     ensures failed { R.has_failed source.new ≡ (R.has_failed source.old || is_io_error result) }
 {
     match question {
+        Question::Look => told_value(alloc, source, format, classes, position),
         Question::Moves => told_moves(alloc, source, format, classes, position),
         Question::Best => told_best(alloc, source, format, classes, position),
         Question::Line { is_numbered } => told_line(
@@ -114,6 +119,25 @@ fn answer_by_records<R: PlacedSource>(
         ),
         Question::Draw => told_drawing(alloc, source, format, classes, position),
     }
+}
+
+// The value.
+fn told_value<R: PlacedSource>(
+    alloc: Global,
+    source: &mut R,
+    format: Format,
+    classes: &Classes,
+    position: &Position,
+) -> Lines
+    requires { IsPositionOf classes.now.family position.now.setup }
+    ensures ok { (stream : Stream) → R.shows source.old stream → IfOk result (λ lines. IsToldBy Look classes.now.family.profile
+        (IsRecorded stream format classes.now.family) position.now.setup (string_bytes lines)) }
+    ensures fault { IfErr result (IsRecordsFault Look (R.shows source.old) format classes.now.family position.now.setup) }
+    ensures shown { (stream : Stream) → R.shows source.old stream → R.shows source.new stream }
+    ensures failed { R.has_failed source.new ≡ (R.has_failed source.old || is_io_error result) }
+{
+    let value = value_at(source, format, classes, position)?;
+    Ok(line_of(alloc, value)?)
 }
 
 // The moves with their values.

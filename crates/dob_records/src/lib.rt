@@ -10,3 +10,4 @@ mod values;
 pub use fault::Fault;
 pub use lines::line_by_records;
 pub use listing::moves_by_records;
+pub use values::value_at;

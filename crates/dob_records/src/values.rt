@@ -21,7 +21,7 @@ use dob_value::Value;
 /// # Errors
 ///
 /// `Truncated` and `Io`, as of `read_value`.
-pub(crate) fn value_at<R: PlacedSource>(
+pub fn value_at<R: PlacedSource>(
     source: &mut R,
     format: Format,
     classes: &Classes,

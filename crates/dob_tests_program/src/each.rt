@@ -99,6 +99,43 @@ fn answers_by_records(rt: HostRuntime) {
     answers_rows(&rt, &LOOK);
 }
 
+// Moves, the first of them and lines of positions, with a line that is none among them; an empty line stands behind an answer of several lines.
+const FURTHER: &[(&[&str], u8, &str)] = &[
+    (
+        &["moves", "--db", FILE, "--each"],
+        1,
+        "La2-a3 win 3\nLa2-b2 draw\nLa2-a1 loss 8\nLa2-b1 loss 6\nLa2-b3 loss 2\n\nE3 Hand\n\nLa1-b1 loss 2\nLa1-a2 loss 2\nLa1-b2 loss 2\n\n",
+    ),
+    (
+        &["best", "--db", FILE, "--each"],
+        1,
+        "La2-a3 win 3\nE3 Hand\nLa1-b1 loss 2\n",
+    ),
+    (
+        &["line", "--each", "--db", FILE],
+        1,
+        "La2-a3 lc4-b4 La3xb4\nE3 Hand\nLa1-b1 lc2xb1\n",
+    ),
+    (
+        &["line", "--each", "--numbered", "--db", FILE],
+        1,
+        "1. La2-a3\n2. lc4-b4\n3. La3xb4\n\nE3 Hand\n\n1. La1-b1\n2. lc2xb1\n\n",
+    ),
+];
+
+#[test]
+fn answers_of_several_lines(rt: HostRuntime) {
+    let mut shelf = shelf(&rt);
+    for (words, status, out) in FURTHER {
+        let mut input = Vec::new(rt.alloc());
+        let lines = b"..l/.../L../... - -\n..l/.../L../... - x\n.../.../..l/L.. - -";
+        assert!(rt; input.extend_from_slice(lines).is_ok());
+        shelf.set_input(input);
+        let told = run_on(&rt, rt.alloc(), &mut shelf, words);
+        assert!(rt; told.is(*status, out.as_bytes(), b""));
+    }
+}
+
 #[test]
 fn lines_that_are_no_text(rt: HostRuntime) {
     let mut shelf = shelf(&rt);

@@ -144,6 +144,12 @@ const ASKED: &[(&str, &str, &str, &str)] = &[
     ("look", "longer.db", LOSS_2, "loss 2\n"),
     ("look", "digest.db", WIN_3, "win 3\n"),
     ("look", "short.db", LOSS_2, "loss 2\n"),
+    // nor are they where the line is asked for
+    ("line", "cut.db", WIN_3, "La2-a3 lc4-b4 La3xb4\n"),
+    ("line", "longer.db", LONG, LINE_OF_LONG),
+    ("moves", "longer.db", WIN_3, MOVES_OF_WIN_3),
+    ("best", "cut.db", WIN_3, "La2-a3 win 3\n"),
+    ("show", "longer.db", CATCH, PLAYED),
 ];
 
 // The same where the answer is a fault: the exit status, and the fault.
@@ -157,6 +163,12 @@ const UNASKED: &[(&str, &str, &str, u8, &str)] = &[
     ("look", "set.db", WIN_3, 1, "E17 SetByte"),
     ("look", "count.db", WIN_3, 1, "E18 ClassCount"),
     ("look", "none.db", WIN_3, 3, "E24 Io"),
+    ("line", "short.db", WIN_3, 1, "E15 Truncated"),
+    ("moves", "empty.db", WIN_3, 1, "E15 Truncated"),
+    ("best", "magic.db", WIN_3, 1, "E16 Magic"),
+    ("moves", "set.db", WIN_3, 1, "E17 SetByte"),
+    ("line", "count.db", WIN_3, 1, "E18 ClassCount"),
+    ("moves", "none.db", WIN_3, 3, "E24 Io"),
     // a position is read before its file, which here is none
     ("look", "none.db", "", 1, "E1 Shape"),
     ("probe", "none.db", "", 1, "E1 Shape"),

@@ -8,6 +8,8 @@ use Rattle.dob_words.specs.Lines.{IsAmong, IsCommandLine}
 use Rattle.dob_words.specs.Words.{Meaning, asks, help, is_number, number_in, profile_named, usage, version}
 use Rattle.dob_words.specs.declared.command.Order.{Order}
 use Rattle.dob_words.specs.declared.command.Order.TheVariants as order
+use Rattle.dob_words.specs.declared.command.orders.Asker.{Asker}
+use Rattle.dob_words.specs.declared.command.orders.Asker.TheVariants as asker
 use Rattle.dob_words.specs.declared.command.Reading.{Reading}
 use Rattle.dob_words.specs.declared.command.Reading.TheVariants as reading
 
@@ -23,6 +25,9 @@ name_of_order (order.Line _ _ _) = codes "line"
 name_of_order (order.Check _ _) = codes "check"
 name_of_order (order.Look _ _) = codes "look"
 name_of_order (order.LookEach _) = codes "look"
+name_of_order (order.MovesEach _) = codes "moves"
+name_of_order (order.BestEach _) = codes "best"
+name_of_order (order.LineEach _ _) = codes "line"
 name_of_order (order.Show _ _ _) = codes "show"
 name_of_order (order.Moves _ _) = codes "moves"
 name_of_order (order.Best _ _) = codes "best"
@@ -33,6 +38,13 @@ name_of_order (order.Migrate _ _) = codes "migrate"
 name_of_order (order.Certify _ _ _ _ _ _) = codes "certify"
 name_of_order (order.Verify _ _) = codes "verify"
 name_of_order (order.Reply _ _) = codes "reply"
+
+-- the subcommand of that name
+abbrev pub name_of_asker : Asker → Text
+name_of_asker asker.Probe = codes "probe"
+name_of_asker asker.Look = codes "look"
+name_of_asker asker.Moves = codes "moves"
+name_of_asker asker.Best = codes "best"
 
 -- the text that may be left out
 abbrev pub text_given : Option (Bor Text) → Option Text
@@ -53,13 +65,17 @@ HasTexts texts (order.Build profile set nodes file is_watched) =
 HasTexts texts (order.Probe file position) = Some file.now ∷ None ∷ Some position.now ∷ [] ≡ texts
 HasTexts texts (order.Each file) = (flag : Text) × (Some file.now ∷ Some flag ∷ None ∷ [] ≡ texts)
 HasTexts texts (order.Line file is_numbered position) =
-    (flag : Option Text) × (Some file.now ∷ flag ∷ Some position.now ∷ [] ≡ texts) × (is_numbered ≡ is_some flag)
+    (flag : Option Text) × (Some file.now ∷ flag ∷ None ∷ Some position.now ∷ [] ≡ texts) × (is_numbered ≡ is_some flag)
 HasTexts texts (order.Check file is_watched) = (flag : Option Text) × (Some file.now ∷ flag ∷ [] ≡ texts) × (is_watched ≡ is_some flag)
 HasTexts texts (order.Look file position) = Some file.now ∷ None ∷ Some position.now ∷ [] ≡ texts
 HasTexts texts (order.LookEach file) = (flag : Text) × (Some file.now ∷ Some flag ∷ None ∷ [] ≡ texts)
+HasTexts texts (order.MovesEach file) = (flag : Text) × (Some file.now ∷ Some flag ∷ None ∷ [] ≡ texts)
+HasTexts texts (order.BestEach file) = (flag : Text) × (Some file.now ∷ Some flag ∷ None ∷ [] ≡ texts)
+HasTexts texts (order.LineEach file is_numbered) =
+    (flag : Option Text) × (each : Text) × (Some file.now ∷ flag ∷ Some each ∷ None ∷ [] ≡ texts) × (is_numbered ≡ is_some flag)
 HasTexts texts (order.Show file picture position) = text_given file ∷ text_given picture ∷ Some position.now ∷ [] ≡ texts
-HasTexts texts (order.Moves file position) = Some file.now ∷ Some position.now ∷ [] ≡ texts
-HasTexts texts (order.Best file position) = Some file.now ∷ Some position.now ∷ [] ≡ texts
+HasTexts texts (order.Moves file position) = Some file.now ∷ None ∷ Some position.now ∷ [] ≡ texts
+HasTexts texts (order.Best file position) = Some file.now ∷ None ∷ Some position.now ∷ [] ≡ texts
 HasTexts texts (order.Stats file is_csv) = (flag : Option Text) × (Some file.now ∷ flag ∷ [] ≡ texts) × (is_csv ≡ is_some flag)
 HasTexts texts (order.Zugzwangs file listed) =
     (n : Option Text) × (Some file.now ∷ n ∷ [] ≡ texts) × IfSome n (λ t. is_number t ≡ true) × (listed ≡ option_map number_in n)

@@ -231,11 +231,14 @@ meaning_of_command (word ∷ rest) =
 
 -- the subcommands that take one of `--each` and a POSITION
 abbrev pub takes_lines : Text → Bool
-takes_lines name = bytes_eq (codes "probe") name || bytes_eq (codes "look") name
+takes_lines name =
+    bytes_eq (codes "probe") name || (bytes_eq (codes "look") name
+    || (bytes_eq (codes "moves") name || (bytes_eq (codes "best") name || bytes_eq (codes "line") name)))
 
--- of `--each` and a POSITION, which these have behind FILE, just one is given
+-- of `--each` and a POSITION, which these have behind FILE, and `line` behind `--numbered` too, just one is given
 abbrev pub is_clear : List (Option Text) → Bool
 is_clear (file ∷ each ∷ position ∷ []) = if is_some each then not (is_some position) else is_some position
+is_clear (file ∷ numbered ∷ each ∷ position ∷ []) = if is_some each then not (is_some position) else is_some position
 is_clear texts = true
 
 -- what is asked for, where it is clear

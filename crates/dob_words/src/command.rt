@@ -81,6 +81,15 @@ pub enum Order<'a> {
     },
     /// To print the same of each line of standard input.
     LookEach(&'a str),
+    /// To print the moves of the position of each line, as `Moves` does.
+    MovesEach(&'a str),
+    /// To print the first of them of each line, as `Best` does.
+    BestEach(&'a str),
+    /// To print the line of the position of each line, as `Line` does.
+    LineEach {
+        file: &'a str,
+        is_numbered: bool,
+    },
     /// To draw the position that the text names, in a file too where one is named for the picture; where a table's file is
     /// named, to print the position's value and its line by it.
     Show {
@@ -179,7 +188,7 @@ pub fn read_words<'a>(alloc: Global, words: &'a [&'a str]) -> Result<Reading<'a>
         return read_topic(alloc, words);
     }
     match dobutsu_command(alloc)?.try_get_matches_from(words) {
-        Ok(matches) => read_order(alloc, order_of(&matches), orders::unclear_text(words)),
+        Ok(matches) => read_order(alloc, order_of(&matches), first_word(words)),
         Err(error) => read_error(alloc, &error),
     }
 }
@@ -428,18 +437,39 @@ fn order_of<'a>(matches: &ArgMatches<'a>) -> Option<Order<'a>>
     orders::order_named(name, inner)
 }
 
-// What the words come to where their matches were read so, and what is said of them where they aren't clear.
+// The first word, if there is one.
+fn first_word<'a>(words: &[&'a str]) -> &'a str {
+    match words {
+        [] => "",
+        [word, ..] => word,
+    }
+}
+
+// What the words come to where the matches of that subcommand were read so, and what is said of them where they aren't clear.
 fn read_order<'a>(
     alloc: Global,
     order: Option<Order<'a>>,
-    unclear: &str,
+    name: &str,
 ) -> Result<Reading<'a>, AllocError>
     ensures { (meant : Meaning) → IsReadFor meant order.entry → IfOk result (IsReadingOf meant) }
 {
     match order {
         Some(order) => Ok(Reading::Order(order)),
-        None => Ok(Reading::Usage(unclear.to_string(alloc)?)),
+        None => Ok(Reading::Usage(unclear_text(alloc, name)?)),
     }
+}
+
+// What is said where the subcommand is asked by a position and by `--each`, or by none of them.
+fn unclear_text(alloc: Global, name: &str) -> Result<String, AllocError> {
+    format!(in alloc;
+        "error: one of '<POSITION>' and '--each' has to be given, and just one
+
+Usage: dobutsu {name} --db <FILE> <POSITION>
+       dobutsu {name} --db <FILE> --each
+
+For more information, try '--help'.
+"
+    )
 }
 
 // What the words come to where `clap` has no matches for them.

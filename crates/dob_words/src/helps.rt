@@ -134,8 +134,15 @@ first such move: a piece's letter, its square, `-` or `x` for a catch, the squar
 `+` where a chick becomes a hen; or the letter of a piece in hand, `*` and a square. The moves of the
 side that isn't to move first are in lower case.
 
+Of the file only its first 21 bytes are read, the 2 bytes of the position, and for each move those of the positions that can
+follow, so that a file of any size is asked at once. Its digest isn't read, and damage isn't found: `dobutsu check` tests it all.
+
+With `--each` in place of POSITION the positions come from standard input, one on each line, and each line is answered in the
+same order, as `dobutsu look --help` says. With `--numbered` too an empty line stands behind each answer.
+
 Answers: the moves, `draw` where neither side can force an end, or `end` where the side to move has
-lost already. With `--numbered` each move stands on a line of its own behind its number, as `1. La2-a3`.
+lost already. With `--numbered` each move stands on a line of its own behind its number, as `1. La2-a3`. With `--each` the status
+is 0 where all lines were answered, and 1 where one was refused.
 
 Example: dobutsu line --db 000.db \"..l/.../L../... - -\" prints `La2-a3 lc4-b4 La3xb4`.";
 
@@ -171,9 +178,9 @@ so that `b2` names the square where column b meets row 2. Capital letters are th
 move, which go up; small letters are those of the other side, which go down. A hand holds the pieces
 that were caught and can be dropped again.
 
-With `--db FILE` an empty line follows, then the position's value and its best play, as `dobutsu probe` and
-`dobutsu line --numbered` print them. With `--svg OUT` the board is drawn as a picture too, for a browser: the
-file OUT is made anew or overwritten, as `dobutsu build --help` says of its own.
+With `--db FILE` an empty line follows, then the position's value and its best play, as `dobutsu look` and
+`dobutsu line --numbered` print them; the digest of the file isn't read. With `--svg OUT` the board is drawn as a picture
+too, for a browser: the file OUT is made anew or overwritten, as `dobutsu build --help` says of its own.
 
 Example: dobutsu show \"gle/.c./.C./ELG - -\" draws the board that a game begins with.
 `dobutsu value --help` says how a position is written.";
@@ -183,16 +190,27 @@ pub(crate) const MOVES: &str =
 here, a loss, or a draw. Wins come first, the soonest first; then draws; then losses, the latest first;
 equal ones by the squares that they leave and reach. `dobutsu line --help` says how a move is written.
 
+Of the file only its first 21 bytes are read, and 2 bytes for each move, so that a file of any size is asked at once. Its digest
+isn't read, and damage isn't found: `dobutsu check` tests it all.
+
+With `--each` in place of POSITION the positions come from standard input, one on each line, and each line is answered in the
+same order by its moves, or by its fault as `E2 Letter`, with an empty line behind them. The file is opened once.
+
 Answers: `MOVE win D`, `MOVE loss D` or `MOVE draw`; where the other side's lion can be caught, just that
-catch, `MOVE win 1`; and `end` where the side to move has lost already.
+catch, `MOVE win 1`; and `end` where the side to move has lost already. With `--each` the status is 0 where all lines were
+answered, and 1 where one was refused.
 
 Example: dobutsu moves --db 000.db \"..l/.../L../... - -\" prints `La2-a3 win 3` first.";
 
 pub(crate) const BEST: &str =
     "The first of the lines that `dobutsu moves` prints: a move that the best play begins with, and what it comes to for the side
-to move.
+to move. Of the file the same bytes are read.
 
-Answers: `MOVE win D`, `MOVE loss D` or `MOVE draw`; and `end` where the side to move has lost already.
+With `--each` in place of POSITION the positions come from standard input, one on each line, and each line is answered by a
+line, in the same order, as `dobutsu look --help` says.
+
+Answers: `MOVE win D`, `MOVE loss D` or `MOVE draw`; and `end` where the side to move has lost already. With `--each` the status
+is 0 where all lines were answered, and 1 where one was refused.
 
 Example: dobutsu best --db 000.db \"..l/.../L../... - -\" prints `La2-a3 win 3`.";
 

@@ -1,48 +1,25 @@
 // What the matches of each subcommand ask for.
-ghost use Rattle.std.specs.Prelude.{◌≡◌, IfSome, Some, codes, if◌then◌else◌, is_some, option_map, true};
+ghost use Rattle.std.specs.Prelude.{◌≡◌, IfSome, Some, codes, is_some, option_map, true};
 ghost use Rattle.clap.specs.Words.{first_value, found_of};
 ghost use Rattle.dob_words.specs.Forms.{form_named, forms};
 ghost use Rattle.dob_words.specs.Shapes.{HasFit, IsNamed, texts_in};
-ghost use Rattle.dob_words.specs.Readings.{IsOneOf, IsOrder, IsReadFor, text_given};
+ghost use Rattle.dob_words.specs.Readings.{IsOneOf, IsOrder, IsReadFor, name_of_asker, text_given};
 ghost use Rattle.dob_words.specs.Words.{asks, is_number, number_in, profile_named, settled};
 
 use super::Order;
 use clap::ArgMatches;
 use dob_pieces::Profile;
 
-// What is said where `probe` is asked by a position and by `--each`, or by none of them.
-const UNCLEAR_PROBE: &str = "error: one of '<POSITION>' and '--each' has to be given, and just one
-
-Usage: dobutsu probe --db <FILE> <POSITION>
-       dobutsu probe --db <FILE> --each
-
-For more information, try '--help'.
-";
-
-// The words of `look`, read so.
-const UNCLEAR_LOOK: &str = "error: one of '<POSITION>' and '--each' has to be given, and just one
-
-Usage: dobutsu look --db <FILE> <POSITION>
-       dobutsu look --db <FILE> --each
-
-For more information, try '--help'.
-";
-
-/// What is said where these words aren't clear.
-pub(super) fn unclear_text(words: &[&str]) -> &'static str {
-    match words {
-        [] => UNCLEAR_PROBE,
-        [word, ..] => {
-            if *word == "look" {
-                UNCLEAR_LOOK
-            } else {
-                UNCLEAR_PROBE
-            }
-        }
-    }
+/// A subcommand that asks for one position or for each line, with no other flag.
+#[derive(Clone, Copy)]
+pub(super) enum Asker {
+    Probe,
+    Look,
+    Moves,
+    Best,
 }
 
-/// What the matches of the subcommand of that name ask for; nothing where that isn't clear, as `probe` and `look` with both a position
+/// What the matches of the subcommand of that name ask for; nothing where that isn't clear, as `probe` and `line` with both a position
 /// and `--each`.
 pub(super) fn order_named<'a>(name: &str, inner: &ArgMatches<'a>) -> Option<Order<'a>>
     requires named { IsNamed name.now forms }
@@ -60,30 +37,20 @@ pub(super) fn order_named<'a>(name: &str, inner: &ArgMatches<'a>) -> Option<Orde
         }),
         "reach" => Some(reach_order(inner)),
         "build" => Some(build_order(inner)),
-        "probe" => asked_order(inner, false),
-        "line" => Some(Order::Line {
-            file: text(inner, "FILE"),
-            is_numbered: inner.get_str("numbered").is_some(),
-            position: text(inner, "POSITION"),
-        }),
+        "probe" => asked_order(inner, Asker::Probe),
+        "line" => line_order(inner),
         "check" => Some(Order::Check {
             file: text(inner, "FILE"),
             is_watched: inner.get_str("progress").is_some(),
         }),
-        "look" => asked_order(inner, true),
+        "look" => asked_order(inner, Asker::Look),
         "show" => Some(Order::Show {
             file: inner.get_str("FILE"),
             picture: inner.get_str("OUT"),
             position: text(inner, "POSITION"),
         }),
-        "moves" => Some(Order::Moves {
-            file: text(inner, "FILE"),
-            position: text(inner, "POSITION"),
-        }),
-        "best" => Some(Order::Best {
-            file: text(inner, "FILE"),
-            position: text(inner, "POSITION"),
-        }),
+        "moves" => asked_order(inner, Asker::Moves),
+        "best" => asked_order(inner, Asker::Best),
         "stats" => Some(Order::Stats {
             file: text(inner, "FILE"),
             is_csv: inner.get_str("csv").is_some(),
@@ -176,17 +143,38 @@ fn certify_order<'a>(inner: &ArgMatches<'a>) -> Order<'a>
     }
 }
 
-// What the matches of `probe`, or those of `look`, ask for, where it is clear.
-fn asked_order<'a>(inner: &ArgMatches<'a>, is_look: bool) -> Option<Order<'a>>
+// What the matches of `probe`, `look`, `moves` or `best` ask for, where it is clear.
+fn asked_order<'a>(inner: &ArgMatches<'a>, asker: Asker) -> Option<Order<'a>>
     requires { HasFit (form_named (codes "probe")) inner.now }
-    ensures { IsReadFor (settled (asks (if is_look then codes "look" else codes "probe") (texts_in (form_named (codes "probe")) inner.now))) result }
+    ensures { IsReadFor (settled (asks (name_of_asker asker) (texts_in (form_named (codes "probe")) inner.now))) result }
 {
     let file = text(inner, "FILE");
-    match (is_look, asked_of(inner)?) {
-        (false, Some(position)) => Some(Order::Probe { file, position }),
-        (false, None) => Some(Order::Each(file)),
-        (true, Some(position)) => Some(Order::Look { file, position }),
-        (true, None) => Some(Order::LookEach(file)),
+    match (asker, asked_of(inner)?) {
+        (Asker::Probe, Some(position)) => Some(Order::Probe { file, position }),
+        (Asker::Probe, None) => Some(Order::Each(file)),
+        (Asker::Look, Some(position)) => Some(Order::Look { file, position }),
+        (Asker::Look, None) => Some(Order::LookEach(file)),
+        (Asker::Moves, Some(position)) => Some(Order::Moves { file, position }),
+        (Asker::Moves, None) => Some(Order::MovesEach(file)),
+        (Asker::Best, Some(position)) => Some(Order::Best { file, position }),
+        (Asker::Best, None) => Some(Order::BestEach(file)),
+    }
+}
+
+// What the matches of `line` ask for, where it is clear.
+fn line_order<'a>(inner: &ArgMatches<'a>) -> Option<Order<'a>>
+    requires { HasFit (form_named (codes "line")) inner.now }
+    ensures { IsReadFor (settled (asks (codes "line") (texts_in (form_named (codes "line")) inner.now))) result }
+{
+    let file = text(inner, "FILE");
+    let is_numbered = inner.get_str("numbered").is_some();
+    match asked_of(inner)? {
+        Some(position) => Some(Order::Line {
+            file,
+            is_numbered,
+            position,
+        }),
+        None => Some(Order::LineEach { file, is_numbered }),
     }
 }
 

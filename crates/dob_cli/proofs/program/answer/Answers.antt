@@ -24,9 +24,6 @@ returns-in-Probe g c = rw c.in-Probe.is c.answer_probe.ensures
 pub returns-in-Check : goal.returns-in-Check
 returns-in-Check g c = rw c.in-Check.is c.answer_check.ensures
 
-pub returns-in-Look : goal.returns-in-Look
-returns-in-Look g c = rw c.in-Look.is c.answer_look.ensures
-
 pub returns-in-Build : goal.returns-in-Build
 returns-in-Build g c = rw c.in-Build.is c.answer_build.ensures
 
@@ -53,3 +50,15 @@ returns-in-Verify g c = rw c.in-Verify.is c.answer_verify.ensures
 
 pub returns-in-Reply : goal.returns-in-Reply
 returns-in-Reply g c = rw c.in-Reply.is c.answer_reply.ensures
+
+pub returns-in-Line : goal.returns-in-Line
+returns-in-Line g c = rw c.in-Line.is c.answer_question.ensures
+
+pub returns-in-Look : goal.returns-in-Look
+returns-in-Look g c = rw c.in-Look.is c.answer_question-in-Look.ensures
+
+pub returns-in-Moves : goal.returns-in-Moves
+returns-in-Moves g c = rw c.in-Moves.is c.answer_question-in-Moves.ensures
+
+pub returns-in-Best : goal.returns-in-Best
+returns-in-Best g c = rw c.in-Best.is c.answer_question-in-Best.ensures

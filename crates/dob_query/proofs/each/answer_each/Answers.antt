@@ -1,7 +1,7 @@
 -- The answers are to the lines of the bytes that standard input had, by the file's table.
 use Rattle.std.proofs.Common.{◌∙◌, List, ℕ, string_bytes, subst, rules}
 use Rattle.std.proofs.lemmas.Result.{err_from_is_err_and}
-use Rattle.dob_query.specs.Each.{IsAnswer, IsGivenTo, TellsLinesOf}
+use Rattle.dob_query.specs.Each.{IsAnswer, IsGivenTo, TellsValuesOf}
 use Rattle.dob_shelf.specs.Shelves.{shelf_change}
 use Rattle.dob_query.proofs.EachLine.{input_ends, opening_ends}
 use Rattle.dob_query.proofs.TableFaults.{shelf_fails}
@@ -34,7 +34,7 @@ returns g c = (
       whole = c.in_ok-table.ensures.opened.0.0;
       input = c.in_ok-input.input.items;
       read = λ known is. c.in_ok-input.ensures.read known (c.open.ensures.input ∙ is);
-      told = subst (λ (bytes : List ℕ). TellsLinesOf (IsAnswer (IsGivenTo c.in_ok-table.table) c.in_ok-table.table) bytes c.in_ok-answers_to.field-0.is_refused
+      told = subst (λ (bytes : List ℕ). TellsValuesOf (IsAnswer (IsGivenTo c.in_ok-table.table) c.in_ok-table.table) bytes c.in_ok-answers_to.field-0.is_refused
           (string_bytes c.in_ok-answers_to.field-0.lines)) c.deref.ensures.value c.in_ok-answers_to.ensures;
     },
     search rules,

@@ -1,0 +1,163 @@
+-- What the program owes where it is asked about the position of each line of standard input.
+use Rattle.std.specs.Prelude.{◌≡◌, ◌⊎◌, true, false, ℕ, Bool, List, [], ◌∷◌, ◌++◌, None, Option, Some, Result, Ok, Err, String, is_err, string_bytes}
+use Rattle.dob_pieces.specs.declared.profile.Family.{Family}
+use Rattle.dob_pieces.specs.declared.profile.Profile.{Profile}
+use Rattle.dob_pieces.specs.declared.profile.Profile.TheVariants.{A}
+use Rattle.dob_pieces.specs.declared.setup.Setup.{Setup}
+use Rattle.dob_pieces.specs.Bytes.{line_feed}
+use Rattle.dob_text.specs.Faults.{HasTextFault}
+use Rattle.dob_rank.specs.Families.{IsPositionOf}
+use Rattle.dob_value.specs.Values.{HasValue}
+use Rattle.dob_dbfile.specs.declared.fault.Fault.TheVariants as file_fault
+use Rattle.dob_dbfile.specs.Devices.{Stream, whole}
+use Rattle.dob_dbfile.specs.declared.header.Format.{Format}
+use Rattle.dob_dbfile.specs.Faults.{CountsClasses}
+use Rattle.dob_dbfile.specs.Looking.{HasFrontFault}
+use Rattle.dob_probe.specs.declared.fault.Fault.TheVariants as table_fault
+use Rattle.dob_probe.specs.Faults.{IsRefusal}
+use Rattle.dob_records.specs.Records.{IsRecorded}
+use Rattle.dob_query.specs.declared.each.LineAnswers.{LineAnswers}
+use Rattle.dob_query.specs.declared.fault.Fault.{Fault}
+use Rattle.dob_query.specs.declared.fault.Fault.TheVariants.{Text, File, Table, Memory, Io}
+use Rattle.dob_query.specs.declared.questions.Question.{Question}
+use Rattle.dob_query.specs.declared.questions.Question.TheVariants.{Moves, Line}
+use Rattle.dob_query.specs.Each.{AnswersLines, GivesAnswers, TellsLinesOf}
+use Rattle.dob_query.specs.Endings.{Ending}
+use Rattle.dob_query.specs.Faults.{fault_text, is_io}
+use Rattle.dob_query.specs.Questions.{GivesWhole, IsAnswerOf, IsFaultOfAsking, IsOfNamed, IsRecordsFault, IsToldBy, LacksFor}
+use Rattle.dob_query.specs.Tables.{IsShut, IsTextOf}
+use Rattle.dob_shelf.specs.Shelves.{ShelfChange}
+
+-- ---- what is printed
+
+-- what stands behind each answer: an empty line where an answer may have more lines than one
+abbrev pub end_of : Question → List ℕ
+end_of Moves = line_feed ∷ []
+end_of (Line true) = line_feed ∷ []
+end_of _ = []
+
+-- what a call gave, as bytes
+abbrev pub bytes_of : {X : Type 0} → Result (String X) Fault → Result (List ℕ) Fault
+bytes_of (Ok text) = Ok (string_bytes text)
+bytes_of (Err fault) = Err fault
+
+-- the lines of an answer, or of a fault without `dobutsu: `, and then that end
+abbrev pub ended_lines : List ℕ → Result (List ℕ) Fault → List ℕ
+ended_lines end (Ok lines) = lines ++ end
+ended_lines end (Err fault) = fault_text fault ++ (line_feed ∷ end)
+
+-- the text gives what the lines of the input come to, and whether one was refused
+abbrev pub TellsAnswersOf : Question → (List ℕ → Result (List ℕ) Fault → Type 0) → List ℕ → Bool → List ℕ → Type 0
+TellsAnswersOf question = TellsLinesOf (Result (List ℕ) Fault) (ended_lines (end_of question)) is_err
+
+-- ---- a line, by a file that may give these streams
+
+-- the lines answer the question of the line's position
+abbrev pub AnswersLine : Question → (Stream → Type 0) → List ℕ → List ℕ → Type 0
+AnswersLine question Gives line lines =
+    (position : Setup) × IsTextOf line position × ((stream : Stream) → Gives stream → IsAnswerOf question stream position lines)
+
+-- the same by the values that positions have by definition and the rules of the profile
+abbrev pub AnswersLineRight : Question → Profile → List ℕ → List ℕ → Type 0
+AnswersLineRight question profile line lines = (position : Setup) × IsTextOf line position × IsToldBy question profile (HasValue profile) position lines
+
+-- The fault is the line's first, as a text; or, where it is a position's, why the family of the header refuses that one, or that a record which the question
+-- needs isn't whole, or that the line breaks off.
+abbrev pub IsPlaceFault : Question → (Stream → Type 0) → List ℕ → Fault → Type 0
+IsPlaceFault question Gives line (Text fault) = HasTextFault A line fault
+IsPlaceFault question Gives line (Table fault) = (position : Setup) × IsTextOf line position × IsFaultOfAsking question Gives position (Table fault)
+IsPlaceFault question Gives line (File fault) = (position : Setup) × IsTextOf line position
+    × ((stream : Stream) → Gives stream → (format : Format) × (family : Family) × IsOfNamed stream position format family
+    × LacksFor question stream format family position fault)
+IsPlaceFault question Gives line _ = ⊥
+
+-- what a line comes to is its answer or its fault; by IsTold an answer is a line's
+abbrev pub IsPlaceAnswer : (List ℕ → List ℕ → Type 0) → Question → (Stream → Type 0) → List ℕ → Result (List ℕ) Fault → Type 0
+IsPlaceAnswer IsTold question Gives line (Ok lines) = IsTold line lines
+IsPlaceAnswer IsTold question Gives line (Err fault) = IsPlaceFault question Gives line fault
+
+-- the text gives what the lines of standard input's bytes come to, where these are known
+pub record ArePlaceLines (IsTold : List ℕ → List ℕ → Type 0) (question : Question) (c : ShelfChange) (file : List ℕ) (is_refused : Bool)
+    (text : List ℕ) : Type 0 where
+  pub input : List ℕ
+  pub read : (known : List ℕ) → c.before.input ≡ Some known → input ≡ known
+  pub told : TellsAnswersOf question (IsPlaceAnswer IsTold question (GivesWhole (c.before.has file))) input is_refused text
+
+-- A fault that ends all: one of the header, or memory failed, or the file couldn't be opened. Or standard input failed, of which nothing was
+-- known.
+abbrev pub IsPlacesFault : ShelfChange → List ℕ → Fault → Type 0
+IsPlacesFault c file (File fault) =
+    (stream : Stream) → GivesWhole (c.before.has file) stream → (fault ≡ file_fault.Memory) ⊎ HasFrontFault stream fault
+IsPlacesFault c file Memory = Unit {0}
+IsPlacesFault c file Io = IsShut (c.before.has file) ⊎ (c.before.input ≡ None)
+IsPlacesFault c file _ = ⊥
+
+-- ---- by a source whose header was read
+
+-- the fault of a line by the records of a source that shows these streams, where no memory or device failed
+abbrev pub IsRecordFault : Question → (Stream → Type 0) → Format → Family → List ℕ → Fault → Type 0
+IsRecordFault question Shows format family line (Text fault) = HasTextFault A line fault
+IsRecordFault question Shows format family line (Table (table_fault.Inconsistent class)) = (position : Setup) × IsTextOf line position
+    × IsPositionOf family position × IsRecordsFault question Shows format family position (Table (table_fault.Inconsistent class))
+IsRecordFault question Shows format family line (Table fault) = (position : Setup) × IsTextOf line position × IsRefusal family position fault
+IsRecordFault question Shows format family line (File fault) = (position : Setup) × IsTextOf line position
+    × IsPositionOf family position × IsRecordsFault question Shows format family position (File fault)
+IsRecordFault question Shows format family line _ = ⊥
+
+-- what a line comes to by them
+abbrev pub IsRecordAnswer : Question → (Stream → Type 0) → Format → Family → List ℕ → Result (List ℕ) Fault → Type 0
+IsRecordAnswer question Shows format family line (Ok lines) = (position : Setup) × IsTextOf line position × IsPositionOf family position
+    × ((stream : Stream) → Shows stream → IsToldBy question family.profile (IsRecorded stream format family) position lines)
+IsRecordAnswer question Shows format family line (Err fault) = IsRecordFault question Shows format family line fault
+
+-- what a call gives that is asked for one line: its answer, or that memory failed
+abbrev pub GivesRecordAnswer : {X : Type 0} → Question → (Stream → Type 0) → Format → Family → List ℕ → Result (String X) Fault → Type 0
+GivesRecordAnswer question Shows format family line (Err Memory) = Unit {0}
+GivesRecordAnswer question Shows format family line result = IsRecordAnswer question Shows format family line (bytes_of result)
+
+-- memory failed, or the source did
+abbrev pub IsRecordEnd : (Stream → Type 0) → Fault → Type 0
+IsRecordEnd Shows Memory = Unit {0}
+IsRecordEnd Shows (File (file_fault.Io bytes)) = (stream : Stream) → Shows stream → stream.fails ≡ true
+IsRecordEnd Shows _ = ⊥
+
+-- whether the fault ends all: that memory failed, or a device
+abbrev pub ends_all : Fault → Bool
+ends_all Memory = true
+ends_all fault = is_io fault
+
+abbrev pub ends_all_in : {X : Type 0} → Result X Fault → Bool
+ends_all_in (Ok x) = false
+ends_all_in (Err fault) = ends_all fault
+
+-- By a source that may give and show these streams: the text gives what the lines of standard input's bytes come to, by the family that the
+-- header names.
+pub record TellsRecords (question : Question) (Gives Shows : Stream → Type 0) (known : Option (List ℕ)) (is_refused : Bool) (text : List ℕ) : Type 0 where
+  pub format : Format
+  pub family : Family
+  pub named : (stream : Stream) → Gives stream → CountsClasses format family stream.bytes
+  pub input : List ℕ
+  pub read : (bytes : List ℕ) → known ≡ Some bytes → input ≡ bytes
+  pub told : TellsAnswersOf question (IsRecordAnswer question Shows format family) input is_refused text
+
+-- what ends all of that
+abbrev pub EndsRecords : (Stream → Type 0) → (Stream → Type 0) → Option (List ℕ) → Fault → Type 0
+EndsRecords Gives Shows known (File fault) = ((stream : Stream) → Gives stream → (fault ≡ file_fault.Memory) ⊎ HasFrontFault stream fault)
+    ⊎ ((stream : Stream) → Shows stream → stream.fails ≡ true)
+EndsRecords Gives Shows known Memory = Unit {0}
+EndsRecords Gives Shows known Io = known ≡ None
+EndsRecords Gives Shows known _ = ⊥
+
+-- ---- what the program does
+
+abbrev pub GivesQuestionEach : Question → List ℕ → Result LineAnswers Fault → ShelfChange → Type 0
+GivesQuestionEach question file result c =
+    GivesAnswers c (ArePlaceLines (AnswersLine question (GivesWhole (c.before.has file))) question c file) (IsPlacesFault c file) result
+
+abbrev pub AnswersQuestionEach : ShelfChange → Question → List ℕ → Ending → Type 0
+AnswersQuestionEach c question file =
+    AnswersLines c (ArePlaceLines (AnswersLine question (GivesWhole (c.before.has file))) question c file) (IsPlacesFault c file)
+
+-- the same, where each answer says what is right by definition and the rules of the profile
+abbrev pub AnswersQuestionEachRight : ShelfChange → Profile → Question → List ℕ → Ending → Type 0
+AnswersQuestionEachRight c profile question file = AnswersLines c (ArePlaceLines (AnswersLineRight question profile) question c file) (IsPlacesFault c file)
