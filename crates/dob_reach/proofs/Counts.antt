@@ -1,5 +1,5 @@
 -- Counts of numbers with a property: put together, of a list's items, and below a bound.
-use Rattle.std.proofs.Common.{◌≡◌, ◌≢◌, ℕ, zero, suc, ◌+◌, ◌<◌, ◌≤◌, ◌⊎◌, inl, inr, refl, sym, ap, ◌∙◌, subst, arith, List, [], ◌∷◌, ◌++◌, length, get_or, All, AllPairs, Contains, length-append}
+use Rattle.std.proofs.Common.{◌≡◌, ℕ, zero, suc, ◌+◌, ◌<◌, ◌≤◌, ◌⊎◌, inl, inr, refl, sym, ◌∙◌, subst, arith, List, [], ◌∷◌, ◌++◌, length, get_or, AllPairs, Contains, length-append}
 use Rattle.std.specs.List.{range_with_len}
 use Rattle.std.proofs.lemmas.Bool.{cases_eq, cases_lt}
 use Rattle.std.proofs.lemmas.List.{get_or_default}
@@ -144,9 +144,6 @@ just_one number = record {
 
 abbrev pub Below : (ℕ → Type 0) → ℕ → ℕ → Type 0
 Below P place k = (k < place) × P k
-
-pub below_none : (P : ℕ → Type 0) → HasJust (Below P 0) 0
-below_none P = just_none (Below P 0) (λ k is. absurd (omega (arith, is.0)))
 
 pub below_more : (P : ℕ → Type 0) (place count : ℕ) → P place → HasJust (Below P place) count → HasJust (Below P (place + 1)) (count + 1)
 below_more P place count is has =

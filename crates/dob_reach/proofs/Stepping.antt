@@ -1,9 +1,8 @@
 -- What a class's moves lead to: a list that leaves out what is marked.
-use Rattle.std.proofs.Common.{◌≡◌, ℕ, ◌+◌, ◌<◌, ◌≤◌, ◌⊎◌, inl, inr, refl, sym, ap, ◌∙◌, subst, arith, Bool, true, false, List, [], ◌∷◌, ◌++◌, length, Contains}
+use Rattle.std.proofs.Common.{◌≡◌, ℕ, ◌+◌, ◌<◌, ◌≤◌, inl, inr, refl, sym, subst, arith, Bool, true, false, List, [], ◌∷◌, ◌++◌, Contains}
 use Rattle.std.proofs.lemmas.List.Elements.{Contains-append_left, Contains-append_right, Contains-append_cases}
 use Rattle.dob_pieces.specs.declared.profile.Family.{Family}
 use Rattle.dob_pieces.specs.declared.setup.Setup.{Setup}
-use Rattle.dob_moves.specs.declared.position_status.Status.{Status}
 use Rattle.dob_moves.specs.declared.position_status.Status.TheVariants.{Open}
 use Rattle.dob_moves.specs.Moves.{Goes}
 use Rattle.dob_moves.specs.Statuses.{HasStatus}
@@ -12,7 +11,6 @@ use Rattle.dob_classes.proofs.OfFamilies.FamilyNumbers.{IsInClass-class_number, 
 use Rattle.dob_classes.proofs.OfFamilies.FamilyRepresentatives.{one_class, one_representative}
 use Rattle.dob_value.specs.Graphs.{AreSuccessors}
 use Rattle.dob_reach.specs.Counts.{Among}
-use Rattle.dob_reach.specs.Distances.{StepFrom}
 use Rattle.dob_reach.specs.Fronts.{AreExpanded, IsExpanded, IsSifted, one_if}
 use Rattle.dob_reach.specs.Leads.{IsOpen, Leads}
 use Rattle.dob_reach.specs.Marks.{IsMarked, KeepsMarks}
@@ -46,9 +44,6 @@ sifted_both words all more numbers others a b = record {
 
 pub sifted_none : (words : List ℕ) → IsSifted words [] []
 sifted_none words = record { sound = λ number there. there; whole = λ number there. inl there }
-
-pub sifted_kept : (words : List ℕ) (number : ℕ) → IsSifted words (number ∷ []) (number ∷ [])
-sifted_kept words number = record { sound = λ other there. there; whole = λ other there. inl there }
 
 pub sifted_out : (words : List ℕ) (number : ℕ) → IsMarked words number → IsSifted words (number ∷ []) []
 sifted_out words number is = record {

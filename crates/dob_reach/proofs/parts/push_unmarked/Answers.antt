@@ -1,6 +1,6 @@
 -- The number is appended, or marked.
 use Rattle.std.proofs.Common.{[], ◌∷◌, sym, append-nil}
-use Rattle.dob_reach.proofs.Stepping.{sifted_kept, sifted_out}
+use Rattle.dob_reach.proofs.Stepping.{sifted_out}
 use Rattle.dob_reach.proofs.parts.push_unmarked.Goals as goal
 
 pub returns-else-not-has : goal.returns-else-not-has
