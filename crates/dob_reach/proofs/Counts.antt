@@ -145,9 +145,6 @@ just_one number = record {
 abbrev pub Below : (ℕ → Type 0) → ℕ → ℕ → Type 0
 Below P place k = (k < place) × P k
 
-pub below_none : (P : ℕ → Type 0) → HasJust (Below P 0) 0
-below_none P = just_none (Below P 0) (λ k is. absurd (omega (arith, is.0)))
-
 pub below_more : (P : ℕ → Type 0) (place count : ℕ) → P place → HasJust (Below P place) count → HasJust (Below P (place + 1)) (count + 1)
 below_more P place count is has =
     just_same (λ k. Below P place k ⊎ (k ≡ place)) (Below P (place + 1)) (count + 1)

@@ -1,12 +1,12 @@
 -- Numbers marked one after the other.
-use Rattle.std.proofs.Common.{◌≡◌, ◌≢◌, ℕ, ◌+◌, ◌*◌, ◌/◌, ◌%◌, ◌<◌, ◌≤◌, ◌^◌, inl, inr, refl, sym, ap, ◌∙◌, subst, arith, List, [], ◌∷◌, ◌++◌, length, get_or, set, bit_or, Contains, w64}
+use Rattle.std.proofs.Common.{◌≡◌, ◌≢◌, ℕ, ◌+◌, ◌*◌, ◌/◌, ◌%◌, ◌<◌, ◌≤◌, ◌^◌, inl, inr, sym, ap, ◌∙◌, subst, arith, List, [], ◌∷◌, ◌++◌, length, get_or, set, bit_or, Contains, w64}
 use Rattle.std.proofs.lemmas.Bool.{cases_eq}
 use Rattle.std.proofs.lemmas.List.Elements.{Contains-append_left, Contains-push, Contains-push_cases}
 use Rattle.std.specs.Int.{bit_at}
 use Rattle.std.proofs.lemmas.List.{get_or-set_other, get_or-set_same}
 use Rattle.std.proofs.lemmas.Nat.Bits.{bit_at_set_other, bit_at_set_same}
 use Rattle.dob_reach.specs.Marks.{AreMarked, IsMarked, KeepsMarks, mark_of}
-use Rattle.dob_reach.proofs.Counts.{apart_more, none_in}
+use Rattle.dob_reach.proofs.Counts.{apart_more}
 
 -- ---- a bit
 
@@ -38,22 +38,8 @@ module _ (words : List ℕ) (number word : ℕ) (bits : number + 1 ≤ length wo
 
 -- ---- marks
 
-pub keeps_all : (words : List ℕ) → KeepsMarks words words
-keeps_all words = record { long = refl; kept = λ number is. is }
-
 pub keeps_both : (a b c : List ℕ) → KeepsMarks a b → KeepsMarks b c → KeepsMarks a c
 keeps_both a b c first second = record { long = second.long ∙ first.long; kept = λ number is. second.kept number (first.kept number is) }
-
--- nothing is done yet
-pub marked_none : (words : List ℕ) → AreMarked words words [] []
-marked_none words = record {
-  keeps = keeps_all words;
-  marked = λ number is. inl is;
-  fresh = λ number there. absurd (none_in number there);
-  listed = λ number there. absurd (none_in number there);
-  whole = λ number there. absurd (none_in number there);
-  once = λ i j d lt within. absurd (omega (arith, within));
-}
 
 -- a number was marked before
 pub marked_twice : (before words done next : List ℕ) (number : ℕ) → AreMarked before words done next → IsMarked words number

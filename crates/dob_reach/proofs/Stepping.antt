@@ -45,9 +45,6 @@ sifted_both words all more numbers others a b = record {
 pub sifted_none : (words : List ℕ) → IsSifted words [] []
 sifted_none words = record { sound = λ number there. there; whole = λ number there. inl there }
 
-pub sifted_kept : (words : List ℕ) (number : ℕ) → IsSifted words (number ∷ []) (number ∷ [])
-sifted_kept words number = record { sound = λ other there. there; whole = λ other there. inl there }
-
 pub sifted_out : (words : List ℕ) (number : ℕ) → IsMarked words number → IsSifted words (number ∷ []) []
 sifted_out words number is = record {
   sound = λ other there. absurd (none_in other there);
