@@ -34,6 +34,10 @@ expect 0 '~^classes 765360$' '' build --set 111 --out "$built"
 expect 0 'lost by both 81
 loss and draw 207
 deepest .../..l/E.c/L.g - -  loss 26  loss 24' '' zugzwangs --db "$built"
+expect 0 '~^classes 11917800$' '' build --set 211 --out "$built"
+expect 0 'lost by both 753
+loss and draw 1483
+deepest .g./..l/.C./LH. - e  loss 48  loss 44' '' zugzwangs --db "$built"
 
 # files that are none
 expect 3 '' "$(failed_at "$work/none.db" "$gone")" zugzwangs --db "$work/none.db"
