@@ -10,7 +10,7 @@ use Rattle.dob_probe.specs.Faults.{IsFaultOfLine}
 use Rattle.dob_query.specs.declared.fault.Fault.{Fault}
 use Rattle.dob_query.specs.declared.fault.Fault.TheVariants.{Text, SetText, TooDeep, Run, File, Table, PuzzlePlies, Certificate, Memory, Io}
 use Rattle.dob_shelf.specs.Shelves.{Files, SameFiles, SameOthers, ShelfChange, ShelfState}
-use Rattle.dob_query.specs.Shows.{IsDrawingFault, IsFaultBy, IsPictureFault, IsShowFault}
+use Rattle.dob_query.specs.Shows.{IsFaultBy, IsPictureFault, IsShowFault}
 use Rattle.dob_query.specs.Tables.{IsFileOf, IsOpeningFault, IsProbingFault, IsTextOf}
 use Rattle.dob_shelf.proofs.Shelves.{others_chain, others_kept}
 
@@ -45,38 +45,12 @@ module _ (Has : List ℕ → Type 0) (position : Setup) where
   line_probes table file (table_fault.Inconsistent class) holds = (table, file, holds.1)
   line_probes table file table_fault.Memory holds = tt
 
-pub probing_draws : (Has : Files) (file : List ℕ) (position : Setup) (fault : Fault) → IsProbingFault (Has file) position fault
-    → IsDrawingFault Has (Some file) position fault
-probing_draws Has file position (File f) holds = holds
-probing_draws Has file position Io holds = holds
-probing_draws Has file position Memory holds = tt
-probing_draws Has file position (Text f) holds = absurd holds
-probing_draws Has file position SetText holds = absurd holds
-probing_draws Has file position TooDeep holds = absurd holds
-probing_draws Has file position PuzzlePlies holds = absurd holds
-probing_draws Has file position (Certificate f) holds = absurd holds
-probing_draws Has file position (Run f) holds = absurd holds
-probing_draws Has file position (Table f) holds = holds
-
 -- ---- a fault of showing
 
 module _ (c : ShelfChange) (file : Option (List ℕ)) (words : List ℕ) (position : Setup) (named : IsTextOf words position) where
   no_text : (name : Option (List ℕ)) (f : TextFault) → IsFaultBy c.before.has name position (Text f) → ⊥
   no_text None f holds = holds
   no_text (Some name) f holds = holds
-
-  pub drawing_shows : (picture : Option (List ℕ)) (fault : Fault) → SameFiles c.before.has c.after.has
-      → IsDrawingFault c.before.has file position fault → IsShowFault c file picture words fault
-  drawing_shows picture (Text f) same holds = absurd (no_text file f holds)
-  drawing_shows picture Memory same holds = same
-  drawing_shows picture Io same holds = (position, named, inl (holds, same))
-  drawing_shows picture (File f) same holds = (position, named, holds, same)
-  drawing_shows picture (Table f) same holds = (position, named, holds, same)
-  drawing_shows picture (Run f) same holds = (position, named, holds, same)
-  drawing_shows picture SetText same holds = (position, named, holds, same)
-  drawing_shows picture TooDeep same holds = (position, named, holds, same)
-  drawing_shows picture PuzzlePlies same holds = (position, named, holds, same)
-  drawing_shows picture (Certificate f) same holds = (position, named, holds, same)
 
   pub picture_shows : (mid : ShelfState) (name : List ℕ) (fault : Fault) → SameFiles c.before.has mid.has → mid.tells ≡ c.before.tells
       → IsPictureFault (record c { before = mid }) name fault → IsShowFault c file (Some name) words fault
