@@ -33,10 +33,6 @@ pub record IsEnding (all left : List SendEnd) (old new : Pass BatchView Note) : 
   pub split : all ≡ done ++ left
   pub ended : view new ≡ taking (view old).senders (view old).opened (view old).taken (map sent_by done) (view old).told
 
-pub ending_begins : (all left : List SendEnd) (old : Pass BatchView Note) → left ≡ all
-    → view old ≡ taking (view old).senders (view old).opened (view old).taken [] (view old).told → IsEnding all left old old
-ending_begins all left old is role = record { same = (refl, refl, refl); done = []; split = sym is; ended = role }
-
 -- the next end stands where as many have ended
 pub next_ends : (all left after : List SendEnd) (send : SendEnd) (old new : Pass BatchView Note) (inv : IsEnding all left old new) → left ≡ send ∷ after
     → ((k : ℕ) (s : SendEnd) → slice_get all k ≡ Some s → (s.pass.table_id ≡ old.table_id) × (place_of s ≡ k))
@@ -82,17 +78,6 @@ pub record IsFilling (first now : Note) (olds news : List Rejoined) : Type 0 whe
   pub each : (k : ℕ) (old new : Rejoined) → slice_get olds k ≡ Some old → slice_get news k ≡ Some new
       → (new.sent ≡ old.sent) × (new.received ≡ old.received) × (batches_of k now.taken ≡ batches_of k first.taken ++ new.waiting.items)
       × (vec_capacity old.waiting ≤ vec_capacity new.waiting)
-
-pub filling_begins : (first : Note) (olds : List Rejoined) → first ≡ taking first.senders first.opened first.taken first.ended first.told
-    → AreRoomy first.ended first.taken olds → IsFilling first first olds olds
-filling_begins first olds role roomy = record {
-  role = role;
-  count = refl;
-  each = λ k old new here there. subst (λ (r : Rejoined). (r.sent ≡ old.sent) × (r.received ≡ old.received)
-      × (batches_of k first.taken ≡ batches_of k first.taken ++ r.waiting.items) × (vec_capacity old.waiting ≤ vec_capacity r.waiting))
-      (one_thing olds k old new here there)
-      (refl, refl, sym (ap (λ l. batches_of k first.taken ++ l) (roomy k old here).0 ∙ append-nil (batches_of k first.taken)), omega arith);
-}
 
 -- what is taken next has room
 pub has_room : (first now new : Note) (olds news : List Rejoined) (x : BatchView) (room : Rejoined) → IsFilling first now olds news

@@ -1,10 +1,7 @@
 -- The ends of an inbox stay its ends, whatever is sent and taken.
-use Rattle.std.proofs.Common.{◌≡◌, ℕ, List, set, sym, refl, ap, ◌∙◌, subst, ⊎_elim, arith}
-use Rattle.std.proofs.lemmas.Bool.Decides.{eqb_tells}
-use Rattle.std.proofs.lemmas.List.{length-set}
+use Rattle.std.proofs.Common.{List, sym, refl, ◌∙◌, subst, arith}
 use Rattle.std.proofs.lemmas.Option.{slice_get_within, same_Some}
-use Rattle.std.specs.Prelude.{slice_get, Some}
-use Rattle.dob_pieces.proofs.Elements.{some_at, get_set_same, get_set_other}
+use Rattle.dob_pieces.proofs.Elements.{some_at}
 use Rattle.dob_chan.specs.declared.ends.SendEnd.{SendEnd}
 use Rattle.dob_chan.specs.declared.ends.TakeEnd.{TakeEnd}
 use Rattle.dob_chan.specs.Ends.{AreEndsOf, AreStill, SendsToSame, TakesFromSame}
@@ -35,19 +32,4 @@ still_on olds sends news first next = (
       let one = first.1 k old send.0 was send.1 in
       let two = next.1 k send.0 new send.1 at in
       (two.0 ∙ one.0, two.1 ∙ one.1, two.2 ∙ one.2, two.3 ∙ one.3),
-)
-
--- one of them was used
-pub one_used : (sends : List SendEnd) (k : ℕ) (old new : SendEnd) → slice_get sends k ≡ Some old → SendsToSame old new → AreStill sends (set sends k new)
-one_used sends k old new at same = (
-  length-set sends k new,
-  λ j a b was is. ⊎_elim
-      (λ here.
-      let j_is : j ≡ k = here.1 in
-      let a_is = same_Some old a (sym at ∙ ap (slice_get sends) (sym j_is) ∙ was) in
-      let b_is = same_Some new b (sym (get_set_same sends k new (slice_get_within sends k old at)) ∙ ap (slice_get (set sends k new)) (sym j_is) ∙ is) in
-      subst (λ (y : SendEnd × SendEnd). SendsToSame y.0 y.1) (λ i. (a_is i, b_is i)) same)
-      (λ other.
-      subst (λ (s : SendEnd). SendsToSame a s) (same_Some a b (sym was ∙ sym (get_set_other sends k j new other.1) ∙ is)) (refl, refl, refl, refl))
-      (eqb_tells j k),
 )

@@ -13,7 +13,7 @@ use Rattle.dob_query.specs.declared.fault.Fault.TheVariants.{Text, SetText, TooD
 use Rattle.dob_shelf.specs.declared.shelf.ShelfFault.{ShelfFault}
 use Rattle.dob_shelf.specs.declared.shelf.ShelfFault.TheVariants as shelf_fault
 use Rattle.dob_query.specs.Each.{AnswersEachRight, AnswersLines, AreAnswers, AreEachLines, IsAnswer, IsEachFault, IsGivenTo, TellsLinesOf, answer_line, status_of_lines}
-use Rattle.dob_query.specs.Endings.{Ending, TellsAs, TellsMemory, TellsOneFault, ended}
+use Rattle.dob_query.specs.Endings.{Ending, TellsAs, TellsOneFault, ended}
 use Rattle.dob_query.specs.Faults.{fault_of_shelf, is_io}
 use Rattle.dob_query.specs.Program.{IsValueOf}
 use Rattle.dob_shelf.specs.Shelves.{FailsWhere, ShelfChange}
@@ -120,10 +120,6 @@ module _ (c : ShelfChange) (AreLines : Bool → List ℕ → Type 0) (Holds : Fa
   pub each_refused : (fault : Fault) (status : ℕ) (out : SinkState) (err : Change) → Holds fault → FailsWhere c (is_io fault) → TellsOneFault fault status err
       → AnswersLines c AreLines Holds (ended status (change out out) err)
   each_refused fault status out err holds fails told = inr (inl (record { fault = fault; holds = (holds, fails); told = told; silent = refl }))
-
-  -- lack of memory, where it is such a fault
-  pub each_memory : (e : Ending) → Holds Memory → FailsWhere c false → TellsMemory e → AnswersLines c AreLines Holds e
-  each_memory e holds works told = inr (inl (record { fault = Memory; holds = (holds, works); told = inr told.0; silent = told.1 }))
 
   -- where lines of one kind are of another one
   pub lines_weaker : (Others : Bool → List ℕ → Type 0) (e : Ending) → ((is_refused : Bool) (lines : List ℕ) → AreLines is_refused lines → Others is_refused lines)

@@ -1,21 +1,12 @@
 -- What is told of a table and kept of it: the lines of its counts, and its file.
 use Rattle.std.proofs.Common.{◌≡◌, ◌∙◌, ◌++◌, ◌∷◌, [], ℕ, refl, sym, ap, subst, codes, append_assoc}
 use Rattle.std.proofs.Common.{length, List, Option, Some, None}
-use Rattle.std.specs.Prelude.{IsTrue}
 use Rattle.std.specs.Fmt.{decimal}
 use Rattle.std.specs.Io.KnownBytes.{Appends}
 use Rattle.dob_value.specs.declared.value.Value.{Value}
-use Rattle.dob_value.specs.Follows.{ClassTable}
-use Rattle.dob_dbfile.specs.declared.fault.Fault as file
-use Rattle.dob_dbfile.specs.declared.fault.Fault.TheVariants as file_fault
-use Rattle.dob_dbfile.specs.Format.{bytes_of}
-use Rattle.dob_dbfile.specs.Sinks.{Change}
-use Rattle.dob_dbfile.specs.Writing.{WriteStopsAt}
 use Rattle.dob_query.specs.declared.tally.Tally.{Tally}
-use Rattle.dob_query.specs.declared.fault.Fault.TheVariants.{File}
-use Rattle.dob_shelf.specs.Shelves.{HasJust, ShelfChange}
 use Rattle.dob_query.specs.Sizes.{count_line}
-use Rattle.dob_query.specs.Keeping.{IsKeepingFault, IsTally, class_lines}
+use Rattle.dob_query.specs.Keeping.{IsTally, class_lines}
 
 -- ---- lines
 
@@ -54,18 +45,3 @@ received_all old new bytes e h = go new (subst (λ (o : Option (List ℕ)). Appe
     go : (o : Option (List ℕ)) → Appends (Some []) o bytes → o ≡ Some bytes
     go None h = absurd h
     go (Some ys) h = ap (λ (x : List ℕ). Some x) h
-
-module _ (c : ShelfChange) (name : List ℕ) (table : ClassTable) where
-  -- the file was made, and writing it stopped
-  pub stopped_keeping : (sink : Change) (fault : file.Fault) → (IsTrue c.before.tells → HasJust name [] c.after.has)
-      → WriteStopsAt sink (bytes_of table) fault
-      → IsKeepingFault c name table (File fault)
-  stopped_keeping sink file_fault.Memory empty stops = empty
-  stopped_keeping sink (file_fault.Io count) empty stops = (stops.within, empty)
-  stopped_keeping sink file_fault.Truncated empty stops = absurd stops
-  stopped_keeping sink file_fault.Magic empty stops = absurd stops
-  stopped_keeping sink file_fault.SetByte empty stops = absurd stops
-  stopped_keeping sink file_fault.ClassCount empty stops = absurd stops
-  stopped_keeping sink file_fault.Trailing empty stops = absurd stops
-  stopped_keeping sink file_fault.Digest empty stops = absurd stops
-  stopped_keeping sink file_fault.ProfileByte empty stops = absurd stops

@@ -43,19 +43,6 @@ module _ (c : ShelfChange) (file : Option (List ℕ)) (words : List ℕ) (positi
   no_text None f holds = holds
   no_text (Some name) f holds = holds
 
-  pub drawing_shows : (picture : Option (List ℕ)) (fault : Fault) → SameFiles c.before.has c.after.has
-      → IsDrawingFault c.before.has file position fault → IsShowFault c file picture words fault
-  drawing_shows picture (Text f) same holds = absurd (no_text file f holds)
-  drawing_shows picture Memory same holds = same
-  drawing_shows picture Io same holds = (position, named, inl (holds, same))
-  drawing_shows picture (File f) same holds = (position, named, holds, same)
-  drawing_shows picture (Table f) same holds = (position, named, holds, same)
-  drawing_shows picture (Run f) same holds = (position, named, holds, same)
-  drawing_shows picture SetText same holds = (position, named, holds, same)
-  drawing_shows picture TooDeep same holds = (position, named, holds, same)
-  drawing_shows picture PuzzlePlies same holds = (position, named, holds, same)
-  drawing_shows picture (Certificate f) same holds = (position, named, holds, same)
-
   pub picture_shows : (mid : ShelfState) (name : List ℕ) (fault : Fault) → SameFiles c.before.has mid.has → mid.tells ≡ c.before.tells
       → IsPictureFault (record c { before = mid }) name fault → IsShowFault c file (Some name) words fault
   picture_shows mid name Memory same told holds = same_chain c.before.has mid.has c.after.has same holds

@@ -1,5 +1,5 @@
 -- What links, endpoints and runners keep, through one step and the next.
-use Rattle.std.proofs.Common.{◌≡◌, ◌≢◌, ℕ, zero, suc, List, [], ◌∷◌, ◌++◌, ◌⊎◌, length, set, Bool, true, false, Option, Some, None}
+use Rattle.std.proofs.Common.{◌≡◌, ◌≢◌, ℕ, zero, suc, List, [], ◌∷◌, ◌++◌, ◌⊎◌, length, set, Option, Some, None}
 use Rattle.std.proofs.Common.{refl, sym, ap, ◌∙◌, subst, inl, inr, arith, append_assoc}
 use Rattle.std.proofs.lemmas.List.{append-nil}
 use Rattle.std.specs.Prelude.{slice_get, Result, Ok, Err, IfErr, MatchResult}
@@ -15,8 +15,7 @@ use Rattle.dob_update.specs.Batches.{BatchView}
 use Rattle.dob_safra.specs.declared.token.Token.{Token}
 use Rattle.dob_board.specs.declared.seat.NodeSeat.{NodeSeat}
 use Rattle.dob_board.specs.declared.halt.Halt.{Halt}
-use Rattle.dob_board.specs.declared.halt.Halt.TheVariants.{Running, Ended, Failed}
-use Rattle.dob_board.specs.Words.{halt_word}
+use Rattle.dob_board.specs.declared.halt.Halt.TheVariants.{Ended, Failed}
 use Rattle.dob_board.specs.declared.view.Stand.{Stand}
 use Rattle.dob_board.specs.Views.{passes}
 use Rattle.dob_board.specs.Seats.{IsSameSeat, KnewOwnFailure, MovesNothing, stand_of, witnessed_by}
@@ -38,7 +37,7 @@ use Rattle.dob_runner.specs.Links.{KeepsOutlet, KeepsInlet}
 use Rattle.dob_runner.specs.LawfulRunners.{IsSpared}
 use Rattle.dob_runner.specs.Endpoints.{KeepsEach}
 use Rattle.dob_runner.specs.Keeps.{KeepsEndpoint, HasSameLinks}
-use Rattle.dob_runner.specs.Runners.{KeepsRunner, GoesOn, HasFailed, HasBroken, HasRefused, HasCutAll, IsReasonFor, IsReasoned, GateIsAsked, no_gate, StepsBy}
+use Rattle.dob_runner.specs.Runners.{KeepsRunner, GoesOn, HasFailed, HasBroken, HasRefused, HasCutAll, IsReasonFor, IsReasoned, no_gate, StepsBy}
 use Rattle.dob_runner.specs.Turns.{HasTurned, HasSameWork}
 use Rattle.dob_runner.proofs.Counted.{there_set}
 
@@ -146,12 +145,6 @@ endpoint_trans a b c one two = record {
 
 -- ---- halts
 
--- a seat that knew a halt knew the end, where it finds the end
-pub ended_before : (old new : Halt) → (old ≢ Running → new ≡ old) → new ≡ Ended → (old ≡ Running) ⊎ (old ≡ Ended)
-ended_before Running new stays ended = inl refl
-ended_before Ended new stays ended = inr refl
-ended_before (Failed node) new stays ended = inr (sym (stays (λ running. absurd (omega (arith, ap halt_word running)))) ∙ ended)
-
 -- a seat that finds its own failure knew it
 pub own_before : (old new : NodeSeat) → KnewOwnFailure old new.halt → new.node ≡ old.node → new.halt ≡ Failed new.node → old.halt ≡ Failed old.node
 own_before old new knew node own = (let found : new.halt ≡ Failed old.node = own ∙ ap Failed node in knew found ∙ found)
@@ -248,15 +241,7 @@ reasoned_unfailed No runner unfailed why failed = absurd (let both = sym unfaile
 pub reasoned_failed : (No : ℕ → Type 0) (runner : Runner) (why : Cause) → runner.failed ≡ Some why → IsReasonFor No runner why → IsReasoned No runner
 reasoned_failed No runner why failed reason other is = subst (IsReasonFor No runner) (same_Some why other (sym failed ∙ is)) reason
 
--- a node that is as it was still can't apply its item, or cut its batch
-pub fault_still : (old new : Node) (why : Cause) → IsUnchanged old new → HasItemFault old why → HasItemFault new why
-fault_still old new why same fault = record {
-  item = fault.item;
-  behind = fault.behind;
-  first = same.kept.2 ∙ fault.first;
-  reason = subst (λ (share : Share). IsReason fault.item share why) (sym same.kept.0) fault.reason;
-}
-
+-- a node that is as it was has the same outboxes
 pub outbox_still : (old new : Node) (to : ℕ) → IsUnchanged old new → outbox_to new to ≡ outbox_to old to
 outbox_still old new to same = λ q. outbox_in (same.same.0 q) (same.same.2 q) (same.same.1 q) (same.outboxes q) to
 
@@ -327,15 +312,6 @@ pub reason_on : {A : Type 0} (No : ℕ → Type 0) (c : Runner) (r : Result A Ca
 reason_on {A} No c r why is reason =
     let given = err_from_is_err_and r is in
     subst (λ (s : Result A Cause). IfErr s (IsReasonFor No c)) (sym given.1) (subst (IsReasonFor No c) (sym given.2) (reason_with No c why reason))
-
--- the gate's answer, where the node wasn't held back, and where it was
-pub asked_yes : {A : Type 0} (Says : ℕ → Bool → Type 0) (node : ℕ) (answer : Bool) (r : Result A Cause) → Says node answer → answer ≡ true → r ≢ Err Held →
-    GateIsAsked Says node r
-asked_yes Says node answer r said is unheld = (answer, said, (λ no'. absurd (let both = sym is ∙ no' in cc), λ held. absurd (unheld held)))
-
-pub asked_no : {A : Type 0} (Says : ℕ → Bool → Type 0) (node : ℕ) (answer : Bool) (r : Result A Cause) → Says node answer → answer ≡ false → r ≡ Err Held →
-    GateIsAsked Says node r
-asked_no Says node answer r said is held = (answer, said, (λ no'. held, λ held'. is))
 
 -- a runner that has made a turn, or failed in one, has a reason where it failed
 pub turn_reasoned : (No : ℕ → Type 0) (a b : Runner) (r : Result Halt Cause) → MatchResult r (HasTurned a b) (HasFailed a b) →

@@ -16,13 +16,6 @@ use Rattle.dob_runner.specs.TurnRounds.{RunnerTakesBatch, SendsAll, AddsFew, Wor
 use Rattle.dob_runner.specs.Runners.{GoesOn, HasFailed, StepsBy}
 use Rattle.dob_runner.proofs.Keeping.{there_is}
 
--- none in no turn
-pub adds_none : (endpoint : Endpoint) → AddsFew 0 endpoint endpoint
-adds_none endpoint = record {
-  out = λ j before after was is. (let same : before ≡ after = same_Some before after (sym was ∙ is) in omega (arith, ap (λ (o : Outlet). length (offered o)) same));
-  into = omega arith;
-}
-
 -- and one more in one turn more
 pub adds_more : (count : ℕ) (a b c : Endpoint) → KeepsEndpoint a b → AddsFew count a b → AddsFew 1 b c → AddsFew (count + 1) a c
 adds_more count a b c kept few one = record {
