@@ -1,6 +1,6 @@
 -- Settlements as a history keeps them: those of the start by the statuses of the owner's classes, the others with the class by its
 -- place among the owner's and the values as codes.
-use Rattle.std.specs.Prelude.{ℕ, zero, suc, List, [], ◌∷◌, ◌++◌, length}
+use Rattle.std.specs.Prelude.{ℕ, suc, List, [], ◌∷◌, ◌++◌, length}
 use Rattle.dob_moves.specs.declared.position_status.Status.{Status}
 use Rattle.dob_value.specs.Codes.{value_of_code}
 use Rattle.dob_share.specs.declared.news.Settlement.{Settlement}

@@ -181,7 +181,7 @@ module _ (board : Board) (family : Family) (size : ℕ) (runners : List Runner) 
             let from = map_got endpoint_of runners i linked.sender linked.sends in
             let to = map_got endpoint_of runners j linked.taker linked.takes in
             ap (λ (e : Endpoint). slice_index e.seat.posted.items j) (sym from.2) ∙ counts i j from.0 to.0 from.1 to.1
-                ∙ ap (λ (e : Endpoint). slice_index e.seat.taken.items i) to.2;
+            ∙ ap (λ (e : Endpoint). slice_index e.seat.taken.items i) to.2;
         inboxes = λ i j outlet inlet linked.
             let link = has.links i j outlet inlet linked in
             (link.0.waiting.items, (rejoined_at i outlet.end (taken_by inlet.end) link.0 (crew.paired i j outlet inlet linked).1 link.2).2);

@@ -4,6 +4,9 @@
 //
 // The files: `limits` has the sizes of a crew; `crew_*` open and close a crew and `inbox_*` its inboxes; `threads` has a thread for
 // each runner, which `handed` hands to it; `build*` is a whole build and `bounded_run` a run of so many turns.
+//
+// A thread is started first and then handed its runner over a ring for one, so a runner for which no thread can be made never left its
+// place. What all runners know of the halt is read before the crew is closed, which takes memory: a failure is told where none is left.
 #![tactic(auto)]
 
 mod bounded_run;
