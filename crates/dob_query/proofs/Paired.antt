@@ -1,14 +1,13 @@
 -- The pairs of a table whose lines are written, and by a value table's file they are right.
-use Rattle.std.proofs.Common.{◌≡◌, ◌∙◌, ◌+◌, ◌<◌, ℕ, List, Option, None, Some, ap, arith, length, subst, sym, take, drop, ◌++◌}
+use Rattle.std.proofs.Common.{ℕ, List, Option, None, Some, arith, subst, take, drop}
 use Rattle.std.specs.Prelude.{Contains, IfSome}
 use Rattle.std.proofs.lemmas.List.{take-append-drop}
 use Rattle.std.proofs.lemmas.List.Elements.{Contains-append_left}
 use Rattle.dob_pieces.specs.declared.profile.Profile.{Profile}
 use Rattle.dob_value.specs.Follows.{ClassTable}
-use Rattle.dob_zugzwang.specs.declared.counts.PairCounts.{PairCounts}
 use Rattle.dob_zugzwang.specs.declared.pairs.Zugzwang.{Zugzwang}
-use Rattle.dob_zugzwang.specs.Counts.{AreCounts, IsDeepest}
-use Rattle.dob_zugzwang.specs.Pairs.{ArePairs, IsPair}
+use Rattle.dob_zugzwang.specs.Counts.{IsDeepest}
+use Rattle.dob_zugzwang.specs.Pairs.{ArePairs}
 use Rattle.dob_zugzwang.proofs.Listing.{pair_within}
 use Rattle.dob_query.specs.Endings.{Ending}
 use Rattle.dob_query.specs.Tables.{HasValueFile, IsFileOf, IsOpeningFault, IsRightFileOf}

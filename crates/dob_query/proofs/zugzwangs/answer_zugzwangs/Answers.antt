@@ -1,5 +1,5 @@
 -- The pairs are those of the file's table.
-use Rattle.std.proofs.Common.{◌≡◌, ◌∙◌, List, ap, string_bytes, subst, sym}
+use Rattle.std.proofs.Common.{◌∙◌, List, ap, subst, sym}
 use Rattle.dob_zugzwang.specs.declared.pairs.Zugzwang.{Zugzwang}
 use Rattle.dob_zugzwang.specs.Counts.{AreCounts}
 use Rattle.dob_zugzwang.specs.Pairs.{ArePairs}
