@@ -118,23 +118,30 @@ window.DobutsuWasm = {
       }
       return room.place;
     }
-    // Puts a list there: the ranks of its classes' representatives, and their plies. Gives the words for a call.
-    function giveList(ranks, plies) {
-      const place = roomFor(4 * ranks.length + 2 * plies.length), behind = place + 4 * ranks.length;
-      new Uint32Array(calls.memory.buffer, place, ranks.length).set(ranks);
-      new Uint16Array(calls.memory.buffer, behind, plies.length).set(plies);
-      return [place, ranks.length, behind, plies.length].map(BigInt);
+    // Puts lists of ranks and of plies there, one behind the other. Gives the words for a call.
+    function giveLists(lists) {
+      const total = lists.reduce((sum, { ranks, plies }) => sum + 4 * ranks.length + 2 * plies.length + 2, 0), words = [];
+      let place = roomFor(total);
+      const put = (list) => {
+        new list.constructor(calls.memory.buffer, place, list.length).set(list);
+        words.push(BigInt(place), BigInt(list.length));
+        place += Math.ceil((list.BYTES_PER_ELEMENT * list.length) / 4) * 4;
+      };
+      for (const { ranks, plies } of lists) [ranks, plies].forEach(put);
+      return words;
     }
 
-    // Whether the proved call checks such a certificate: one that claims a win or a loss within so many plies, by a list of lost classes alone.
-    const verifies = ({ claim, held }) => claim.endsWith("Within") && held.classes.length === 0;
     // Throws why a certificate doesn't prove what it claims. The position is that of its root.
-    function verify({ profile, pieces, root, claim, plies, lost }) {
+    const CLAIMS = ["draw", "win", "loss", "winWithin", "lossWithin"];
+    function verify({ profile, pieces, root, claim, plies, lost, held }) {
       const position = Core.positionAt(profile, pieces, root);
       if (classOf(profile, position) !== root) throw new Core.Fault("E33 RootClass");
-      const list = giveList(Core.ranksOf(profile, pieces, lost.classes), lost.plies);
-      const answer = calls.dobutsu_within(...ask(profile, position), claim === "winWithin" ? 1 : 0, plies, ...list, OUT_AT);
-      if (answer === UNSUPPORTED) throw new Core.Fault(`E30 Unsupported class ${lost.classes[Number(long(0))]}`);
+      const lists = giveLists([lost, held].map((list) => ({ ranks: Core.ranksOf(profile, pieces, list.classes), plies: list.plies })));
+      const answer = calls.dobutsu_certified(...ask(profile, position), CLAIMS.indexOf(claim), plies, ...lists, OUT_AT);
+      if (answer === UNSUPPORTED) {
+        const place = Number(long(0)), behind = place - lost.classes.length;
+        throw new Core.Fault(`E30 Unsupported class ${behind < 0 ? lost.classes[place] : held.classes[behind]}`);
+      }
       accept(answer);
     }
 
@@ -142,6 +149,6 @@ window.DobutsuWasm = {
     const lions = Core.readPosition("..l/.../.C./.L. - -");
     if (classOf("A", lions) !== Core.classNumber("A", lions)) throw new Error("another class number");
     const valueOf = (record) => told(calls.dobutsu_value, record), afterMove = (record) => told(calls.dobutsu_value_of_move, record);
-    return { isProved: true, moves, classOf, classAfter, apply, moveText, valueOf, afterMove, readHeader, verifies, verify };
+    return { isProved: true, moves, classOf, classAfter, apply, moveText, valueOf, afterMove, readHeader, verify };
   },
 };

@@ -68,7 +68,7 @@ class Maker:
 
 def claims(checks, screen, program):
     """Each kind of claim: what is said of the file and of its position."""
-    maker, by = Maker(program), "checked by plain JavaScript"  # the proved call takes no held classes
+    maker, by = Maker(program), "checked by proved code" if screen.js("Game.engine().isProved") else "checked by plain JavaScript"
     for root, claim, plies, value, words in [
         (LOSS, "loss", 6, "loss 6", "Forest, to move, loses: Sky wins in 6 plies."),
         (LOSS, "loss within", 8, "loss within 6", "Forest, to move, loses: Sky wins in at most 6 plies."),
@@ -131,6 +131,8 @@ def solution(checks, screen, program):
 def unchecked(checks, screen, program):
     """A large certificate isn't checked in plain JavaScript, and the page says so; one that says nothing true is open then."""
     maker = Maker(program)
+    if screen.js("Game.engine().isProved"):
+        return
     screen.js("Certificates.limits.checked = 10")
     screen.give(maker.write("large.cert", LOSS, "loss", 6))
     english = "large.cert certificate of set 100, rules A: a position, loss 6; not checked here: dobutsu verify checks it"

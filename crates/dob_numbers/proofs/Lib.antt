@@ -2,4 +2,4 @@
 mod Hands  -- a legal setup has at most two of each kind in each hand
 mod NoMoves  -- moves by their places
 mod Ranks  -- what ranks stand for
-mod Shown  -- what a list shows is so
+mod Answered  -- what the lists of a certificate show of a position

@@ -6,4 +6,4 @@ pub mod Texts
 pub mod Headers
 pub mod Places
 pub mod Ranked
-pub mod Within
+pub mod Certified

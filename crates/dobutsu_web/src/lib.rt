@@ -3,8 +3,11 @@
 #![tactic(auto)]
 
 mod asked;
+mod claims;
 mod classes;
 mod headers;
+mod held;
+mod lists;
 mod numbers;
 mod open_moves;
 mod ranked;

@@ -14,3 +14,6 @@ pub(crate) const CLAIM: u32 = 31;
 
 /// E15: bytes are missing.
 pub(crate) const TRUNCATED: u32 = 15;
+
+/// E34: there is no claim of that number.
+pub(crate) const CLAIM_BYTE: u32 = 34;

@@ -8,7 +8,7 @@ ghost use Rattle.dob_rank.specs.Families.{IsPositionOf, IsRepresentative, HasCla
 ghost use Rattle.dob_pieces.specs.declared.setup.Setup.{Setup as AnySetup};
 ghost use Rattle.dob_rank.specs.Order.{IsFirstOfTwo, RepresentativeOf};
 ghost use Rattle.dobutsu_web.specs.Ranked.{AreRanksIn, IsRankAt, entries_in, entry_in, ranked_setup};
-ghost use Rattle.dobutsu_web.specs.Within.{HasPlies};
+ghost use Rattle.dobutsu_web.specs.Certified.{HasPlies};
 
 use dob_pieces::{Family, Position};
 use dob_rank::{rank, size, unrank};

@@ -1,78 +1,118 @@
-// Whether a certificate's list of lost classes proves that a position is lost or won within so many plies.
-ghost use Rattle.std.specs.Prelude.{◌≡◌, ◌≢◌, ◌↔◌, IsTrue, true, false};
-ghost use Rattle.dob_certificate.specs.Lost.{SupportsAllLost};
+// Whether the two lists of a certificate prove what is claimed of a position.
+ghost use Rattle.std.specs.Prelude.{◌≡◌, ◌≢◌, ◌<◌, true, false};
+ghost use Rattle.dob_certificate.specs.declared.list_kind.ListKind.TheVariants as ListKind;
 ghost use Rattle.dob_rank.specs.Families.{IsPositionOf};
-ghost use Rattle.dobutsu_web.specs.Asked.{IsTextAsked, IsRefused};
+ghost use Rattle.dobutsu_web.specs.Asked.{IsRefused};
+ghost use Rattle.dobutsu_web.specs.Certified.{AreOne, HasNoRanks, IsAnswer, IsAnswered, SupportsAll};
 ghost use Rattle.dobutsu_web.specs.Ranked.{AreRanksIn, entries_in};
-ghost use Rattle.dobutsu_web.specs.Within.{HasNoRanks, IsBrokenAt, IsNotShown, IsShownOf, ShowsWithin, claim_by};
 
 use crate::asked::ask;
-use crate::numbers::{CLAIM, NO_ROW, UNSUPPORTED};
+use crate::claims::{claim_of, is_shown};
+use crate::lists::first_broken;
+use crate::numbers::{CLAIM, CLAIM_BYTE, NO_ROW, UNSUPPORTED};
 use crate::ranked::{Listed, are_ranks};
-use crate::within::{first_broken, is_said_lost, shows_won};
+use dob_certificate::{Claim, ListKind};
 use dob_pieces::Position;
 
-/// Whether a list of lost classes proves that the position of that text is lost within so many plies, or where `won` is 1 that it is won within so many. The
-/// list has for each class the rank of its representative among the positions of the same pieces, ascending, and within how many plies it is lost: each
-/// entry has to be shown by the others. It answers 0 where the list proves it, so that it holds; 30 where an entry isn't shown, and writes the place of the
-/// first one; 31 where all are and the claim isn't shown; 29 where the numbers aren't such ranks with as many plies; or a fault as `dobutsu_class` does. It
-/// takes no memory, and some seconds for 200,000 entries.
+/// Whether the two lists of a certificate prove what is claimed of the position of that text: a draw, a win or a loss in so many plies where `kind` is 0, 1 or 2, a
+/// win or a loss within so many where it is 3 or 4. A list has for each class the rank of its representative among the positions of the same pieces, ascending,
+/// and its plies, 65,535 for ever: the classes of the lost list are lost within so many, those of the held one aren't. It answers 0 where the lists prove it, so
+/// that it holds; 30 where an entry isn't supported by its list, and writes the place of the first one, those of the held list behind those of the lost; 31 where all
+/// are and the claim isn't shown; 34 of another kind; 29 where a list isn't one of such ranks with as many plies; or a fault as `dobutsu_class` does. It takes no
+/// memory, and some seconds for 200,000 entries.
 #[unsafe(no_mangle)]
-pub extern "C" fn dobutsu_within(
+pub extern "C" fn dobutsu_certified(
     text: &[u8],
     profile: u32,
-    won: u32,
+    kind: u32,
     plies: u16,
-    ranks: &[u32],
-    list_plies: &[u16],
+    lost_ranks: &[u32],
+    lost_plies: &[u16],
+    held_ranks: &[u32],
+    held_plies: &[u16],
     broken: &mut u64,
 ) -> u32
-    ensures shown { result ≡ 0 → IsShownOf text.now profile won plies ranks.now list_plies.now }
-    ensures ranks { result ≡ 29 → HasNoRanks text.now profile ranks.now list_plies.now }
-    ensures broken { result ≡ 30 → IsBrokenAt text.now profile ranks.now list_plies.now broken.new }
-    ensures claim { result ≡ 31 → IsNotShown text.now profile won plies ranks.now list_plies.now }
-    ensures refused { result ≢ 0 → result ≢ 29 → result ≢ 30 → result ≢ 31 → IsRefused text.now profile result }
+    ensures shown { result ≡ 0 → IsAnswered text.now profile kind plies lost_ranks.now lost_plies.now held_ranks.now held_plies.now 0 broken.new }
+    ensures broken { result ≡ 30 → IsAnswered text.now profile kind plies lost_ranks.now lost_plies.now held_ranks.now held_plies.now 30 broken.new }
+    ensures silent { result ≡ 31 → IsAnswered text.now profile kind plies lost_ranks.now lost_plies.now held_ranks.now held_plies.now 31 broken.new }
+    ensures ranks { result ≡ 29 → HasNoRanks text.now profile lost_ranks.now lost_plies.now held_ranks.now held_plies.now }
+    ensures kind { result ≡ 34 → 4 < kind }
+    ensures refused { result ≢ 0 → result ≢ 29 → result ≢ 30 → result ≢ 31 → result ≢ 34 → IsRefused text.now profile result }
     ensures unchanged { result ≢ 30 → broken.new ≡ broken.old }
 {
-    match ask(text, profile) {
-        Ok(asked) => {
-            let listed = Listed {
-                family: asked.family,
-                ranks,
-                plies: list_plies,
-            };
-            if !are_ranks(&listed) {
-                return NO_ROW;
-            }
-            match first_broken(&listed) {
-                Some(place) => {
-                    *broken = place as u64;
-                    UNSUPPORTED
-                }
-                None => shown_number(shows(&listed, won, plies, &asked.position)),
-            }
+    let asked = match ask(text, profile) {
+        Ok(asked) => asked,
+        Err(refusal) => return refusal.number(),
+    };
+    let Some(claim) = claim_of(kind, plies) else {
+        return CLAIM_BYTE;
+    };
+    let lost = Listed {
+        family: asked.family,
+        ranks: lost_ranks,
+        plies: lost_plies,
+    };
+    let held = Listed {
+        family: asked.family,
+        ranks: held_ranks,
+        plies: held_plies,
+    };
+    if !are_ranks(&lost) {
+        return NO_ROW;
+    }
+    if !are_ranks(&held) {
+        return NO_ROW;
+    }
+    answer(&lost, &held, &asked.position, claim, broken)
+}
+
+// What the lists say of the claim, and the place of the first entry that isn't supported.
+fn answer(lost: &Listed, held: &Listed, position: &Position, claim: Claim, broken: &mut u64) -> u32
+    requires lost { AreRanksIn lost.now }
+    requires held { AreRanksIn held.now }
+    requires one { AreOne lost.now held.now }
+    requires member { IsPositionOf lost.now.family position.now.setup }
+    ensures answer { IsAnswer result lost.now.family lost.now.ranks.now lost.now.plies.now held.now.ranks.now held.now.plies.now position.now.setup claim broken.new }
+    ensures unchanged { result ≢ 30 → broken.new ≡ broken.old }
+{
+    match first_broken(ListKind::Lost, lost) {
+        Some(place) => {
+            *broken = place as u64;
+            UNSUPPORTED
         }
-        Err(refusal) => refusal.number(),
+        None => answer_behind(lost, held, position, claim, broken),
     }
 }
 
-// Whether the list shows the claim.
-fn shows(listed: &Listed, won: u32, plies: u16, position: &Position) -> bool
-    requires ranks { AreRanksIn listed.now }
-    requires member { IsPositionOf listed.now.family position.now.setup }
-    ensures { IsTrue result ↔ ShowsWithin listed.now.family (entries_in listed.now) position.now.setup (claim_by won plies) }
+// The same where the lost list supports its entries.
+fn answer_behind(
+    lost: &Listed,
+    held: &Listed,
+    position: &Position,
+    claim: Claim,
+    broken: &mut u64,
+) -> u32
+    requires lost { AreRanksIn lost.now }
+    requires held { AreRanksIn held.now }
+    requires one { AreOne lost.now held.now }
+    requires member { IsPositionOf lost.now.family position.now.setup }
+    requires supported { SupportsAll ListKind.Lost lost.now.family (entries_in lost.now) }
+    ensures answer { IsAnswer result lost.now.family lost.now.ranks.now lost.now.plies.now held.now.ranks.now held.now.plies.now position.now.setup claim broken.new }
+    ensures unchanged { result ≢ 30 → broken.new ≡ broken.old }
 {
-    if won == 1 {
-        shows_won(listed, plies, position)
-    } else {
-        is_said_lost(listed, plies, position)
+    match first_broken(ListKind::Held, held) {
+        Some(place) => {
+            *broken = lost.ranks.len() as u64 + place as u64;
+            UNSUPPORTED
+        }
+        None => shown_number(is_shown(lost, held, position, claim)),
     }
 }
 
 // The number of an answer: whether the claim is shown.
 fn shown_number(is_shown: bool) -> u32
     ensures shown { is_shown ≡ true → result ≡ 0 }
-    ensures hidden { is_shown ≡ false → result ≡ 31 }
+    ensures silent { is_shown ≡ false → result ≡ 31 }
 {
     if is_shown { 0 } else { CLAIM }
 }

@@ -1,16 +1,15 @@
-// Whether a list of lost classes supports its entries and shows a position to be lost or won within so many plies: as crates/dob_certificate does it, with the
-// moves looked for place by place, so that no memory is taken.
-ghost use Rattle.std.specs.Prelude.{◌≡◌, ◌<◌, ◌≤◌, ◌↔◌, ℕ, IsTrue, MatchOption, length};
+// What a list of lost classes says of a position, and whether it supports an entry: as crates/dob_certificate does it, with the moves looked for place by
+// place, so that no memory is taken.
+ghost use Rattle.std.specs.Prelude.{◌≡◌, ◌<◌, ◌≤◌, ◌↔◌, IsTrue, length};
 ghost use Rattle.dob_pieces.specs.declared.setup.Setup.{Setup};
 ghost use Rattle.dob_certificate.specs.Claims.{ShowsWon};
-ghost use Rattle.dob_certificate.specs.Lost.{IsListedWithin, IsSaidLost, HasReply, IsAnswered, AreAllAnswered, IsLossSupported, SupportsLost, SupportsAllLost};
+ghost use Rattle.dob_certificate.specs.Lost.{IsListedWithin, IsSaidLost, HasReply, IsAnswered, AreAllAnswered, IsLossSupported, SupportsLost};
 ghost use Rattle.dob_moves.specs.declared.position_status.Status.{Status};
 ghost use Rattle.dob_moves.specs.Moves.{CanGo, Goes};
 ghost use Rattle.dob_moves.specs.Statuses.{HasStatus};
 ghost use Rattle.dob_rank.specs.Families.{IsPositionOf};
 ghost use Rattle.dobutsu_web.specs.Ranked.{AreRanksIn, entries_in, entry_in};
 ghost use Rattle.dobutsu_web.specs.Places.{EachAt, SomeAt};
-ghost use Rattle.dobutsu_web.specs.Within.{IsFirstBroken};
 
 use crate::open_moves::{PLACES, found_at};
 use crate::ranked::{Listed, plies_of, position_at};
@@ -43,7 +42,7 @@ fn is_listed_within(listed: &Listed, plies: u16, position: &Position) -> bool
 }
 
 /// The position of the family to which the move leads.
-fn after(family: Family, position: &Position, the_move: Move) -> Position
+pub(crate) fn after(family: Family, position: &Position, the_move: Move) -> Position
     requires member { IsPositionOf family position.now.setup }
     requires goes_on { HasStatus family.profile position.now.setup Status.Open }
     requires the_move { CanGo family.profile position.now.setup the_move }
@@ -138,28 +137,13 @@ fn is_loss_supported(listed: &Listed, plies: u16, position: &Position) -> bool
     }
 }
 
-// Whether the list supports the entry at that place.
-fn is_supported_at(listed: &Listed, place: usize) -> bool
+/// Whether the list supports the entry at that place.
+pub(crate) fn is_loss_supported_at(listed: &Listed, place: usize) -> bool
     requires ranks { AreRanksIn listed.now }
     requires within { place < length listed.now.ranks.now }
     ensures { IsTrue result ↔ SupportsLost listed.now.family (entries_in listed.now) (entry_in listed.now place) }
 {
     is_loss_supported(listed, listed.plies[place], &position_at(listed, place))
-}
-
-/// The place of the first entry that the list doesn't support, or `None` where it supports all.
-pub(crate) fn first_broken(listed: &Listed) -> Option<usize>
-    requires { AreRanksIn listed.now }
-    ensures { MatchOption result
-        (SupportsAllLost listed.now.family (entries_in listed.now))
-        (IsFirstBroken listed.now.family listed.now.ranks.now listed.now.plies.now) }
-{
-    for place in 0..listed.ranks.len() {
-        if !is_supported_at(listed, place) {
-            return Some(place);
-        }
-    }
-    None
 }
 
 /// Whether the list shows that the position is won within so many plies.

@@ -1,16 +1,16 @@
 -- Each entry is one more, or the first that isn't supported.
 use Rattle.std.proofs.Common.{ℕ, ◌<◌, length, subst, rules, arith}
-use Rattle.dob_certificate.specs.Lost.{SupportsLost}
+use Rattle.dob_certificate.specs.Lists.{Supports}
 use Rattle.dob_certificate.proofs.Cases.{not_so}
 use Rattle.dobutsu_web.specs.Ranked.{entries_in, entry_in}
 use Rattle.dobutsu_web.proofs.NoMoves.{one_more}
 use Rattle.dobutsu_web.proofs.Ranks.{entry_from}
-use Rattle.dobutsu_web.proofs.within.first_broken.Goals as goal
+use Rattle.dobutsu_web.proofs.lists.first_broken.Goals as goal
 
 pub loop-place-preserved : goal.loop-place-preserved
 loop-place-preserved c =
     let listed = c.args.listed.now in
-    one_more (λ (k : ℕ). SupportsLost listed.family (entries_in listed) (entry_in listed k)) c.loop-place.place
+    one_more (λ (k : ℕ). Supports c.args.kind listed.family (entries_in listed) (entry_in listed k)) c.loop-place.place
     (c.is_supported_at.ensures.0 (search rules)) c.loop-place.invariant
 
 pub returns-then-not-is_supported_at : goal.returns-then-not-is_supported_at
@@ -25,4 +25,4 @@ returns c = λ entry there.
     let listed = c.args.listed.now in
     let at = entry_from listed.family listed.ranks.now listed.plies.now entry there in
     let within : at.0 < length listed.ranks.now = at.1.within in
-    subst (SupportsLost listed.family (entries_in listed)) at.1.is (c.loop-place.invariant at.0 (omega (arith, within, c.loop-place-test.false)))
+    subst (Supports c.args.kind listed.family (entries_in listed)) at.1.is (c.loop-place.invariant at.0 (omega (arith, within, c.loop-place-test.false)))

@@ -4,7 +4,7 @@ use Rattle.std.proofs.Common.{slice_index}
 use Rattle.dob_certificate.proofs.Cases.{supports_lost_by}
 use Rattle.dobutsu_web.specs.Ranked.{entries_in, entry_in, ranked_setup}
 use Rattle.dobutsu_web.proofs.Ranks.{representative_at}
-use Rattle.dobutsu_web.proofs.within.is_supported_at.Goals as goal
+use Rattle.dobutsu_web.proofs.within.is_loss_supported_at.Goals as goal
 
 pub returns : goal.returns
 returns c =

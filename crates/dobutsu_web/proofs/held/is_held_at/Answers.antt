@@ -1,0 +1,20 @@
+-- The one move of the place decides.
+use Rattle.dob_certificate.specs.Held.{IsSaidHeld}
+use Rattle.dob_certificate.proofs.Cases.{said_yes}
+use Rattle.dobutsu_web.specs.Ranked.{entries_in}
+use Rattle.dobutsu_web.proofs.NoMoves.{each_at, none_each}
+use Rattle.dobutsu_web.proofs.held.is_held_at.Goals as goal
+
+pub returns-in-Some : goal.returns-in-Some
+returns-in-Some c =
+    let listed = c.args.listed.now in
+    let p = c.args.position.now in
+    each_at listed.family.profile p.setup p.legal.squares c.args.place (IsSaidHeld listed.family (entries_in listed) c.args.plies) c.in-Some.reply
+    c.after.result.setup c.in-Some.ensures.1 c.in-Some.ensures.2 c.after.ensures.goes c.after.ensures.alone c.is_said_held.result c.is_said_held.ensures
+
+pub returns-in-None : goal.returns-in-None
+returns-in-None c =
+    let listed = c.args.listed.now in
+    let p = c.args.position.now in
+    said_yes (none_each listed.family.profile p.setup p.legal.squares c.args.place (IsSaidHeld listed.family (entries_in listed) c.args.plies)
+    c.requires.goes_on c.in-None.ensures)

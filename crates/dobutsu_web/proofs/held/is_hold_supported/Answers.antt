@@ -1,0 +1,15 @@
+-- By the status: where the game goes on, by an escape where one is asked for.
+use Rattle.std.proofs.Common.{inl}
+use Rattle.dob_moves.specs.declared.position_status.Status.TheVariants.{Caught}
+use Rattle.dob_certificate.proofs.Cases.{said_no, said_yes, of_status, over_by, hold_over}
+use Rattle.dobutsu_web.specs.Ranked.{entries_in}
+use Rattle.dobutsu_web.proofs.held.is_hold_supported.Goals as goal
+
+pub returns-in-Caught : goal.returns-in-Caught
+returns-in-Caught c = said_yes (inl (of_status c.args.listed.now.family.profile c.args.position.now.setup _ Caught c.in-Caught.is c.status.ensures))
+
+pub returns-in-Tried : goal.returns-in-Tried
+returns-in-Tried c =
+    let listed = c.args.listed.now in
+    let setup = c.args.position.now.setup in
+    said_no (hold_over listed.family (entries_in listed) c.args.plies setup (over_by listed.family.profile setup _ c.in-Tried.is c.status.ensures))

@@ -1,0 +1,15 @@
+-- The class's representative stands for it.
+use Rattle.dob_classes.proofs.OfFamilies.FamilyNumbers.{class_number-below}
+use Rattle.std.proofs.Common.{slice_index}
+use Rattle.dob_certificate.proofs.Cases.{supports_held_by}
+use Rattle.dobutsu_web.specs.Ranked.{entries_in, entry_in, ranked_setup}
+use Rattle.dobutsu_web.proofs.Ranks.{representative_at}
+use Rattle.dobutsu_web.proofs.held.is_hold_supported_at.Goals as goal
+
+pub returns : goal.returns
+returns c =
+    let listed = c.args.listed.now in
+    let represents = representative_at listed.family listed.ranks.now listed.plies.now c.requires.ranks c.args.place c.requires.within in
+    supports_held_by listed.family (entries_in listed) (entry_in listed c.args.place) c.position_at.result.setup
+    (class_number-below listed.family (ranked_setup listed.family (slice_index listed.ranks.now c.args.place)) represents.0)
+    c.position_at.ensures.representative c.position_at.ensures.class c.is_hold_supported.result c.is_hold_supported.ensures

@@ -1,8 +1,0 @@
--- The entries so far are supported.
-use Rattle.std.proofs.Common.{ℕ, ◌<◌}
-use Rattle.dob_certificate.specs.Lost.{SupportsLost}
-use Rattle.dobutsu_web.specs.Ranked.{entries_in, entry_in}
-use Rattle.dobutsu_web.proofs.within.first_broken.Given as goal
-
-abbrev pub invariant-loop-place : goal.invariant-loop-place
-invariant-loop-place l = (k : ℕ) → k < l.place → SupportsLost l.listed.family (entries_in l.listed) (entry_in l.listed k)
