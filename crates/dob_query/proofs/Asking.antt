@@ -30,9 +30,9 @@ use Rattle.dob_query.specs.declared.fault.Fault.TheVariants.{Text, SetText, TooD
 use Rattle.dob_query.specs.declared.questions.Question.{Question}
 use Rattle.dob_query.specs.declared.questions.Question.TheVariants.{Look, Moves, Best, Line, Draw}
 use Rattle.std.specs.Prelude.{Err, IfOk, Ok, Result}
-use Rattle.dob_query.specs.Endings.{Ending, IsAnswered}
+use Rattle.dob_query.specs.Endings.{AnswersOver, Ending, IsAnswered}
 use Rattle.dob_query.specs.Faults.{fault_of_shelf}
-use Rattle.dob_query.specs.Questions.{GivesWhole, AnswersQuestion, AnswersQuestionRight, AreAnswerLines, AreRightAnswerLines, IsAnswerOf, IsAskFault, IsAskingFault, IsFaultOfAsking, IsOfNamed, IsRecordsFault, IsToldBy, TellsMoves, TellsPlay}
+use Rattle.dob_query.specs.Questions.{GivesWhole, AnswersQuestionRight, AreAnswerLines, AreRightAnswerLines, IsAnswerOf, IsAskFault, IsAskingFault, IsFaultOfAsking, IsOfNamed, IsRecordsFault, IsToldBy, TellsMoves, TellsPlay}
 use Rattle.dob_query.specs.Tables.{HasValueFile, IsTextOf}
 use Rattle.dob_shelf.specs.declared.shelf.ShelfFault.{ShelfFault}
 use Rattle.dob_shelf.specs.declared.shelf.ShelfFault.TheVariants as shelf_fault
@@ -175,7 +175,7 @@ module _ (Has : List ℕ → Type 0) (profile : Profile) (file : HasValueFile Ha
       (subst (λ (family : Family). IsToldBy question family.profile (IsRecorded (whole file.bytes) answer.format family) p lines) one answer.told)
 
 pub question_right : (c : ShelfChange) (profile : Profile) (question : Question) (name words : List ℕ) (e : Ending) → HasValueFile (c.before.has name) profile
-    → AnswersQuestion c question name words e → AnswersQuestionRight c profile question name words e
+    → AnswersOver c (AreAnswerLines question (c.before.has name) words) (IsAskFault question (c.before.has name) words) e → AnswersQuestionRight c profile question name words e
 question_right c profile question name words e file =
     over_weaker c (AreAnswerLines question (c.before.has name) words) (AreRightAnswerLines question profile words) (IsAskFault question (c.before.has name) words) e
     (λ lines told. record {

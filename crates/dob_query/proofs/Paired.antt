@@ -9,9 +9,9 @@ use Rattle.dob_zugzwang.specs.declared.pairs.Zugzwang.{Zugzwang}
 use Rattle.dob_zugzwang.specs.Counts.{IsDeepest}
 use Rattle.dob_zugzwang.specs.Pairs.{ArePairs}
 use Rattle.dob_zugzwang.proofs.Listing.{pair_within}
-use Rattle.dob_query.specs.Endings.{Ending}
+use Rattle.dob_query.specs.Endings.{AnswersOver, Ending}
 use Rattle.dob_query.specs.Tables.{HasValueFile, IsFileOf, IsOpeningFault, IsRightFileOf}
-use Rattle.dob_query.specs.Zugzwangs.{AnswersZugzwangs, AnswersZugzwangsRight, AreOfTable, AreZugzwangLines, IsOfTable, first_pairs}
+use Rattle.dob_query.specs.Zugzwangs.{AnswersZugzwangsRight, AreOfTable, AreZugzwangLines, IsOfTable, first_pairs}
 use Rattle.dob_query.proofs.TableFaults.{over_weaker, right_table}
 use Rattle.dob_shelf.specs.Shelves.{ShelfChange}
 
@@ -44,7 +44,9 @@ module _ (c : ShelfChange) (profile : Profile) (file : List ℕ) (e : Ending) (r
     same = told.same;
   }
 
-  pub zugzwangs_right : (listed : Option ℕ) → AnswersZugzwangs c file listed e → AnswersZugzwangsRight c profile file listed e
+  pub zugzwangs_right : (listed : Option ℕ)
+      → AnswersOver c (AreZugzwangLines (IsFileOf (c.before.has file)) listed) (IsOpeningFault (c.before.has file)) e
+      → AnswersZugzwangsRight c profile file listed e
   zugzwangs_right listed =
       over_weaker c (AreZugzwangLines (IsFileOf (c.before.has file)) listed) (AreZugzwangLines (IsRightFileOf (c.before.has file) profile) listed)
       (IsOpeningFault (c.before.has file)) e (rightly listed)

@@ -17,12 +17,13 @@ use Rattle.dob_query.specs.declared.fault.Fault.{Fault}
 use Rattle.dob_query.specs.declared.fault.Fault.TheVariants.{Text, SetText, TooDeep, Run, File, Table, PuzzlePlies, Certificate, Memory, Io}
 use Rattle.dob_query.specs.declared.questions.Question.{Question}
 use Rattle.dob_query.specs.declared.questions.Question.TheVariants.{Look, Moves, Best, Line, Draw}
+use Rattle.dob_query.specs.Each.{AnswersLines}
 use Rattle.dob_query.specs.Endings.{Ending}
 use Rattle.dob_query.specs.Faults.{fault_of_shelf, is_io_error}
 use Rattle.dob_shelf.specs.declared.shelf.ShelfFault.{ShelfFault}
 use Rattle.dob_shelf.specs.declared.shelf.ShelfFault.TheVariants as shelf_fault
 use Rattle.dob_query.specs.Questions.{GivesWhole, IsRecordsFault, IsToldBy, LacksFor}
-use Rattle.dob_query.specs.QuestionsEach.{AnswersLine, AnswersLineRight, AnswersQuestionEach, AnswersQuestionEachRight, ArePlaceLines, EndsRecords, GivesRecordAnswer, IsPlaceAnswer, IsPlacesFault}
+use Rattle.dob_query.specs.QuestionsEach.{AnswersLine, AnswersLineRight, AnswersQuestionEachRight, ArePlaceLines, EndsRecords, GivesRecordAnswer, IsPlaceAnswer, IsPlacesFault}
 use Rattle.dob_query.specs.QuestionsEach.{IsRecordAnswer, IsRecordEnd, TellsRecords, bytes_of, end_of, ended_lines, ends_all, ends_all_in}
 use Rattle.dob_shelf.specs.Shelves.{ShelfChange}
 use Rattle.dob_query.specs.Tables.{HasValueFile, IsTextOf}
@@ -281,7 +282,8 @@ right_answer question Has profile file line (Ok lines) is =
 right_answer question Has profile file line (Err fault) is = is
 
 pub question_each_right : (c : ShelfChange) (profile : Profile) (question : Question) (name : List ℕ) (e : Ending) → HasValueFile (c.before.has name) profile
-    → AnswersQuestionEach c question name e → AnswersQuestionEachRight c profile question name e
+    → AnswersLines c (ArePlaceLines (AnswersLine question (GivesWhole (c.before.has name))) question c name) (IsPlacesFault c name) e
+    → AnswersQuestionEachRight c profile question name e
 question_each_right c profile question name e file =
     lines_weaker c (ArePlaceLines (AnswersLine question (GivesWhole (c.before.has name))) question c name) (IsPlacesFault c name)
     (ArePlaceLines (AnswersLineRight question profile) question c name) e

@@ -151,9 +151,6 @@ abbrev pub GivesAnswer : {X : Type 0} → Question → List ℕ → List ℕ →
 GivesAnswer question file words result c =
     GivesLines c (AreAnswerLines question (c.before.has file) words) (IsAskFault question (c.before.has file) words) result
 
-abbrev pub AnswersQuestion : ShelfChange → Question → List ℕ → List ℕ → Ending → Type 0
-AnswersQuestion c question file words = AnswersOver c (AreAnswerLines question (c.before.has file) words) (IsAskFault question (c.before.has file) words)
-
 -- the same, where the lines say what is right by definition and the rules of the profile
 abbrev pub AnswersQuestionRight : ShelfChange → Profile → Question → List ℕ → List ℕ → Ending → Type 0
 AnswersQuestionRight c profile question file words =

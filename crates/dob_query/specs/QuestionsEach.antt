@@ -154,10 +154,6 @@ abbrev pub GivesQuestionEach : Question → List ℕ → Result LineAnswers Faul
 GivesQuestionEach question file result c =
     GivesAnswers c (ArePlaceLines (AnswersLine question (GivesWhole (c.before.has file))) question c file) (IsPlacesFault c file) result
 
-abbrev pub AnswersQuestionEach : ShelfChange → Question → List ℕ → Ending → Type 0
-AnswersQuestionEach c question file =
-    AnswersLines c (ArePlaceLines (AnswersLine question (GivesWhole (c.before.has file))) question c file) (IsPlacesFault c file)
-
 -- the same, where each answer says what is right by definition and the rules of the profile
 abbrev pub AnswersQuestionEachRight : ShelfChange → Profile → Question → List ℕ → Ending → Type 0
 AnswersQuestionEachRight c profile question file = AnswersLines c (ArePlaceLines (AnswersLineRight question profile) question c file) (IsPlacesFault c file)

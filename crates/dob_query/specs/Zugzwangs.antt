@@ -80,11 +80,7 @@ abbrev pub GivesZugzwangs : {X : Type 0} → List ℕ → Option ℕ → Result 
 GivesZugzwangs file listed result c =
     GivesLines c (AreZugzwangLines (IsFileOf (c.before.has file)) listed) (IsOpeningFault (c.before.has file)) result
 
-abbrev pub AnswersZugzwangs : ShelfChange → List ℕ → Option ℕ → Ending → Type 0
-AnswersZugzwangs c file listed =
-    AnswersOver c (AreZugzwangLines (IsFileOf (c.before.has file)) listed) (IsOpeningFault (c.before.has file))
-
--- the same, where the values of the table are right by the rules of the profile
+-- what the program answers where the values of the table are right by the rules of the profile
 abbrev pub AnswersZugzwangsRight : ShelfChange → Profile → List ℕ → Option ℕ → Ending → Type 0
 AnswersZugzwangsRight c profile file listed =
     AnswersOver c (AreZugzwangLines (IsRightFileOf (c.before.has file) profile) listed) (IsOpeningFault (c.before.has file))
