@@ -1,5 +1,5 @@
 -- What a crew's runners leave when they are closed, put together from their parts.
-use Rattle.std.proofs.Common.{◌≡◌, ◌≢◌, ℕ, ◌+◌, ◌-◌, ◌*◌, ◌<◌, ◌≤◌, inl, inr, List, [], ◌∷◌, ◌++◌, Option, Some, None}
+use Rattle.std.proofs.Common.{◌≡◌, ◌≢◌, ℕ, ◌+◌, ◌-◌, ◌*◌, ◌<◌, ◌≤◌, inl, List, [], ◌∷◌, ◌++◌, Option, Some, None}
 use Rattle.std.proofs.Common.{length, map, take, drop, refl, sym, ap, ◌∙◌, subst, arith, length-append}
 use Rattle.std.proofs.Common.{Global}
 use Rattle.std.specs.Prelude.{slice_get}
@@ -7,7 +7,6 @@ use Rattle.std.proofs.lemmas.List.{length-map, take-append-drop}
 use Rattle.std.specs.declared.vec.Vec.{Vec}
 use Rattle.std.specs.List.{AllZip}
 use Rattle.std.proofs.lemmas.Option.{slice_get_within, same_Some}
-use Rattle.std.proofs.lemmas.Bool.{cases_eq}
 use Rattle.dob_pieces.specs.declared.profile.Family.{Family}
 use Rattle.dob_share.specs.declared.news.Item.{Item}
 use Rattle.dob_update.specs.Batches.{BatchView, items_of_batches}
@@ -127,15 +126,6 @@ pub rows_long : {X Z : Type 0} (f : Endpoint → List X) (rows : List (Vec X Z))
     endpoints ≡ map endpoint_of runners → nodes ≡ map node_of runners → length rows ≡ length nodes
 rows_long f rows endpoints nodes runners same endpoints_is nodes_is =
     omega (arith, length-map rows row_of, ap length same, length-map endpoints f, ap length endpoints_is, length-map runners endpoint_of, length-map runners node_of, ap length nodes_is)
-
--- the runners before that one, and that one
-pub unfailed_more : (runners : List Runner) (node : ℕ) → ((k : ℕ) (runner : Runner) → k < node → slice_get runners k ≡ Some runner → runner.failed ≡ None) →
-    ((runner : Runner) → slice_get runners node ≡ Some runner → None ≡ runner.failed) →
-    (k : ℕ) (runner : Runner) → k < node + 1 → slice_get runners k ≡ Some runner → runner.failed ≡ None
-unfailed_more runners node before last k runner low at = elim (cases_eq k node) [
-  | inl same ↦ sym (last runner (subst (λ (m : ℕ). slice_get runners m ≡ Some runner) same at))
-  | inr other ↦ before k runner (omega (arith, low, other)) at
-]
 
 -- the runners are still for that family and that size
 pub for_kept : (family : Family) (size : ℕ) (old new : List Runner) → AreRunnersFor family size old → AllZip KeepsRunner old new → AreUnfailed new → AreRunnersFor family size new

@@ -1,5 +1,5 @@
 -- Things dealt, rows joined and inboxes ended one by one.
-use Rattle.std.proofs.Common.{◌≡◌, ℕ, ◌+◌, ◌*◌, ◌<◌, ◌≤◌, inl, inr, List, [], ◌∷◌, ◌++◌, length, set, drop, Some, refl, sym}
+use Rattle.std.proofs.Common.{◌≡◌, ℕ, ◌+◌, ◌*◌, ◌<◌, ◌≤◌, inl, inr, List, [], ◌∷◌, ◌++◌, length, set, drop, Some, sym}
 use Rattle.std.proofs.Common.{ap, ◌∙◌, subst, arith, rules, length-append, length-set, append_assoc}
 use Rattle.std.specs.Prelude.{slice_get}
 use Rattle.std.proofs.lemmas.List.{append-nil}
@@ -17,8 +17,6 @@ use Rattle.dob_runner.proofs.Counted.{there_set}
 use Rattle.dob_run.proofs.Places.{next_is, then_left, gone_all, behind, none_stands}
 
 module _ {X Z : Type 0} where
-  pub dealt_none : (things : List X) (rows : List (Vec X Z)) → AreDealt 0 things rows rows
-  dealt_none things rows = record { rows = refl; dealt = λ j row below. absurd (omega (arith, below)); later = λ j from. refl }
 
   pub dealt_one : (k : ℕ) (things : List X) (old new : List (Vec X Z)) (before row : Vec X Z) (x : X) → AreDealt k things old new →
       slice_get new k ≡ Some before → slice_get things k ≡ Some x → row.items ≡ before.items ++ x ∷ [] → AreDealt (k + 1) things old (set new k row)
