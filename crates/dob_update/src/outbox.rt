@@ -299,12 +299,12 @@ fn drop_parts(parts: &mut VecDeque<Part>, skip: usize, k: usize) -> usize
     before
 }
 
-// Drops the first `k` classes.
+// Drops the first `k` classes, all at once: they go behind the others, of which mostly few are left, and are cut off there.
 fn drop_classes(classes: &mut VecDeque<u64>, k: usize)
     requires { k ≤ length classes.old.items }
     ensures { classes.new.items ≡ drop k classes.old.items }
 {
-    for _ in 0..k {
-        classes.pop_front();
-    }
+    let left = classes.len() - k;
+    classes.rotate_left(k);
+    classes.truncate(left);
 }
