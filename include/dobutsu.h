@@ -130,8 +130,8 @@ typedef struct {
     uint8_t bytes[32];
 } DobutsuText;
 
-/* What a certificate claims: of the first position of class `root` of the family of so many chicks, elephants and giraffes by profile 0 (A) or 1 (B), a
-   value's kind in so many plies, or where `within` is 1 within so many; 0 plies for a draw. */
+/* What a certificate claims: of the first position of class `root` of the family of these chicks, elephants and giraffes by profile 0 (A) or 1 (B), a
+   value's kind in `plies` plies, or within them if `within` is 1; 0 plies for a draw. */
 typedef struct {
     uint32_t chicks;
     uint32_t elephants;
@@ -179,7 +179,7 @@ uint32_t dobutsu_verify(const uint8_t *file, size_t file_len, DobutsuClaim *clai
    certificate says nothing of the position, or 23. */
 uint32_t dobutsu_reply(const uint8_t *file, size_t file_len, const uint8_t *text, size_t text_len, DobutsuMove *reply);
 
-/* How many positions and how many classes (positions with their mirror images) a family has: so many chicks, elephants and giraffes, 0 to 2 each, by
+/* How many positions and how many classes (positions with their mirror images) a family has: these chicks, elephants and giraffes, 0 to 2 each, by
    profile 0 (A) or 1 (B, where no chick is dropped on its far row). Answers 0 and writes both, or 25 or else 27. The two places are different. */
 uint32_t dobutsu_count(uint32_t chicks, uint32_t elephants, uint32_t giraffes, uint32_t profile, uint64_t *positions, uint64_t *classes);
 

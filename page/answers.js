@@ -96,7 +96,7 @@ const Answers = (() => {
     return [...met].map((it) => it - 1).filter((plies) => plies >= 3 && plies % 2 === 1).sort((a, b) => a - b);
   }
 
-  // A position that its side wins in so many plies by one move alone, with that move, or null where none was found; only one that is wanted is
+  // A position with exactly one fastest winning move, in `plies`, with that move, or null where none was found; only one that is wanted is
   // taken. Of a small file each position of that length is tried, in an order drawn at random.
   async function drawExercise(table, engine, plies, isLate, isWanted = () => true) {
     const isSmall = table.count <= limits.small, length = isSmall ? table.count : limits.window;

@@ -4,7 +4,7 @@ const Board = (() => {
   "use strict";
   const Core = DobutsuCore;
   const { text } = Texts;
-  const FAR = 6; // so many pixels make a drag of a click
+  const FAR = 6; // this many pixels make a drag of a click
 
   const element = (id) => document.getElementById(id);
   const squares = []; // the buttons by their places on the screen, from the top left

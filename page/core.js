@@ -164,7 +164,7 @@
 
   const numbered = (listed) => ({ listed, numbers: new Map(listed.map((it, i) => [it.join(), i])) });
 
-  // The ways to choose so many of the squares, in order, with the number of each.
+  // The ways to choose `number` of the squares, in order, with the number of each.
   const choices = cached((squares, number) => {
     const listed = [];
     const go = (from, chosen) => {
@@ -266,7 +266,7 @@
       if (image === number) return total + this.before(options, digit + 1);
       return image > number ? total + this.number(options, digit + 1) : total;
     }
-    // The place of the representative with so many before it in the run.
+    // The place of the representative with `number` before it in the run.
     optionsAt(number) {
       let chosen = [], isMixed = !this.order;
       for (let digit = 0; digit < 6; digit++) {

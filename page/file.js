@@ -13,7 +13,7 @@ const Files = (() => {
         isBroken: false,
       });
     }
-    // So many bytes at a place of the file, which is lost where it was cut, changed or taken away since it was opened.
+    // Some bytes at a place of the file, which is lost where it was cut, changed or taken away since it was opened.
     async bytes(at, length) {
       const found = await this.file.slice(at, at + length).arrayBuffer().catch(() => null);
       if (!found || found.byteLength !== length) throw new Core.Fault("lost");
@@ -29,7 +29,7 @@ const Files = (() => {
       }
       return found;
     }
-    // The records of so many classes from that one on, without keeping them.
+    // The records of some classes from that one on, without keeping them.
     async records(first, count) {
       const bytes = await this.bytes(this.start + 2 * first, 2 * count);
       return Uint16Array.from({ length: count }, (_, i) => bytes[2 * i] + 256 * bytes[2 * i + 1]);

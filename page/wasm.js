@@ -101,7 +101,7 @@ window.DobutsuWasm = {
       return { kind: KINDS[word(0)], plies: word(4) };
     }
 
-    // The family that a file's first 21 bytes name, where it has so many bytes as that family's files.
+    // The family that a file's first 21 bytes name, if it has as many bytes as that family's files.
     function readHeader(front, size) {
       accept(calls.dobutsu_header(...give(front), BigInt(size), OUT_AT));
       const set = [word(16), word(20), word(24)], profile = "AB"[word(28)];

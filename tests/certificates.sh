@@ -72,7 +72,7 @@ class Maker:
             self.lose(min((known[2], known[0], reply) for known, reply in lost if known[1] == "loss")[2])
 
     def hold(self, position, plies):
-        """Lists a position that isn't lost within so many plies, and where it goes."""
+        """Lists a position that isn't lost within its plies, and where it goes."""
         number, kind, least = self.known(position)
         assert kind != "loss" or least > plies
         status, outcomes = self.outcomes(position)

@@ -1,7 +1,7 @@
 # Certificates: what is made of a table verifies and says the value that the table gives, and what is refused.
 # Takes minutes.
 
-# 300 of them, of three sets by both rules: wins, losses and draws, each within so many plies and exact. `ask.py PROGRAM FOLDER TABLE..` takes the
+# 300 of them, of three sets by both rules: wins, losses and draws, each within its plies and exact. `ask.py PROGRAM FOLDER TABLE..` takes the
 # positions from a reader in Python, and prints how many of each kind were claimed.
 cat >"$work/ask.py" <<'PYTHON'
 import collections

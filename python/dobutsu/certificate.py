@@ -58,7 +58,7 @@ class Certificate:
 
     @property
     def position(self) -> str:
-        """The position of which it claims something: the first of its class."""
+        """The position of the claim: the first of its class."""
         return plain.write_position(self._plain.position())
 
     @property

@@ -635,7 +635,7 @@ class Certificate:
             raise Fault("E20 Digest")
 
     def position(self) -> Position:
-        """The position of which it claims something: the representative of its class."""
+        """The position of the claim: the representative of its class."""
         return self.position_at(self.root)
 
     def __str__(self) -> str:
@@ -677,7 +677,7 @@ class Certificate:
         return self.lost_plies.get(position, EVER + 1) <= plies or self.has_lost(position)
 
     def is_answered(self, position: Position, plies: int) -> bool:
-        """Whether the side to move catches the lion, or has a move to a position that is said to be lost within so many plies."""
+        """Whether the side to move catches the lion, or has a move to a position that is said to be lost within `plies`."""
         found, moves = self.asked(position)
         if found == "open":
             return any(self.is_said_lost(apply(position, move), plies) for move in moves)
@@ -693,12 +693,12 @@ class Certificate:
     # of positions that aren't
 
     def is_said_held(self, position: Position, plies: int) -> bool:
-        """Whether the side to move is said not to lose within so many plies."""
+        """Whether the side to move is said not to lose within `plies`."""
         found = status(self.profile, position)
         return found == "caught" or found == "open" and (plies <= 1 or self.held_plies.get(position, -1) >= plies)
 
     def is_safe(self, position: Position, plies: int) -> bool:
-        """Whether the side to move can't catch the lion, and each of its moves leads to what is said not to be lost within so many plies."""
+        """Whether the side to move can't catch the lion, and each of its moves leads to what is said not to be lost within `plies`."""
         found, moves = self.asked(position)
         return found != "caught" and all(self.is_said_held(apply(position, move), plies) for move in moves)
 

@@ -4,14 +4,14 @@ use dob_pieces::{Family, Memory};
 use dob_value::{Table, Value};
 use std::alloc::{AllocError, Global};
 
-/// `win N loss N draw N`, where one node that owns all classes of the set is done after that many steps, else `none`.
+/// `win N loss N draw N`, if one node that owns all classes of the set is done after that many steps, else `none`.
 /// An error is that of the build.
 pub(crate) fn about_build(alloc: Global, family: Family, limit: u64) -> Result<String, Fault> {
     let made = alone(alloc, family, limit)?;
     Ok(tell_made(alloc, made)?)
 }
 
-/// The numbers of the table's classes; `none` where there is no table.
+/// The numbers of the table's classes; `none` if there is no table.
 fn tell_made(alloc: Global, made: Option<Table>) -> Result<String, Memory> {
     match made {
         None => Ok("none".to_string(alloc)?),

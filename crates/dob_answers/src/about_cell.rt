@@ -1,6 +1,6 @@
-// Answers about a cell: what the cell of a class of which nothing is known answers to changes of what its moves lead to,
-// one after another. A change is written `WAS>NOW`, with values as `w3`, `l0` and `d`. Its answer is `-` where the
-// class keeps its value, `WAS>NOW` where it is settled, `E12` or `E13` where the change is refused, and `none` where
+// Answers about a cell: what the cell of a class about which nothing is known answers to changes of what its moves lead to,
+// one after another. A change is written `WAS>NOW`, with values as `w3`, `l0` and `d`. Its answer is `-` if the
+// class keeps its value, `WAS>NOW` if it is settled, `E12` or `E13` if the change is refused, and `none` where
 // that is no change.
 ghost use Rattle.std.specs.Prelude.{◌≤◌};
 ghost use Rattle.dob_rank.specs.Families.{classes_of};
@@ -16,7 +16,7 @@ use dob_share::{Item, Opening, Share, owner};
 use dob_value::{Fault, Value};
 use std::alloc::{AllocError, Global};
 
-// Each share is that of the class's owner among so many.
+// Each share is that of the class's owner among `OWNERS`.
 const OWNERS: usize = 3;
 
 // How many items the segments of the share's lists have: few, so that a list of a small set has many of them.
@@ -25,7 +25,7 @@ const SEGMENT: u32 = 4;
 // A share numbers its settlements up to there.
 const MOST_SETTLED: u64 = 1 << 62;
 
-/// What the class's cell answers to the changes; `none` where the set has no such class. An error is that of opening
+/// What the class's cell answers to the changes; `none` if the set has no such class. An error is that of opening
 /// the set's classes, or no memory was left.
 pub(crate) fn about_cell(
     alloc: Global,

@@ -9,7 +9,7 @@ use std::sync::Wait;
 use std::thread::Threads;
 
 /// The sizes of a build, in words: its number of nodes, and behind that none, for those that the program takes, or that of batches
-/// and that of inboxes. None where the text is no such thing.
+/// and that of inboxes. None if the text is no such thing.
 pub(crate) fn sizes_in(text: &str) -> Option<Sizes> {
     let Some((nodes, rest)) = text.split_once(' ') else {
         return Some(Sizes {
@@ -26,7 +26,7 @@ pub(crate) fn sizes_in(text: &str) -> Option<Sizes> {
     })
 }
 
-/// `classes N win N loss N draw N`, as so many nodes find them, each in a thread of its own. An error is that of the build.
+/// `classes N win N loss N draw N`, as N nodes find them, each in a thread of its own. An error is that of the build.
 pub(crate) fn about_crew<R: Threads + Wait + Sync>(
     rt: &R,
     alloc: Global,

@@ -67,7 +67,7 @@ fn tell_moves(alloc: Global, profile: Profile, position: &Position) -> Result<St
     Ok(text)
 }
 
-/// The text of the position after the move of that number; `none` where there is no such move.
+/// The text of the position after the move of that number; `none` if there is no such move.
 fn tell_after(
     alloc: Global,
     number: usize,

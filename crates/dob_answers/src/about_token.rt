@@ -9,7 +9,7 @@ const SUM_LIMIT: i64 = 1 << 48;
 /// What is asked about tokens.
 #[derive(Clone, Copy)]
 pub(crate) enum OfToken {
-    /// Which token it is after a pass by the node in a ring of so many nodes.
+    /// Which token it is after a pass by the node in a ring of N nodes.
     Passed(Visit, usize),
     /// Whether the node, idle or not, may announce the end.
     MayAnnounce(Visit, bool),
@@ -28,7 +28,7 @@ pub(crate) struct Visit {
 }
 
 impl OfToken {
-    /// The question with that first word; none where there is no such question.
+    /// The question with that first word; none if there is no such question.
     pub(crate) fn read(word: &str, rest: &str) -> Option<OfToken> {
         let mut words = rest.split_whitespace();
         match word {
@@ -81,7 +81,7 @@ fn read_sum(words: &mut SplitWhitespace<'_>) -> Option<i64> {
     words.next()?.parse::<i64>().ok()
 }
 
-/// Whether the colour of the next word is black; none where it is no colour.
+/// Whether the colour of the next word is black; none if it is no colour.
 fn read_black(words: &mut SplitWhitespace<'_>) -> Option<bool> {
     match words.next()? {
         "black" => Some(true),
@@ -90,7 +90,7 @@ fn read_black(words: &mut SplitWhitespace<'_>) -> Option<bool> {
     }
 }
 
-/// What is asked about the token; `none` where there is no such token, word or pass.
+/// What is asked about the token; `none` if there is no such token, word or pass.
 pub(crate) fn about_token(alloc: Global, matter: OfToken) -> Result<String, AllocError> {
     match matter {
         OfToken::Passed(visit, nodes) => match pass_of(visit, nodes) {

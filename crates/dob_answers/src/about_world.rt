@@ -1,5 +1,5 @@
-// Questions and answers about worlds: `drive CEG N BATCH CAPACITY ROUNDS`, what driving a world by so many rounds answers,
-// and `events CEG N BATCH CAPACITY E ..`, a letter for each event: `D` where it is done, `s` where it is skipped, `?` where
+// Questions and answers about worlds: `drive CEG N BATCH CAPACITY ROUNDS`, what driving a world by ROUNDS rounds answers,
+// and `events CEG N BATCH CAPACITY E ..`, a letter for each event: `D` if it is done, `s` if it is skipped, `?` where
 // it is none. Events are written `E0`, `O0`, `P0.1` and `T0.1` by the first letters of their names and their nodes, `S0` for a
 // pass of the token and `A` for the announcement. Behind it stands what the world then shows, as shown.rt says.
 ghost use Rattle.std.specs.Prelude.{◌≡◌, ◌*◌, ◌^◌, ◌≤◌, None, true, OnOk};
@@ -26,14 +26,14 @@ pub(crate) struct Sizes {
 /// What is done in a world.
 #[derive(Clone, Copy)]
 pub(crate) enum OfWorld<'a> {
-    /// It is driven by so many rounds.
+    /// The number of rounds by which it is driven.
     Drive(u64),
     /// Those events happen, in order.
     Events(&'a str),
 }
 
 impl<'a> OfWorld<'a> {
-    /// The question with that first word, whose other words begin with sizes; none where there is no such question.
+    /// The question with that first word, whose other words begin with sizes; none if there is no such question.
     pub(crate) fn read(word: &str, rest: &'a str) -> Option<(Sizes, OfWorld<'a>)> {
         let (nodes, rest) = rest.split_once(' ')?;
         let (batch, rest) = rest.split_once(' ')?;
@@ -65,7 +65,7 @@ pub(crate) fn about_world(
     }
 }
 
-/// What driving the world answers, and what it then shows; `none` where the rounds are too many.
+/// What driving the world answers, and what it then shows; `none` if the rounds are too many.
 fn tell_drive(alloc: Global, mut world: World, nodes: usize, rounds: u64) -> Result<String, Fault>
     requires nodes { world.node_count ≡ nodes }
     requires standing { IsStanding world }
@@ -80,7 +80,7 @@ fn tell_drive(alloc: Global, mut world: World, nodes: usize, rounds: u64) -> Res
     Ok(join(alloc, still, shown.as_str())?)
 }
 
-/// Whether a world of so many nodes can make so many rounds.
+/// Whether a world of `nodes` nodes can make `rounds` rounds.
 fn are_few(rounds: u64, nodes: usize) -> bool
     requires { nodes ≤ 16 }
     ensures { result ≡ true → rounds * round_length nodes ≤ 2 ^ 40 }
@@ -125,7 +125,7 @@ fn happen(world: &mut World, word: &str) -> Result<char, Fault>
     }
 }
 
-/// The event that is written so; none where the text is no event.
+/// The event that is written so; none if the text is no event.
 fn read_event(text: &str) -> Option<Event> {
     let letter = text.chars().next()?;
     let nodes = text.strip_prefix(letter)?;

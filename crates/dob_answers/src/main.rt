@@ -4,6 +4,12 @@
 // `alone CEG LIMIT`, as about_build.rt says, `built CEG N [BATCH CAPACITY]`, as about_crew.rt says, about worlds of nodes, as
 // about_world.rt says, and about tokens of the ring, as about_token.rt says. A text that is no position and a set that is
 // none get their faults, and any other line `unknown question`.
+//
+// Choices:
+// - What is no question: a line without a space after its first word, or with a number that isn't one. `after I` with no such move, and `unrank`, `classat`,
+//   `back` and `edges` with a number beyond the last, answer `none`, and so does `drive` with more than 2^40 events. An event that is none is `?`. Worlds
+//   are printed as the hash of their histories and lists.
+// - Classes and table of the set asked about last are stored, each by itself, since a question of classes need not wait for a sweep.
 #![tactic(auto)]
 
 mod about_build;

@@ -61,7 +61,7 @@ pub(crate) enum OfClasses {
 pub(crate) enum OfValues<'a> {
     /// What the cell of the class of that number answers to these changes.
     Cell(u64, &'a str),
-    /// Which values one node alone finds in so many steps.
+    /// Which values one node alone finds in N steps.
     Build(u64),
     /// Which values a build with those sizes finds, each node in a thread of its own.
     Crew(Sizes),
@@ -101,7 +101,7 @@ impl<'a> Question<'a> {
 }
 
 impl OfPosition {
-    // The question with that first word, and the text of its position; none where there is no such question.
+    // The question with that first word, and the text of its position; none if there is no such question.
     fn read<'a>(word: &str, rest: &'a str) -> Option<(OfPosition, &'a str)> {
         match word {
             "moves" => Some((OfPosition::Moves, rest)),
@@ -119,7 +119,7 @@ impl OfPosition {
 }
 
 impl OfSet {
-    // The question with that first word, and the text of its piece set; none where there is no such question.
+    // The question with that first word, and the text of its piece set; none if there is no such question.
     fn read<'a>(word: &str, rest: &'a str) -> Option<(OfSet, &'a str)> {
         if word == "size" {
             return Some((OfSet::Classes(OfClasses::Size), rest));
@@ -140,7 +140,7 @@ impl OfSet {
 }
 
 impl<'a> OfValues<'a> {
-    // The question with that first word, whose piece set was read; none where there is no such question.
+    // The question with that first word, whose piece set was read; none if there is no such question.
     fn read(word: &str, rest: &'a str) -> Option<OfValues<'a>> {
         match word {
             "apply" => {

@@ -45,7 +45,7 @@ struct Told {
 }
 
 impl Told {
-    /// What is shown of the world, which has so many nodes.
+    /// What is shown of the world, which has `nodes` nodes.
     fn of(world: &World, nodes: usize) -> Result<Told, fmt::Error>
         requires standing { IsStanding world.now }
         requires nodes { nodes ≡ world.now.node_count }
@@ -104,7 +104,7 @@ fn distance(value: Value) -> u16 {
     }
 }
 
-/// What the world shows, which has so many nodes.
+/// What the world shows, which has `nodes` nodes.
 pub(crate) fn show(alloc: Global, world: &World, nodes: usize) -> Result<String, Memory>
     requires standing { IsStanding world.now }
     requires nodes { nodes ≡ world.now.node_count }

@@ -16,7 +16,7 @@ impl fmt::Display for Named {
     }
 }
 
-/// The value that is written so; none where the text is no value.
+/// The value that is written so; none if the text is no value.
 pub(crate) fn read_value(text: &str) -> Option<Value> {
     if text == "d" {
         return Some(Value::Draw);

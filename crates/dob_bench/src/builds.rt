@@ -83,7 +83,7 @@ pub(crate) fn tell_memory<R: Print + AllocGlobal + Files>(rt: &R) -> Result<()> 
     Ok(())
 }
 
-// The items of a build, applied to cells of which nothing is known.
+// The items of a build, applied to fresh cells.
 fn apply_items<R: Print + Clock + AllocGlobal>(
     rt: &R,
     classes: &Classes,
@@ -102,7 +102,7 @@ fn apply_items<R: Print + Clock + AllocGlobal>(
     )
 }
 
-// The cells of one owner of all classes, of which nothing is known but the openings.
+// The cells of one owner of all classes; only the openings are known.
 fn open_share(alloc: Global, classes: &Classes) -> Result<Share> {
     let openings = opening(alloc, classes, SegmentLength::longest())?;
     let share = Share::open(alloc, &openings, 0, NodeCount::one())?;

@@ -20,7 +20,7 @@ use std::sync::Wait;
 use std::thread::Threads;
 use std::time::Instant;
 
-/// Measures a build of the set by so many nodes, with inboxes for so many batches.
+/// Measures a build of the set by `nodes` nodes, with inboxes for `capacity` batches.
 pub(crate) fn run<R: Print + Clock + AllocGlobal + Files + Threads + Wait + Sync>(
     rt: &R,
     family: Family,
@@ -35,7 +35,7 @@ pub(crate) fn run<R: Print + Clock + AllocGlobal + Files + Threads + Wait + Sync
     measure_parts(rt, family, &built.table, nodes, seconds)
 }
 
-// What the build by so many nodes found, the seconds that it took and what it cost.
+// What the build by `nodes` nodes found, the seconds that it took and what it cost.
 fn tell_build<R: Print + Clock + AllocGlobal + Files>(
     rt: &R,
     built: &Built,
@@ -57,7 +57,7 @@ fn tell_costs<R: Print + Clock + AllocGlobal + Files>(rt: &R, built: &Built) -> 
     Ok(())
 }
 
-// The parts of a build that gave the table in so many seconds.
+// The parts of a build that gave the table in `seconds` seconds.
 fn measure_parts<R: Print + Clock + AllocGlobal + Threads + Sync>(
     rt: &R,
     family: Family,
@@ -71,7 +71,7 @@ fn measure_parts<R: Print + Clock + AllocGlobal + Threads + Sync>(
     tell_ratio(rt, &classes, seconds)
 }
 
-// All predecessors, and how often their time goes into so many seconds.
+// All predecessors, and how often their time goes into `seconds`.
 fn tell_ratio<R: Print + Clock + AllocGlobal>(
     rt: &R,
     classes: &Classes,
@@ -148,7 +148,7 @@ struct Needed {
     others: u64,
 }
 
-/// The moves into the classes of the table, which so many nodes own.
+/// The moves into the classes of the table, which `nodes` nodes own.
 fn needed_items(
     alloc: Global,
     classes: &Classes,

@@ -4,6 +4,11 @@
 // of a file's name it measures the plain programs of the rules and of the predecessors, each beside the body that goes by masks.
 // `build`, a piece set and a number of nodes measure a build by threads, with inboxes for as many batches as a last number says,
 // or as the program has them.
+//
+// Choices:
+// - `build` prints the least number of items that the table needs, since no public call says how many were sent. Its gate counts turns, and so separates the
+//   time before the first one and after the last one from that between. Short work is done four times and the fastest round printed; a build is measured
+//   before the positions are listed.
 #![tactic(auto)]
 
 mod builds;
@@ -77,7 +82,7 @@ fn write_table<R: Print + Clock + AllocGlobal + Files + Threads + Sync>(
     Ok(())
 }
 
-// Measures a build of the set of that text by as many nodes as the other text says, with inboxes for so many batches.
+// Measures a build of the set of that text by as many nodes as the other text says, with inboxes for `capacity` batches.
 fn measure_build<R: Print + Clock + AllocGlobal + Files + Threads + Wait + Sync>(
     rt: &R,
     text: &str,

@@ -44,7 +44,7 @@ pub(crate) fn find_open<R: Print + Clock>(
     )
 }
 
-/// The numbers of the positions' moves, of which no list is made.
+/// The numbers of the positions' moves, without a list of them.
 pub(crate) fn count<R: Print + Clock>(rt: &R, positions: &[Position], timed: bool) -> Result<()> {
     let rounds = Rounds::of(rt, timed, || Ok(moves_counted(positions)))?;
     rounds.tell(

@@ -1,4 +1,4 @@
-// Times, printed only where they are asked for, since they differ from run to run.
+// Times, printed only if they are asked for, since they differ from run to run.
 use anyhow::Result;
 use std::fmt::Display;
 use std::num::nearest_u64_to_f64;
@@ -8,7 +8,7 @@ use std::time::Instant;
 // Rounds of the same work whose fastest is printed.
 const ROUNDS: usize = 4;
 
-/// When a measurement began; nothing where no times are printed.
+/// When a measurement began; nothing if no times are printed.
 #[derive(Clone, Copy)]
 pub(crate) struct Timer {
     start: Option<Instant>,
@@ -53,7 +53,7 @@ pub(crate) struct Rounds<T> {
 }
 
 impl<T: Copy> Rounds<T> {
-    /// Does the work four times, or once where no times are printed.
+    /// Does the work four times, or once if no times are printed.
     pub(crate) fn of<R: Clock, W: FnMut() -> Result<T>>(
         rt: &R,
         timed: bool,
@@ -91,7 +91,7 @@ impl<T: Copy> Rounds<T> {
     }
 }
 
-// The lesser of two times, where both are known.
+// The lesser of two times, if both are known.
 fn least_of(one: Option<f64>, other: Option<f64>) -> Option<f64> {
     match (one, other) {
         (Some(one), Some(other)) if other < one => Some(other),

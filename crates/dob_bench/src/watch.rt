@@ -31,7 +31,7 @@ impl<'a, R: Clock> Watch<'a, R> {
         }
     }
 
-    /// Prints how many turns there were in a build of so many seconds, and the seconds before, during and after them.
+    /// Prints how many turns there were in a build of `seconds` seconds, and the seconds before, during and after them.
     pub(crate) fn tell<P: Print>(&self, rt: &P, seconds: f64) -> Result<()> {
         let turns = self.turns.load(Ordering::SeqCst);
         let first = seconds_of(self.first.load(Ordering::SeqCst));

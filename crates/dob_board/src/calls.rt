@@ -46,7 +46,7 @@ impl NodeSeat {
         number
     }
 
-    // Counts a batch of the node `from`, of which more were seen posted than are taken. The node is black afterwards.
+    // Counts a batch of the node `from`: more of its batches were seen posted than are taken. The node is black afterwards.
     fn count_taken(&mut self, from: usize)
         requires node { from < self.old.nodes }
         requires waiting { slice_index self.old.taken.items from < slice_index self.old.seen.items from }

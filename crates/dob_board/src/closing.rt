@@ -14,7 +14,7 @@ use atomic_table::Seat;
 use std::sync::Arc;
 
 impl Board {
-    /// The words, once the seats of all nodes are back. They are just what the seats counted, and what the events of the board
+    /// The words, once the seats of all nodes are back. They are exactly what the seats counted, and what the events of the board
     /// made of the token and the halt.
     pub fn close(self, seats: Vec<NodeSeat>) -> Closed
         requires { AreSeats self.rest.table_id self.nodes seats.items }

@@ -25,7 +25,7 @@ impl Board {
     ///
     /// # Errors
     ///
-    /// E9 where the number isn't 1 to 16; E23 where no memory is left.
+    /// E9 if the number isn't 1 to 16; E23 if no memory is left.
     pub fn open(alloc: Global, nodes: usize) -> Result<(Board, Vec<NodeSeat>), Fault>
         ensures size { (result ≡ Err fault.Nodes) ↔ (¬ IsSize nodes) }
         ensures nodes { IfOk result (λ opened. opened.0.nodes ≡ nodes) }

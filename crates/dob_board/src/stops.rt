@@ -25,7 +25,7 @@ impl NodeSeat {
     }
 
     /// Announces the end, which the node may do by the token that it saw, its counter and its colour. The answer is Ended, or
-    /// the failure of a node that came before, of its own only where it said so itself.
+    /// the failure of a node that came before, of its own only if it said so itself.
     pub fn announce(&mut self) -> Halt
         requires { MayEnd (stand_of self.old) }
         ensures found { FindsHalt self.old self.new result }

@@ -26,7 +26,7 @@ pub(crate) const ENDED: u64 = 1;
 // The halt where node 0 failed it; those of the others come behind.
 pub(crate) const FAILED: u64 = 2;
 
-/// How many words a board of so many nodes has.
+/// How many words a board of `nodes` nodes has.
 pub(crate) fn word_count(nodes: NodeCount) -> usize
     ensures { result ≡ word_count nodes }
 {

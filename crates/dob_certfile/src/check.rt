@@ -11,7 +11,7 @@ use dob_certificate::{Refusal, verify};
 use dob_classes::Classes;
 use std::alloc::Global;
 
-/// Passes the file just where its lists prove what it claims of the root, the representative of its class: so only where that holds.
+/// Passes the file exactly if its lists prove what it claims of the root, the representative of its class: so only if that holds.
 /// It reads no table, and takes the memory of the family's classes.
 ///
 /// # Errors

@@ -18,7 +18,7 @@ fn plies_of(byte: u8) -> u16
     if byte < 255 { byte as u16 } else { EVER }
 }
 
-/// The entry that stands in the first bytes, and the bytes after it. Its class is the least or above, and there are so many classes.
+/// The entry that stands in the first bytes, and the bytes after it. Its class is the least or above, and there are `classes` classes.
 ///
 /// # Errors
 ///
@@ -43,7 +43,7 @@ fn entry_of(bytes: &[u8], least: u64, classes: u64) -> Result<(Entry, &[u8]), De
     Ok((Entry { class, plies }, rest))
 }
 
-/// So many entries in ascending order, and the bytes after them.
+/// `count` entries in ascending order, and the bytes after them.
 ///
 /// # Errors
 ///

@@ -2,11 +2,11 @@
 use dob_certificate::{Certificate, Claim};
 use dob_pieces::Family;
 
-/// A certificate with what it claims, and of which position.
+/// A certificate with its claim and the position of the claim.
 #[derive(Debug, Drop)]
 pub struct CertificateFile {
     pub family: Family,
-    /// The class of the position of which it claims something.
+    /// The class of the position of the claim.
     pub root: u32,
     pub claim: Claim,
     pub certificate: Certificate,

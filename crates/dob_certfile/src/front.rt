@@ -20,7 +20,7 @@ pub(crate) const FRONT_LEN: usize = 28;
 /// What the title says after it.
 pub(crate) const VERSION: u8 = 1;
 
-/// What stands before the entries: what is claimed of which class, and how many entries each list has.
+/// What stands before the entries: the claim and its class, and how many entries each list has.
 #[derive(Clone, Copy)]
 pub(crate) struct Front {
     pub(crate) family: Family,
@@ -86,7 +86,7 @@ fn family_of(bytes: &[u8]) -> Result<Family, Defect>
     Ok(Family { set, profile })
 }
 
-// The claim of that kind with so many plies.
+// The claim of that kind with `plies` plies.
 fn claim_of(kind: u8, plies: u8) -> Result<Claim, Defect>
     ensures { result ≡ claim_at kind plies }
 {

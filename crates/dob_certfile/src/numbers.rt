@@ -21,12 +21,12 @@ pub(crate) fn byte_of(bytes: &[u8]) -> Result<(u8, &[u8]), Defect>
     }
 }
 
-/// The number that stands in the first bytes, at most so many and one, and the bytes after it. Its last byte is below 128. Of each
+/// The number that stands in the first bytes, at most `more` and one, and the bytes after it. Its last byte is below 128. Of each
 /// other one seven bits count, which are lower than those of the bytes after it.
 ///
 /// # Errors
 ///
-/// `Truncated`; `EntryNumber`, where the number isn't in the fewest bytes or has more.
+/// `Truncated`; `EntryNumber`, if the number isn't in the fewest bytes or has more.
 pub(crate) fn number_of(bytes: &[u8], more: u32) -> Result<(u64, &[u8]), Defect>
     requires { more ≤ 4 }
     ensures read { Gives (λ x. (x.0, x.1.now)) result (number_at more bytes.now) }

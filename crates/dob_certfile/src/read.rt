@@ -26,11 +26,11 @@ pub(crate) const DIGEST_LEN: usize = 32;
 /// `ClaimByte`; `EntryCount`; of each entry in turn `Truncated`, `EntryNumber`, `EntryOrder`, `EntryClass` and, where its plies are
 /// missing, `Truncated`; `Truncated`, fewer than 32 bytes after the entries; `Trailing`, more; `Digest`. Or `Memory`.
 pub fn read_certificate(alloc: Global, bytes: &[u8]) -> Result<CertificateFile, ReadFault>
-    // What is read has just these bytes.
+    // What is read has exactly these bytes.
     ensures found { IfOk result (λ file. Fits (content file) × (bytes.now ≡ bytes_of (content file))) }
     // The bytes of what has a file are read as that, unless memory runs out.
     ensures only { (c : Content) → Fits c → bytes.now ≡ bytes_of c → MayGive content result (Ok c) }
-    // A fault is the first one, and where there is one it is given, unless memory runs out.
+    // A fault is the first one, and if there is one it is given, unless memory runs out.
     ensures fault { IfErr result (λ given. (given ≡ ReadFault.Memory) ⊎ ((defect : AnyDefect) × (given ≡ ReadFault.Defect defect) × HasCertFault bytes.now defect)) }
     ensures exact { MayGive content result (file_at bytes.now) }
 {
@@ -55,7 +55,7 @@ fn file_of(alloc: Global, bytes: &[u8]) -> Result<CertificateFile, ReadFault>
     })
 }
 
-// A list of so many entries, and the bytes after it.
+// A list of `count` entries, and the bytes after it.
 fn list_of(
     alloc: Global,
     bytes: &[u8],

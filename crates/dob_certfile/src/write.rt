@@ -24,7 +24,7 @@ use std::alloc::Global;
 ///
 /// # Errors
 ///
-/// `Unfit` and `Memory`, before anything is written; `Io` where the sink fails in this call, which then has received just the first
+/// `Unfit` and `Memory`, before anything is written; `Io` if the sink fails in this call, which then has received exactly the first
 /// bytes of the file, as many as the fault says, and all of them where it failed to flush.
 pub fn write_certificate<W: Sink>(
     alloc: Global,
@@ -48,7 +48,7 @@ pub fn write_certificate<W: Sink>(
 ///
 /// # Errors
 ///
-/// `Unfit`, just where the root or an entry is no class of the family, or the claim or an entry has more than 254 plies, which no file
+/// `Unfit`, exactly if the root or an entry is no class of the family, or the claim or an entry has more than 254 plies, which no file
 /// says; `Memory`.
 pub fn certificate_bytes(alloc: Global, file: &CertificateFile) -> Result<Vec<u8>, WriteFault>
     ensures bytes { IfOk result (λ bytes. bytes.items ≡ bytes_of (content file.now)) }
@@ -91,14 +91,14 @@ fn fits_claim(claim: Claim) -> bool
     }
 }
 
-// Whether a file of so many classes can have each of the entries.
+// Whether a file of `classes` classes can have each of the entries.
 fn fit_entries(entries: &[Entry], classes: u64) -> bool
     ensures { IsTrue result ↔ All (FitEntry classes) entries.now }
 {
     entries.iter().all(|entry| fits_entry(*entry, classes))
 }
 
-// Whether a file of so many classes can have the entry.
+// Whether a file of `classes` classes can have the entry.
 fn fits_entry(entry: Entry, classes: u64) -> bool
     ensures { IsTrue result ↔ FitEntry classes entry }
 {

@@ -13,7 +13,7 @@ use dob_moves::Move;
 use dob_pieces::{Memory, Position};
 use dob_value::Value;
 
-/// What is claimed of a position: its value, or that the side to move is lost, or has won, within so many plies.
+/// What is claimed of a position: its value, or that the side to move is lost, or has won, within N plies.
 #[derive(Clone, Copy, Debug, PartialEq, Eq)]
 pub enum Claim {
     Exactly(Value),
@@ -21,7 +21,7 @@ pub enum Claim {
     WonWithin(u16),
 }
 
-// Whether the list shows that the position is won within so many plies. The list of replies is room for moves.
+// Whether the list shows that the position is won within `plies`. The list of replies is room for moves.
 //
 // Error: `Memory`.
 pub(crate) fn shows_won(
@@ -41,7 +41,7 @@ pub(crate) fn shows_won(
     }
 }
 
-// Whether the lists show that the position is a loss in so many plies.
+// Whether the lists show that the position is a loss in `plies` plies.
 fn shows_loss(classes: &Classes, certificate: &Certificate, position: &Position, plies: u16) -> bool
     requires { IsPositionOf classes.now.family position.now.setup }
     ensures { IsTrue result ↔ ShowsLoss classes.now.family certificate.now.lost certificate.now.held position.now.setup plies }
@@ -50,7 +50,7 @@ fn shows_loss(classes: &Classes, certificate: &Certificate, position: &Position,
         && (plies == 0 || is_said_held(classes, &certificate.held, plies - 1, position))
 }
 
-// Whether the lists show that the position is a win in so many plies. The list of replies is room for moves.
+// Whether the lists show that the position is a win in `plies` plies. The list of replies is room for moves.
 //
 // Error: `Memory`.
 fn shows_win(
@@ -113,7 +113,7 @@ fn shows_value(
     }
 }
 
-/// Whether the lists show the claim of the position. That proves it only where each list supports its entries. The list of replies is
+/// Whether the lists show the claim of the position. That proves it only if each list supports its entries. The list of replies is
 /// room for moves.
 ///
 /// # Errors

@@ -35,7 +35,7 @@ impl Entries {
         }
     }
 
-    /// The entries, or None where they don't ascend: where a class isn't above the one before it.
+    /// The entries, or None if they don't ascend: where a class isn't above the one before it.
     pub fn from_vec(entries: Vec<Entry>) -> Option<Entries>
         ensures some { IfSome result (λ list. list ≡ entries.items) }
         ensures ascending { IsSome result ↔ AreAscending entries.items }
@@ -55,7 +55,7 @@ impl Entries {
         &self.entries
     }
 
-    /// The entry of that class, or None where it has none. A binary search.
+    /// The entry of that class, or None if it has none. A binary search.
     pub fn find(&self, class: u64) -> Option<Entry>
         ensures some { IfSome result (λ entry. Contains self.now entry × (entry.class ≡ class)) }
         ensures none { IfNone result ((entry : Entry) → Contains self.now entry → entry.class ≢ class) }

@@ -16,7 +16,7 @@ use dob_classes::Classes;
 use dob_moves::{Move, Status, moves_into, status};
 use dob_pieces::{Memory, Position};
 
-/// Whether the list says that the position isn't lost within so many plies, or that shows at once.
+/// Whether the list says that the position isn't lost within `plies`, or that shows at once.
 pub(crate) fn is_said_held(
     classes: &Classes,
     held: &Entries,
@@ -33,7 +33,7 @@ pub(crate) fn is_said_held(
     }
 }
 
-// Whether the list has the position's class with at least so many plies.
+// Whether the list has the position's class with at least `plies`.
 fn is_listed_beyond(classes: &Classes, held: &Entries, plies: u16, position: &Position) -> bool
     requires { IsPositionOf classes.now.family position.now.setup }
     ensures { IsTrue result ↔ IsListedBeyond classes.now.family held.now plies position.now.setup }
@@ -44,7 +44,7 @@ fn is_listed_beyond(classes: &Classes, held: &Entries, plies: u16, position: &Po
     }
 }
 
-// Whether each of an open position's moves leads to one that is said not to be lost within so many plies.
+// Whether each of an open position's moves leads to one that is said not to be lost within `plies`.
 fn are_all_held(
     classes: &Classes,
     held: &Entries,
@@ -66,7 +66,7 @@ fn are_all_held(
     true
 }
 
-/// Whether the lion can't be caught, and each move leads to a position that is said not to be lost within so many plies. The list of
+/// Whether the lion can't be caught, and each move leads to a position that is said not to be lost within `plies`. The list of
 /// replies is room for moves.
 ///
 /// # Errors
@@ -115,7 +115,7 @@ fn has_escape(
     Ok(false)
 }
 
-// What an entry with so many plies asks of the positions two plies later.
+// The plies that an entry with `plies` asks of the positions two plies later.
 fn plies_asked(plies: u16) -> u16
     requires { 2 ≤ plies }
     ensures { result ≡ plies_asked plies }
@@ -123,7 +123,7 @@ fn plies_asked(plies: u16) -> u16
     if plies < EVER { plies - 2 } else { plies }
 }
 
-// Whether the lion can be caught, or the position is open and has an escape where one is asked for.
+// Whether the lion can be caught, or the position is open and has an escape if one is asked for.
 //
 // Error: `Memory`.
 fn is_hold_supported(

@@ -32,7 +32,7 @@ fn supports(
     }
 }
 
-/// Passes the entry at that place of a list of that kind just where the list supports it.
+/// Passes the entry at that place of a list of that kind exactly if the list supports it.
 ///
 /// # Errors
 ///
@@ -56,7 +56,7 @@ pub fn check_entry(
     }
 }
 
-/// Passes a list of that kind just where it supports each of its entries.
+/// Passes a list of that kind exactly if it supports each of its entries.
 ///
 /// # Errors
 ///

@@ -13,7 +13,7 @@ use dob_classes::Classes;
 use dob_moves::{Move, apply};
 use dob_pieces::Position;
 
-/// The entry of the position's class, or None where the list has none.
+/// The entry of the position's class, or None if the list has none.
 pub fn entry_for(classes: &Classes, entries: &Entries, position: &Position) -> Option<Entry>
     requires { IsPositionOf classes.now.family position.now.setup }
     ensures some { IfSome result (IsEntryFor classes.now.family entries.now position.now.setup) }

@@ -14,7 +14,7 @@ use dob_classes::Classes;
 use dob_moves::{Move, Status, moves_into, status};
 use dob_pieces::{Memory, Position};
 
-/// Whether the list says that the position is lost within so many plies, or that shows at once.
+/// Whether the list says that the position is lost within `plies`, or that shows at once.
 pub(crate) fn is_said_lost(
     classes: &Classes,
     lost: &Entries,
@@ -31,7 +31,7 @@ pub(crate) fn is_said_lost(
     }
 }
 
-// Whether the list has the position's class with at most so many plies.
+// Whether the list has the position's class with at most `plies`.
 fn is_listed_within(classes: &Classes, lost: &Entries, plies: u16, position: &Position) -> bool
     requires { IsPositionOf classes.now.family position.now.setup }
     ensures { IsTrue result ↔ IsListedWithin classes.now.family lost.now plies position.now.setup }
@@ -42,7 +42,7 @@ fn is_listed_within(classes: &Classes, lost: &Entries, plies: u16, position: &Po
     }
 }
 
-// Whether one of an open position's moves leads to one that is said to be lost within so many plies.
+// Whether one of an open position's moves leads to one that is said to be lost within `plies`.
 fn has_reply(
     classes: &Classes,
     lost: &Entries,
@@ -62,7 +62,7 @@ fn has_reply(
     false
 }
 
-/// Whether the side to move catches the lion, or some move leads to a position that is said to be lost within so many plies. The
+/// Whether the side to move catches the lion, or some move leads to a position that is said to be lost within `plies`. The
 /// list of replies is room for moves.
 ///
 /// # Errors
@@ -85,7 +85,7 @@ pub(crate) fn is_answered(
     }
 }
 
-// Whether each of an open position's moves leads to one that is answered within so many plies.
+// Whether each of an open position's moves leads to one that is answered within `plies`.
 //
 // Error: `Memory`.
 fn are_all_answered(

@@ -19,7 +19,7 @@ use dob_classes::Classes;
 use dob_pieces::{Memory, Position};
 use std::alloc::Global;
 
-/// Passes the certificate just where its lists prove the claim, so only where the claim holds. It reads no table.
+/// Passes the certificate exactly if its lists prove the claim, so only if the claim holds. It reads no table.
 ///
 /// # Errors
 ///
@@ -43,12 +43,12 @@ pub fn verify(
     check_claim(&mut room, classes, certificate, position, claim)
 }
 
-/// Passes the claim just where the lists show it, once each is known to support its entries: what is left of [`verify`] for who has
+/// Passes the claim exactly if the lists show it, once each is known to support its entries: what is left of [`verify`] for who has
 /// looked at the entries by [`check_entry`](crate::check_entry).
 ///
 /// # Errors
 ///
-/// `Claim` where the lists don't show the claim; `Memory`.
+/// `Claim` if the lists don't show the claim; `Memory`.
 pub fn check_claim(
     room: &mut Room,
     classes: &Classes,
@@ -67,7 +67,7 @@ pub fn check_claim(
     if shown { Ok(()) } else { Err(Refusal::Claim) }
 }
 
-/// Whether the certificate proves that the side to move can't keep from losing within so many plies: its lost list supports its
+/// Whether the certificate proves that the side to move can't avoid a loss within `plies`: its lost list supports its
 /// entries, and says so. It reads that list alone.
 ///
 /// # Errors
@@ -94,7 +94,7 @@ pub fn is_lost_within(
     }
 }
 
-/// Whether the certificate proves that the side to move can force a win within so many plies: its lost list supports its entries, and
+/// Whether the certificate proves that the side to move can force a win within `plies`: its lost list supports its entries, and
 /// the side to move catches the lion, or some move leads to what that list says to be lost in time. It reads that list alone.
 ///
 /// # Errors

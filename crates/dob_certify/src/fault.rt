@@ -15,7 +15,7 @@ pub enum Fault {
     Table(dob_probe::Fault),
     /// E30, E31, E23: the lists that were found don't prove what the table says of the position, as where the table isn't right.
     Unproved(Refusal),
-    /// E39: a certificate would have more than so many entries.
+    /// E39: a certificate would have more than N entries.
     TooMany(u64),
     /// E23: a growth was refused, since no memory was left for it.
     Memory,

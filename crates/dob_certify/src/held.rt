@@ -1,4 +1,4 @@
-// The classes that show that some of them aren't lost within so many plies, found in a table.
+// The classes that show that some of them aren't lost within N plies, found in a table.
 //
 // The classes come by falling plies. Each has to have a move after which the lion can't be caught and each reply leads to a class that isn't lost within
 // two plies less: so the move that is chosen asks for the fewest and cheapest classes that aren't members yet.
@@ -41,12 +41,12 @@ struct Search<'a, 'b> {
     replies: Vec<u32>,
 }
 
-/// The entries of the classes, which by the table aren't lost within so many plies, and those that they need. Where the lion can be caught a class
-/// needs no entry, and none needs one within 1 ply. The watch is told of each two plies.
+/// The entries of the classes, which by the table aren't lost within `plies`, and those that they need. Where the lion can be caught a class
+/// needs no entry, and none needs one within 1 ply. The watch is called for each two plies.
 ///
 /// # Errors
 ///
-/// `Memory`; `Full` where there would be more than `most` entries.
+/// `Memory`; `Full` if there would be more than `most` entries.
 pub(crate) fn held_entries<W: Watch>(
     alloc: Global,
     outcomes: &mut Outcomes<'_>,
@@ -80,7 +80,7 @@ pub(crate) fn held_entries<W: Watch>(
     Ok(search.members.entries(alloc)?)
 }
 
-// What a class that has to hold for so many plies asks of those two plies later.
+// The plies that a class which has to hold for `plies` asks of those two plies later.
 fn plies_asked(plies: u16) -> u16 {
     if plies == EVER {
         EVER
@@ -101,7 +101,7 @@ fn costs() -> [u64; DISTANCES] {
 }
 
 impl Search<'_, '_> {
-    // Makes those classes members that aren't, with so many plies.
+    // Makes those classes members that aren't, with `plies`.
     fn add_all(&mut self, classes: &[u32], plies: u16) -> Result<(), Stop> {
         if plies < 2 {
             return Ok(());
@@ -115,7 +115,7 @@ impl Search<'_, '_> {
         Ok(())
     }
 
-    // Chooses a move for each of the fresh members, which have so many plies, and adds what it asks for.
+    // Chooses a move for each of the fresh members, which have `plies`, and adds what it asks for.
     fn look_at_fresh(&mut self, plies: u16, asked: u16) -> Result<(), Stop> {
         let fresh = mem::replace(&mut self.fresh, Vec::new(self.alloc));
         if asked < 2 {
@@ -171,7 +171,7 @@ impl Search<'_, '_> {
     }
 }
 
-// What a class of that value costs that has to hold for so many plies.
+// What a class of that value costs if it has to hold for `asked` plies.
 fn cost_at(costs: &[u64], value: Value, asked: u16) -> u64 {
     match value {
         Value::Win(plies) if plies <= asked => {

@@ -1,4 +1,4 @@
-// The classes that show that one of them is lost within so many plies, found in a table.
+// The classes that show that one of them is lost within N plies, found in a table.
 //
 // The classes come by falling distance. Each move of a class leads to one that has to be answered: to have a reply to a member that is lost in time. What
 // has to be answered waits until the distance of its shortest reply is reached, since until then a class may become a member that answers it too. Then those
@@ -14,7 +14,7 @@ use dob_value::Value;
 use std::alloc::Global;
 use std::mem;
 
-// A class that has to be answered by a reply to one that is lost within so many plies.
+// A class that has to be answered by a reply to one that is lost within `plies`.
 #[derive(Clone, Copy, PartialEq, Eq, PartialOrd, Ord)]
 struct Need {
     class: u32,
@@ -57,11 +57,11 @@ struct Search<'a, 'b> {
     replies: Vec<u32>,
 }
 
-/// The entry of the class, which by the table is lost in so many plies, and those that it needs. The watch is told of each two plies.
+/// The entry of the class, which by the table is lost in `plies`, and those that it needs. The watch is called for each two plies.
 ///
 /// # Errors
 ///
-/// `Memory`; `Full` where there would be more than `most` entries.
+/// `Memory`; `Full` if there would be more than `most` entries.
 pub(crate) fn lost_entries<W: Watch>(
     alloc: Global,
     outcomes: &mut Outcomes<'_>,
@@ -121,7 +121,7 @@ impl Search<'_, '_> {
         Ok(())
     }
 
-    // Each of the classes has to be answered within so many plies. One that is won in 1 ply always is.
+    // Each of the classes has to be answered within `plies`. One that is won in 1 ply always is.
     fn look_at(&mut self, outcomes: &[u32], plies: u16) -> Result<(), Stop> {
         for class in outcomes {
             if self.outcomes.value(*class) != Value::Win(1) {
@@ -252,7 +252,7 @@ fn wanted_at(alloc: Global, replies: &[Reply], distance: u16) -> Result<Members,
     Ok(wanted)
 }
 
-// Whether there is a number, and it is at most so many plies.
+// Whether there is a number, and it is at most `plies`.
 fn is_within(member: Option<u16>, plies: u16) -> bool {
     match member {
         Some(least) => least <= plies,

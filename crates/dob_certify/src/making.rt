@@ -26,7 +26,7 @@ pub struct Certified {
     pub certificate: Certificate,
 }
 
-/// What a certificate is to claim: that the position is lost or won within so many plies, or exactly that value. A draw is always exact.
+/// What a certificate is to claim: that the position is lost or won within the value's plies, or exactly that value. A draw is always exact.
 pub fn claim_of(value: Value, is_exact: bool) -> Claim
     ensures { result ≡ claim_of value is_exact }
 {
@@ -38,7 +38,7 @@ pub fn claim_of(value: Value, is_exact: bool) -> Claim
     }
 }
 
-/// How often the watch of `certify` is told of some work, if the value isn't a draw: once for each two plies, and as often again where it is
+/// How often the watch of `certify` is called, if the value isn't a draw: once for each two plies, and as often again where it is
 /// to be exact.
 pub fn rounds_of(value: Value, is_exact: bool) -> u64 {
     match value {
@@ -52,13 +52,13 @@ pub fn rounds_of(value: Value, is_exact: bool) -> u64 {
 
 /// Makes a certificate of what the table says of the position. It has been verified, so what it claims holds, whoever made the table.
 ///
-/// A loss or a win is claimed to be one within so many plies, and where `is_exact`, in so many and no fewer. The list of lost classes has a few
+/// A loss or a win is claimed within its plies; if `is_exact`, in exactly these. The list of lost classes has a few
 /// hundred thousand entries at most; that of the others, which a draw and an exact value need, may have tens of millions, and takes some 40 bytes
 /// for each.
 ///
 /// # Errors
 ///
-/// `Table` where the position isn't one of the table's (E7, E26); `TooMany` where a list would have more than `most` entries; `Unproved` where the
+/// `Table` if the position isn't one of the table's (E7, E26); `TooMany` if a list would have more than `most` entries; `Unproved` if the
 /// lists that were found don't prove the claim, as where the table isn't right; `Memory`.
 pub fn certify<R: Threads + Sync, W: Watch>(
     rt: &R,
@@ -128,7 +128,7 @@ fn lost_list<W: Watch>(
     }
 }
 
-// The first class to which a move leads and that is lost in so many plies.
+// The first class to which a move leads and that is lost in `plies`.
 fn lost_outcome(
     alloc: Global,
     outcomes: &mut Outcomes<'_>,

@@ -14,7 +14,7 @@ pub(crate) struct Members {
 }
 
 impl Members {
-    /// None, where there may be so many.
+    /// None yet, with room for at most `most`.
     pub(crate) fn new(alloc: Global, most: u64) -> Members {
         Members {
             plies: HashMap::new(alloc),
@@ -22,7 +22,7 @@ impl Members {
         }
     }
 
-    /// The class's number of plies, where it is a member.
+    /// The class's number of plies, if it is a member.
     pub(crate) fn get(&self, class: u32) -> Option<u16> {
         self.plies.get(&class).copied()
     }
@@ -31,7 +31,7 @@ impl Members {
     ///
     /// # Errors
     ///
-    /// `Memory`; `Full` where there are more members than there may be.
+    /// `Memory`; `Full` if there are more members than there may be.
     pub(crate) fn insert(&mut self, class: u32, plies: u16) -> Result<(), Stop> {
         self.plies.insert(class, plies)?;
         if self.plies.len() as u64 > self.most {

@@ -48,7 +48,7 @@ impl<'a> Outcomes<'a> {
     }
 
     /// Writes the classes to which the moves of the class's representative lead, by ascending number and each once, in place of what
-    /// the list had; none where the table has no class of that number.
+    /// the list had; none if the table has no class of that number.
     ///
     /// # Errors
     ///

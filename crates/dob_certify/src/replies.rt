@@ -16,20 +16,20 @@ use std::alloc::Global;
 /// What a list of lost classes says of a position.
 #[derive(Clone, Copy, Debug, PartialEq, Eq)]
 pub enum Reply {
-    /// The side to move wins by this move: it catches the lion, with 0 plies, or after it the other side is lost within so many plies.
+    /// The side to move wins by this move: it catches the lion, with 0 plies, or after it the other side is lost within `plies`.
     Win { the_move: Move, plies: u16 },
-    /// The side to move is lost within so many plies.
+    /// The side to move is lost within `plies`.
     Loss { plies: u16 },
 }
 
-// A move after which the other side is lost within so many plies.
+// A move after which the other side is lost within `plies`.
 #[derive(Clone, Copy)]
 pub(crate) struct Lead {
     the_move: Move,
     plies: u16,
 }
 
-/// What the list says of the position, or None where it says nothing: of the position itself, and of all to which its moves lead. Where the lion can be
+/// What the list says of the position, or None if it says nothing: of the position itself, and of all to which its moves lead. Where the lion can be
 /// caught that is the first catch; else a move to a position that is lost within the fewest plies that the list says; else in how many plies the
 /// position itself is lost.
 ///
@@ -71,7 +71,7 @@ fn found_reply(
     }
 }
 
-// That the position is lost, where it is said to be.
+// That the position is lost, if it is said to be.
 fn loss(plies: Option<u16>) -> Option<Reply>
     ensures { result ≡ loss plies }
 {
@@ -101,7 +101,7 @@ fn shortest(
     best
 }
 
-// The better one of a lead and of a move to a position that is said to be lost within so many plies.
+// The better one of a lead and of a move to a position that is said to be lost within `found` plies.
 fn shorter(best: Option<Lead>, the_move: Move, found: Option<u16>) -> Option<Lead>
     ensures { result ≡ shorter best the_move found }
 {
@@ -118,7 +118,7 @@ fn shorter(best: Option<Lead>, the_move: Move, found: Option<u16>) -> Option<Lea
     }
 }
 
-// The fewest plies within which the list says that the position is lost, or that shows at once; None where it isn't said.
+// The fewest plies within which the list says that the position is lost, or that shows at once; None if it isn't said.
 fn said_lost(classes: &Classes, lost: &Entries, position: &Position) -> Option<u16>
     requires { IsPositionOf classes.now.family position.now.setup }
     ensures { SaysLost classes.now.family lost.now position.now.setup result }

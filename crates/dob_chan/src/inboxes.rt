@@ -14,8 +14,8 @@ use dob_update::{Batch, Capacity};
 use std::alloc::{AllocError, Global};
 use std::sync::{Arc, Wait};
 
-/// A new inbox for so many senders, that holds at most `capacity` batches: the sending end of each, in order, and the taking
-/// end. `Memory` where there is none for them.
+/// A new inbox for `senders` senders, that holds at most `capacity` batches: the sending end of each, in order, and the taking
+/// end. `Memory` if there is none for them.
 pub fn inbox(
     alloc: Global,
     senders: NodeCount,
@@ -106,7 +106,7 @@ impl SendEnd {
         self.sent
     }
 
-    /// Sends a batch of its owner, if the inbox has room; tries once. `Full` with the batch only where the inbox held its
+    /// Sends a batch of its owner, if the inbox has room; tries once. `Full` with the batch only if the inbox held its
     /// capacity, of all senders together, at some moment of the call; then nothing is sent. The end learns what all had sent
     /// and what was taken when its batch went in, and the inbox was full after that. Its promises hold if it returns.
     pub fn offer<R: Wait>(&mut self, rt: &R, batch: Batch) -> Result<(), Full>
@@ -136,7 +136,7 @@ impl TakeEnd {
         &self.taken
     }
 
-    /// Takes the next batch, if the inbox has one; tries once. `None` only where it was empty at some moment of the call. With a
+    /// Takes the next batch, if the inbox has one; tries once. `None` only if it was empty at some moment of the call. With a
     /// batch the end learns what had been sent when it came out, and the inbox was empty after that. Its promises hold if it
     /// returns.
     pub fn next<R: Wait>(&mut self, rt: &R) -> Option<Batch>

@@ -11,7 +11,7 @@ use dob_update::Capacity;
 use std::alloc::Global;
 use std::sync::Wait;
 
-/// The two ends of a new inbox of one sender, the owner 0, that holds at most `capacity` batches. `Memory` where there is none
+/// The two ends of a new inbox of one sender, the owner 0, that holds at most `capacity` batches. `Memory` if there is none
 /// for them.
 pub fn pair(alloc: Global, capacity: Capacity) -> Result<(SendEnd, TakeEnd), Memory>
     ensures paired { IfOk result (λ ends. ArePaired ends.0 ends.1) }

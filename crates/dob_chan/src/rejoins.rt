@@ -51,7 +51,7 @@ fn make_rooms(alloc: Global, sends: &[SendEnd], taken: &[u64]) -> Result<Vec<Rej
     Ok(rooms)
 }
 
-// Room for what is left where so many batches were sent and so many received.
+// Room for what is left of `sent` batches if `received` were received.
 fn room_for(alloc: Global, sent: u64, received: u64) -> Result<Rejoined, AllocError>
     ensures { IfOk result (HasRoom sent received) }
 {

@@ -67,7 +67,7 @@ pub fn verify_watched<R: Threads + Sync, W: Watch + Sync>(
     check_claim(&mut Room::new(alloc), classes, certificate, position, claim)
 }
 
-// Passes a list of that kind just where it supports each of its entries, and tells the watch of them.
+// Passes a list of that kind exactly if it supports each of its entries, and reports them to the watch.
 fn check_list<R: Threads + Sync, W: Watch + Sync>(
     rt: &R,
     alloc: Global,

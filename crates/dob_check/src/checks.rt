@@ -21,7 +21,7 @@ pub trait Watch {
     // By `told watch classes` it may have learned so.
     ghost told: { Self → ℕ → Type 0 };
 
-    /// Told that so many more classes were looked at, 65,536 at most. More may have been, and which they are is left open.
+    /// Called after at most 65,536 further classes, whose number it gets; it may lag, and which classes they are is left open.
     fn passed(&self, classes: u64)
         ensures { told self.now classes };
 }
@@ -35,7 +35,7 @@ impl Watch for Unwatched {
     fn passed(&self, _classes: u64) {}
 }
 
-/// Passes the table just where each class's value follows from its status and its successors' values, so only where it
+/// Passes the table exactly if each class's value follows from its status and its successors' values, so only if it
 /// is the value table. The classes are looked at by themselves, in as many threads as there are processors, each thread with
 /// one room for lists of moves.
 ///
@@ -91,7 +91,7 @@ pub fn check_watched<R: Threads + Sync, W: Watch + Sync>(
     first_fault.unwrap_or(Ok(()))
 }
 
-/// Tells the watch at the class, one of so many, where it is due.
+/// Calls the watch at the class, one of `count`, if a call is due.
 pub(crate) fn tell<W: Watch>(watch: &W, count: u64, class: u64)
     requires { class < count }
     ensures { IsToldAt (W.told watch.now) count class }
@@ -102,7 +102,7 @@ pub(crate) fn tell<W: Watch>(watch: &W, count: u64, class: u64)
     }
 }
 
-// How many more classes are reported to the watch at that one of so many.
+// How many more classes are reported to the watch at that one of `count`.
 fn news_at(count: u64, class: u64) -> u64
     requires { class < count }
     ensures adds { told_of count class + result ≡ told_of count (class + 1) }

@@ -1,4 +1,4 @@
-// Class numbers by numbers of which nothing is known, as they come from a caller in another language.
+// Class numbers by any numbers, as they come from a caller in another language.
 ghost use Rattle.std.specs.Prelude.{◌≡◌, ◌<◌, ◌≤◌, ◌+◌, length};
 ghost use Rattle.dob_classes.specs.BlockRows.{IsRow};
 ghost use Rattle.dob_rank.specs.Families.{IsPositionOf, IsInClass, is_marked, classes_of, class_number as number_of_class};

@@ -52,7 +52,7 @@ pub(crate) struct BlockClasses {
 }
 
 impl BlockClasses {
-    /// Opens the classes of the block of that number, before which there are so many.
+    /// Opens the classes of the block of that number, with `before` classes before it.
     ///
     /// # Errors
     ///
@@ -118,7 +118,7 @@ impl BlockClasses {
         }
     }
 
-    /// The spot of the representative before which there are so many in the whole family.
+    /// The spot of the representative with `class` others before it in the family.
     #[inline(always)]
     pub(crate) fn spot_at(&self, class: u64) -> Spot
         requires low { self.now.before ≤ class }
@@ -171,7 +171,7 @@ impl BlockClasses {
         self.runs[run as usize].digits
     }
 
-    /// The number of the representative before which there are so many in its run.
+    /// The number of the representative with `left` others before it in its run.
     fn number_at(&self, run: u64, left: u64) -> u64
         requires run { run < runs_in self.now.family.set self.now.number }
         requires left { marks_below (is_marked self.now.family) (run_start self.now.family.set self.now.number run) + left
@@ -261,7 +261,7 @@ fn push_table(
     Ok(number)
 }
 
-/// How many classes a run of so many places with that table has.
+/// How many classes a run of `size` places with that table has.
 fn count_marks(
     family: Family,
     block: u64,

@@ -11,7 +11,7 @@ use dob_rank::block;
 use dob_rank::runs::LIONS;
 use dob_rank::set_ranks::spot_of;
 
-/// Writes the row of a block before which so many classes stand: how many stand in the first hand's runs before each of them and before the end of
+/// Writes the row of a block with `before` classes before it: how many stand in the first hand's runs before each of them and before the end of
 /// the last, and then how many before the block.
 fn class_row(family: Family, block: u64, before: u64, row: &mut [u64])
     requires block { block < product (block_bases family.set) }

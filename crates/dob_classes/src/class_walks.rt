@@ -23,7 +23,7 @@ pub struct MixedRun {
     ghost kind: { run_kind (run % lion_pairs) ≡ Mixed },
 }
 
-/// Where a walk over a run's places stands: before so many of them, and so many positions of the family. The places from there up to an end are all of
+/// Where a walk over a run's places stands: at `place`, before the position `number` of the family. The places from there up to an end are all of
 /// representatives or all not.
 #[derive(Clone, Copy)]
 pub struct Walk {

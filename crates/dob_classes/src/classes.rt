@@ -96,7 +96,7 @@ impl Classes {
         }
     }
 
-    /// The number of the class whose representative the position of the family is; `None` where its mirror image is
+    /// The number of the class whose representative the position of the family is; `None` if its mirror image is
     /// earlier.
     pub fn class_of_representative(&self, position: &Position) -> Option<u64>
         requires { IsPositionOf self.now.family position.now.setup }

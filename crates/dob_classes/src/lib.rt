@@ -1,5 +1,17 @@
 // Classes: a position of a family and its mirror image are one, which stands by the earlier of them. A class number counts the classes before. The positions
 // of a run have the same hands and lions, and the lions' columns say of most runs whether they are representatives; in the others stretches of marks say it.
+//
+// Choices:
+// - Classes are stored by block, run and stretch; docs/CLASSES.md shows how, in numbers. The block is found from the last one backwards, which has most of
+//   the classes.
+// - A block's index promises only that its run comes no later than the class's (`RunIndex`); a walk forward finds the right one. How near it is costs time
+//   alone.
+// - A block has the places of each choice of its squares, a run the digits that its positions share, so that sets of squares are found without a division by
+//   a base.
+// - `count_classes` makes the same walk without its list, over the runs of one hand and then times the hands, with no memory.
+// - `Bitboards` are a setup as seven sets of squares and its hands, the least from which a place is found. A relation (`AreBitboards`) says what they show,
+//   so contracts can speak of a setup that the code doesn't have.
+// - A class's representative comes with the sets that a side sees of it (`Shown`): who reads these alone makes no board.
 #![tactic(auto)]
 
 mod any_rows;

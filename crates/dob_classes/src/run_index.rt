@@ -1,4 +1,4 @@
-// An index of a block's runs, by which the run of a class is found with no search: for every so many classes the run of the first of them. From there on
+// An index of a block's runs, by which the run of a class is found with no search: for each class at a fixed spacing its run. From there on
 // it is mostly the run itself, and else one of the next.
 ghost use Rattle.std.specs.Prelude.{ℕ, ◌<◌, ◌≤◌, ◌+◌, ◌^◌, IfOk, length, slice_index_or, vec_len};
 ghost use Rattle.dob_classes.specs.declared.runs.Run.{Run};
@@ -17,7 +17,7 @@ pub(crate) struct RunIndex {
 }
 
 impl RunIndex {
-    /// The index of runs of so many places, before which stand the classes from one to before another.
+    /// The index of runs of `size` places, for the classes from one to before another.
     ///
     /// # Errors
     ///
@@ -46,7 +46,7 @@ impl RunIndex {
         Ok(RunIndex { exponent, entries })
     }
 
-    /// The last run with no more than so many classes before it, by how many of these stand before the block too.
+    /// The last run with at most `class` classes before it, `before` of them before the block too.
     pub(crate) fn run_at(&self, runs: &Vec<Run>, before: u64, class: u64) -> usize
         requires low { before ≤ class }
         requires index { (after : ℕ) × (class < after) × IsRunIndex runs.now.items before after self.now }
@@ -58,14 +58,14 @@ impl RunIndex {
     }
 }
 
-/// The exponent of 2 by which runs of so many places are indexed, so that each has 16 entries or more where all its places are classes.
+/// The exponent of 2 by which runs of `size` places are indexed, so that each has 16 entries or more where all its places are classes.
 fn exponent_for(size: u64) -> u64
     ensures { result ≤ 32 }
 {
     u64::from(59u32.saturating_sub(size.leading_zeros()).min(32))
 }
 
-/// The last run with no more than so many classes before it, which is that one or a later one.
+/// The last run with at most `class` classes before it: that one or a later one.
 fn last_run(runs: &Vec<Run>, from: usize, class: u64) -> usize
     requires { IsAtMost runs.now.items class from }
     ensures run { IsAtMost runs.now.items class result }

@@ -24,7 +24,7 @@ use dob_rank::runs::{LIONS, Spot};
 use dob_rank::set_ranks::{digits_of, numbers_on_board, spot_by};
 use dob_rank::{block, radix};
 
-/// How many positions of the family a run has before that place, or before its end. Within its callers, since in profile A it is the place.
+/// How many positions of the family a run has before that place, or before its end. Inlined: for rules A it returns `place`.
 #[inline(always)]
 pub(crate) fn count_before(family: Family, block: u64, run: u64, place: u64) -> u64
     requires block { block < product (block_bases family.set) }

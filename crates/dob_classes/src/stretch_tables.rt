@@ -95,7 +95,7 @@ impl StretchTable {
         }
     }
 
-    /// The number of the marked position of the run before which there are so many marked ones in the run.
+    /// The number of the marked position with `marks` marked ones before it in the run.
     pub(crate) fn number_at(&self, marks: u64) -> u64
         requires { marks < self.now.count }
         ensures number { result < run_size_in self.now.family self.now.block self.now.run }

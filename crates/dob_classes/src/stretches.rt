@@ -23,7 +23,7 @@ pub(crate) struct Stretch {
     pub(crate) is_marked: bool,
 }
 
-/// Appends the entry of the places from one on, before which there are so many marks, unless the last entry's marks go on.
+/// Appends the entry of the places from one on, with `before` marks before it, unless the last entry's marks go on.
 ///
 /// # Errors
 ///

@@ -17,7 +17,7 @@ use std::thread::{Threads, available_parallelism};
 /// The most nodes that a build takes by itself.
 const MOST_NODES: usize = 16;
 
-/// Builds the table of the piece set that the text names, by the rules of the profile and by so many nodes, or by `usual_nodes`, and
+/// Builds the table of the piece set that the text names, by the rules of the profile and by `nodes` nodes, or by `usual_nodes`, and
 /// keeps it under the name. The lines that say how many classes have which value. Its promises hold if it returns.
 ///
 /// The file is made when the table is there, and the lines too, and kept when it is whole. A fault before it is made leaves all
@@ -54,7 +54,7 @@ fn nodes_for(rt: &impl Threads, nodes: Option<u64>) -> usize
     }
 }
 
-// As many nodes as there are processors, as far as a ring may have so many; one where that isn't known.
+// As many nodes as there are processors, at most as a ring may have; one if that isn't known.
 fn usual_nodes(rt: &impl Threads) -> usize
     ensures { IsSize result }
 {
@@ -64,7 +64,7 @@ fn usual_nodes(rt: &impl Threads) -> usize
     }
 }
 
-// Builds the family's table by so many nodes. Where it is watched, the console reports it.
+// Builds the family's table by `nodes` nodes. If it is watched, the console reports it.
 fn run_watched<R: Threads + Wait + Sync + Console>(
     rt: &R,
     alloc: Global,

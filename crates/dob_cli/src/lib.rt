@@ -1,4 +1,15 @@
 // The command line of `dobutsu`: from words to printed bytes and an exit status.
+//
+// Choices:
+// - What is owed for words is said of what is read of them: there is a reading that they ask for, and it is done (`Ran`). So a subcommand is a case in
+//   `specs/Orders.antt`, and no field of `Ran`.
+// - A build's lines are made before its file and printed after it: without memory for them there is no file. Without `--nodes` the words promise some number
+//   from 1 to 16. A watched build says what memory it takes before it tests the number of nodes.
+// - If a fault's line finds no memory to be formatted, E23 comes in its place, with its status.
+// - The program's streams are sinks, as a file is (`run_over`, `run_given`): one trait says what came in, where it was flushed, whether a call failed.
+//   `run_words` takes any writers of the standard library, hands each behind `Lent` to `run_over`, and says the same of the bytes that they received;
+//   `Write` can't say whether a writer was flushed or failed.
+// - A build takes batches of at most 256 items and inboxes of 64 batches: all inboxes of 16 nodes have some 6 MB.
 #![tactic(auto)]
 
 mod builds;

@@ -39,12 +39,12 @@ const NO_TEXT: &[u8] = b"error: an argument is not UTF-8\n\nFor more information
 
 /// Runs the program by its words, those after the program's name. Database files come from the shelf, and the one of a
 /// build goes there; its promises hold if it returns, since the threads of a build may wait. What it prints goes
-/// to the writer `out`, a fault's line and a word on wrong usage to `err`. The answer is the exit status.
+/// to the writer `out`; errors and usage messages go to `err`. The answer is the exit status.
 ///
 /// With the word `--progress` a build and a check also say how far they are, on the console of `rt` and not on `err`: of that nothing
 /// is promised.
 ///
-/// The status is 0 where it is done or help was asked for, 1 where what was asked, or a line of standard input, is refused, 2 for words that it
+/// The status is 0 if it is done or help was asked for, 1 if what was asked, or a line of standard input, is refused, 2 for words that it
 /// doesn't know, 3 for lack of memory, for a distance above 65,534 plies, for a build that stops and where `out` or a file fails. Where `err` fails,
 /// the status is the same.
 pub fn run_words<'a, S: Shelf, O: Write, E: Write>(
@@ -117,7 +117,7 @@ fn run_order<S: Shelf, O: Sink, E: Sink>(
     }
 }
 
-// What answers what is ordered: a line for each of standard input, or lines of which none is refused.
+// What answers what is ordered: a line for each of standard input, or lines, none refused.
 fn answers_for<S: Shelf>(
     rt: &(impl Threads + Wait + Sync + Console),
     alloc: Global,
@@ -322,7 +322,7 @@ fn tell_fault<S: Shelf, E: Sink>(alloc: Global, fault: Fault, shelf: &S, err: &m
     }
 }
 
-/// Tells on `err` that no memory was left, as where the words themselves can't be kept. It takes no memory itself. The
+/// Reports on `err` that no memory was left, as where the words themselves can't be kept. It takes no memory itself. The
 /// answer is the exit status.
 pub fn tell_memory<E: Sink>(err: &mut E) -> u8
     ensures { TellsFaultAs Memory result (change (E.state err.old) (E.state err.new)) }
@@ -331,7 +331,7 @@ pub fn tell_memory<E: Sink>(err: &mut E) -> u8
     Fault::Memory.status()
 }
 
-/// Runs the program by what it was given: its arguments, of which the first is its name, or why they can't be had.
+/// Runs the program by what it was given: its name and arguments, or why they can't be had.
 /// Database files come from the shelf, and go there.
 ///
 /// It does what `run_over` does with the words after the name. Where memory for them was refused, it says so (E23,
@@ -364,7 +364,7 @@ pub fn run_given<S: Shelf, O: Sink, E: Sink>(
     }
 }
 
-// Runs the program by its arguments, of which the first is its name.
+// Runs the program by its name and arguments.
 fn run_args<S: Shelf, O: Sink, E: Sink>(
     rt: &(impl Threads + Wait + Sync + Console),
     alloc: Global,

@@ -16,7 +16,7 @@ pub struct FailedAfter {
 
 /// Bytes that come one after the other, up to an end.
 pub trait Source {
-    // By `gives source stream` the source gives that stream from here on. One of which nothing is known gives none.
+    // By `gives source stream` the source gives that stream from here on. A source about which nothing is known gives none.
     ghost gives: { Self → Stream → Type 0 };
 
     // By `shows source stream` it has that stream from its first byte on, whatever was read of it. One that isn't read by
@@ -27,7 +27,7 @@ pub trait Source {
     ghost has_failed: { Self → Bool };
 
     /// Puts the next bytes into the front of the room and answers how many: none only at the end of the bytes, or
-    /// where there is no room.
+    /// if there is no room.
     fn read(&mut self, room: &mut [u8]) -> Result<usize, Failed>
         ensures within { IfOk result (λ count. count ≤ length room.new) }
         ensures given { (stream : Stream) → gives self.old stream
@@ -44,7 +44,7 @@ pub trait Source {
 
 /// Bytes that are read by their place too.
 pub trait PlacedSource: Source {
-    /// Goes to the place: the next byte that it gives is the one before which so many stand, or its end where there are
+    /// Goes to the place: the next byte that it gives is the one at that place, or its end where there are
     /// no more.
     fn seek(&mut self, place: u64) -> Result<(), Failed>
         ensures given { (stream : Stream) → Self.shows self.old stream
@@ -58,7 +58,7 @@ pub trait Sink {
     // What is known of it: its bytes, where it was flushed, whether some call of it has failed, and the writer that it was lent.
     ghost state: { Self → SinkState };
 
-    /// Takes the first bytes of the piece and answers how many: at least one, where there is one.
+    /// Takes the first bytes of the piece and answers how many: at least one, if there is one.
     fn write(&mut self, piece: &[u8]) -> Result<usize, Failed>
         ensures within { IfOk result (λ count. count ≤ length piece.now) }
         ensures some { IfOk result (λ count. 0 < length piece.now → 0 < count) }

@@ -24,7 +24,7 @@ pub(crate) struct Header {
 ///
 /// # Errors
 ///
-/// `Truncated`, `Magic`, `SetByte`, `ProfileByte`, `ClassCount`, `Io`; `Memory` where none of them holds.
+/// `Truncated`, `Magic`, `SetByte`, `ProfileByte`, `ClassCount`, `Io`; `Memory` if none of them holds.
 pub(crate) fn read_header<R: Source>(
     alloc: Global,
     source: &mut R,

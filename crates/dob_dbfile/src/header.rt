@@ -44,7 +44,7 @@ impl Format {
     }
 }
 
-/// Appends the header of a file of that family and so many classes, in the second format.
+/// Appends the header of a file of that family and `count` classes, in the second format.
 pub(crate) fn push_header(bytes: &mut Vec<u8>, family: Family, count: u64) -> Result<(), Memory>
     ensures items { OnOk result (bytes.new.items
         ≡ bytes.old.items ++ (title Second ++ set_bytes family.set ++ profile_bytes Second family.profile ++ count_bytes count)) }
@@ -117,7 +117,7 @@ pub(crate) fn family_counted(format: Format, set: PieceSet, header: &[u8]) -> Re
 ///
 /// # Errors
 ///
-/// `ProfileByte`, `ClassCount`; `Memory` where neither of them holds.
+/// `ProfileByte`, `ClassCount`; `Memory` if neither of them holds.
 pub(crate) fn classes_counted(
     alloc: Global,
     format: Format,
@@ -145,7 +145,7 @@ pub(crate) fn classes_counted(
     }
 }
 
-/// The family of that set that the whole header names, where the header counts so many classes, as many as that may be.
+/// The family of that set that the whole header names, if the header counts that many classes.
 pub(crate) fn family_saying(
     format: Format,
     set: PieceSet,

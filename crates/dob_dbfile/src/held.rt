@@ -23,7 +23,7 @@ use dob_value::Value;
 ///
 /// # Errors
 ///
-/// Just where it is the first that holds: those of `read_table` but `Digest`, `Memory` and `Io`.
+/// Exactly if it is the first that holds: those of `read_table` but `Digest`, `Memory` and `Io`.
 pub fn held_family(bytes: &[u8]) -> Result<(Format, Family), Fault>
     ensures named { IfOk result (λ held. IsNoLonger held.0 held.1 (whole bytes.now)) }
     ensures fault { (fault : AnyFault) → IsErrOf result fault ↔ (HasReadFault (whole bytes.now) fault × (fault ≢ Fault.Digest)) }
@@ -76,8 +76,8 @@ pub(crate) fn held_header(bytes: &[u8]) -> Result<(Format, Family), Fault>
     ))
 }
 
-/// The format and the family that the header names, where it counts so many classes and there are just as many bytes as a file of these has. The digest
-/// isn't read. Where the family has so many classes, that is so of each file of its own.
+/// The format and the family that the header names, if it counts `classes` and there are exactly as many bytes as such a file has. The digest
+/// isn't read. If the family has `classes` classes, each file of its own is such.
 pub fn held_counted(bytes: &[u8], classes: u64) -> Option<(Format, Family)>
     requires few { classes ≤ 2 ^ 42 }
     ensures named { IfSome result (λ held. NamesFamily held.0 held.1 bytes.now) }

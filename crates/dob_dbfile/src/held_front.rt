@@ -1,4 +1,4 @@
-// A file of which the caller holds the first bytes and knows the length: what it says of itself. No memory is taken.
+// What a file says of itself, by its first bytes and its length. No memory is taken.
 ghost use Rattle.std.specs.Prelude.{◌≡◌, ◌≢◌, ℕ, List, IfOk, IfErr};
 ghost use Rattle.dob_dbfile.specs.Devices.{whole};
 ghost use Rattle.dob_dbfile.specs.Faults.{HasReadFault, IsNoLonger, file_len, header_len};

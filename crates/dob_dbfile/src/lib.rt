@@ -1,4 +1,14 @@
 // Tables of values as database files: what files are read from and written to.
+//
+// Choices:
+// - A file is written in pieces of 4 kB, whose room is taken before the first byte goes out, so E23 comes before it. Records are read into segments, so a
+//   file that names a large set and ends soon is E15.
+// - A source or sink stays failed. `MemSink` counts E23 as its failure. A `Std` source shows no bytes; a `Std` sink shows those that its writer shows, and
+//   no flushes.
+// - A reader may be out of memory only once the header names a family with its number of classes.
+// - Each format has its title, and what both have in common is said once, by the format (`bytes_in`, `header_len`). Format 2 is read on after its first 20
+//   bytes, so E16 and E17 come before it is known that byte 20 is missing, and E27 after that.
+// - The tests of a header speak of the bytes that come, and each also of those before it (`dob_dbfile/proofs/Headers.antt`).
 #![tactic(auto)]
 
 mod device;

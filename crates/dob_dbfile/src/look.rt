@@ -19,7 +19,7 @@ use std::alloc::Global;
 ///
 /// # Errors
 ///
-/// The first of these that holds: `Truncated`, fewer than 20 bytes, or `Io` where the source fails before them;
+/// The first of these that holds: `Truncated`, fewer than 20 bytes, or `Io` if the source fails before them;
 /// `Magic`, `SetByte`, what these say; in the second format the same of byte 21, and `ProfileByte`; `ClassCount`. `Memory` where none of them holds. The source has lost what was read.
 pub fn read_classes<R: Source>(alloc: Global, source: &mut R) -> Result<(Format, Classes), Fault>
     requires { R.has_failed source.old ≡ false }
@@ -40,7 +40,7 @@ pub fn read_classes<R: Source>(alloc: Global, source: &mut R) -> Result<(Format,
 ///
 /// # Errors
 ///
-/// `Truncated` where the source ends before the record's last byte; `Io` where it fails there or can't go to its
+/// `Truncated` if the source ends before the record's last byte; `Io` if it fails there or can't go to its
 /// place, with how many bytes stand before that.
 pub fn read_value<R: PlacedSource>(
     source: &mut R,

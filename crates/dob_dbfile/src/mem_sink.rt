@@ -1,4 +1,4 @@
-// A sink in memory, for tests: it takes pieces of a set length, and fails where a test asks for it.
+// A sink in memory, for tests: it takes pieces of a set length, and fails if a test asks for it.
 ghost use Rattle.std.specs.Prelude.{◌≡◌, ◌<◌, ◌≤◌, ◌-◌, ◌^◌, ◌||◌, [], ◌∷◌, ◌++◌, None, Some, false, true};
 ghost use Rattle.std.specs.Prelude.{IfOk, OnErr, OnOk, is_err, length, min, take};
 
@@ -37,7 +37,7 @@ impl MemSink {
         }
     }
 
-    /// This sink, now taking at most so many bytes in one call.
+    /// This sink, now taking at most `longest` bytes in one call.
     pub fn in_pieces(mut self, longest: usize) -> MemSink
         requires { 0 < longest }
         ensures bytes { result.bytes.items ≡ self.bytes.items }

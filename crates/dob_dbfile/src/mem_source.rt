@@ -35,7 +35,7 @@ impl MemSource {
         }
     }
 
-    /// This source, now giving at most so many bytes in one call.
+    /// This source, now giving at most `longest` bytes in one call.
     pub fn in_pieces(self, longest: usize) -> MemSource
         requires { 0 < longest }
         ensures stream { stream_of result ≡ stream_of self }
@@ -59,7 +59,7 @@ impl MemSource {
         }
     }
 
-    /// This source, now failing in place of giving more than that many bytes or, where there are just so many, its
+    /// This source, now failing in place of giving more than `count` bytes or, if there are exactly `count`, its
     /// end.
     pub fn failing_after(self, count: usize) -> MemSource
         ensures stream { stream_of result ≡ cut count (stream_of self) }

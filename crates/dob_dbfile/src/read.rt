@@ -24,20 +24,20 @@ use std::alloc::Global;
 /// How many bytes the digest has.
 pub(crate) const DIGEST_LEN: usize = 32;
 
-/// Reads the table of a file: of just the bytes that are a file of it, in either format, up to the source's end.
+/// Reads the table of a file: of exactly the bytes that are a file of it, in either format, up to the source's end.
 ///
 /// # Errors
 ///
 /// The first of these that holds: `Truncated`, fewer than 20 bytes; `Magic`, `SetByte`, what these say; in the
 /// second format `Truncated`, fewer than 21 bytes, and `ProfileByte`; `ClassCount`; `Truncated`, fewer bytes
-/// than the family's records and digest have; `Trailing`, a byte more; `Digest`. `Io` only where the source fails in this
+/// than the family's records and digest have; `Trailing`, a byte more; `Digest`. `Io` only if the source fails in this
 /// call, with how many bytes it gave before. `Memory`, in place of what is tested after `ClassCount`, or of the table. The
 /// source has lost what was read.
 pub fn read_table<R: Source>(alloc: Global, source: &mut R) -> Result<Table, Fault>
     requires { R.has_failed source.old ≡ false }
-    // A table is read only where the source gives just a file of it and ends.
+    // A table is read only if the source gives exactly a file of it and ends.
     ensures read { (stream : Stream) → R.gives source.old stream → IfOk result (λ table. (stream.fails ≡ false) × IsFile stream.bytes table) }
-    // A fault is given only where it is the first that holds.
+    // A fault is given only if it is the first that holds.
     ensures fault { (stream : Stream) → R.gives source.old stream
         → IfErr result (λ given. (given ≡ Fault.Memory) ⊎ HasReadFault stream given) }
     // Where a fault holds it is given, or memory was refused.
@@ -49,7 +49,7 @@ pub fn read_table<R: Source>(alloc: Global, source: &mut R) -> Result<Table, Fau
         → MatchResult result (λ found. found ≡ table) (λ given. given ≡ Fault.Memory) }
     // Memory is wanted only once the header names a family with its number of classes.
     ensures memory { (stream : Stream) → R.gives source.old stream → IfErr result (λ given. given ≡ Fault.Memory → NamesClasses stream.bytes) }
-    // What is read is a table, also where nothing is known of the source.
+    // What is read is a table, also if nothing is known of the source.
     ensures table { IfOk result (λ table. IsTable table.family table.values) }
     ensures failed { R.has_failed source.new ≡ is_io_error result }
 {
@@ -74,7 +74,7 @@ fn read_file<R: Source>(alloc: Global, source: &mut R) -> Result<Table, Fault>
     Ok(Table::new(classes, codes))
 }
 
-/// Fills the room, before which so many bytes of the file have come.
+/// Fills the room. `before` bytes of the file have come already.
 pub(crate) fn fill<R: Source>(source: &mut R, room: &mut [u8], before: usize) -> Result<(), Fault>
     requires { before + length room.old < 2 ^ 64 }
     ensures taken { (stream : Stream) → R.gives source.old stream
@@ -91,7 +91,7 @@ pub(crate) fn fill<R: Source>(source: &mut R, room: &mut [u8], before: usize) ->
     }
 }
 
-// The codes of so many records, which stand after the header and before the digest of all that.
+// The codes of `count` records, which stand after the header and before the digest of all that.
 fn read_codes<R: Source>(
     alloc: Global,
     source: &mut R,
@@ -113,7 +113,7 @@ fn read_codes<R: Source>(
     Ok(codes)
 }
 
-// Finds the digest of what the hasher holds, and then the end. So many bytes of the file have come before.
+// Finds the digest of what the hasher holds, and then the end. `before` bytes of the file have come already.
 fn expect_digest<R: Source>(source: &mut R, hasher: Sha256, before: usize) -> Result<(), Fault>
     requires { before < 2 ^ 63 }
     ensures is { (stream : Stream) (message : List ℕ) → R.gives source.old stream → Holds256 hasher message → OnOk result (IsDigest message stream) }
@@ -138,7 +138,7 @@ fn are_same(left: &[u8], right: &[u8]) -> bool
     left == right
 }
 
-// The codes of the next records, before which so many bytes of the file have come. Memory is taken as they come.
+// The codes of the next records; `before` bytes of the file have come already. Memory is taken as they come.
 fn read_records<R: Source>(
     alloc: Global,
     source: &mut R,
@@ -172,7 +172,7 @@ fn read_records<R: Source>(
     Ok(codes)
 }
 
-// Reads as many records as there is room for. Before the first of all stand so many bytes.
+// Reads as many records as there is room for. Before the first of all stand `before` bytes.
 fn read_piece<R: Source>(
     source: &mut R,
     hasher: &mut Sha256,
@@ -197,7 +197,7 @@ fn read_piece<R: Source>(
     Ok(())
 }
 
-// Finds the source at its end, before which so many bytes have come.
+// Finds the source at its end, after `before` bytes.
 fn expect_end<R: Source>(source: &mut R, before: usize) -> Result<(), Fault>
     ensures end { (stream : Stream) → R.gives source.old stream → OnOk result (stream ≡ whole []) }
     ensures fault { (stream : Stream) → R.gives source.old stream → IfErr result (IsNoEnd before stream) }

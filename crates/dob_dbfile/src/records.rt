@@ -27,7 +27,7 @@ pub(crate) fn piece_room(alloc: Global) -> Result<Vec<u8>, Memory>
     Ok(vec![in alloc; 0u8; PIECE_LEN]?)
 }
 
-/// Appends a record; `Memory` only where there is no room for it.
+/// Appends a record; `Memory` only if there is no room for it.
 fn push_record(bytes: &mut Vec<u8>, code: u16) -> Result<(), Memory>
     ensures items { OnOk result (bytes.new.items ≡ bytes.old.items ++ little_bytes 2 code) }
     ensures len { OnOk result (vec_len bytes.new ≡ vec_len bytes.old + 2) }

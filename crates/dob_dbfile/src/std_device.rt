@@ -6,7 +6,7 @@ use crate::device::{Failed, PlacedSource, Sink, Source};
 use std::io::{Read, Seek, SeekFrom, Write};
 
 /// A reader or a writer of the standard library as a device. Of a reader's bytes nothing is known, and of a writer's
-/// just what the writer says. Every error is a failure, one that asks for another try included, and so is a `write`
+/// exactly what the writer says. Every error is a failure, one that asks for another try included, and so is a `write`
 /// that takes nothing.
 #[derive(Debug, Drop)]
 pub struct Std<T> {

@@ -9,7 +9,7 @@ use crate::device::{Failed, FailedAfter, Sink, Source};
 ///
 /// # Errors
 ///
-/// The sink failed, and has received just the first bytes, as many as the answer says.
+/// The sink failed, and has received exactly the first bytes, as many as the answer says.
 pub fn write_all<W: Sink>(sink: &mut W, bytes: &[u8]) -> Result<(), FailedAfter>
     ensures done { OnOk result (Writes (change (W.state sink.old) (W.state sink.new)) bytes.now) }
     ensures part { IfErr result (λ failed. StopsAfter (change (W.state sink.old) (W.state sink.new)) bytes.now failed.bytes) }
@@ -28,7 +28,7 @@ pub fn write_all<W: Sink>(sink: &mut W, bytes: &[u8]) -> Result<(), FailedAfter>
 ///
 /// # Errors
 ///
-/// The sink failed, and has received just the first bytes, as many as the answer says: all of them where it
+/// The sink failed, and has received exactly the first bytes, as many as the answer says: all of them where it
 /// failed to flush.
 pub fn put_all<W: Sink>(sink: &mut W, bytes: &[u8]) -> Result<(), FailedAfter>
     ensures done { OnOk result (Puts (change (W.state sink.old) (W.state sink.new)) bytes.now) }
@@ -42,7 +42,7 @@ pub fn put_all<W: Sink>(sink: &mut W, bytes: &[u8]) -> Result<(), FailedAfter>
 }
 
 /// Fills the room with the next bytes, in as many pieces as the source makes of them, and answers how many there are:
-/// fewer than there is room for only where the source comes to its end.
+/// fewer than there is room for only if the source comes to its end.
 ///
 /// # Errors
 ///

@@ -23,7 +23,7 @@ use std::alloc::Global;
 ///
 /// # Errors
 ///
-/// `Memory`, before anything is written; `Io` where the sink fails in this call, which then has received just
+/// `Memory`, before anything is written; `Io` if the sink fails in this call, which then has received exactly
 /// the first bytes of the file, as many as the fault says, and all of them where it failed to flush.
 pub fn write_table<W: Sink>(alloc: Global, table: &Table, sink: &mut W) -> Result<(), Fault>
     requires { (W.state sink.old).has_failed ≡ false }
@@ -62,7 +62,7 @@ fn put_file<W: Sink>(table: &Table, sink: &mut W, piece: &mut Vec<u8>) -> Result
     put_digest(sink, hasher, HEADER_LEN + RECORD_LEN * count as usize)
 }
 
-// Writes the records of the table's classes, of which there are so many, by pieces that the hasher takes too.
+// Writes the records of the table's `count` classes, by pieces that the hasher takes too.
 fn write_records<W: Sink>(
     table: &Table,
     count: u64,
@@ -93,7 +93,7 @@ fn write_records<W: Sink>(
     Ok(())
 }
 
-// Writes the bytes, which the hasher takes too. So many bytes of the file went in before.
+// Writes the bytes, which the hasher takes too. `before` bytes of the file went in already.
 fn write_hashed<W: Sink>(
     sink: &mut W,
     hasher: &mut Sha256,
@@ -114,7 +114,7 @@ fn write_hashed<W: Sink>(
     }
 }
 
-// Writes the digest of what the hasher holds, and flushes the sink. So many bytes of the file went in before.
+// Writes the digest of what the hasher holds, and flushes the sink. `before` bytes of the file went in already.
 fn put_digest<W: Sink>(sink: &mut W, hasher: Sha256, before: usize) -> Result<(), FailedAfter>
     requires { before < 2 ^ 62 }
     ensures done { (message : List ℕ) → Holds256 hasher message → OnOk result (Puts (change (W.state sink.old) (W.state sink.new)) (sha256 message)) }

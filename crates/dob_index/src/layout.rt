@@ -43,7 +43,7 @@ fn block_words(set: PieceSet, block: u64) -> u64
     MIXED_RUNS * entries_in(set, block)
 }
 
-// How many entries the run of those lions has, where it has any so many.
+// How many entries the run of those lions has: `entries`, or none.
 pub(crate) fn run_words(lions: u64, entries: u64) -> u64
     requires { lions < LIONS }
     ensures { result ≡ where_mixed (run_kind lions) entries }
@@ -107,7 +107,7 @@ pub fn classes_in(words: &[u64]) -> u64
     word(words, 1)
 }
 
-/// The number at that place, or the greatest that is taken from an index; 0 where there is none.
+/// The number at that place, or the greatest that is taken from an index; 0 if there is none.
 pub(crate) fn word(words: &[u64], place: u64) -> u64
     ensures value { get_or words.now place 0 ≤ 2 ^ 42 → result ≡ get_or words.now place 0 }
     ensures bound { result ≤ 2 ^ 42 }

@@ -33,7 +33,7 @@ pub fn write_index(family: Family, words: &mut [u64])
     words[2] = at;
 }
 
-// Writes the row of a block before which so many classes stand, and the entries of its runs from a place on. Tells how many classes stand before the next block,
+// Writes the row of a block with `before` classes before it, and the entries of its runs from a place on. Gives how many classes stand before the next block,
 // and where its entries begin.
 fn write_block(family: Family, block: u64, before: u64, words: &mut [u64], first: u64) -> (u64, u64)
     requires block { block < product (block_bases family.set) }

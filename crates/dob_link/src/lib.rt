@@ -1,4 +1,7 @@
 // Links: how batches go from one owner to another, in order.
+//
+// Choices:
+// - `Link` says both that Full comes only at capacity and that Ok comes only below it. `ListLink` is a ring of slots of the kit's `circular_buffer`.
 #![tactic(auto)]
 
 mod laws;

@@ -19,7 +19,7 @@ pub trait Link {
     /// For how many batches it has room.
     ghost capacity: { Self → ℕ };
 
-    /// Takes the batch in behind those that wait. `Full` just where the link holds its capacity; then the batch comes
+    /// Takes the batch in behind those that wait. `Full` exactly if the link holds its capacity; then the batch comes
     /// back and nothing is changed.
     fn offer(&mut self, batch: Batch) -> Result<(), Full>
         ensures ok { OnOk result (LinkSteps (waiting self.old) (Taken batch) (waiting self.new)) }
@@ -28,7 +28,7 @@ pub trait Link {
         ensures ok_only_below_it { OnOk result (length (waiting self.old) < capacity self.old) }
         ensures capacity { capacity self.new ≡ capacity self.old };
 
-    /// Hands the first batch out, and `None` only where none waits.
+    /// Hands the first batch out, and `None` only if none waits.
     fn next(&mut self) -> Option<Batch>
         ensures some { IfSome result (λ batch. LinkSteps (waiting self.old) (Handed batch) (waiting self.new)) }
         ensures none { IfNone result (LinkSteps (waiting self.old) Nothing (waiting self.new)) }

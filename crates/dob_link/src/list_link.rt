@@ -26,7 +26,7 @@ impl Model for ListLink {
 }
 
 impl ListLink {
-    /// An empty link with room for so many batches. `Memory` where there is none for the slots.
+    /// An empty link with room for `capacity` batches. `Memory` if there is none for the slots.
     pub fn open(alloc: Global, capacity: Capacity) -> Result<ListLink, Memory>
         ensures { IfOk result (λ link. link ≡ link_of [] capacity) }
     {

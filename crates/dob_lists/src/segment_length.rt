@@ -18,7 +18,7 @@ pub struct SegmentLength {
 }
 
 impl SegmentLength {
-    /// The greatest length of at most so many items; none where they aren't 1 to 2^20.
+    /// The greatest length of at most `items` items; none if they aren't 1 to 2^20.
     pub fn of(items: u32) -> Option<SegmentLength>
         ensures { MatchOption result ((items ≡ 0) ⊎ (2 ^ 20 < items)) (λ length. (length.items ≤ items) × (items < 2 * length.items)) }
     {

@@ -1,4 +1,4 @@
-// Lists in segments: a list that grows without moving what it has, in vectors of one length, of which only the last may be
+// Lists in segments: a list that grows without moving what it has, in vectors of one length; only the last one may be
 // shorter.
 ghost use Rattle.std.specs.Prelude.{◌≡◌, ℕ, take, ◌+◌, ◌*◌, ◌/◌, ◌^◌, ◌<◌, ◌≤◌, ◌==◌, List, [], ◌∷◌, ◌++◌, length, replicate, Some, IfOk};
 ghost use Rattle.std.specs.Prelude.{OnOk, OnErr, vec_len, slice_set, slice_get, slice_index_or};
@@ -14,7 +14,7 @@ use std::ops::{Index, IndexMut};
 /// The greatest number of items: more than any memory holds, so that numbers of items always fit.
 pub const MAX_ITEMS: u64 = 1 << 56;
 
-/// A list of items in segments, each of which but the last has as many.
+/// A list of items in segments; all except the last have one length.
 #[derive(Drop)]
 pub struct Segments<T> {
     segments: Vec<Vec<T>>,
@@ -180,7 +180,7 @@ impl<T> IndexMut<usize> for Segments<T> {
     }
 }
 
-// So many copies of the item.
+// `count` copies of the item.
 fn copies<T: Copy>(alloc: Global, count: usize, item: T) -> Result<Vec<T>, Memory>
     ensures { IfOk result (λ segment. segment.items ≡ replicate count item) }
 {

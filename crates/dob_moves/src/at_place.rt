@@ -16,7 +16,7 @@ const FIRST_DROP: usize = Square::COUNT * Square::COUNT;
 
 const END: usize = FIRST_DROP + 3 * Square::COUNT;
 
-/// The move of an open position at that place of the move order, by the rules of the profile, or `None` where it has none there, and of any
+/// The move of an open position at that place of the move order, by the rules of the profile, or `None` if it has none there, and of any
 /// other position. The place of a step is 12 times the square that it leaves and the square that it reaches, that of a drop 144, 12 times its
 /// kind's number (chick 0, elephant 1, giraffe 2) and the square. It takes no memory.
 pub fn move_at(profile: Profile, position: &Position, place: usize) -> Option<Move>
@@ -28,7 +28,7 @@ pub fn move_at(profile: Profile, position: &Position, place: usize) -> Option<Mo
     }
 }
 
-/// The step onto the enemy lion at that place of the move order, or `None` where there is none. It takes no memory.
+/// The step onto the enemy lion at that place of the move order, or `None` if there is none. It takes no memory.
 pub fn catch_at(position: &Position, place: usize) -> Option<Move>
     ensures { MatchOption result ((m : AnyMove) → ¬ IsCatchAt position.now.setup place m) (IsCatchAt position.now.setup place) }
 {

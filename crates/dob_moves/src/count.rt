@@ -159,7 +159,7 @@ pub fn status_and_count_shown(
     (status, count_at(profile, position, masks, hand, status))
 }
 
-/// The number of moves of the position by the rules of the profile, as many as `moves` lists: 0 where it isn't open.
+/// The number of moves of the position by the rules of the profile, as many as `moves` lists: 0 if it isn't open.
 pub fn count_moves(profile: Profile, position: &Position) -> u8
     ensures { result ≡ length (moves_of profile position.now.setup) }
 {

@@ -1,4 +1,15 @@
 // The rules of Dobutsu shogi: the status of a position, its moves in move order, and what a move leads to.
+//
+// Choices:
+// - A profile forbids drops alone (`may_go`), no step, since a chick that steps onto its far row grows. What a move makes of a position (`HasOutcome`) is
+//   the same by both, and `Goes A` is exactly that.
+// - `moves`, `status` and the counts take any position, not only one of the profile, so no caller has to show that it belongs.
+// - A position has the same status in both profiles (`profiles_share_statuses`): beside a chick in hand at most seven pieces stand on the board, and nine
+//   squares lie below row 4. `status` takes a profile all the same, at no cost.
+// - A drop names a `HandKind`, so no type allows the drop of a lion or a hen.
+// - The capture of a lion is no move: `moves` lists none at Caught, Tried and Stuck; `first_catch` gives the first step that captures the lion, with `grows`
+//   true for a chick that does so on its far row.
+// - A plain program of the rules stays (`plain`), proved, for tests and measurements.
 #![tactic(auto)]
 
 mod applying;

@@ -116,7 +116,7 @@ fn push_drops(
 }
 
 /// Clears the list, writes the moves of an open position by the rules of the profile into it, each once, in the move order,
-/// and no moves of any other position, and gives the position's status. Fails where memory runs out, and leaves the list
+/// and no moves of any other position, and gives the position's status. Fails if memory runs out, and leaves the list
 /// empty then.
 pub fn moves_into(
     profile: Profile,
@@ -158,7 +158,7 @@ fn push_moves(
 }
 
 /// The moves of an open position by the rules of the profile, each once, in the move order; no moves of any other position.
-/// Fails where memory runs out.
+/// Fails if memory runs out.
 pub fn moves(alloc: Global, profile: Profile, position: &Position) -> Result<Vec<Move>, Memory>
     ensures { IfOk result (λ v. AreMoves profile position.now.setup v.items) }
 {

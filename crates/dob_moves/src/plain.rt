@@ -14,7 +14,7 @@ use crate::status_of::finds_move;
 use dob_pieces::{HandKind, Kind, Memory, Piece, Position, Profile, Setup, Side, Square};
 use std::alloc::Global;
 
-/// The first step in the move order that catches the enemy lion, or `None` where no step does.
+/// The first step in the move order that catches the enemy lion, or `None` if no step does.
 pub fn first_catch(position: &Position) -> Option<Move>
     ensures { MatchOption result (¬ CanCatch position.now.setup) (λ m. IsFirstCatch position.now.setup m) }
 {
@@ -161,7 +161,7 @@ fn push_drops(profile: Profile, moves: &mut Vec<Move>, setup: &Setup) -> Result<
 }
 
 /// The moves of an open position by the rules of a profile, each once, in the move order; no moves of any other position. Fails
-/// where memory runs out.
+/// if memory runs out.
 pub fn moves(alloc: Global, profile: Profile, position: &Position) -> Result<Vec<Move>, Memory>
     ensures { IfOk result (λ v. AreMoves profile position.now.setup v.items) }
 {

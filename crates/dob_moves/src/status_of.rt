@@ -29,7 +29,7 @@ fn own_lion(position: &Position, masks: &Masks) -> Square
     lowest_square(masks.lion)
 }
 
-/// The first step in the move order that catches the enemy lion, or `None` where no step does.
+/// The first step in the move order that catches the enemy lion, or `None` if no step does.
 pub fn first_catch(position: &Position) -> Option<Move>
     ensures { MatchOption result (¬ CanCatch position.now.setup) (λ m. IsFirstCatch position.now.setup m) }
 {

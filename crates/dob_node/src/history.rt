@@ -32,7 +32,7 @@ pub(crate) struct Stored {
 }
 
 /// The settlements of one owner `id` among `nodes`, in order: those of the start, and the first `count` of those stored. What is stored
-/// behind them is room for the next; for so many as `room` says there is some.
+/// behind them is room for the next; for `room` of them there is some.
 #[derive(Drop)]
 pub(crate) struct History {
     id: usize,
@@ -132,7 +132,7 @@ impl History {
         plies_of(value_of_code(stored.now)).max(1)
     }
 
-    /// Makes room for that many settlements. `Memory`, which comes only where there was less, leaves the history as it was.
+    /// Makes room for that many settlements. `Memory`, which comes only if there was less, leaves the history as it was.
     pub(crate) fn reserve(&mut self, settlements: u64) -> Result<(), Memory>
         ensures same { IsHistory self.old self.new }
         ensures room { OnOk result (settlements ≤ self.new.room) }
@@ -150,8 +150,8 @@ impl History {
     ///
     /// # Errors
     ///
-    /// Which leave the share and the history as they were: `Memory`, but not where there is room; else `Contradiction` where the item doesn't fit,
-    /// else `TooDeep` where its class's value would be too deep.
+    /// Which leave the share and the history as they were: `Memory`, but not if there is room; else `Contradiction` if the item doesn't fit,
+    /// else `TooDeep` if its class's value would be too deep.
     pub(crate) fn take_seen(
         &mut self,
         share: &mut Share,
@@ -185,7 +185,7 @@ impl History {
     }
 }
 
-// The distance of a value, where it has one.
+// The distance of a value, if it has one.
 fn plies_of(value: Value) -> u16
     ensures { result ≡ plies_of value }
 {
@@ -224,7 +224,7 @@ fn stored_settlement(number: u64, stored: Stored, nodes: NodeCount, id: usize) -
     }
 }
 
-// Makes room for so many behind the first `count` of those stored. `Memory` leaves these as they were.
+// Makes room for `wanted` behind the first `count` of those stored. `Memory` leaves these as they were.
 fn make_room(stored: &mut Segments<Stored>, count: u64, wanted: u64) -> Result<(), Memory>
     requires { count ≤ length stored.old }
     ensures same { take count stored.new ≡ take count stored.old }
@@ -244,7 +244,7 @@ fn make_room(stored: &mut Segments<Stored>, count: u64, wanted: u64) -> Result<(
     Ok(())
 }
 
-// Makes room for one more. Within its callers, since there mostly is some.
+// Makes room for one more. Inlined, since there mostly is some.
 #[inline(always)]
 fn room_for_one(stored: &mut Segments<Stored>, count: u64) -> Result<(), Memory>
     requires { count ≤ length stored.old }
@@ -260,7 +260,7 @@ fn room_for_one(stored: &mut Segments<Stored>, count: u64) -> Result<(), Memory>
     make_room(stored, count, 1)
 }
 
-// Stores a settlement of a class among `nodes` owners behind the first `count`, where there is room.
+// Stores a settlement of a class among `nodes` owners behind the first `count`, if there is room.
 fn store(stored: &mut Segments<Stored>, count: u64, nodes: NodeCount, settlement: Settlement)
     requires room { count < length stored.old }
     requires place { settlement.class / nodes < 2 ^ 32 }

@@ -29,7 +29,7 @@ pub fn lawful_stays()
 {}
 
 /// Each settlement then stands first in a list of settlements of different classes whose distances fall by one down to a win
-/// in one ply or a loss in none, where each did before.
+/// in one ply or a loss in none, if each did before.
 pub fn falls_stay()
     ensures { FallsStay }
 {}

@@ -20,7 +20,7 @@ use std::alloc::Global;
 use std::collections::VecDeque;
 use std::marker::Model;
 
-/// A node that owns the classes k * nodes + id of a family, one of so many nodes. Once a call that grows it or applies an item has failed, the
+/// A node that owns the classes k * nodes + id of a family, one of several nodes. Once a call that grows it or applies an item has failed, the
 /// node has failed for that cause, and what it has stays as it is.
 #[derive(Drop)]
 pub struct Node {
@@ -88,7 +88,7 @@ impl Node {
     }
 
     /// Expands the first settlement of the history that isn't: its items for the own classes are to be applied, those for
-    /// other nodes' classes are to be sent. False where there is none.
+    /// other nodes' classes are to be sent. False if there is none.
     ///
     /// # Errors
     ///
@@ -103,18 +103,18 @@ impl Node {
         noted(&mut self.failed, self.core.expand(classes))
     }
 
-    /// The first of the own items, where there is one.
+    /// The first of the own items, if there is one.
     pub fn first_own(&self) -> Option<Item>
         ensures { result ≡ slice_get self.now.own 0 }
     {
         self.core.own.front().copied()
     }
 
-    /// Applies the first of the own items. False where there is none.
+    /// Applies the first of the own items. False if there is none.
     ///
     /// # Errors
     ///
-    /// By which the node fails and stays as it was: `Memory`; else `Contradiction` where the item doesn't fit, else `TooDeep` where
+    /// By which the node fails and stays as it was: `Memory`; else `Contradiction` if the item doesn't fit, else `TooDeep` where
     /// its class's value would be too deep.
     pub fn apply_own(&mut self) -> Result<bool, Cause>
         requires sound { IsSound self.old }
@@ -129,8 +129,8 @@ impl Node {
     ///
     /// # Errors
     ///
-    /// By which the node fails, with that item as the first of its own: `Memory`; else `Contradiction` where the item doesn't fit, else
-    /// `TooDeep` where its class's value would be too deep.
+    /// By which the node fails, with that item as the first of its own: `Memory`; else `Contradiction` if the item doesn't fit, else
+    /// `TooDeep` if its class's value would be too deep.
     pub fn apply_every_own(&mut self) -> Result<(), Cause>
         requires sound { IsSound self.old }
         requires going { self.old.failed ≡ None }
@@ -145,9 +145,9 @@ impl Node {
     ///
     /// # Errors
     ///
-    /// By which the node fails: `Memory`, which leaves it as it was, and never comes where there is room for as many items
-    /// (`reserve`); after the others just the items before one are applied, as many as `taken` says: `Contradiction` where it
-    /// doesn't fit its class's cell then; `TooDeep` where it fits and its class's value would be too deep.
+    /// By which the node fails: `Memory`, which leaves it as it was, and never comes if there is room for as many items
+    /// (`reserve`); after the others only the items before one are applied, as many as `taken` says: `Contradiction` if it
+    /// doesn't fit its class's cell then; `TooDeep` if it fits and its class's value would be too deep.
     pub fn apply_batch(&mut self, batch: &Batch) -> Result<(), Cause>
         requires sound { IsSound self.old }
         requires family { batch.now.family ≡ self.old.family }
@@ -188,11 +188,11 @@ impl Node {
         self.failed
     }
 
-    /// Cuts a batch of those items that the node has to send to the node `to`. `None` where it has none.
+    /// Cuts a batch of those items that the node has to send to the node `to`. `None` if it has none.
     ///
     /// # Errors
     ///
-    /// By which the node fails and stays as it was: `Counts` where something is left to send and 2 to the power of 40 batches
+    /// By which the node fails and stays as it was: `Counts` if something is left to send and 2 to the power of 40 batches
     /// were cut for that node before; `Memory`.
     pub fn cut_for(&mut self, to: usize, size: BatchSize) -> Result<Option<Batch>, Cause>
         requires sound { IsSound self.old }
@@ -217,7 +217,7 @@ impl Node {
         are_empty(&self.core.outboxes)
     }
 
-    /// The level of the first settlement that isn't expanded: its distance, and 1 of each one of the opening. None where all are expanded.
+    /// The level of the first settlement that isn't expanded: its distance, and 1 of each one of the opening. None if all are expanded.
     pub fn level(&self) -> Option<u16>
         requires { IsSound self.now }
         ensures { MatchOption result (self.now.expanded ≡ length self.now.history.settlements) (λ level. HasLevel self.now level) }

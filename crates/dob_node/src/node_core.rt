@@ -23,7 +23,7 @@ use std::mem;
 /// How many batches a node may cut for another.
 pub const MAX_BATCHES: u64 = 1 << 40;
 
-/// What one owner, `id` of the nodes, has: the cells of its classes, the classes k * nodes + id of a family, with their history, of which the first
+/// State of node `id`: the cells of its classes, the classes k * nodes + id of a family, with their history, whose first
 /// settlements are expanded; the items that it has for itself; and its outboxes.
 #[derive(Drop)]
 pub(crate) struct Core {
@@ -47,7 +47,7 @@ impl Core {
     ghost use Rattle.dob_node.specs.Nodes.{IsSound, AreValuesNow};
     ghost use Rattle.dob_node.specs.NodeSteps.{Expands, AppliesOwn, AppliesEveryOwn, AppliesAll, MakesRoom, Cuts};
 
-    /// Expands the next settlement. False where there is none.
+    /// Expands the next settlement. False if there is none.
     pub(crate) fn expand(&mut self, classes: &Classes) -> Result<bool, Cause>
         requires family { classes.now.family ≡ self.old.family }
         requires sound { IsSound (going self.old) }
@@ -68,7 +68,7 @@ impl Core {
         Ok(true)
     }
 
-    /// Applies the first of the own items. False where there is none.
+    /// Applies the first of the own items. False if there is none.
     pub(crate) fn apply_own(&mut self) -> Result<bool, Cause>
         requires { IsSound (going self.old) }
         ensures step { AppliesOwn result (going self.old) (going self.new) }
@@ -117,7 +117,7 @@ impl Core {
         Ok(())
     }
 
-    /// Cuts a batch of those items that are to be sent to the node `to`. `None` where there are none.
+    /// Cuts a batch of those items that are to be sent to the node `to`. `None` if there are none.
     pub(crate) fn cut_for(&mut self, to: usize, size: BatchSize) -> Result<Option<Batch>, Cause>
         requires sound { IsSound (going self.old) }
         requires to { to < self.old.nodes }

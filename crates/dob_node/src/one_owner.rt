@@ -20,11 +20,11 @@ use dob_value::{Table, Value};
 use std::alloc::Global;
 
 /// The value table of a family, made by one node that owns all its classes in at most `limit` steps: each applies the
-/// first of its own items, or where it has none is an expansion. `None` where the node has something left to do after them.
+/// first of its own items, or if it has none is an expansion. `None` if the node has something left to do after them.
 ///
 /// # Errors
 ///
-/// `TooDeep` where a class came to a value with a distance above the greatest that is kept, which doesn't happen to a
+/// `TooDeep` if a class came to a value with a distance above the greatest that is kept, which doesn't happen to a
 /// family of fewer than 65,535 classes; `Memory`. An item that doesn't fit its cell never comes.
 pub fn alone(alloc: Global, family: Family, limit: u64) -> Result<Option<Table>, Fault>
     ensures too_deep { result ≡ Err Fault.TooDeep → IsTooDeepWithin family limit }
@@ -55,7 +55,7 @@ fn begin(alloc: Global, classes: &Classes, family: Family) -> Result<Node, Memor
     Node::open(alloc, &openings, family, 0, NodeCount::one())
 }
 
-// The node when it has nothing left to do, after steps up to that many. `None` where it has something left after them.
+// The node when it has nothing left to do, after steps up to that many. `None` if it has something left after them.
 fn finish(mut node: Node, classes: &Classes, limit: u64) -> Result<Option<Node>, Fault>
     requires family { classes.now.family ≡ node.family }
     requires begun { HasMade 0 node }
@@ -104,7 +104,7 @@ fn fault_of(why: Cause) -> Fault
     }
 }
 
-// One step of the node: the first own item, or where there is none the next expansion. False where it is idle.
+// One step of the node: the first own item, or if there is none the next expansion. False if it is idle.
 fn step(node: &mut Node, classes: &Classes) -> Result<bool, Cause>
     requires family { classes.now.family ≡ node.old.family }
     requires sound { IsSound node.old }

@@ -44,7 +44,7 @@ pub fn opening_in(classes: &Classes, class: u64) -> Opening
 ///
 /// # Errors
 ///
-/// `Memory` where none was left for the list; nothing else is lost.
+/// `Memory` if none was left for the list; nothing else is lost.
 #[tactic(auto, using(crate::proofs::Starts::openings_none, crate::proofs::Starts::openings_more))]
 pub fn opening(
     alloc: Global,

@@ -10,7 +10,7 @@ use dob_share::Statuses;
 use dob_value::Value;
 use std::marker::Model;
 
-/// The statuses, of which `settled` aren't open. So many as `passed` says stand before `place`, from where a walk to a later one begins.
+/// The statuses; `settled` of them aren't open. `passed` of these stand before `place`, from where a walk to a later one begins.
 #[derive(Drop)]
 pub(crate) struct StartStatuses {
     statuses: Statuses,

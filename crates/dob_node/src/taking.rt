@@ -18,7 +18,7 @@ const AHEAD: usize = 16;
 ///
 /// # Errors
 ///
-/// After which just those before an item are applied: what `History::take_seen` says of the item; `Memory` only where
+/// After which only those before an item are applied: what `History::take_seen` says of the item; `Memory` only where
 /// the history hadn't room for as many settlements.
 pub(crate) fn take_items(
     share: &mut Share,
@@ -85,7 +85,7 @@ pub(crate) fn take_queue(
     Ok(())
 }
 
-// Applies those items of the queue that lie side by side from the first on: some, where there is one.
+// Applies those items of the queue that lie side by side from the first on: some, if there is one.
 fn take_front(
     share: &mut Share,
     history: &mut History,
@@ -105,7 +105,7 @@ fn take_front(
     answer
 }
 
-// Drops the first so many items of the queue.
+// Drops the first `count` items of the queue.
 fn drop_first(queue: &mut VecDeque<Item>, count: usize)
     ensures { queue.new.items ≡ drop count queue.old.items }
 {

@@ -6,7 +6,7 @@ use dob_moves::Move;
 use dob_pieces::{HandKind, Kind, Square};
 
 /// A step of a piece of that kind from one square to another, or where it comes from 12 a drop. Chick 0, elephant 1, giraffe 2, hen 3, lion 4, as the
-/// piece was before; square a1 is 0, b1 1, c1 2, a2 3 and so on to c4, 11. `catches` is 1 where a piece is caught and `grows` where a chick becomes a
+/// piece was before; square a1 is 0, b1 1, c1 2, a2 3 and so on to c4, 11. `catches` is 1 if a piece is caught and `grows` if a chick becomes a
 /// hen, else 0.
 #[derive(Clone, Copy)]
 pub struct MoveNumbers {

@@ -4,7 +4,7 @@ ghost use Rattle.dob_numbers.specs.Statuses.{status_number};
 
 use dob_moves::Status;
 
-/// The number of a status: 0 open, 1 where the enemy lion can be caught, 2 where it has tried, 3 where there is no move.
+/// The number of a status: 0 open, 1 if the enemy lion can be caught, 2 if it has tried, 3 if there is no move.
 pub fn status_number(status: Status) -> u32
     ensures { result ≡ status_number status }
 {

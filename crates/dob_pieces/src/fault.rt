@@ -8,7 +8,7 @@ use std::fmt;
 /// The first test of a position that fails, in the order of their numbers.
 #[derive(Clone, Copy, Debug, PartialEq, Eq)]
 pub enum PositionFault {
-    /// E4: a side doesn't have just one lion.
+    /// E4: a side doesn't have exactly one lion.
     Lions,
     /// E5: there are more than two pieces of a kind, board and hands together, hens counted as chicks.
     Count,

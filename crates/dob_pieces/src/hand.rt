@@ -45,7 +45,7 @@ impl Hand {
         }
     }
 
-    /// The hand with one less of that kind, of which it holds one.
+    /// The hand with one less of that kind, which it holds.
     pub fn with_one_less(self, kind: HandKind) -> Hand
         requires { 0 < held self kind }
         ensures { result ≡ with_one_less self kind }

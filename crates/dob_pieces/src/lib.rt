@@ -1,6 +1,18 @@
 // The pieces of Dobutsu shogi: squares, kinds, sides, hands, and what stands on the board. A `Position` is
 // legal by its type: each side has one lion, no kind has more than two pieces, and the lion of the side to
 // move doesn't stand on that side's far row.
+//
+// Choices:
+// - A setup and a position are two types: a `Position` is a setup with a proof that it is legal. `turned` gives a setup, since a turned position may have
+//   its mover's lion on row 4.
+// - The steps of a kind stand in one table, columns and rows each with one added, in the order of the squares stepped to; the bits that `leads` reads are
+//   proved against it.
+// - Masks are numbers of sixteen bits, not a type: `IsMask` says which squares one has, and `&` and `|` stay what they are.
+// - A table by what stands on a cell has two indices, kind and owner (`entry_of`), in rows of four whose last entry is padding, so that the index is an
+//   address. Nine masks come from five planes of one word.
+// - The profile of the rules is a predicate over setups (`IsAllowed`, from `may_stand`), not a type: a position stays legal by its type, and what needs a
+//   position of profile B asks for one.
+// - `Setup::is_allowed` is a loop with an early return, over squares and not over masks, since only texts and questions about a position ask for it.
 #![tactic(auto)]
 
 mod fault;

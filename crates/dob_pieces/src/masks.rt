@@ -26,7 +26,7 @@ pub struct Masks {
 }
 
 impl Masks {
-    /// The masks of the setup. Within its callers, since most read a few of them and go on.
+    /// The masks of the setup. Inlined, since most callers read a few of them and go on.
     #[inline(always)]
     pub fn of(setup: &Setup) -> Masks
         ensures { AreMasks setup.now result }
@@ -85,7 +85,7 @@ pub fn without_square(mask: u16, square: Square) -> u16
 }
 
 /// What each cell adds to a word of planes: by the kind of its piece, in the order of `Kind`, and then by its owner, who is
-/// nobody, the mover or the enemy. An empty cell has nobody's lion. No cell has the fourth owner: rows of four are found by
+/// nobody, the mover or the enemy. Empty cells use the lion of nobody; column 3 is padding, so that rows of four are found by
 /// a shift.
 pub type CellTable = [[u64; 4]; 5];
 
@@ -134,7 +134,7 @@ fn kind_number(cell: Option<Piece>) -> usize
     }
 }
 
-// 0 where nobody has a piece, 1 for the mover's, 2 for the enemy's.
+// 0 if nobody has a piece, 1 for the mover's, 2 for the enemy's.
 fn owner_number(cell: Option<Piece>) -> usize
     ensures value { result ≡ owner_number cell }
     ensures bound { result < 3 }

@@ -28,8 +28,8 @@ impl Position {
         Position { setup }
     }
 
-    /// The position with that board and those hands. Refuses, in this order, `Lions` where a side doesn't have
-    /// just one lion, `Count` where there are more than two pieces of a kind, and `FarLion` where the mover's lion
+    /// The position with that board and those hands. Refuses, in this order, `Lions` if a side doesn't have
+    /// exactly one lion, `Count` if there are more than two pieces of a kind, and `FarLion` if the mover's lion
     /// stands on row 4.
     pub fn of(
         board: [Option<Piece>; Square::COUNT],

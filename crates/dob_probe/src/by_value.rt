@@ -30,11 +30,11 @@ pub struct ValuedMove {
 /// The moves of the position, each with its value for the side that makes it: a win in one ply more than what it leads to is
 /// lost in, a loss in one ply more than what it leads to is won in, or a draw. Best first: wins by the least distance, draws,
 /// losses by the greatest; equal ones in the move order. Where the lion can be caught there is its first catch alone, a win in
-/// 1 ply, and none where the mover has lost already. Since a table's distances are at most 65,534, one ply more fits.
+/// 1 ply, and none if the mover has lost already. Since a table's distances are at most 65,534, one ply more fits.
 ///
 /// # Errors
 ///
-/// `FarChick` just where the table's profile doesn't allow the position; `OtherSet` just where it does, and the position
+/// `FarChick` exactly if the table's profile doesn't allow the position; `OtherSet` exactly if it does, and the position
 /// isn't of the table's set; `Memory`.
 pub fn valued_moves(
     alloc: Global,

@@ -9,7 +9,7 @@ use dob_moves::Move;
 use dob_value::Table;
 use std::alloc::Global;
 
-/// Passes the table just where each class's value follows from its status and its successors' values, so only where it
+/// Passes the table exactly if each class's value follows from its status and its successors' values, so only if it
 /// is the value table. The classes are looked at one after the other, in the calling thread.
 ///
 /// # Errors
@@ -28,7 +28,7 @@ pub fn check(alloc: Global, table: &Table) -> Result<(), Fault>
     Ok(())
 }
 
-/// Passes the class just where its value follows from its status and its successors' values. The room is for lists of moves:
+/// Passes the class exactly if its value follows from its status and its successors' values. The room is for lists of moves:
 /// what it holds before and after plays no part.
 ///
 /// # Errors

@@ -58,7 +58,7 @@ fn count_class(slots: &mut Vec<Option<Group>>, value: Value, class: u64) -> Resu
     Ok(())
 }
 
-// Empty slots up to that code, where there are none.
+// Empty slots up to that code, if there are none.
 //
 // Error: `Memory`.
 fn make_room(slots: &mut Vec<Option<Group>>, code: usize) -> Result<(), Memory>
@@ -90,7 +90,7 @@ fn with_class(slot: Option<Group>, value: Value, class: u64) -> Group
     }
 }
 
-/// Adds what is counted of some classes to what is counted of those before them, of which there are so many. Both together fit where one list can
+/// Adds what is counted of some classes to what is counted of the `classes` before them. Both together fit where one list can
 /// have them all.
 ///
 /// # Errors
@@ -113,7 +113,7 @@ pub fn add_slots(
     Ok(())
 }
 
-// What is counted of a code in both parts of the classes, of which the first has so many.
+// What is counted of a code in both parts of the classes; the first part has `classes`.
 fn both_slots(slot: Option<Group>, more: Option<Group>, classes: u64) -> Option<Group>
     ensures { result ≡ both_slots slot more classes }
 {
@@ -131,7 +131,7 @@ fn both_slots(slot: Option<Group>, more: Option<Group>, classes: u64) -> Option<
     }
 }
 
-/// The groups of the slots that have one: the draws first, where there are any, and then by ascending distance, so odd ones of wins and even ones
+/// The groups of the slots that have one: the draws first, if there are any, and then by ascending distance, so odd ones of wins and even ones
 /// of losses. The last win and the last loss are the longest.
 ///
 /// # Errors

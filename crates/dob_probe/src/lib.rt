@@ -1,5 +1,15 @@
 // Answers from a table of values: the value of a position, its line, and whether the table is consistent, and so the
 // value table, whoever made it.
+//
+// Choices:
+// - `check` answers the first fault of any kind in class order, so E23 at a lower class hides a broken class above.
+// - A move's value fits 16 bits by any table, since a table's distances are at most 65,534 by its type.
+// - E26 comes before E7, also if both hold (`check_member`): it names what the profile doesn't allow, whatever the pieces.
+// - `first_puzzles` ends with the last one that was asked for. `--random` multiplies the seed by an odd constant and cuts it to 64 bits and by the number of
+//   classes, and goes round, so each class comes once; of positions that are alike (one block, the lions on the same squares) the first alone is listed
+//   (`IsSpread`). `--from` leaves its own class out.
+// - `statistics` gives the first class of each value, sorted by distance. It has a slot for each code up to the greatest that occurs.
+// - `line` answers the line of any table; a capture ends it whatever the record.
 #![tactic(auto)]
 
 mod by_value;

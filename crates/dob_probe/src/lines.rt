@@ -21,7 +21,7 @@ use std::alloc::Global;
 ///
 /// # Errors
 ///
-/// `FarChick` just where the table's profile doesn't allow the position; `OtherSet` just where it does, and the position
+/// `FarChick` exactly if the table's profile doesn't allow the position; `OtherSet` exactly if it does, and the position
 /// isn't of the table's set; `Inconsistent` with the class at which the line goes on by the table, but no move leads to the
 /// value that it needs; `Memory`.
 pub fn line(alloc: Global, table: &Table, position: &Position) -> Result<Vec<Move>, Fault>

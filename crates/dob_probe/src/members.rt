@@ -10,7 +10,7 @@ use dob_pieces::{Family, Position};
 ///
 /// # Errors
 ///
-/// `FarChick` just where the family's profile doesn't allow the position, whatever its pieces; `OtherSet` just where
+/// `FarChick` exactly if the family's profile doesn't allow the position, whatever its pieces; `OtherSet` exactly if
 /// it does, and its pieces aren't those of the family's set.
 pub fn check_member(family: Family, position: &Position) -> Result<(), Fault>
     ensures member { OnOk result (IsPositionOf family position.now.setup) }

@@ -15,7 +15,7 @@ use dob_value::{Table, Value};
 ///
 /// # Errors
 ///
-/// `FarChick` just where the table's profile doesn't allow the position; `OtherSet` just where it does, and the position
+/// `FarChick` exactly if the table's profile doesn't allow the position; `OtherSet` exactly if it does, and the position
 /// isn't of the table's set.
 pub fn probe(table: &Table, position: &Position) -> Result<Value, Fault>
     ensures value { IfOk result (λ value. GivenBy table.now position.now.setup value) }

@@ -1,4 +1,4 @@
-// Puzzles of a table: classes that are won in so many plies, by one move alone.
+// Puzzles of a table: classes with exactly one fastest winning move.
 ghost use Rattle.std.specs.Prelude.{◌≡◌, ◌<◌, ◌≤◌, length, IfOk};
 ghost use Rattle.dob_moves.specs.Statuses.{AreMoves};
 ghost use Rattle.dob_rank.specs.Families.{IsPositionOf};
@@ -22,9 +22,9 @@ pub struct Puzzle {
     pub the_move: Move,
 }
 
-/// The first classes of the walk, at most so many, that the table says are won in so many plies and of whose representative just one
+/// The first classes of the walk, at most `count`, that the table says are won in `plies` plies and of whose representative just one
 /// move leads to a position lost in one ply less, each with that move, in the walk's order. The classes are looked at up to the last one
-/// listed, and all of the walk where there are fewer; one room is kept for lists of moves.
+/// listed, and all of the walk if there are fewer; one room is kept for lists of moves.
 ///
 /// # Errors
 ///
@@ -89,7 +89,7 @@ fn puzzle_of(
     }
 }
 
-// The only one of the position's moves that leads to a position of that value; `None` where there is no such move or
+// The only one of the position's moves that leads to a position of that value; `None` if there is no such move or
 // more than one.
 fn single_move(
     table: &Table,

@@ -1,4 +1,4 @@
-// What decides the value of a class: its successors' values, of which only the least loss, the greatest win and whether
+// What decides the value of a class: its successors' values: only the least loss, the greatest win and whether
 // there is a draw are kept.
 ghost use Rattle.std.specs.Prelude.{◌≡◌, ◌++◌, List, [], ◌∷◌, IfOk, OnOk};
 ghost use Rattle.dob_pieces.specs.declared.setup.Setup.{Setup};
@@ -61,7 +61,7 @@ impl Successors {
         }
     }
 
-    // The value that follows from them: a win in one ply more than the least loss; where there is none, a draw if there
+    // The value that follows from them: a win in one ply more than the least loss; if there is none, a draw if there
     // is a draw, and else a loss in one ply more than the greatest win.
     fn value(self) -> Value
         requires least { HasNext self.least_loss }

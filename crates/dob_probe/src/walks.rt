@@ -11,7 +11,7 @@ pub struct Walk {
     /// The number that makes the class which comes first: its product with an odd constant, cut to 64 bits and then by the number of classes. Behind
     /// the last class the order goes on with class 0. Without a number class 0 comes first.
     pub seed: Option<u64>,
-    /// Only the classes behind this one are gone over, all where there is none, and none where the table has no such class.
+    /// Only the classes behind this one are gone over, all if there is none, and none if the table has no such class.
     pub behind: Option<u64>,
 }
 
@@ -25,7 +25,7 @@ pub(crate) fn first_class(seed: Option<u64>, classes: u64) -> u64
     }
 }
 
-// The class that the number makes; 0 where there is none.
+// The class that the number makes; 0 if there is none.
 fn class_of_seed(seed: u64, classes: u64) -> u64
     ensures { result ≡ first_class (Some seed) classes }
 {

@@ -14,9 +14,9 @@ pub enum CertificateFault {
     Defect(Defect),
     /// E23, E30, E31: the lists don't prove the claim.
     Unproved(Refusal),
-    /// E39: there would be more than so many entries.
+    /// E39: there would be more than N entries.
     TooMany(u64),
-    /// E40: no file says so many plies.
+    /// E40: no file can say that many plies.
     Unfit,
     /// E41: the certificate says nothing of the position.
     Unlisted,

@@ -26,8 +26,8 @@ use dob_value::Table;
 use std::alloc::Global;
 use std::thread::Threads;
 
-/// Keeps under the other name a certificate of what the table of the file says of the position that the text names, exact where that is asked for and
-/// of so many entries at most where a number is given. Gives the lines that say what it proves and how many entries it has. Where it is watched, lines
+/// Keeps under the other name a certificate of what the table of the file says of the position that the text names, exact if that is asked for and
+/// of at most `most` entries if a number is given. Gives the lines that say what it proves and how many entries it has. Where it is watched, lines
 /// on the console say how far that is.
 pub fn answer_certify<S: Shelf>(
     rt: &(impl Threads + Sync + Console),
@@ -104,7 +104,7 @@ fn watched(
     made
 }
 
-// Of how many rounds the console is told, where the position is one of the table's.
+// How many rounds are reported to the console, if the position is one of the table's.
 fn rounds_at(table: &Table, position: &Position, is_exact: bool) -> u64 {
     match probe(table, position) {
         Ok(value) => rounds_of(value, is_exact),

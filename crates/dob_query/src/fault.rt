@@ -24,7 +24,7 @@ pub enum Fault {
     File(dob_dbfile::Fault),
     /// E7, E21, E23, E26: the table has no answer.
     Table(dob_probe::Fault),
-    /// No puzzle has so many plies: an even number, or less than 3.
+    /// No puzzle has that length: an even number of plies, or less than 3.
     PuzzlePlies,
     /// E15 to E20, E27, E30 to E41: the certificate proves nothing, there is none, or it says nothing of the position.
     Certificate(CertificateFault),
@@ -40,7 +40,7 @@ pub type Lines = Result<String, Fault>;
 impl Fault {
     ghost use Rattle.dob_query.specs.Faults.{is_io, status_of};
 
-    /// The exit status: 1 where what was asked is refused, 2 where the words make no sense, 3 where the program failed.
+    /// The exit status: 1 if what was asked is refused, 2 if the words make no sense, 3 if the program failed.
     pub fn status(self) -> u8
         ensures { result ≡ status_of self }
     {

@@ -2,7 +2,7 @@
 ghost use Rattle.std.specs.Prelude.{◌≡◌, ◌<◌, ◌==◌, ◌∷◌, [], MatchOption, length, position};
 ghost use Rattle.std.specs.Str.Lines.{lines, strip_carriage_return};
 
-/// The first line of the bytes, without its end, and what follows it; none where there are no bytes.
+/// The first line of the bytes, without its end, and what follows it; none if there are no bytes.
 pub(crate) fn first_line(bytes: &[u8]) -> Option<(&[u8], &[u8])>
     ensures line { MatchOption result (lines bytes.now ≡ []) (λ first. lines bytes.now ≡ first.0.now ∷ lines first.1.now) }
     ensures shorter { MatchOption result (length bytes.now ≡ 0) (λ first. length first.1.now < length bytes.now) }
@@ -23,7 +23,7 @@ fn line_feed_of(bytes: &[u8]) -> Option<usize>
     bytes.iter().position(|byte| *byte == b'\n')
 }
 
-// The line without the carriage return at its end, where it has one.
+// The line without the carriage return at its end, if it has one.
 fn without_return(line: &[u8]) -> &[u8]
     ensures { result.now ≡ strip_carriage_return line.now }
 {

@@ -1,4 +1,18 @@
 // What the program answers by database files and by definition: the lines of each query, over shelves of files.
+//
+// Choices:
+// - `reach` with a file goes by the file's rules, whatever `--rules` says. `show` draws in letters, those of a position's text.
+// - `stats` finds the longest ends by their groups; a kind that doesn't occur has no line. `puzzles` answers a length that no puzzle has by a line with
+//   status 2, since `clap` has no rule for odd numbers.
+// - `probe --each` answers a refused line on standard output, so answers stand in the order of the lines; a fault that ends all leaves no answer. `look
+//   --each` reads the header once, before standard input; a record that isn't whole refuses its line alone, a device that fails ends all.
+// - `migrate` reads the whole file into a table and writes it as `build` does: no digest is carried over, both names may be one, and a damaged file makes no
+//   other. `show --svg` makes its file last.
+// - Progress is estimated by settlements: those expanded, of as many as there are classes. Drawn classes have none (0.5 to 7 %), improved ones several;
+//   before the end it is 99 % at most. The threads that work write the lines, through the handle `rt` (`Console`), so no promise of `err` needs an
+//   exception.
+// - Each class has a tally of its one value (`tally_of`), and tallies are added up in whatever parts the threads get (`AreAddedUp`); the sum wraps, since a
+//   reduction adds up any two.
 #![tactic(auto)]
 
 mod certificate_fault;

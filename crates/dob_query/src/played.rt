@@ -39,7 +39,7 @@ fn played_lines(alloc: Global, is_numbered: bool, moves: &[Move]) -> Result<Stri
     }
 }
 
-// The line where there are no moves.
+// The line if there are no moves.
 fn end_line(value: Value) -> &'static str
     ensures { result.now ≡ end_text value ++ line_feed ∷ [] }
 {

@@ -14,7 +14,7 @@ use dob_text::{TextFault, read_position, read_position_bytes};
 use dob_value::Table;
 use std::alloc::Global;
 
-/// The table of the file, and the position that the text names. The file is opened only where the text is a position's.
+/// The table of the file, and the position that the text names. The file is opened only if the text is a position's.
 pub(crate) fn file_and_position<S: Shelf>(
     alloc: Global,
     shelf: &mut S,

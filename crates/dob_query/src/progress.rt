@@ -26,7 +26,7 @@ impl Console for HostRuntime {
 #[derive(Drop)]
 pub struct Progress<'a, C> {
     console: &'a C,
-    // When the work began; none where nothing is reported.
+    // When the work began; none if nothing is reported.
     start: Option<Instant>,
     all: u64,
     done: AtomicU64,
@@ -35,7 +35,7 @@ pub struct Progress<'a, C> {
 }
 
 impl<'a, C: Console> Progress<'a, C> {
-    /// Of work with so many parts that begins now. Nothing is reported where it isn't to be watched, or where no clock can be read.
+    /// Of work with `all` parts that begins now. Nothing is reported where it isn't to be watched, or where no clock can be read.
     pub fn new(console: &'a C, is_watched: bool, all: u64) -> Progress<'a, C> {
         Progress {
             console,
@@ -53,7 +53,7 @@ impl<'a, C: Console> Progress<'a, C> {
         }
     }
 
-    /// So many more parts are done. A line says so, where none was written in this second.
+    /// `parts` more parts are done. A line says so if none was written in this second.
     pub fn add(&self, parts: u64) {
         let Some(start) = self.start else {
             return;
@@ -89,7 +89,7 @@ impl<C: Console> Watch for Progress<'_, C> {
     }
 }
 
-/// Says on the console's standard error what memory a build of so many classes takes.
+/// Says on the console's standard error what memory a build of `classes` classes takes.
 pub fn tell_need(console: &impl Console, classes: u64)
     requires { classes < 2 ^ 31 }
 {
@@ -159,7 +159,7 @@ fn seconds_left(seconds: u64, done: u64, all: u64) -> Option<u128>
     Some(seconds as u128 * left / done as u128)
 }
 
-// The megabytes that a build of so many classes takes.
+// The megabytes that a build of `classes` classes takes.
 fn megabytes(classes: u64) -> u64
     requires { classes < 2 ^ 31 }
     ensures { result ≡ megabytes classes }

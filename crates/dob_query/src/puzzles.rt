@@ -45,7 +45,7 @@ pub fn answer_puzzles<S: Shelf>(
     Ok(puzzle_lines(alloc, &table, search.is_numbered, &puzzles)?)
 }
 
-// Whether a puzzle may be won in so many plies.
+// Whether a puzzle may be won in `plies` plies.
 fn is_puzzle_length(plies: u64) -> bool
     ensures { IsTrue result ↔ IsPuzzleLength plies }
 {
@@ -103,7 +103,7 @@ fn push_puzzle(
     Ok(())
 }
 
-// The line of the puzzle with that position, behind the number of its class where it is numbered.
+// The line of the puzzle with that position, behind the number of its class if it is numbered.
 fn puzzle_text(
     alloc: Global,
     position: &Position,

@@ -31,14 +31,14 @@ pub enum Question {
     Moves,
     /// The first of these.
     Best,
-    /// Its line, each move on a line with its number where it is numbered.
+    /// Its line, each move on a line with its number if it is numbered.
     Line { is_numbered: bool },
     /// Its drawing, with its value and its line.
     Draw,
 }
 
 /// The lines that answer the question of the position that the text names, by the header of the file and the records that it needs. The file is
-/// opened only where the text is a position's.
+/// opened only if the text is a position's.
 pub fn answer_question<S: Shelf>(
     alloc: Global,
     shelf: &mut S,

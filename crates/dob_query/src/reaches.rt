@@ -32,7 +32,7 @@ pub struct ReachSearch {
     pub is_watched: bool,
 }
 
-// Says on the console's standard error how many classes have which distance, where it is watched.
+// Says on the console's standard error how many classes have which distance, if it is watched.
 #[derive(Drop)]
 struct Levels<'a, C> {
     console: &'a C,
@@ -182,7 +182,7 @@ fn value_text(alloc: Global, counts: ByValue) -> Result<String, Memory>
     Ok(format!(in alloc; "win {win}\nloss {loss}\ndraw {draw}\n")?)
 }
 
-// A line for each distance, where they are asked for.
+// A line for each distance, if they are asked for.
 fn levels_asked(alloc: Global, has_levels: bool, levels: &[u64]) -> Result<String, Memory>
     ensures { IfOk result (λ lines. string_bytes lines ≡ levels_asked has_levels levels.now) }
 {

@@ -59,14 +59,14 @@ fn proved_reply(
     Ok(reply_to(alloc, &classes, lost, position)?)
 }
 
-// The line of a position that is lost within so many plies.
+// The line of a position that is lost within `plies` plies.
 fn loss_line(alloc: Global, plies: u16) -> Result<String, Memory>
     ensures { IfOk result (λ line. string_bytes line ≡ loss_line plies) }
 {
     Ok(format!(in alloc; "loss within {plies}\n")?)
 }
 
-// The line of a move that wins within so many plies.
+// The line of a move that wins within `plies` plies.
 fn win_line(alloc: Global, the_move: Move, plies: u64) -> Result<String, Memory>
     ensures { IfOk result (λ line. string_bytes line ≡ win_line the_move plies) }
 {

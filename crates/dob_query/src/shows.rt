@@ -37,7 +37,7 @@ pub fn answer_show<S: Shelf>(
     }
 }
 
-// The lines that draw the position, by the database file where one is named.
+// The lines that draw the position, by the database file if one is named.
 fn drawn_lines<S: Shelf>(
     alloc: Global,
     shelf: &mut S,

@@ -16,7 +16,7 @@ use dob_value::{Table, Value};
 use std::alloc::Global;
 use std::thread::Threads;
 
-/// The last group of wins and the last of losses, where there are any.
+/// The last group of wins and the last of losses, if there are any.
 #[derive(Clone, Copy)]
 pub(crate) struct Longest {
     pub(crate) win: Option<Group>,
@@ -175,7 +175,7 @@ fn with_group(longest: Longest, group: Group) -> Longest
     }
 }
 
-// The line of the group's value with the position of its first class, or nothing where there is no group.
+// The line of the group's value with the position of its first class, or nothing if there is no group.
 fn longest_line(alloc: Global, table: &Table, group: Option<Group>) -> Result<String, Memory>
     requires { IfSome group (λ group. group.first < length table.now.values) }
     ensures { IfOk result (λ line. IsLongestLine table.now group (string_bytes line)) }

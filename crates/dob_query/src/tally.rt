@@ -7,7 +7,7 @@ use dob_value::{Table, Value};
 use rayon::prelude::*;
 use std::thread::Threads;
 
-/// So many wins, losses and draws.
+/// The numbers of wins, losses and draws.
 #[derive(Clone, Copy)]
 pub(crate) struct Tally {
     pub(crate) wins: u64,

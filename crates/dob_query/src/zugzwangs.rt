@@ -86,7 +86,7 @@ fn count_text(alloc: Global, counts: PairCounts) -> Result<String, Memory>
     Ok(format!(in alloc; "lost by both {both}\nloss and draw {drawn}\n")?)
 }
 
-// The line of the deepest pair, or nothing where there is none.
+// The line of the deepest pair, or nothing if there is none.
 fn deepest_line(alloc: Global, table: &Table, deepest: Option<Zugzwang>) -> Result<String, Memory>
     requires { IfSome deepest (IsOfTable table.now) }
     ensures { IfOk result (λ line. string_bytes line ≡ deepest_line table.now.family deepest) }

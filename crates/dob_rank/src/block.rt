@@ -142,7 +142,7 @@ pub fn run_digits_in(set: PieceSet, on_board: &EachKind, run: u64) -> RunDigits
     }
 }
 
-/// The digits of a spot in the block of those numbers on the board and choices of squares, by those of its run. Within its callers, so
+/// The digits of a spot in the block of those numbers on the board and choices of squares, by those of its run. Inlined, so
 /// that digits that nobody reads are not found.
 #[inline(always)]
 pub fn digits_with(
@@ -283,7 +283,7 @@ fn form_number(on_board: &EachKind, forms: &EachKind) -> u64
     join_by_power(elephants, forms[2], on_board[2])
 }
 
-/// In how many ways at most two squares are chosen from so many.
+/// In how many ways at most two squares are chosen from `squares`.
 pub(crate) fn choose(squares: u64, pieces: u64) -> u64
     requires few { pieces ≤ 2 }
     requires small { squares ≤ 12 }

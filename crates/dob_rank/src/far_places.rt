@@ -1,4 +1,4 @@
-// Places of profile B: the position of a run before which the run has so many of its family. The choice of the chicks' squares and the lions are found by
+// Places of profile B: the position of a run by how many of its family the run has before it. The choice of the chicks' squares and the lions are found by
 // a search over the sums that the tables hold, the chicks' forms among those that their squares let them have.
 ghost use Rattle.std.specs.Prelude.{◌≡◌, true, ◌<◌, ◌≤◌, ◌+◌, ◌*◌, ◌/◌, ◌%◌, ◌^◌, ℕ, slice_index};
 ghost use Rattle.dob_pieces.specs.declared.profile.Profile.TheVariants.{B};
@@ -62,7 +62,7 @@ pub fn may_have_forms(chicks: u64, squares: (u64, u64), forms: u64) -> bool
     }
 }
 
-/// The number of the forms before which there are so many that chicks on those squares may have.
+/// The number of the forms with `number` before them that chicks on those squares may have.
 fn forms_at(chicks: u64, squares: (u64, u64), number: u64) -> u64
     requires chicks { chicks ≤ 2 }
     requires number { number < marks_below (forms_stand chicks squares.0 squares.1) (4 ^ chicks) }
@@ -125,8 +125,8 @@ pub(crate) fn lions_at(chicks: u64, number: u64) -> u64
     low
 }
 
-/// The choice of the chicks' squares, that of the others' squares, of which there are so many, and the number of the chicks' forms, before which
-/// so many places stand where those lions do.
+/// The choice of the chicks' squares, that of the others' squares, one of `others`, and the number of the chicks' forms, before which
+/// `number` places stand where those lions do.
 fn parts_at(chicks: u64, lions: u64, others: u64, number: u64) -> (u64, u64, u64)
     requires chicks { chicks ≤ 2 }
     requires lions { lions < LIONS }
@@ -141,7 +141,7 @@ fn parts_at(chicks: u64, lions: u64, others: u64, number: u64) -> (u64, u64, u64
     (choice, left / weight, forms)
 }
 
-/// The place in a run of those lions at which the position stands before which the run has so many of profile B.
+/// The place in a run of those lions of the position with `number` of profile B before it in the run.
 #[inline(never)]
 pub fn local_at(on_board: &EachKind, lions: u64, number: u64) -> u64
     requires few { AreFewOnBoard on_board.now }

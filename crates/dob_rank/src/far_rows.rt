@@ -149,7 +149,7 @@ const FORMS_BELOW: [[u8; 5]; Square::COUNT] = [
     [0, 0, 1, 2, 3],
 ];
 
-/// How many forms there are of the choices of so many chicks' squares before one, of those that the lions leave.
+/// How many forms there are of the choices of `chicks` squares before one, of those that the lions leave.
 pub fn before_choice(chicks: u64, lions: u64, choice: u64) -> u64
     requires chicks { chicks ≤ 2 }
     requires lions { lions < LIONS }

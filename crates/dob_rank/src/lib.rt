@@ -6,6 +6,16 @@
 // A rank is found by arithmetic: the positions with the same numbers on the board are a block, and within its
 // block a position is a number in mixed radix, with a digit for each further part of the key. The modules that
 // are public are what classes (dob_classes) are found by.
+//
+// Choices:
+// - A family has no numbering of its own. All positions of its set are numbered (`src/set_ranks.rt`), and its own are marked ranks among them: size, rank
+//   and class number rest on one count, `present_before`.
+// - The positions of a family in one run are numbered among themselves (`place_of_number`), so lists of stretches work for any marks. In profile A the
+//   numbers are the places.
+// - A rank is found by masks, in one pass over the board; a position by places, each piece's among the squares that are left.
+// - Tables of profile B go by how many of the squares that two lions leave are on row 1 and on row 4: five shapes.
+// - What stands on a square is a `Layer`, an enum whose order is the key's; definitions go over lists of the layers' numbers (`order`).
+// - No set is too large: a `PieceSet` has at most two of each kind by its type. The bound of 2^31 positions is read off the table of the blocks' starts.
 #![tactic(auto)]
 
 pub mod block;

@@ -110,7 +110,7 @@ pub(crate) fn count(mask: u64) -> u64
     u64::from(mask.count_ones())
 }
 
-/// The number of the choice that a layer of so many squares, at most two, makes; `later` has the squares of later
+/// The number of the choice that a layer of `pieces` squares, at most two, makes; `later` has the squares of later
 /// layers.
 pub(crate) fn choice_of(mask: u64, later: u64, pieces: u64) -> u64
     requires { pieces ≤ 2 }

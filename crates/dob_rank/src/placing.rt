@@ -35,7 +35,7 @@ pub fn past(taken: u64, number: u64) -> u64
     if number < taken { number } else { number + 1 }
 }
 
-/// Two places among the squares other than two that are taken, the lower of which is taken first.
+/// Two places among the squares other than two that are taken, the lower taken first.
 pub fn among(taken: (u64, u64), places: (u64, u64)) -> (u64, u64)
     requires first { places.0 ≤ 2 ^ 30 }
     requires second { places.1 ≤ 2 ^ 30 }
@@ -139,7 +139,7 @@ pub(crate) fn board_by(
     board
 }
 
-/// The places among so many squares that a choice of at most two takes, the lower first.
+/// The places among `squares` squares that a choice of at most two takes, the lower first.
 pub(crate) fn places_of(squares: u64, pieces: u64, number: u64) -> (u64, u64)
     requires few { pieces ≤ 2 }
     requires squares { squares ≤ FREE_SQUARES }
@@ -156,7 +156,7 @@ pub(crate) fn places_of(squares: u64, pieces: u64, number: u64) -> (u64, u64)
     }
 }
 
-/// The places among so many squares that a choice of two takes, the lower first.
+/// The places among `squares` squares that a choice of two takes, the lower first.
 fn pair_of(squares: u64, number: u64) -> (u64, u64)
     requires squares { squares ≤ FREE_SQUARES }
     requires number { number < choose squares 2 }

@@ -25,7 +25,7 @@ pub fn number_of(bases: &[u64; 3], digits: &[u64; 3]) -> u64
     (digits[0] * bases[1] + digits[1]) * bases[2] + digits[2]
 }
 
-/// The three digits of a number. Within its callers, so that digits that nobody reads are not found.
+/// The three digits of a number. Inlined, so that digits that nobody reads are not found.
 #[inline(always)]
 pub fn three_digits(bases: &[u64; 3], number: u64) -> [u64; 3]
     requires { number < product bases.now }

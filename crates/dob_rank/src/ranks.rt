@@ -51,7 +51,7 @@ pub fn rank(profile: Profile, position: &Position) -> u64
     }
 }
 
-/// The position of the family before which there are so many of them, fewer than it has.
+/// The position of the family with `rank` others before it, fewer than the family has.
 pub fn unrank(family: Family, rank: u64) -> Position
     requires { rank < size_of family }
     ensures position { IsPositionOf family result.setup }
@@ -78,7 +78,7 @@ fn far_unrank(set: PieceSet, rank: u64) -> Position
     position_by(set, &on_board, &choices, spot)
 }
 
-/// The spot of a block of those numbers on the board before which the block has so many positions of profile B.
+/// The spot of a block of those numbers on the board with `number` positions of profile B before it in the block.
 fn far_spot_at(on_board: &EachKind, choices: &EachKind, number: u64) -> Spot
     requires few { AreFewOnBoard on_board.now }
     requires choices { choices.now ≡ square_bases on_board.now }
@@ -130,8 +130,8 @@ fn far_place(set: PieceSet, position: &Position, masks: Masks, on_board: &EachKi
     place_behind(on_board, &digits, lions, chosen, forms)
 }
 
-/// The place that those numbers write: of so many choices of the chicks' squares with forms before, of the digits of the others' squares and forms where
-/// those lions stand, and of so many allowed forms of the chicks before.
+/// The place that those numbers write: of `chosen` choices of the chicks' squares with forms before, of the digits of the others' squares and forms where
+/// those lions stand, and of `forms` allowed forms of the chicks before.
 pub fn place_behind(
     on_board: &EachKind,
     digits: &[u64; DIGITS],

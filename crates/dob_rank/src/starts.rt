@@ -15,7 +15,7 @@ const PROFILES: usize = 2;
 /// How many piece sets there are, and how many blocks a set has at most: three numbers of 0 to 2 each.
 const SETS: usize = 27;
 
-/// How many starts stand in a row: one for each of so many blocks, and the end.
+/// How many starts stand in a row: one for each block, and the end.
 const ROW: usize = SETS + 1;
 
 /// For each profile and each piece set, in the order of its digits, how many positions stand before each block and before the end.

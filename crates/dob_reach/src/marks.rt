@@ -12,7 +12,7 @@ pub(crate) struct Marks {
 }
 
 impl Marks {
-    /// None of so many numbers.
+    /// None of `count` numbers.
     ///
     /// # Errors
     ///

@@ -143,7 +143,7 @@ fn is_open(status: Status) -> bool
     matches!(status, Status::Open)
 }
 
-// Appends the number where it isn't marked.
+// Appends the number if it isn't marked.
 //
 // Error: `Memory`.
 fn push_unmarked(marks: &Marks, numbers: &mut Vec<u32>, number: u32) -> Result<(), Memory>

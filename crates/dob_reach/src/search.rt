@@ -38,7 +38,7 @@ pub trait Watch {
     // By `told watch distance classes` it may have learned so.
     ghost told: { Self → ℕ → ℕ → Type 0 };
 
-    /// Told that so many classes have that distance.
+    /// Receives how many classes have that distance.
     fn met(&self, distance: u64, classes: u64)
         ensures { told self.now distance classes };
 }
@@ -148,7 +148,7 @@ fn opens_of(parts: &[Part]) -> u64
     parts.iter().map(|part| part.opens).sum()
 }
 
-// Marks and lists what the parts' classes lead to, where it isn't marked yet.
+// Marks and lists what the parts' classes lead to, if it isn't marked yet.
 //
 // Error: `Memory`.
 fn mark_parts(marks: &mut Marks, next: &mut Vec<u32>, parts: &[Part]) -> Result<(), Memory>
@@ -178,7 +178,7 @@ fn mark_new(marks: &mut Marks, next: &mut Vec<u32>, outcomes: &[u32]) -> Result<
     Ok(())
 }
 
-// Marks and lists the number where it isn't marked yet.
+// Marks and lists the number if it isn't marked yet.
 //
 // Error: `Memory`.
 fn mark_one(marks: &mut Marks, next: &mut Vec<u32>, number: u32) -> Result<(), Memory>

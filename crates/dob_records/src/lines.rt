@@ -22,7 +22,7 @@ use std::alloc::Global;
 ///
 /// # Errors
 ///
-/// `File` where one of these records isn't whole or reading it fails; `Inconsistent` with the class at which the line goes on by the records, but no move
+/// `File` if one of these records isn't whole or reading it fails; `Inconsistent` with the class at which the line goes on by the records, but no move
 /// leads to the value that it needs; `Memory`.
 pub fn line_by_records<R: PlacedSource>(
     alloc: Global,
@@ -45,7 +45,7 @@ pub fn line_by_records<R: PlacedSource>(
     Ok((value, line))
 }
 
-// The line of the position, of which the record says that value.
+// The line of the position, whose record says that value.
 //
 // Errors: those of `line_by_records`.
 fn line_from<R: PlacedSource>(
@@ -100,9 +100,9 @@ fn value_wanted(value: Value) -> Option<Value>
     }
 }
 
-// The first move to a position of which the record says that value, and that position.
+// The first move to a position whose record says that value, and that position.
 //
-// Errors: `File` where a record isn't whole or reading it fails; `Inconsistent` with the position's class where no move leads to one; `Memory`.
+// Errors: `File` if a record isn't whole or reading it fails; `Inconsistent` with the position's class where no move leads to one; `Memory`.
 fn first_to<R: PlacedSource>(
     alloc: Global,
     source: &mut R,

@@ -19,11 +19,11 @@ use dob_value::Value;
 use std::alloc::Global;
 
 /// The moves of the position, each with its value for the side that makes it, as `valued_moves` of `dob_probe` lists them by a table. Of the file just the
-/// records of the positions that they lead to are read, and none where the lion can be caught.
+/// records of the positions that they lead to are read, and none if the lion can be caught.
 ///
 /// # Errors
 ///
-/// `File` where one of these records isn't whole or reading it fails; `Memory`.
+/// `File` if one of these records isn't whole or reading it fails; `Memory`.
 pub fn moves_by_records<R: PlacedSource>(
     alloc: Global,
     source: &mut R,

@@ -69,7 +69,7 @@ pub fn run_turns<R: Threads + Wait + Sync, G: Gate + Sync>(
     Ok(turned)
 }
 
-/// Refuses runners of which one has failed, with the least of them.
+/// Refuses runners if one has failed, with the least of those.
 pub(crate) fn find_failed(runners: &[Runner]) -> Result<(), Fault>
     ensures going { OnOk result (AreUnfailed runners.now) }
     ensures first { IfErr result (IsFirstFailed runners.now) }

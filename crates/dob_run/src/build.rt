@@ -23,9 +23,9 @@ use std::thread::Threads;
 ///
 /// # Errors
 ///
-/// Tested in this order: `Nodes` where `nodes` isn't 1 to 16; `Sizes` where `batch_size` isn't 1 to 4096 or `capacity` not
-/// 1 to 1024; `Stopped` with the node that failed first and its cause, which is `Held` only where the gate said no to it, and
-/// `Memory` where no thread could be made for it; `Memory`.
+/// Tested in this order: `Nodes` if `nodes` isn't 1 to 16; `Sizes` if `batch_size` isn't 1 to 4096 or `capacity` not
+/// 1 to 1024; `Stopped` with the node that failed first and its cause, which is `Held` only if the gate said no to it, and
+/// `Memory` if no thread could be made for it; `Memory`.
 pub fn run_nodes<R: Threads + Wait + Sync, G: Gate + Sync>(
     rt: &R,
     alloc: Global,

@@ -41,14 +41,14 @@ pub struct Built {
     pub links: Vec<Rejoined>,
 }
 
-/// Closes a whole crew of which each runner has stopped: where the end was announced, the table of the values that its
+/// Closes a whole crew whose runners have all stopped: if the end was announced, the table of the values that its
 /// nodes show, which is the value table, with the words of the board and what went over the links. Its promises hold if it
 /// returns.
 ///
 /// # Errors
 ///
-/// `Stopped` where the run failed, with the node that failed it and that node's cause, and where a runner failed only
-/// after the end was announced, with the least such node and its cause; `Memory` only where none has failed, which gives the crew up.
+/// `Stopped` if the run failed, with the node that failed it and that node's cause, and where a runner failed only
+/// after the end was announced, with the least such node and its cause; `Memory` only if none has failed, which gives the crew up.
 pub fn finish<R: Threads + Wait + Sync>(
     rt: &R,
     alloc: Global,

@@ -75,7 +75,7 @@ fn part_endpoints(alloc: Global, endpoints: Vec<Endpoint>) -> Result<Parts, Memo
     Ok(parts)
 }
 
-// The parts of no endpoints of a crew of so many.
+// The parts of no endpoints of a crew of `count`.
 fn no_parts(alloc: Global, count: usize) -> Result<Parts, Memory>
     ensures { IfOk result (ArePartsOf count []) }
 {

@@ -32,7 +32,7 @@ use std::thread::Threads;
 ///
 /// # Errors
 ///
-/// Tested in this order: `Nodes` where `nodes` isn't 1 to 16; `Sizes` where `batch_size` isn't 1 to 4096 or `capacity`
+/// Tested in this order: `Nodes` if `nodes` isn't 1 to 16; `Sizes` if `batch_size` isn't 1 to 4096 or `capacity`
 /// not 1 to 1024; `Memory`.
 pub fn crew(
     rt: &(impl Threads + Sync),
@@ -123,7 +123,7 @@ fn open_runner(
     Ok(runner)
 }
 
-/// A board of so many nodes and the endpoint of each of them, in order, with inboxes that hold at most `capacity` batches.
+/// A board of `nodes` nodes and the endpoint of each of them, in order, with inboxes that hold at most `capacity` batches.
 /// Nothing is posted or sent yet.
 ///
 /// # Errors

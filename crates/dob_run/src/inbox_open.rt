@@ -10,7 +10,7 @@ use dob_safra::NodeCount;
 use dob_update::Capacity;
 use std::alloc::Global;
 
-/// The outlets of so many nodes, in rows, and their inlets: the outlet of node i for node j sends to the inbox from which
+/// The outlets of `nodes` nodes, in rows, and their inlets: the outlet of node i for node j sends to the inbox from which
 /// the inlet of node j takes, as the sender i. Each inbox holds at most `capacity` batches.
 ///
 /// # Errors

@@ -3,10 +3,21 @@
 // nodes show is the table.
 //
 // The files: `limits` has the sizes of a crew; `crew_*` open and close a crew and `inbox_*` its inboxes; `threads` has a thread for
-// each runner, which `handed` hands to it; `build*` is a whole build and `bounded_run` a run of so many turns.
+// each runner, which `handed` hands to it; `build*` is a whole build and `bounded_run` a run of N turns.
 //
 // A thread is started first and then handed its runner over a ring for one, so a runner for which no thread can be made never left its
 // place. What all runners know of the halt is read before the crew is closed, which takes memory: a failure is told where none is left.
+//
+// Choices:
+// - A thread is handed its runner over a ring for one (`rtrb`): it is started first and waits for it. So if no thread can be made the runner never left its
+//   place, and that it has made no turn is a clause (`GivesUp`). Both ends of the ring meet again at the join, so the runner that is returned is the one
+//   that was handed over (`IsHandedOn`, `IsEndOf`).
+// - `finish` looks for a failure before it takes memory: what each runner knows of the halt names the node, so `Memory` comes only if no node has failed
+//   (`AreFailureless`). The room for the runners that are returned is made before the first thread begins.
+// - A runner that fails after the end was announced stops the build all the same: the others don't know what it would have done.
+// - A crew opens and closes by its endpoints (`open_endpoints`, `close_endpoints`). A crew that runs out of memory while it is closed is given up.
+// - A table is gathered in parts of 2^20 classes (`codes_of`), as `scan` finds openings. A build opens the classes of its family once, and its table takes
+//   them over.
 #![tactic(auto)]
 
 mod bounded_run;

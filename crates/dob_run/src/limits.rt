@@ -30,7 +30,7 @@ impl CrewSizes {
     ///
     /// # Errors
     ///
-    /// Tested in this order: `Nodes` where `nodes` isn't 1 to 16; `Sizes` where `batch_size` isn't 1 to 4096 or `capacity`
+    /// Tested in this order: `Nodes` if `nodes` isn't 1 to 16; `Sizes` if `batch_size` isn't 1 to 4096 or `capacity`
     /// not 1 to 1024.
     pub(crate) fn new(nodes: usize, batch_size: usize, capacity: usize) -> Result<CrewSizes, Fault>
         ensures sizes { IfOk result (AreThese nodes batch_size capacity) }

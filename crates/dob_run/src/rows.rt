@@ -5,7 +5,7 @@ ghost use Rattle.dob_run.specs.Rows.{AreRows, AreDealt, AreInOrder};
 use dob_pieces::Memory;
 use std::alloc::Global;
 
-/// So many rows without things.
+/// `count` rows without things.
 ///
 /// # Errors
 ///
@@ -39,7 +39,7 @@ pub(crate) fn deal<T: Drop>(things: Vec<T>, rows: &mut Vec<Vec<T>>) -> Result<()
     Ok(())
 }
 
-/// The things of all rows, row by row, of which each has `width`.
+/// The things of all rows, row by row; each row has `width`.
 ///
 /// # Errors
 ///

@@ -188,7 +188,7 @@ fn take_and_go<'s, R: Wait, G: Gate>(
 }
 
 // Waits for the thread of each runner. The room for them was made before the first began, so that what one failed for is told
-// where no memory is left.
+// if no memory is left.
 fn end_all<'s, R: Threads, G: Gate>(
     rt: &R,
     started: Vec<Started<'s, G>>,

@@ -31,7 +31,7 @@ pub struct Endpoint {
 impl Endpoint {
     ghost use Rattle.dob_runner.specs.Keeps.{KeepsEndpoint};
 
-    /// The endpoint of that seat, with its outlet to each node's inbox and the inlet of its own, of which the seat has counted the
+    /// The endpoint of that seat, with its outlet to each node's inbox and the inlet of its own; the seat has counted the
     /// batches.
     pub fn new(seat: NodeSeat, outlets: Vec<Outlet>, inlet: Inlet) -> Endpoint
         requires outlets { vec_len outlets ≡ seat.nodes }

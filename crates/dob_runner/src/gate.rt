@@ -15,7 +15,7 @@ pub trait Gate {
     fn enter(&self, node: usize) -> bool
         ensures { says self.now node result };
 
-    /// Told after a turn's work how many settlements the node has expanded in it.
+    /// Receives after a turn's work how many settlements the node has expanded in it.
     fn worked(&self, node: usize, expanded: u64)
         ensures { told self.now node expanded };
 }

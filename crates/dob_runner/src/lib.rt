@@ -1,8 +1,28 @@
 // One runner of a build by threads, and its turns: a node beside its endpoint, which is its seat on the board, its outlets to the
 // inboxes of all nodes and the inlet of its own. It makes turns until the board says that the run has ended or that a node failed
-// it, or so many.
+// it, or N turns.
 //
 // The files: `endpoint`, `slots` and `slot_steps` are what a runner sends and takes by; `turn*` are its turns.
+//
+// Choices:
+// - A runner has an outlet for its own node too, unused, so that places are node numbers. A batch lies in a slot from its count until the inbox takes it, or
+//   from the inbox until it is counted: so a seat's counts are the batches of its links.
+// - A white runner may have a batch in a taking slot: it is still in flight. A runner that passes the token or announces the end tests both kinds of slots
+//   (`IsAtRest`).
+// - A runner takes a batch only if it is one for its node, of its family, with values that a table can have: no inbox promises that. Then the node makes
+//   room, and then the board counts.
+// - What a runner knows is said by all histories that can have led to what it applied, not by a log of arrivals. So it refuses an item that doesn't fit as
+//   E13, and only all runners together show that none comes.
+// - How much a turn expands has no contract, except that it is something if nothing holds the runner up and its level isn't above the limit.
+// - Runners keep pace (`Pace`): each says on which level its node is, in a word that only hints, and expands none more than one level above the least of the
+//   others. The runner on the least level is never above its limit, so no two wait for each other. When its level rises it sends small batches too.
+// - A runner that has nothing to do sleeps after some yields, 50 microseconds at first and 1 ms at most. Nobody wakes a sleeper, and one with a batch in a
+//   slot doesn't sleep.
+// - A failure is an event of the board's log (`BoardEvent`), so the halt word follows from the log (`halt_told`). Each seat's log has all moves of its own
+//   node (`token_moves_of`), so that a call moved no token is a fact of two logs.
+// - `Gate::worked` has no default body: its clause says a relation of the gate's own. A runner's family stands beside its node, since nothing is said of a
+//   node out of memory. Each step reports its own failure: between its node's failure and its own the runner isn't one by its type, so no method can be
+//   called there.
 #![tactic(auto)]
 
 mod batches;

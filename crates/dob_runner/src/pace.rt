@@ -14,7 +14,7 @@ pub struct Pace {
 }
 
 impl Pace {
-    /// That of the first of so many nodes, of which each is on the first level.
+    /// That of the first of `nodes` nodes, each on the first level.
     ///
     /// # Errors
     ///
@@ -38,7 +38,7 @@ impl Pace {
         Ok(Pace { levels, node })
     }
 
-    /// Says on which level the node is, none where it has nothing to expand, and gives the highest one that it may expand now:
+    /// Says on which level the node is, none if it has nothing to expand, and gives the highest one that it may expand now:
     /// one above the least of the other nodes.
     pub(crate) fn limit(&self, level: Option<u16>) -> u16 {
         self.tell(level);

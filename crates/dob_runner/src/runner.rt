@@ -16,7 +16,7 @@ use dob_update::BatchSize;
 /// A runner of a build by nodes that own the classes of a family: its node, its seat with its ends of the inboxes, and
 /// the greatest size of a batch; and, where it waits for slower ones, the pace of its crew. It is lawful at every moment, unless an item of another node's batch made it fail before the end
 /// was announced: where it failed for another cause, as for lack of memory, it has changed nothing. The board says that its
-/// node failed only where it has, and where its node has failed it has failed for the same cause.
+/// node failed only if it has, and where its node has failed it has failed for the same cause.
 #[derive(Drop)]
 pub struct Runner {
     pub node: Node,

@@ -74,7 +74,7 @@ impl Inlet {
         self.slot.is_some()
     }
 
-    /// How many items the batch in the slot has, 0 where the slot is empty.
+    /// How many items the batch in the slot has, 0 if the slot is empty.
     pub(crate) fn held_items(&self) -> usize
         ensures { (batch : BatchView) → self.now.slot ≡ Some batch → result ≡ length batch.items }
     {
@@ -102,7 +102,7 @@ impl Inlet {
         Some(from)
     }
 
-    /// Takes the inbox's next batch into the slot, if that is empty; tries once. The slot is empty afterwards only where the
+    /// Takes the inbox's next batch into the slot, if that is empty; tries once. The slot is empty afterwards only if the
     /// inbox was. Its promises hold if it returns.
     pub(crate) fn receive<R: Wait>(&mut self, rt: &R)
         ensures worked { worked self.new ≡ worked self.old }

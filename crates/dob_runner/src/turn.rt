@@ -67,7 +67,7 @@ impl Runner {
         self.failed
     }
 
-    /// Gives up for a cause that isn't the node's own: the board is told, and the runner keeps the cause. Its node is as it
+    /// Gives up for a cause that isn't the node's own: the board is told, and the runner stores the cause. Its node is as it
     /// was.
     pub fn abandon(&mut self, why: Cause)
         requires { self.old.failed ≡ None }
@@ -79,13 +79,13 @@ impl Runner {
         self.endpoint.fail();
     }
 
-    /// One turn: a runner that the gate lets pass and whose run goes on does a turn's work for its node, of which the gate is told,
+    /// One turn: a runner that the gate lets pass and whose run goes on does a turn's work for its node, and reports it to the gate,
     /// and if there was none it looks for the token, or pauses. The answer is the halt that its seat knows.
     ///
     /// # Errors
     ///
     /// After which the run has failed, if it hadn't ended or failed before, and before which the runner moved no token: `Held`
-    /// just where the gate says no, and then the runner has done nothing: its node and what went over its links are as they were;
+    /// if and only if the gate refuses, and then the runner has done nothing: its node and what went over its links are as they were;
     /// else the cause of the node: an item that can't be applied, too many batches, or lack of memory.
     pub fn turn<R: Wait, G: Gate>(
         &mut self,
@@ -160,7 +160,7 @@ impl Runner {
         }
     }
 
-    /// A turn's work, after which the gate is told how many settlements it has expanded, also where it has failed.
+    /// A turn's work; then the gate learns how many settlements it has expanded, also if it has failed.
     pub(crate) fn work_and_tell<R: Wait, G: Gate>(
         &mut self,
         rt: &R,

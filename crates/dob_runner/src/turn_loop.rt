@@ -13,7 +13,7 @@ use dob_classes::Classes;
 use dob_node::Cause;
 use std::sync::Wait;
 
-/// How long a runner makes turns: so many, without the halt word and the token, or until its seat has seen that the run ended
+/// How long a runner makes turns: N turns, without the halt word and the token, or until its seat has seen that the run ended
 /// or failed.
 #[derive(Drop)]
 pub enum Until {
@@ -54,7 +54,7 @@ impl Runner {
         unreachable!()
     }
 
-    // Makes so many turns of work for its node, or ends at the first that fails. If none did, at most one batch a turn went over
+    // Makes `turns` turns of work for its node, or ends at the first that fails. If none did, at most one batch a turn went over
     // each link. Its promises hold if it returns.
     fn go<R: Wait, G: Gate>(&mut self, rt: &R, classes: &Classes, gate: &G, turns: u64)
         requires unfailed { self.old.failed ≡ None }

@@ -10,7 +10,7 @@ use std::sync::Wait;
 
 impl Runner {
     /// Expands settlements up to that level until as many items are made as a batch holds, or the next one is above it, or nothing is
-    /// left to expand; none where a batch can't be sent and another whole one is left for the same node. Whether any was expanded.
+    /// left to expand; none if a batch can't be sent and another whole one is left for the same node. Whether any was expanded.
     pub(crate) fn expand_all(&mut self, classes: &Classes, limit: u16) -> Result<bool, Cause>
         requires unfailed { self.old.failed ≡ None }
         requires family { classes.now.family ≡ self.old.family }

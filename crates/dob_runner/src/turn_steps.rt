@@ -13,7 +13,7 @@ use std::sync::Wait;
 
 impl Runner {
     /// Takes the batch in the taking slot, else the next of the inbox, if it is one for the node that the board knows of, and
-    /// applies its items. False where there is none. A batch that isn't for the node stays in the slot; for any other one the
+    /// applies its items. False if there is none. A batch that isn't for the node stays in the slot; for any other one the
     /// node makes room before it is counted.
     ///
     /// # Errors
@@ -54,7 +54,7 @@ impl Runner {
         }
     }
 
-    /// Expands the next settlement of the node's history. False where there is none.
+    /// Expands the next settlement of the node's history. False if there is none.
     pub(crate) fn expand_one(&mut self, classes: &Classes) -> Result<bool, Cause>
         requires unfailed { self.old.failed ≡ None }
         requires family { classes.now.family ≡ self.old.family }

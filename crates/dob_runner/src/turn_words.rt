@@ -23,7 +23,7 @@ impl Endpoint {
     }
 
     /// Passes the token, or announces the end where that may be done, if the board's token is at the node, which is idle. Whether
-    /// it is. The seat finds the node's own failure only where it knew that.
+    /// it is. The seat finds the node's own failure only if it knew that.
     pub(crate) fn move_token(&mut self) -> bool
         ensures moves { MovesToken self.old.seat self.new.seat result }
         ensures links { HasSameLinks self.old self.new }
@@ -41,7 +41,7 @@ impl Endpoint {
     }
 
     /// Says that the node failed the run, and moves no token. The halt that its seat finds isn't `Running`; it is the one that it knew,
-    /// if it knew one; and `Ended` only where the node is white.
+    /// if it knew one; and `Ended` only if the node is white.
     pub(crate) fn fail(&mut self)
         ensures still { MovesNothing self.old.seat self.new.seat }
         ensures keeps { HasSameLinksAndColour self.old self.new }
@@ -52,8 +52,8 @@ impl Endpoint {
         let _ = self.seat.fail();
     }
 
-    /// Whether the run goes on, as the board says now: just where no node has failed and no end was announced so far. It says that
-    /// the node itself failed only where the seat knew that.
+    /// Whether the run goes on, as the board says now: exactly if no node has failed and no end was announced so far. It says that
+    /// the node itself failed only if the seat knew that.
     pub(crate) fn halted(&mut self) -> Halt
         ensures halt { result ≡ self.new.seat.halt }
         ensures keeps { HasSameLinksAndColour self.old self.new }

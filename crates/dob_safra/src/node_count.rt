@@ -27,7 +27,7 @@ impl Model for NodeCount {
 }
 
 impl NodeCount {
-    /// That number of nodes; none where it isn't 1 to 16.
+    /// That number of nodes; none if it isn't 1 to 16.
     pub fn new(nodes: usize) -> Option<NodeCount>
         ensures { MatchOption result (¬ IsSize nodes) (λ count. (count ≡ nodes) × IsSize nodes) }
     {

@@ -23,7 +23,7 @@ pub fn pack(token: Token) -> u64
     sum + colour + token.at as u64 * NODE
 }
 
-/// The token of the word; none where the word is no token's: a bit from 55 upwards is set, or the low 50 bits are above
+/// The token of the word; none if the word is no token's: a bit from 55 upwards is set, or the low 50 bits are above
 /// 2^49.
 pub fn unpack(word: u64) -> Option<Token>
     ensures some { IfSome result (λ token. IsPacked token word) }

@@ -8,7 +8,7 @@ ghost use Rattle.dob_share.specs.Pools.{vacant, wins_in, IsWithin, IsCountedAt, 
 use dob_lists::Segments;
 
 /// A cell, less its counted wins. `start` is where its run in the pool begins. `win` is the distance of the win that the
-/// least known loss of the enemy gives, one more than that loss; 0 where no loss is known. `used` is how many entries of
+/// least known loss of the enemy gives, one more than that loss; 0 if no loss is known. `used` is how many entries of
 /// the run are in use, which are fewer than 64.
 #[derive(Clone, Copy)]
 pub(crate) struct Slot {
@@ -47,7 +47,7 @@ pub(crate) fn greatest_win(pool: &Segments<u16>, slot: Slot) -> Option<u16>
     greatest
 }
 
-/// The greater of a distance, where there is one, and another.
+/// The greater of a distance, if there is one, and another.
 pub(crate) fn later(greatest: Option<u16>, plies: u16) -> u16
     ensures { result ≡ greater_of greatest plies }
 {
@@ -57,7 +57,7 @@ pub(crate) fn later(greatest: Option<u16>, plies: u16) -> u16
     }
 }
 
-/// Counts one more win in that distance, at the first entry that isn't in use of the run that begins there, of which so many are.
+/// Counts one more win in that distance, behind the `used` entries of the run that begins there.
 pub(crate) fn count_win(pool: &mut Segments<u16>, start: u32, used: u8, plies: u16)
     requires { start + used < length pool.old }
     ensures changes { ChangesRun start (used + 1) pool.old pool.new }

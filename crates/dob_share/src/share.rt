@@ -156,7 +156,7 @@ impl Share {
     ///
     /// # Errors
     ///
-    /// Which leave the share as it was: `Contradiction` where the item doesn't fit, else `TooDeep` where the
+    /// Which leave the share as it was: `Contradiction` if the item doesn't fit, else `TooDeep` if the
     /// class's value would have a distance above `MAX_DISTANCE`.
     pub fn apply(&mut self, item: Item) -> Result<Option<Settlement>, Fault>
         requires numbers { self.old.settled < 2 ^ 63 }
@@ -221,7 +221,7 @@ impl Share {
         }
     }
 
-    /// What is seen of a class ahead of its items, which none of them changes; none where it isn't an own class that is open.
+    /// Finds the cell of an own, open class, so that several items can reuse it, which none of them changes; none of any other class.
     pub fn see(&self, class: u64) -> Option<Seen>
         ensures { IsSeen self.now class result }
     {
@@ -274,8 +274,8 @@ fn settlements_of(status: Status) -> u64
     }
 }
 
-// Appends the slot of a class of which nothing is known, whose run begins at `start`, where it is open. It answers how many
-// entries the run has, none where there is no slot.
+// Appends the fresh slot of a class whose run begins at `start`, if it is open. It answers how many
+// entries the run has, none if there is no slot.
 fn push_slot(slots: &mut Segments<Slot>, start: u64, opening: Opening) -> Result<u64, Memory>
     requires { start < 2 ^ 33 }
     ensures small { OnOk result (start + cell_moves opening < 2 ^ 33) }
@@ -292,7 +292,7 @@ fn push_slot(slots: &mut Segments<Slot>, start: u64, opening: Opening) -> Result
     }
 }
 
-// Appends the slot of an open class with that many moves, of which nothing is known, whose run begins at `start`.
+// Appends the fresh slot of an open class with that many moves, whose run begins at `start`.
 fn push_open(slots: &mut Segments<Slot>, start: u64, moves: u8) -> Result<(), Memory>
     ensures small { OnOk result (start < 2 ^ 32) }
     ensures few { OnOk result (moves < 64) }

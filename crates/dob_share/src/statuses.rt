@@ -98,7 +98,7 @@ impl Statuses {
         status_by(word, (place % 64) as u32)
     }
 
-    /// How many classes are open before a place, which is the number of its cell where it is open itself.
+    /// How many classes are open before a place, which is the number of its cell if it is open itself.
     pub(crate) fn opens_before(&self, place: u64) -> u32
         requires { place < self.now.places }
         ensures { result ≡ opens_below self.now.words place }
@@ -133,7 +133,7 @@ fn words_of(
     Ok(words)
 }
 
-// The word of the 64 classes from a place on, before which so many are open.
+// The word of the 64 classes from a place on, with `before` open classes before it.
 fn word_at(
     openings: &Segments<Opening>,
     places: u64,
@@ -167,7 +167,7 @@ fn word_at(
     }
 }
 
-// What is listed as the status of the class at a place; stuck where there is none.
+// What is listed as the status of the class at a place; stuck if there is none.
 fn listed_status(
     openings: &Segments<Opening>,
     places: u64,

@@ -1,5 +1,5 @@
 // One item at one cell: whether it fits, and what it makes of the slot and of the counts. What a move is known to lead to
-// changes a cell's value only where the win comes nearer or the last move becomes known, so most items look no value up; and
+// changes a cell's value only if the win comes nearer or the last move becomes known, so most items look no value up; and
 // only wins of the enemy are counted, so that other items leave the pool alone.
 ghost use Rattle.std.specs.Prelude.{◌≡◌, ◌≢◌, ℕ, ◌+◌, ◌<◌, ◌≤◌, List, length, Some, MatchOption};
 ghost use Rattle.dob_value.specs.declared.value.Value.TheVariants.{Win, Loss, Draw};
@@ -37,7 +37,7 @@ pub(crate) fn value_in(pool: &Segments<u16>, slot: Slot) -> Value
 ///
 /// # Errors
 ///
-/// Which leave the cells as they were: `Contradiction` where the change doesn't fit the cell, else `TooDeep`
+/// Which leave the cells as they were: `Contradiction` if the change doesn't fit the cell, else `TooDeep`
 /// where the cell's value would have a distance above `MAX_DISTANCE`.
 pub(crate) fn apply_at(
     slots: &mut Segments<Slot>,

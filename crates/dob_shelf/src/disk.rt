@@ -11,7 +11,7 @@ use std::io::{self, ErrorKind, Read, Write};
 use std::os::unix::fs::{MetadataExt, OpenOptionsExt, PermissionsExt};
 use std::rt::Files;
 
-/// The files that the system has, and a reader as standard input, of which no bytes are told.
+/// The files that the system has, and a reader as standard input; contracts know nothing of the files' contents.
 ///
 /// A file is written under its name with `.part` behind it, and takes its name once the system was made to put its bytes on the
 /// disk; then the folder is put there too. So the file of that name is as it was until then, whatever happens, and whole from then
@@ -30,7 +30,7 @@ pub struct DiskShelf<'a, R, I> {
     has_failed: bool,
 }
 
-// How a file is written: beside its name, by the mode of the file whose place it takes where there is one, or where it is.
+// How a file is written: beside its name, by the mode of the file whose place it takes if there is one, or where it is.
 #[derive(Clone, Copy)]
 enum Way {
     Beside(Option<u32>),
@@ -55,7 +55,7 @@ impl<F: Write> Write for DiskFile<F> {
 }
 
 impl<'a, R, I> DiskShelf<'a, R, I> {
-    /// The files of the system and that standard input, of which no call has failed. What they say is left in the note.
+    /// The files of the system and that standard input; no call has failed. What they say is left in the note.
     pub fn new(rt: &'a R, alloc: Global, input: I, note: &'a Note) -> DiskShelf<'a, R, I>
         ensures { result.has_failed ≡ false }
     {

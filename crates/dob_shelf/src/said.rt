@@ -55,7 +55,7 @@ impl Note {
         }
     }
 
-    /// What was left there last, as text: the device, a file by that name, and its reason. `None` where nothing was.
+    /// What was left there last, as text: the device, a file by that name, and its reason. `None` if nothing was.
     pub(crate) fn text(&self, alloc: Global, file: &str) -> Result<Option<String>, AllocError> {
         match self.said.get() {
             Some(said) => Ok(Some(said.text(alloc, file)?)),

@@ -102,8 +102,8 @@ pub trait Shelf {
         ensures input { (state self.new).input ≡ (state self.old).input }
         ensures failed { (state self.new).has_failed ≡ ((state self.old).has_failed || is_failed result) };
 
-    /// Keeps just the sink's bytes under that name, for which `make` gave a sink. Other files keep their bytes. It fails where
-    /// the device does, which no shelf does that tells its bytes; the sink is gone then, as after `discard`.
+    /// Saves exactly the sink's bytes under that name, for which `make` gave a sink. Other files keep their bytes. It fails where
+    /// the device does, which no shelf does whose bytes are known; the sink is gone then, as after `discard`.
     fn keep(&mut self, name: &str, sink: Self::Dst) -> Result<(), Failed>
         requires { IsTrue (state self.old).tells → (bytes : List ℕ) × (state self.old).has name.now bytes }
         ensures kept { (bytes : List ℕ) → IsTrue (state self.old).tells → (Self.Dst.state sink).received ≡ Some bytes
@@ -135,7 +135,7 @@ pub trait Shelf {
         ensures told { (state self.new).tells ≡ (state self.old).tells }
         ensures failed { (state self.new).has_failed ≡ ((state self.old).has_failed || is_failed result) };
 
-    /// What the device said that failed last, as text: which one it is, and why it failed. `None` where that isn't known. Nothing is promised of
+    /// What the device said that failed last, as text: which one it is, and why it failed. `None` if that isn't known. Nothing is promised of
     /// what a device says.
     ///
     /// # Errors

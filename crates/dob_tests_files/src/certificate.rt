@@ -139,7 +139,7 @@ fn threads_answer(
     }
 }
 
-// Each claim of up to so many plies is answered so.
+// Each claim of up to `plies` plies is answered so.
 fn are_answered(
     rt: &(impl Abort + AllocGlobal),
     table: &Table,

@@ -31,7 +31,7 @@ fn hands_back(rt: &impl Abort, link: &mut impl Link, batch: Batch) -> Batch {
     link.offer(batch).expect_err(rt, "no room").batch
 }
 
-// Takes the next batch, of which this is so.
+// Takes the next batch, which has this.
 fn gives(rt: &impl Abort, link: &mut impl Link, expected: (u64, usize)) {
     assert!(rt; told(&link.next().expect(rt, "a batch")) == expected);
 }

@@ -170,7 +170,7 @@ impl Log {
         }
     }
 
-    // Whether those classes were sent, in batches that leave out so many items.
+    // Whether those classes were sent, in batches that leave out `skips` items.
     fn has(&self, told: &[u64], skips: &[usize]) -> bool {
         self.told.as_slice() == told && self.skips.as_slice() == skips
     }
@@ -190,7 +190,7 @@ impl Log {
     }
 }
 
-// Sends a batch of at most `size` items to the node `to`. False where there was nothing to send.
+// Sends a batch of at most `size` items to the node `to`. False if there was nothing to send.
 fn send<A: Abort>(
     rt: &A,
     node: &mut Node,
@@ -222,7 +222,7 @@ fn send<A: Abort>(
     true
 }
 
-// A step of a node, which sends before all else or only where it has nothing else to do. False where it did nothing.
+// A step of a node, which sends before all else or only if it has nothing else to do. False if it did nothing.
 fn step<A: Abort>(
     rt: &A,
     classes: &Classes,

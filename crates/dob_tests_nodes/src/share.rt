@@ -39,7 +39,7 @@ fn openings(alloc: Global) -> Result<Segments<Opening>, Memory> {
     Ok(list)
 }
 
-// The share of that owner among so many nodes.
+// The share of that owner among `nodes`.
 fn share_of(rt: &impl Abort, alloc: Global, id: usize, nodes: usize) -> Share
     requires { id < nodes }
 {

@@ -32,7 +32,7 @@ fn add_and_take_back(
     Ok(())
 }
 
-// The next batch of at most so many items.
+// The next batch of at most `size` items.
 fn cut(rt: &impl Abort, outbox: &mut Outbox, size: usize) -> Result<Batch, Memory> {
     assert!(rt; outbox.cut_count() < 100);
     let size = BatchSize::new(size).expect(rt, "a size");
@@ -48,7 +48,7 @@ fn told(alloc: Global, batch: &Batch) -> Result<Vec<u64>, Memory> {
     Ok(classes)
 }
 
-// The classes that a batch lists are these, after so many left out, and of so many settlements.
+// The classes that a batch lists are these, after `skip` left out, and of `settlements` settlements.
 fn tells(
     rt: &impl Abort,
     alloc: Global,
@@ -64,7 +64,7 @@ fn tells(
     Ok(())
 }
 
-// Cuts the next batch, which is of one settlement and lists these classes, after so many left out: its number.
+// Cuts the next batch, which is of one settlement and lists these classes, after `skip` left out: its number.
 fn cut_one(
     rt: &impl Abort,
     alloc: Global,

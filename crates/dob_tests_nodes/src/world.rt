@@ -20,7 +20,7 @@ const NODES: [usize; 4] = [1, 2, 3, 16];
 
 const SIZES: [(usize, usize); 4] = [(1, 1), (1, 64), (256, 1), (256, 64)];
 
-// A world of so many nodes over lions alone, whose batches hold one item and whose links one batch.
+// A world of `n` nodes over lions alone, whose batches hold one item and whose links one batch.
 fn opened(rt: &impl Abort, alloc: Global, n: usize) -> World
     ensures standing { IsStanding result }
     ensures kept { StandsOrStopped result }
@@ -85,7 +85,7 @@ fn skips(rt: &impl Abort, world: &mut World, event: Event)
     assert!(rt; !make(rt, world, event), "{event:?}");
 }
 
-// Drives the world of so many nodes until nothing is left to do.
+// Drives the world of `n` nodes until nothing is left to do.
 fn finish(rt: &impl Abort, world: &mut World, n: usize)
     requires standing { IsStanding world.old }
     requires going { world.old.failed ≡ None }
@@ -125,7 +125,7 @@ fn events_are_done_where_they_can_be(rt: HostRuntime) {
     assert!(rt; world.applied(0, 0) == [item].as_slice());
 }
 
-// Why there is no world of lions alone with those sizes; none where there is one, after an event of a node that it hasn't got.
+// Why there is no world of lions alone with those sizes; none if there is one, after an event of a node that it hasn't got.
 fn refused(
     rt: &impl Abort,
     alloc: Global,

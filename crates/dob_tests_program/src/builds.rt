@@ -11,7 +11,7 @@ use std::thread::Threads;
 
 const BUILD: [&str; 7] = ["build", "--set", "000", "--nodes", "2", "--out", FILE];
 
-/// A shelf that is full: it makes no file, or one that takes so many bytes, and keeps none.
+/// A shelf that is full: it makes no file, or one that takes only some bytes, and saves none.
 #[derive(Drop)]
 struct FullShelf {
     alloc: Global,

@@ -1,5 +1,5 @@
 // The calls by which a file comes onto a disk, and their order: what a power cut may leave depends on it, and no clause speaks of it. The
-// files are the system's, with a list of the calls that are made on them, of which one fails where that is asked for.
+// files are the system's, with a list of the calls on them; one fails if that is asked for.
 use crate::lions::file;
 use crate::program::run_on;
 use crate::shelves::{has, put, removes};
@@ -82,7 +82,7 @@ impl Log {
 }
 
 impl Log {
-    // Notes the call, and fails where it is the one that does.
+    // Notes the call, and fails if it is the one that does.
     fn note(&self, call: &str, path: &'static str) -> io::Result<()> {
         let Ok(mut calls) = self.calls.try_borrow_mut() else {
             return Err(ErrorKind::Other.into());
@@ -245,7 +245,7 @@ impl<F: OpenFile> OpenFile for ListedFile<'_, F> {
     }
 }
 
-// Puts the bytes under the name by calls of which that one fails; the calls that were made are these. Whether the shelf kept them.
+// Puts the bytes under the name; that one of the calls fails; the calls that were made are these. Whether the shelf kept them.
 fn puts<R: Abort + Files + AllocGlobal>(
     rt: &R,
     name: &str,
@@ -262,7 +262,7 @@ fn puts<R: Abort + Files + AllocGlobal>(
     kept
 }
 
-// Whether the file of that name has just these bytes, by the system's own files.
+// Whether the file of that name has exactly these bytes, by the system's own files.
 fn stands<R: Files + AllocGlobal>(rt: &R, name: &str, bytes: &[u8]) -> bool {
     let note = Note::new();
     let mut shelf = DiskShelf::new(rt, rt.alloc(), Typed::whole(b""), &note);

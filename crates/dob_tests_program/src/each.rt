@@ -165,7 +165,7 @@ fn lines_without_a_file(rt: HostRuntime) {
     assert!(rt; told.is(1, b"", b"dobutsu: E15 Truncated\n"));
 }
 
-// One of a position and `--each` is asked for, and just one.
+// One of a position and `--each` is asked for, and only one.
 #[test]
 fn words_that_are_unclear(rt: HostRuntime) {
     let mut shelf = shelf(&rt);

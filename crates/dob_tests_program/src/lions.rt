@@ -68,7 +68,7 @@ pub(crate) fn forged(rt: &(impl Abort + AllocGlobal), class: u8, code: u16) -> V
     sealed(rt, with(bytes, place + 1, high))
 }
 
-/// The first bytes of the file of the first format, so many.
+/// The first `len` bytes of the file of the first format.
 pub(crate) fn cut_to(rt: &(impl Abort + AllocGlobal), len: usize) -> Vec<u8> {
     let mut bytes = first_file(rt);
     bytes.truncate(len);

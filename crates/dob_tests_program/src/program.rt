@@ -51,7 +51,7 @@ pub(crate) fn run_on<S: Shelf>(
     Told { status, out, err }
 }
 
-/// A stream that takes so many bytes and then fails, and that may fail where it is flushed.
+/// A stream that takes some bytes and then fails, and that may fail where it is flushed.
 #[derive(Drop)]
 pub(crate) struct Narrow {
     room: usize,
@@ -89,7 +89,7 @@ impl Write for Narrow {
     }
 }
 
-// What the program answers to the words over those streams, where there are no files.
+// What the program answers to the words over those streams, if there are no files.
 fn run_into(
     rt: &(impl Threads + Wait + Sync + Console),
     alloc: Global,
@@ -285,9 +285,9 @@ fn the_first_break_of_a_file(rt: HostRuntime) {
     breaks(&rt, 15, 0, "dobutsu: E21 Inconsistent class 9\n");
     // the greatest loss, after which no win can come
     breaks(&rt, 15, 65_535, "dobutsu: E21 Inconsistent class 9\n");
-    // a win in 7 where it is one in 5
+    // a win in 7 if it is one in 5
     breaks(&rt, 17, 8, "dobutsu: E21 Inconsistent class 17\n");
-    // a loss in 2 where the enemy has tried
+    // a loss in 2 if the enemy has tried
     breaks(&rt, 36, 3, "dobutsu: E21 Inconsistent class 36\n");
     // a draw where the lion can be caught
     breaks(&rt, 1, 0, "dobutsu: E21 Inconsistent class 1\n");

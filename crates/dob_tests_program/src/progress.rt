@@ -34,7 +34,7 @@ impl Paper {
         }
     }
 
-    // So many seconds after the first.
+    // `seconds` seconds after the first.
     fn set(&self, seconds: u64) {
         self.seconds
             .store(100u64.saturating_add(seconds), Ordering::SeqCst);

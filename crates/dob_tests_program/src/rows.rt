@@ -135,7 +135,7 @@ const ASKED: &[(&str, &str, &str, &str)] = &[
     ("line", "lions.db", TRIED, "end\n"),
     ("line", "lions.db", DRAW, "draw\n"),
     ("line", "lions.db", CATCH, "Lb2xb3\n"),
-    // one record of a file, of which neither the others nor the digest are read
+    // one record of a file; neither the others nor the digest are read
     ("look", "lions.db", WIN_3, "win 3\n"),
     ("look", "lions.db", LOSS_2, "loss 2\n"),
     ("look", "lions.db", DRAW, "draw\n"),
@@ -423,7 +423,7 @@ fn rows_of_the_program(rt: HostRuntime) {
     tells_builds(&rt, rt.alloc(), &mut shelf);
 }
 
-// Words for two puzzles of so many plies.
+// Words for two puzzles of that length.
 fn tells_puzzles(
     rt: &(impl Abort + Threads + Wait + Sync + Console),
     alloc: Global,

@@ -21,7 +21,7 @@ pub(crate) fn put<S: Shelf>(shelf: &mut S, name: &str, bytes: &[u8]) -> bool {
     shelf.keep(name, sink).is_ok() && is_whole
 }
 
-// Whether the shelf has just these bytes under the name, at most 255.
+// Whether the shelf has exactly these bytes under the name, at most 255.
 pub(crate) fn has<S: Shelf>(shelf: &mut S, name: &str, bytes: &[u8]) -> bool {
     let mut room = [0; 256];
     let Ok(mut source) = shelf.find(name) else {
@@ -41,7 +41,7 @@ fn keeps_file<S: Shelf>(rt: &impl Abort, shelf: &mut S, name: &str, bytes: &[u8]
     assert!(rt; has(shelf, name, bytes));
 }
 
-// A file made anew on the disk is as it was until it is kept, and stays so where it is given up; its part is gone then.
+// A file made anew on the disk is as it was until it is kept, and stays so if it is given up; its part is gone then.
 fn leaves_file<R: Abort + Files, I: Read>(rt: &R, shelf: &mut DiskShelf<'_, R, I>) {
     keeps_file(rt, shelf, NAME, b"kept");
     let mut sink = shelf.make(NAME).ok().expect(rt, "a file on the disk");

@@ -1,7 +1,7 @@
 // What is typed at the program in a test.
 use std::io::{self, ErrorKind, Read};
 
-/// A standard input of those bytes, in pieces of at most so many. Behind them comes the error, or, where there is none, its end.
+/// A standard input of those bytes, in pieces of a greatest length. Behind them comes the error, or, if there is none, its end.
 #[derive(Drop)]
 pub(crate) struct Typed {
     pub(crate) left: &'static [u8],

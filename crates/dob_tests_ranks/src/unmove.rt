@@ -207,7 +207,7 @@ fn pairs_taken_back(alloc: Global, classes: &Classes) -> Result<Vec<(u64, u64)>,
     Ok(pairs)
 }
 
-// All moves of the set of that name and so many classes are taken back, each once, and nothing else.
+// All moves of the set of that name with `count` classes are taken back, each once, and nothing else.
 fn takes_all_back(rt: &impl Abort, alloc: Global, name: &str, count: u64) -> Result<(), Memory> {
     let classes = classes_of(rt, alloc, name);
     assert!(rt; classes.class_count() == count);

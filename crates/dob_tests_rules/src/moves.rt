@@ -42,7 +42,7 @@ const MOVES: [(&str, Status, &[&str]); 9] = [
     (".../.l./.H./L.. - -", Status::Caught, &[]),
 ];
 
-// The same in profile B, where these differ.
+// The same in profile B, if these differ.
 const MOVES_OF_B: [(&str, Status, &[&str]); 3] = [
     // no chick is dropped on row 4
     (
@@ -69,7 +69,7 @@ const MOVES_OF_B: [(&str, Status, &[&str]); 3] = [
     ),
 ];
 
-// The position has just those moves by the rules of the profile, in their order.
+// The position has exactly those moves by the rules of the profile, in their order.
 fn lists(rt: &impl Abort, alloc: Global, profile: Profile, position: &Position, texts: &[&str]) {
     let the_moves = moves(alloc, profile, position).expect(rt, "memory");
     let (_, count) = status_and_count(profile, position);

@@ -50,7 +50,7 @@ fn work(mut seat: NodeSeat, other: usize) -> NodeSeat
     seat
 }
 
-// Whether no board of so many nodes is opened.
+// Whether no board of `nodes` nodes is opened.
 fn is_refused(alloc: Global, nodes: usize) -> bool {
     matches!(Board::open(alloc, nodes), Err(Fault::Nodes))
 }
@@ -61,7 +61,7 @@ fn sizes_of_no_boards(rt: HostRuntime) {
     assert!(rt; is_refused(rt.alloc(), 17));
 }
 
-// A board of so many nodes has a seat for each, and its words are those of its opening.
+// A board of `nodes` nodes has a seat for each, and its words are those of its opening.
 fn is_opened(rt: &impl Abort, alloc: Global, nodes: usize) -> Result<(), Fault> {
     let (board, seats) = Board::open(alloc, nodes)?;
     assert!(rt; seats.len() == nodes);
@@ -130,7 +130,7 @@ fn close_two(
     Ok(board.close(seats))
 }
 
-// Seats of two threads, of which each sees what the other posts. The words are the counts in the end.
+// Seats of two threads: each sees what the other posts. The words are the counts in the end.
 #[test]
 fn two_threads_post_and_take(rt: HostRuntime) -> Result<(), Fault> {
     let (board, first, second) = open_two(rt.alloc())?;

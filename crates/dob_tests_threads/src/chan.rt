@@ -31,7 +31,7 @@ fn cut(rt: &impl Abort, outbox: &mut Outbox) -> Result<Batch, Memory> {
     )
 }
 
-// So many batches of an owner, the last one first.
+// `count` batches of an owner, the last one first.
 fn batches(rt: &impl Abort, alloc: Global, from: usize, count: u64) -> Result<Vec<Batch>, Memory> {
     let classes = classes_of(rt, alloc, "000");
     assert!(rt; CLASS < classes.class_count());
@@ -123,7 +123,7 @@ fn takes<R: Wait>(rt: &R, end: &mut TakeEnd, number: u64) -> bool
     is_numbered(&end.next(rt), number)
 }
 
-// Takes so many batches, and says whether they came in order and whole.
+// Takes `count` batches, and says whether they came in order and whole.
 fn take_all<R: Wait>(rt: &R, mut end: TakeEnd, count: u64) -> (TakeEnd, bool)
     ensures { TakesFromSame end result.0 }
 {

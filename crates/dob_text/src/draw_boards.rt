@@ -19,7 +19,7 @@ const COLUMNS: &str = "     a   b   c\n";
 /// What the letters are.
 const LETTERS: &str = "L lion, G giraffe, E elephant, C chick, H hen\n";
 
-// The letter of what stands on a square, a space where nothing does.
+// The letter of what stands on a square, a space if nothing does.
 fn shown_letter(cell: Option<Piece>) -> u8
     ensures value { result ≡ shown_letter cell }
     ensures ascii { result < 128 }
@@ -137,7 +137,7 @@ fn push_side(text: &mut String, side: Side, hand: Hand) -> Result<(), AllocError
 ///
 /// # Errors
 ///
-/// `Memory` where no memory is left for the text.
+/// `Memory` if no memory is left for the text.
 pub fn draw_position(alloc: Global, position: &Position) -> Result<String, Memory>
     ensures { IfOk result (λ text. string_bytes text ≡ drawing_of position.now.setup) }
 {

@@ -22,7 +22,7 @@ pub fn piece_letter(side: Side, kind: Kind) -> u8
     }
 }
 
-/// The letter of what stands on a square, a full stop where nothing does.
+/// The letter of what stands on a square, a full stop if nothing does.
 pub fn cell_letter(cell: Option<Piece>) -> u8
     ensures value { result ≡ letter_of cell }
     ensures ascii { result < 128 }

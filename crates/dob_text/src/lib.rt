@@ -1,5 +1,11 @@
 // Positions and moves as text. A text that is read is the one text of its position, and each fault says what
 // the text lacks.
+//
+// Choices:
+// - A picture's background is a constant that the definition names. What the animals look like is judged by eye; where each piece stands and which way it
+//   looks is proved.
+// - A hand in a picture has a row for each kind, as far from its player as rows 1, 2 and 3, so no place depends on another kind's count.
+// - Counts in a hand are one byte: reading takes 255 for more letters than that, and E5 refuses it as it would the true count.
 #![tactic(auto)]
 
 mod boards;

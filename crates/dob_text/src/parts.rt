@@ -5,7 +5,7 @@ ghost use Rattle.dob_text.specs.PositionText.{is_space, IsWord, IsGrid, AreTwoWo
 /// How many bytes the board takes.
 const GRID_LEN: usize = 15;
 
-/// The parts of a text, none of which has a space.
+/// The parts of a text, none with a space.
 #[derive(Clone, Copy)]
 pub(crate) struct Parts<'a> {
     pub(crate) grid: &'a [u8],

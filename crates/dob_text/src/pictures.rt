@@ -149,7 +149,7 @@ fn hand_top(side: Side, row: usize) -> usize
     }
 }
 
-// Draws so many pieces of a kind at the end, side by side at the height of that row.
+// Draws `count` pieces of a kind at the end, side by side at the height of that row.
 fn push_pieces(
     alloc: Global,
     text: &mut String,
@@ -186,7 +186,7 @@ fn push_hand(alloc: Global, text: &mut String, side: Side, hand: Hand) -> Result
 ///
 /// # Errors
 ///
-/// `Memory` where no memory is left for the text.
+/// `Memory` if no memory is left for the text.
 pub fn picture_position(alloc: Global, position: &Position) -> Result<String, Memory>
     ensures { IfOk result (λ text. string_bytes text ≡ picture_of position.now.setup) }
 {

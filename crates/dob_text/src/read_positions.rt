@@ -48,7 +48,7 @@ pub fn read_position_bytes(profile: Profile, text: &[u8]) -> Result<Position, Te
     position_of(profile, setup)
 }
 
-/// The position of that profile of which this is the text, as `write_position` writes it. It takes no memory.
+/// The position of that profile with this text, as `write_position` writes it. It takes no memory.
 ///
 /// # Errors
 ///

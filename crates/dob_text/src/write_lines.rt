@@ -7,7 +7,7 @@ use dob_moves::Move;
 use dob_pieces::Memory;
 use std::alloc::Global;
 
-// Writes the move with its number at the end, where so many moves stand before it.
+// Writes the move with its number at the end, behind `before` moves.
 fn push_numbered(
     alloc: Global,
     text: &mut String,
@@ -31,7 +31,7 @@ fn push_numbered(
 ///
 /// # Errors
 ///
-/// `Memory` where no memory is left for the text.
+/// `Memory` if no memory is left for the text.
 pub fn write_line(alloc: Global, moves: &[Move]) -> Result<String, Memory>
     ensures { IfOk result (λ text. string_bytes text ≡ numbered_text moves.now) }
 {

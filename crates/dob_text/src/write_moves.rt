@@ -59,13 +59,13 @@ fn push_move(text: &mut String, the_move: Move, second: bool) -> Result<(), Allo
 }
 
 /// The move's text: of a step the piece's letter before the step, its first square, `-` or `x` for a catch, its last
-/// square, and `+` where a chick becomes a hen; of a drop the letter, `*` and the square. `second` says that the move
+/// square, and `+` if a chick becomes a hen; of a drop the letter, `*` and the square. `second` says that the move
 /// is of the side that isn't to move in the first position of a line: its letter is then in lower case, and its
 /// squares are turned back.
 ///
 /// # Errors
 ///
-/// `Memory` where no memory is left for the text.
+/// `Memory` if no memory is left for the text.
 pub fn write_move(alloc: Global, the_move: Move, second: bool) -> Result<String, Memory>
     ensures { IfOk result (λ text. string_bytes text ≡ move_text the_move second) }
 {

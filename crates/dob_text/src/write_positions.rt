@@ -61,7 +61,7 @@ fn push_hand(text: &mut String, side: Side, hand: Hand) -> Result<(), AllocError
 ///
 /// # Errors
 ///
-/// `Memory` where no memory is left for the text.
+/// `Memory` if no memory is left for the text.
 pub fn write_position(alloc: Global, position: &Position) -> Result<String, Memory>
     ensures { IfOk result (λ text. string_bytes text ≡ text_of position.now.setup) }
 {

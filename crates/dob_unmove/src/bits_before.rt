@@ -124,7 +124,7 @@ fn with_own(bits: Bitboards, bit: u16, kind: Kind) -> Bitboards
     }
 }
 
-/// The sets with the enemy's piece of that kind on an empty square, by the square's bit. But for the lion it is in the set of all
+/// The sets with the enemy's piece of that kind on an empty square, by the square's bit. Unless it is the lion it is in the set of all
 /// enemies too.
 pub fn with_enemy(bits: Bitboards, bit: u16, kind: Kind) -> Bitboards
     ensures { result ≡ with_enemy kind bit bits }

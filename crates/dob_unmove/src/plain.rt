@@ -61,7 +61,7 @@ fn class_before(classes: &Classes, after: &Setup, threat: &Threat, undo: Undo) -
     }
 }
 
-// The class whose representative the position of the family is; `None` where it is none.
+// The class whose representative the position of the family is; `None` if it is none.
 pub(crate) fn class_if_representative(classes: &Classes, position: &Position) -> Option<u64>
     requires { IsPositionOf classes.now.family position.now.setup }
     ensures { MatchOption result (¬ ((class : ℕ) × RepresentsClass classes.now.family position.now.setup class)) (RepresentsClass classes.now.family position.now.setup) }
@@ -95,7 +95,7 @@ fn gather(room: Vec<u64>, classes: &Classes, representative: &Position) -> Resul
 }
 
 /// The classes from which moves lead into the class, ascending, each as often as moves of its representative lead
-/// there, in the room of a list; what it held is gone. Err where no memory was left for it to grow.
+/// there, in the room of a list; what it held is gone. Err if no memory was left for it to grow.
 pub fn back_into(room: Vec<u64>, classes: &Classes, class: u64) -> Result<Vec<u64>, Memory>
     requires { class < classes_of classes.now.family }
     ensures counts { IfOk result (λ list. (q : Setup) → RepresentsClass classes.now.family q class → ArePredecessors classes.now.family.profile (RepresentsClass classes.now.family) q list.items) }

@@ -229,7 +229,7 @@ impl End<'_> {
     }
 }
 
-/// The class whose representative is the position of the family that the sets show; `None` where it is none.
+/// The class whose representative is the position of the family that the sets show; `None` if it is none.
 fn class_if_shown(classes: &Classes, bits: &Bitboards) -> Option<u64>
     requires { (setup : Setup) × IsShown classes.now.family setup bits.now }
     ensures { (setup : Setup) → IsShown classes.now.family setup bits.now
@@ -289,7 +289,7 @@ fn gather(room: Vec<u64>, classes: &Classes, class: u64, shown: &Shown) -> Resul
 }
 
 /// The classes from which moves lead into the class, ascending, each as often as moves of its representative lead
-/// there. Err where no memory was left for the list.
+/// there. Err if no memory was left for the list.
 pub fn back(alloc: Global, classes: &Classes, class: u64) -> Result<Vec<u64>, Memory>
     requires { class < classes_of classes.now.family }
     ensures counts { IfOk result (λ list. (q : Setup) → RepresentsClass classes.now.family q class → ArePredecessors classes.now.family.profile (RepresentsClass classes.now.family) q list.items) }
@@ -298,7 +298,7 @@ pub fn back(alloc: Global, classes: &Classes, class: u64) -> Result<Vec<u64>, Me
     back_into(Vec::new(alloc), classes, class)
 }
 
-/// A class's predecessors in the room of a list that the caller keeps for many classes; what it held is gone. Err where no memory was
+/// A class's predecessors in the room of a list that the caller keeps for many classes; what it held is gone. Err if no memory was
 /// left for it to grow, and then the list is gone too.
 pub fn back_into(room: Vec<u64>, classes: &Classes, class: u64) -> Result<Vec<u64>, Memory>
     requires { class < classes_of classes.now.family }

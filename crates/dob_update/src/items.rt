@@ -39,7 +39,7 @@ pub fn push_items(
     Ok(())
 }
 
-/// How many items a settlement has for the owner `to`, one of `nodes`, where its class has these predecessors.
+/// How many items a settlement has for the owner `to`, one of `nodes`, if its class has these predecessors.
 pub fn count_items(predecessors: &[u64], nodes: usize, to: usize) -> usize
     requires { 0 < nodes }
     ensures { (settlement : Settled) → result ≡ length (items_of (λ _. predecessors.now) nodes to settlement) }

@@ -1,5 +1,11 @@
 // Items on their way from owner to owner: the outbox of what one has still to send to another, and the batches that are
 // cut from it.
+//
+// Choices:
+// - A batch lists each settlement with the number of its items in it, so that `shorten` needs no memory. Its fields are private, so that its type can
+//   promise what it does.
+// - An outbox stores only the classes of its items beside its settlements, 8 bytes an item; they become items of 24 bytes when a batch is cut. A node hands
+//   its outboxes classes (`add_targets`); `add` is for a caller that has items.
 #![tactic(auto)]
 
 mod batch;

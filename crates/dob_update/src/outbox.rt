@@ -133,7 +133,7 @@ impl Outbox {
         Ok(())
     }
 
-    /// Takes back the settlement that was added last, with its `count` items for the receiver, of which none was cut; one
+    /// Takes back the settlement that was added last, with its `count` items for the receiver, none cut; one
     /// without items isn't listed.
     pub fn take_back(&mut self, count: usize)
         requires { (before : OutboxView) × HasOneMore before count self.old }
@@ -147,7 +147,7 @@ impl Outbox {
         self.classes.truncate(left);
     }
 
-    /// Cuts a batch of the first items, so many as the size says, or of all where fewer are left, and `None` where none is, which
+    /// Cuts a batch of the first items, `size` of them, or of all if fewer are left, and `None` if none is, which
     /// takes no memory. After `Memory` the outbox is unchanged. The outbox has cut fewer than 2^64 - 1 batches before.
     pub fn cut(&mut self, size: BatchSize) -> Result<Option<Batch>, Memory>
         requires { self.old.next + 1 < 2 ^ 64 }
@@ -253,7 +253,7 @@ fn front_items(
     Ok(list)
 }
 
-// Appends the news of the settlement for so many classes, those from that place on.
+// Appends the news of the settlement for `count` classes, those from that place on.
 #[tactic(auto, using(crate::proofs::PartItems::items_more))]
 fn push_part_items(
     list: &mut Vec<Item>,
@@ -273,7 +273,7 @@ fn push_part_items(
     Ok(())
 }
 
-// Drops the first `k` items from the parts, of which the first had `skip` items before; how many the first one left has
+// Drops the first `k` items from the parts, after `skip` items of the first part; how many the first one left has
 // before.
 fn drop_parts(parts: &mut VecDeque<Part>, skip: usize, k: usize) -> usize
     requires whole { (count : Settled → ℕ) × AreWhole count skip parts.old.items }

@@ -28,7 +28,7 @@ impl Model for BatchSize {
 }
 
 impl BatchSize {
-    /// Batches of at most so many items; none where that isn't 1 to 4096.
+    /// Batches of at most `items` items; none if that isn't 1 to 4096.
     pub fn new(items: usize) -> Option<BatchSize>
         ensures { MatchOption result (¬ IsBatchSize items) (λ size. (size ≡ items) × IsBatchSize items) }
     {
@@ -67,7 +67,7 @@ impl Model for Capacity {
 }
 
 impl Capacity {
-    /// Room for so many batches; none where that isn't 1 to 1024.
+    /// Room for `batches` batches; none if that isn't 1 to 1024.
     pub fn new(batches: usize) -> Option<Capacity>
         ensures { MatchOption result (¬ IsCapacity batches) (λ capacity. (capacity ≡ batches) × IsCapacity batches) }
     {

@@ -21,7 +21,7 @@ use std::alloc::Global;
 ///
 /// # Errors
 ///
-/// `TooDeep`, only where some position of the family is won or lost in more than `MAX_DISTANCE` plies, and the family
+/// `TooDeep`, only if some position of the family is won or lost in more than `MAX_DISTANCE` plies, and the family
 /// has more classes than that; `Memory`.
 pub fn sweep_table(alloc: Global, family: Family) -> Result<Table, Fault>
     ensures family { IfOk result (λ table. table.family ≡ family) }
@@ -53,7 +53,7 @@ fn table_of(alloc: Global, classes: Classes, values: &[Value]) -> Result<Table, 
 ///
 /// # Errors
 ///
-/// `TooDeep`, only where some position with the same pieces is won or lost in more than `MAX_DISTANCE` plies, and these
+/// `TooDeep`, only if some position with the same pieces is won or lost in more than `MAX_DISTANCE` plies, and these
 /// have more classes than that; `Memory`.
 pub fn sweep_value(alloc: Global, profile: Profile, position: &Position) -> Result<Value, Fault>
     requires { IsAllowed profile position.now.setup }

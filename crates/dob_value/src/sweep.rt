@@ -141,7 +141,7 @@ fn first_values(alloc: Global, statuses: &[Status]) -> Result<Vec<Value>, AllocE
 
 // The value of each class of the graph. It sweeps until nothing changes.
 //
-// Errors: `TooDeep` where some distance is above `MAX_DISTANCE`, as then is the number of classes, and `Memory`.
+// Errors: `TooDeep` if some distance is above `MAX_DISTANCE`, as then is the number of classes, and `Memory`.
 fn settle(alloc: Global, graph: &Graph) -> Result<Vec<Value>, Fault>
     requires { IsGraph graph.now }
     ensures values { IfOk result (λ values. AreValues graph.now.family values.items) }
@@ -164,7 +164,7 @@ fn settle(alloc: Global, graph: &Graph) -> Result<Vec<Value>, Fault>
 ///
 /// # Errors
 ///
-/// `TooDeep` where some distance is above `MAX_DISTANCE`, as then is the number of classes, and `Memory`.
+/// `TooDeep` if some distance is above `MAX_DISTANCE`, as then is the number of classes, and `Memory`.
 pub(crate) fn sweep(alloc: Global, classes: &Classes) -> Result<Vec<Value>, Fault>
     ensures values { IfOk result (λ values. AreValues classes.now.family values.items) }
     ensures entries { IfOk result (λ values. All IsEntry values.items) }

@@ -39,7 +39,7 @@ pub enum Order<'a> {
         set: &'a str,
     },
     /// To print how many classes are reached from that of the position, by the rules of the profile; where a table's file is named, by
-    /// its rules, and how many of them have which value. A line for each distance where it has levels; and how far it is where it is watched.
+    /// its rules, and how many of them have which value. A line for each distance where it has levels; and how far it is if it is watched.
     Reach {
         profile: Profile,
         file: Option<&'a str>,
@@ -47,8 +47,8 @@ pub enum Order<'a> {
         is_watched: bool,
         position: &'a str,
     },
-    /// To build the table of the piece set that the text names, by the rules of the profile and by so many nodes, or by as many as
-    /// there are processors, and to keep it under the name; and how far that is where it is watched.
+    /// To build the table of the piece set that the text names, by the rules of the profile and by `nodes` nodes, or by as many as
+    /// there are processors, and to keep it under the name; and how far that is if it is watched.
     Build {
         profile: Profile,
         set: &'a str,
@@ -63,13 +63,13 @@ pub enum Order<'a> {
     },
     /// To print the same of each line of standard input.
     Each(&'a str),
-    /// To print the line of the position by the table of the file, each move on a line with its number where it is numbered.
+    /// To print the line of the position by the table of the file, each move on a line with its number if it is numbered.
     Line {
         file: &'a str,
         is_numbered: bool,
         position: &'a str,
     },
-    /// To tell whether the table of the file is consistent, and how far that is where it is watched.
+    /// To tell whether the table of the file is consistent, and how far that is if it is watched.
     Check {
         file: &'a str,
         is_watched: bool,
@@ -90,7 +90,7 @@ pub enum Order<'a> {
         file: &'a str,
         is_numbered: bool,
     },
-    /// To draw the position that the text names, in a file too where one is named for the picture; where a table's file is
+    /// To draw the position that the text names, in a file too if one is named for the picture; where a table's file is
     /// named, to print the position's value and its line by it.
     Show {
         file: Option<&'a str>,
@@ -107,19 +107,19 @@ pub enum Order<'a> {
         file: &'a str,
         position: &'a str,
     },
-    /// To print how many classes of the file's table have which value, as lines of two fields where it is for scripts.
+    /// To print how many classes of the file's table have which value, as lines of two fields if it is for scripts.
     Stats {
         file: &'a str,
         is_csv: bool,
     },
-    /// To print how many pairs of classes of the file's table whoever has to move would rather not move in, and the first of them, so many
+    /// To print how many pairs of classes of the file's table whoever has to move would rather not move in, and the first N of them
     /// where a number is given.
     Zugzwangs {
         file: &'a str,
         listed: Option<u64>,
     },
-    /// To print the first positions of the file's table, so many, that are won in so many plies by one move alone: those behind a class where one is
-    /// given, in the order that a seed makes where one is given, each with the number of its class where it is numbered.
+    /// To print the first `count` positions of the file's table with exactly one fastest win, in `plies` plies: those behind a class where one is
+    /// given, in the order that a seed makes if one is given, each with the number of its class if it is numbered.
     Puzzles {
         file: &'a str,
         plies: u64,
@@ -133,8 +133,8 @@ pub enum Order<'a> {
         file: &'a str,
         out: &'a str,
     },
-    /// To make a certificate of the position by the table of the file, exact where that is asked for and of so many entries at most where a
-    /// number is given, and to keep it under the other name; and to say how far that is where it is watched.
+    /// To make a certificate of the position by the table of the file, exact if that is asked for and of at most `most` entries if a
+    /// number is given, and to keep it under the other name; and to say how far that is if it is watched.
     Certify {
         file: &'a str,
         out: &'a str,
@@ -143,7 +143,7 @@ pub enum Order<'a> {
         is_watched: bool,
         position: &'a str,
     },
-    /// To say what the certificate of the file proves, and how far that is where it is watched.
+    /// To say what the certificate of the file proves, and how far that is if it is watched.
     Verify {
         file: &'a str,
         is_watched: bool,
@@ -169,12 +169,12 @@ pub enum Reading<'a> {
 }
 
 /// Reads the words after the program's name. `--help`, `-h` and the subcommand `help`, alone or with the name of another
-/// one, give a help. As the first word `--version` asks for the version. A word that begins with `-` is an option, but for a lone `-`,
+/// one, give a help. As the first word `--version` asks for the version. A word that begins with `-` is an option, except a lone `-`,
 /// the first `--` and what follows it.
 ///
 /// # Errors
 ///
-/// `AllocError` where memory runs out, and for no other cause.
+/// `AllocError` if memory runs out, and for no other cause.
 pub fn read_words<'a>(alloc: Global, words: &'a [&'a str]) -> Result<Reading<'a>, AllocError>
     ensures meaning { IfOk result (IsReadingOf (meaning_of (map (λ w. w.now) words.now))) }
     ensures sound { IfOk result (ComesFromLine (map (λ w. w.now) words.now)) }
@@ -396,7 +396,7 @@ fn choice_argument<'a>(alloc: Global, profiles: Profiles<'a>, choice: Choice) ->
     place_argument(alloc, profiles, place).long(name)
 }
 
-// A flag. Its text is empty where it is given.
+// A flag. Its text is empty if it is given.
 fn flag_argument<'a>(alloc: Global, flag: Flag) -> Arg<'a>
     ensures { IsRead (flag_rule (flag_said flag.entry)) result }
 {
@@ -427,7 +427,7 @@ fn place_argument<'a>(alloc: Global, profiles: Profiles<'a>, place: Place) -> Ar
     }
 }
 
-// What the matches of the program's command ask for, where it is clear.
+// What the matches of the program's command ask for, if it is clear.
 fn order_of<'a>(matches: &ArgMatches<'a>) -> Option<Order<'a>>
     requires { IsMetBySome (subcommand_rows_of matches.now) }
     ensures { (form : Form) (texts : List (Option Text)) → IsAmong form forms → Finds form texts (subcommand_rows_of matches.now)
@@ -445,7 +445,7 @@ fn first_word<'a>(words: &[&'a str]) -> &'a str {
     }
 }
 
-// What the words come to where the matches of that subcommand were read so, and what is said of them where they aren't clear.
+// What the words come to where the matches of that subcommand were read so, and what is said of them if they aren't clear.
 fn read_order<'a>(
     alloc: Global,
     order: Option<Order<'a>>,

@@ -23,7 +23,7 @@ pub(crate) struct Detector {
 }
 
 impl Detector {
-    /// The ring of so many nodes at its start.
+    /// The ring of `nodes` nodes at its start.
     pub(crate) fn open(alloc: Global, nodes: NodeCount) -> Result<Detector, Memory>
         ensures start { IfOk result (λ detector. IsStart nodes (ring_of detector)) }
         ensures counted { IfOk result (λ detector. IsCounted detector × (detector.nodes ≡ nodes)) }

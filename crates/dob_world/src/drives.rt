@@ -14,7 +14,7 @@ use dob_safra::NodeCount;
 use dob_stops::Fault;
 
 impl World {
-    /// Makes rounds of events, at most so many, up to the first in which no event was done. A round is each node's `Expand`
+    /// Makes at most `rounds` rounds of events, up to the first in which no event was done. A round is each node's `Expand`
     /// and `Own`, then all `Post`, then all `Take`, by sender and then by receiver, then `Pass` from the last node down, and
     /// `Announce`. The answer is whether no event of the last round was done; then the end is announced. It is false for no
     /// round.
@@ -44,7 +44,7 @@ impl World {
         Ok(false)
     }
 
-    // Makes the events of a round. True where none was done.
+    // Makes the events of a round. True if none was done.
     fn round(&mut self) -> Result<bool, Fault>
         requires few { self.old.steps + round_length self.old.node_count ≤ 2 ^ 40 }
         requires standing { IsStanding self.old }
@@ -66,7 +66,7 @@ impl World {
     }
 }
 
-// How many events a round of so many nodes has.
+// How many events a round of `nodes` nodes has.
 fn round_length(nodes: NodeCount) -> usize
     ensures { result ≡ round_length nodes }
 {
@@ -74,7 +74,7 @@ fn round_length(nodes: NodeCount) -> usize
     3 * nodes + 2 * (nodes * nodes) + 1
 }
 
-// The event of that number in a round of so many nodes.
+// The event of that number in a round of `nodes` nodes.
 fn event_at(nodes: NodeCount, place: usize) -> Event
     requires { place < round_length nodes }
     ensures { result ≡ round_event nodes place }

@@ -19,7 +19,7 @@ pub(crate) struct Lane {
 impl Lane {
     ghost use Rattle.dob_link.specs.Links.{link_of};
 
-    /// A lane over which nothing has gone, with room for so many batches.
+    /// An empty lane, with room for `capacity` batches.
     pub(crate) fn open(alloc: Global, capacity: Capacity) -> Result<Lane, Memory>
         ensures link { IfOk result (λ lane. lane.link ≡ link_of [] capacity) }
         ensures sent { IfOk result (λ lane. lane.sent.items ≡ []) }

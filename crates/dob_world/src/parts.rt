@@ -29,7 +29,7 @@ pub(crate) fn open_nodes(
     Ok(nodes)
 }
 
-/// So many lanes over which nothing has gone.
+/// `count` empty lanes.
 pub(crate) fn open_lanes(
     alloc: Global,
     count: usize,

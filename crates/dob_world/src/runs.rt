@@ -16,7 +16,7 @@ use std::alloc::Global;
 ///
 /// # Errors
 ///
-/// Those of `World::open`; `Stopped`, where one of the events stops a node, but never because an item contradicts its
+/// Those of `World::open`; `Stopped`, if one of the events stops a node, but never because an item contradicts its
 /// cell, and in a set of fewer than 65,535 classes for lack of memory alone. In the world each settlement stands first in a
 /// list of settlements of different classes whose distances fall by one down to a win in one ply or a loss in none, and no
 /// distance is above the number of classes.

@@ -12,7 +12,7 @@ use dob_node::{Cause, Node};
 use dob_share::Item;
 use dob_update::BatchSize;
 
-/// Applies the first own item of a node, and lists it as applied. False where there is none.
+/// Applies the first own item of a node, and lists it as applied. False if there is none.
 ///
 /// # Errors
 ///
@@ -40,7 +40,7 @@ pub(crate) fn apply_own(node: &mut Node, lane: &mut Lane) -> Result<bool, Cause>
     Ok(true)
 }
 
-/// Cuts a batch of at most so many items as `batch_size` says that the node has to send to the node `to`, which goes over the lane. False where
+/// Cuts a batch of at most `batch_size` items that the node has to send to the node `to`, which goes over the lane. False where
 /// there is nothing to send, or the lane's link has no room.
 ///
 /// # Errors
@@ -82,11 +82,11 @@ pub(crate) fn post(
     Ok(true)
 }
 
-/// Takes the first batch that waits on the lane, and applies its items. False where none waits.
+/// Takes the first batch that waits on the lane, and applies its items. False if none waits.
 ///
 /// # Errors
 ///
-/// `Memory`, which leaves node and lane as they were; those of the node at an item, after which just the items before it
+/// `Memory`, which leaves node and lane as they were; those of the node at an item, after which only the items before it
 /// are applied and listed, and the batch no longer waits.
 pub(crate) fn receive(node: &mut Node, lane: &mut Lane) -> Result<bool, Cause>
     requires sound { IsSound node.old }

@@ -17,7 +17,7 @@ use dob_stops::Fault;
 use dob_update::{BatchSize, Capacity};
 use std::alloc::Global;
 
-/// Nodes of which each owns a share of a family's classes, the links between them, the lists of all items that were
+/// Nodes that each own a share of a family's classes, the links between them, the lists of all items that were
 /// sent over these and applied, and the ring that detects the end. There are as many nodes and lanes as it says, also after a
 /// stop.
 #[derive(Drop)]
@@ -54,7 +54,7 @@ impl World {
     ///
     /// # Errors
     ///
-    /// Tested in this order: `Nodes` where `n` isn't 1 to 16; `Sizes` where `batch` isn't 1 to 4096 or `capacity` not
+    /// Tested in this order: `Nodes` if `n` isn't 1 to 16; `Sizes` if `batch` isn't 1 to 4096 or `capacity` not
     /// 1 to 1024; `Memory`.
     pub fn open(
         alloc: Global,
@@ -96,13 +96,13 @@ impl World {
         })
     }
 
-    /// Makes the event happen, or skips it where it can't.
+    /// Makes the event happen, or skips it if it can't.
     ///
     /// # Errors
     ///
-    /// `Stopped`, where the node that makes a step at the event has stopped; then, and at each further step, the same, which
+    /// `Stopped`, if the node that makes a step at the event has stopped; then, and at each further step, the same, which
     /// changes nothing. A world that has stopped isn't one whose end is announced. Counts, colours and the token are as before the
-    /// event, and so are all lists, but where an item of a batch goes too deep: then just the items before it are applied, and the
+    /// event, and so are all lists, but where an item of a batch goes too deep: then only the items before it are applied, and the
     /// batch waits no more. In each case what was applied is a beginning of what was sent, and each cell is what is known.
     /// In a set of fewer than 65,535 classes it stops for lack of memory alone.
     pub fn step(&mut self, event: Event) -> Result<Step, Fault>
@@ -141,7 +141,7 @@ impl World {
         }
     }
 
-    // Makes the event happen, which isn't counted yet. False where it can't.
+    // Makes the event happen, which isn't counted yet. False if it can't.
     fn make(&mut self, event: Event) -> Result<bool, Fault>
         requires standing { IsStanding self.old }
         requires few { self.old.steps < 2 ^ 40 }
@@ -175,7 +175,7 @@ impl World {
         from * self.node_count.get() + to
     }
 
-    // The place of the lane from a node to another one. None where these aren't two nodes of the world.
+    // The place of the lane from a node to another one. None if these aren't two nodes of the world.
     fn lane_between(&self, from: usize, to: usize) -> Option<usize>
         ensures none { IsNone result → ¬ AreTwo self.now.node_count from to }
         ensures two { IfSome result (λ _. AreTwo self.now.node_count from to) }
@@ -187,7 +187,7 @@ impl World {
         Some(self.lane_place(from, to))
     }
 
-    // The next settlement of a node becomes items. False where there is none.
+    // The next settlement of a node becomes items. False if there is none.
     fn expand(&mut self, node: usize) -> Result<bool, Fault>
         requires standing { IsStanding self.old }
         requires few { self.old.steps < 2 ^ 40 }
@@ -204,7 +204,7 @@ impl World {
         }
     }
 
-    // The first own item of a node is applied. False where there is none.
+    // The first own item of a node is applied. False if there is none.
     fn own(&mut self, node: usize) -> Result<bool, Fault>
         requires standing { IsStanding self.old }
         requires few { self.old.steps < 2 ^ 40 }
@@ -222,7 +222,7 @@ impl World {
         }
     }
 
-    // A node posts a batch to another one. False where it has nothing to send, or the link has no room.
+    // A node posts a batch to another one. False if it has nothing to send, or the link has no room.
     fn post(&mut self, from: usize, to: usize) -> Result<bool, Fault>
         requires standing { IsStanding self.old }
         requires few { self.old.steps < 2 ^ 40 }
@@ -248,7 +248,7 @@ impl World {
         }
     }
 
-    // A node takes a batch of another one. False where none waits.
+    // A node takes a batch of another one. False if none waits.
     fn take(&mut self, from: usize, to: usize) -> Result<bool, Fault>
         requires standing { IsStanding self.old }
         requires few { self.old.steps < 2 ^ 40 }
@@ -269,7 +269,7 @@ impl World {
         }
     }
 
-    // An idle node passes the token. False where it hasn't got it or isn't idle, or where the end is or may be announced.
+    // An idle node passes the token. False if it hasn't got it or isn't idle, or where the end is or may be announced.
     fn pass(&mut self, node: usize) -> bool
         requires standing { IsStanding self.old }
         requires few { self.old.steps < 2 ^ 40 }
@@ -289,7 +289,7 @@ impl World {
         true
     }
 
-    // Node 0 announces the end. False where the end may not be announced or is.
+    // Node 0 announces the end. False if the end may not be announced or is.
     fn announce(&mut self) -> bool
         requires standing { IsStanding self.old }
         requires few { self.old.steps < 2 ^ 40 }

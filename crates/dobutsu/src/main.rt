@@ -1,4 +1,8 @@
 // The program `dobutsu`: its arguments, its streams, its files and its exit status.
+//
+// Choices:
+// - Closed standard streams are filled with /dev/null by three opens at the start of `main`, since an open takes the lowest number that is free. One run is
+//   stored, of a position, since a crate has one and a test can't call `main`.
 #![tactic(auto)]
 
 use dob_cli::{DiskShelf, Heard, Note, Place, run_given};

@@ -72,7 +72,7 @@ pub(crate) fn value_of(file: &[u8], format: Format, family: Family, position: &P
     held_value(file, format, class)
 }
 
-/// Whether the position has just the pieces of the set.
+/// Whether the position has exactly the pieces of the set.
 pub(crate) fn is_of_set(position: &Position, set: PieceSet) -> bool
     ensures { IsTrue result ↔ IsPositionOfSet set position.now.setup }
 {

@@ -120,7 +120,7 @@ pub(crate) fn probe_at(file: &[u8], index: &[u64], position: Position) -> Result
     }
 }
 
-// The file's format, family and number of classes, or the first fault of the file and the index. The family's classes are counted only where the file is
+// The file's format, family and number of classes, or the first fault of the file and the index. The family's classes are counted only if the file is
 // longer or shorter than it says, or the index is marked as one of the file's family and says another number.
 fn held_by(file: &[u8], index: &[u64]) -> Result<HeldBy, ByFault>
     ensures { MatchResult result
@@ -168,7 +168,7 @@ fn held_as_long(file: &[u8]) -> Option<HeldBy>
     })
 }
 
-/// The value that the file gives a position of its family by the index; none where the index leads outside of the file.
+/// The value that the file gives a position of its family by the index; none if the index leads outside of the file.
 pub(crate) fn value_by(
     file: &[u8],
     index: &[u64],

@@ -12,8 +12,8 @@ use dob_numbers::profile_number;
 use dob_value::Value;
 use std::alloc::Global;
 
-/// What a certificate claims of a position: of the first one of class `root` of the family of so many chicks, elephants and giraffes by the profile of
-/// that number. `kind` is 0 for a draw, 1 for a win and 2 for a loss of the side to move, in `plies` plies, or within so many where `within` is 1 and not 0.
+/// What a certificate claims of a position: of the first one of class `root` of the family of these chicks, elephants and giraffes by the profile of
+/// that number. `kind` is 0 for a draw, 1 for a win and 2 for a loss of the side to move, in `plies` plies, or within them if `within` is 1 and not 0.
 #[repr(C)]
 #[derive(Clone, Copy)]
 pub struct DobutsuClaim {
@@ -27,9 +27,9 @@ pub struct DobutsuClaim {
     pub within: u32,
 }
 
-/// Whether the bytes are a certificate's file whose lists prove what it claims. It answers 0 where they are, and writes what is claimed, which then holds;
-/// 30 where an entry isn't supported, and writes the class of the first one; 31 where all are and the lists don't show the claim; else the number of the
-/// first fault of the bytes, 15 to 17, 19, 20, 27 or 32 to 38, or 23 where memory runs out, and writes nothing. It takes 8 bytes of memory an entry and some
+/// Whether the bytes are a certificate's file whose lists prove what it claims. It answers 0 if they are, and writes what is claimed, which then holds;
+/// 30 if an entry isn't supported, and writes the class of the first one; 31 if all are and the lists don't show the claim; else the number of the
+/// first fault of the bytes, 15 to 17, 19, 20, 27 or 32 to 38, or 23 if memory runs out, and writes nothing. It takes 8 bytes of memory an entry and some
 /// millions for two pieces of each kind, gives all back, and looks at each entry in one thread.
 #[unsafe(no_mangle)]
 pub extern "C" fn dobutsu_verify(
@@ -104,7 +104,7 @@ fn told(file: &CertificateFile) -> DobutsuClaim
     }
 }
 
-// The kind of a claim, its plies, and 1 where it is within so many.
+// The kind of a claim, its plies, and 1 if it is within them.
 fn claim_numbers(claim: Claim) -> (u32, u32, u32)
     ensures kind { result.0 ≡ (told_claim claim).kind }
     ensures plies { result.1 ≡ (told_claim claim).plies }

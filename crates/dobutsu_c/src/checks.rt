@@ -14,9 +14,9 @@ use dob_numbers::file_number;
 use dob_probe::{Fault, check};
 use std::alloc::Global;
 
-/// Whether the bytes are a database's file of a consistent table, which is the value table. It answers 0 where they are; 21
+/// Whether the bytes are a database's file of a consistent table, which is the value table. It answers 0 if they are; 21
 /// where the table isn't consistent, and writes the least class whose value doesn't follow from its successors' values; else
-/// the number of the first fault that holds of the file, its digest read too, or 23 where memory runs out, and writes nothing.
+/// the number of the first fault that holds of the file, its digest read too, or 23 if memory runs out, and writes nothing.
 /// It takes 2 bytes of memory a class and some millions more, gives all back, and looks at each class's moves in one thread.
 #[unsafe(no_mangle)]
 pub extern "C" fn dobutsu_check(alloc: Global, file: &[u8], class: &mut u64) -> u32

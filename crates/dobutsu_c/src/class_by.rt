@@ -16,10 +16,10 @@ use dob_index::{class_by, is_index_of};
 use dob_pieces::Profile;
 use dob_text::read_position_bytes;
 
-/// The number of the class of the position whose text that is, in the family of so many pieces by the profile of that number, by the family's index as
+/// The number of the class of the position whose text that is, in the family of these pieces by the profile of that number, by the family's index as
 /// `dobutsu_index` wrote it. It answers 0 and writes the number, or the first fault that holds and writes nothing: 1 to 6 of the text; 25 and 27 of the
-/// family, as `dobutsu_count` does; 29 where the numbers aren't marked as an index of the family or are too few; 26 where the profile doesn't allow the
-/// position, 7 where it isn't of the set. By any other numbers it writes some number, and reads nothing outside of them. It takes no memory.
+/// family, as `dobutsu_count` does; 29 if the numbers aren't marked as an index of the family or are too few; 26 if the profile doesn't allow the
+/// position, 7 if it isn't of the set. By any other numbers it writes some number, and reads nothing outside of them. It takes no memory.
 #[unsafe(no_mangle)]
 pub extern "C" fn dobutsu_class_by(
     chicks: u32,

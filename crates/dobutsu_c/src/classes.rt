@@ -14,7 +14,7 @@ use dob_classes::{Classes, class_number};
 use std::alloc::Global;
 
 /// The number of the position's class among those of its pieces by the profile of that number, 0 for A and 1 for B. It answers 0 and writes it, or a fault
-/// and writes nothing: 27 where there is no such profile, else 2 or 4 to 6 where the numbers are no position, else 26 where the profile doesn't allow it. It
+/// and writes nothing: 27 if there is no such profile, else 2 or 4 to 6 if the numbers are no position, else 26 if the profile doesn't allow it. It
 /// takes no memory, and some hundredths of a second for two pieces of each kind.
 #[unsafe(no_mangle)]
 pub extern "C" fn dobutsu_class(position: &DobutsuPosition, profile: u32, class: &mut u64) -> u32
@@ -31,9 +31,9 @@ pub extern "C" fn dobutsu_class(position: &DobutsuPosition, profile: u32, class:
     }
 }
 
-/// The positions by which classes of a family stand, from the class of that number on, as many as there is room for. The family is that of so many chicks,
+/// The positions by which classes of a family stand, from the class of that number on, as many as there is room for. The family is that of these chicks,
 /// elephants and giraffes by the profile of that number. It answers 0 and writes them all, or a fault and writes nothing: 25 and 27 as `dobutsu_count`, 33
-/// where the family has too few classes, or 23 where memory runs out, of which it takes some millions of bytes for two pieces of each kind and gives all
+/// where the family has too few classes, or 23 if memory runs out, it takes some millions of bytes for two pieces of each kind and gives all
 /// back.
 #[unsafe(no_mangle)]
 pub extern "C" fn dobutsu_class_at(

@@ -10,9 +10,9 @@ use dob_numbers::profile_of;
 use dob_pieces::{Family, PieceSet};
 use dob_rank::size;
 
-/// How many positions a family has, and how many classes: that of so many chicks, elephants and giraffes, 0 to 2 of each, by
+/// How many positions a family has, and how many classes: that of these chicks, elephants and giraffes, 0 to 2 of each, by
 /// the profile of that number, 0 for A and 1 for B. It answers 0 and writes both numbers, or the number of a fault and writes
-/// nothing: 25 where a number of pieces is above 2, else 27 where the profile's is above 1. It takes no memory, and some
+/// nothing: 25 if a number of pieces is above 2, else 27 if the profile's is above 1. It takes no memory, and some
 /// hundredths of a second for two pieces of each kind.
 #[unsafe(no_mangle)]
 pub extern "C" fn dobutsu_count(
@@ -38,7 +38,7 @@ pub extern "C" fn dobutsu_count(
     }
 }
 
-/// The family of so many pieces by the profile of that number, or the fault's number.
+/// The family of these pieces by the profile of that number, or the fault's number.
 pub(crate) fn family_of(
     chicks: u32,
     elephants: u32,
@@ -57,7 +57,7 @@ pub(crate) fn family_of(
     Ok(Family { set, profile })
 }
 
-// The set of so many pieces.
+// The set of these pieces.
 fn set_of(chicks: u32, elephants: u32, giraffes: u32) -> Option<PieceSet>
     ensures some { IfSome result (λ set. (set.chicks ≡ chicks) × (set.elephants ≡ elephants) × (set.giraffes ≡ giraffes)) }
     ensures none { MatchOption result ((chicks ≤ 2 → elephants ≤ 2 → giraffes ≤ 2 → ⊥)) (λ _. (chicks ≤ 2) × (elephants ≤ 2) × (giraffes ≤ 2)) }

@@ -9,7 +9,7 @@ use crate::counts::family_of;
 use crate::numbers::INDEX;
 use dob_index::{index_words, write_index};
 
-/// How many numbers the index of a family has: that of so many chicks, elephants and giraffes by the profile of that number. 0 where there is no such family.
+/// How many numbers the index of a family has: that of these chicks, elephants and giraffes by the profile of that number. 0 if there is none.
 #[unsafe(no_mangle)]
 pub extern "C" fn dobutsu_index_words(
     chicks: u32,
@@ -27,7 +27,7 @@ pub extern "C" fn dobutsu_index_words(
 }
 
 /// Writes the index of the family into the first of those numbers, as many as `dobutsu_index_words` says, and nothing behind them. It answers 0, or the number of
-/// a fault and writes nothing: those of `dobutsu_count`, and 29 where there are fewer. It takes no memory, and some hundredths of a second for two pieces of
+/// a fault and writes nothing: those of `dobutsu_count`, and 29 if there are fewer. It takes no memory, and some hundredths of a second for two pieces of
 /// each kind.
 #[unsafe(no_mangle)]
 pub extern "C" fn dobutsu_index(

@@ -29,7 +29,7 @@ use std::alloc::Global;
 
 /// A move with the value that the side that makes it then has: a step of a piece of that kind from one square to another, or
 /// where it comes from 12 a drop. Chick 0, elephant 1, giraffe 2, hen 3, lion 4, as the piece was before; square a1 is 0, b1
-/// 1, c1 2, a2 3 and so on to c4, 11. `catches` is 1 where a piece is caught and `grows` where a chick becomes a hen, else 0.
+/// 1, c1 2, a2 3 and so on to c4, 11. `catches` is 1 if a piece is caught and `grows` if a chick becomes a hen, else 0.
 #[repr(C)]
 #[derive(Clone, Copy)]
 pub struct DobutsuMove {
@@ -43,11 +43,11 @@ pub struct DobutsuMove {
 
 /// The moves of the position whose text that is, each with the value that the bytes of a database's file give it, best first:
 /// wins by the least distance, draws, losses by the greatest; equal ones in the move order. Where the enemy lion can be caught
-/// there is its first catch alone, and none where the position is lost already. It answers 0, writes how many there are into
+/// there is its first catch alone, and none if the position is lost already. It answers 0, writes how many there are into
 /// `count` and the first of them into `moves`, as many as there is room for: 38 is a hint for how much that is, which rests on no
 /// proof, and `count` says whether it was enough. By a file of the value table the values are the moves' own. Else
-/// it answers the number of a fault and writes nothing: the first of those of `dobutsu_probe` that holds, or 23 where memory
-/// runs out, of which it takes some thousand bytes and gives all back.
+/// it answers the number of a fault and writes nothing: the first of those of `dobutsu_probe` that holds, or 23 if memory
+/// runs out: it takes some thousand bytes and gives all back.
 #[unsafe(no_mangle)]
 pub extern "C" fn dobutsu_moves(
     alloc: Global,

@@ -31,7 +31,7 @@ use std::alloc::Global;
 
 /// What `dobutsu_moves` gives of the position, by the index of the file's family as `dobutsu_index` wrote it: the same moves with the same values, by a file of
 /// the value table their own, or the same fault. By any other numbers it answers 0 and writes all moves of the position by the values of some records of the
-/// file, or a fault and writes nothing: as `dobutsu_probe_by` does, or 23 where memory runs out, of which it takes some thousand bytes and gives all back. Nothing
+/// file, or a fault and writes nothing: as `dobutsu_probe_by` does, or 23 if memory runs out: it takes some thousand bytes and gives all back. Nothing
 /// is read outside of the numbers.
 #[unsafe(no_mangle)]
 pub extern "C" fn dobutsu_moves_by(
@@ -73,7 +73,7 @@ pub extern "C" fn dobutsu_moves_by(
     }
 }
 
-// The moves with their values; none where the index leads outside of the file.
+// The moves with their values; none if the index leads outside of the file.
 //
 // Error: `Memory`.
 fn valued_moves_by(
@@ -97,7 +97,7 @@ fn valued_moves_by(
     moves_in_order(alloc, file, index, asked, &the_moves)
 }
 
-// Those moves with their values, best first; none where the index leads outside of the file.
+// Those moves with their values, best first; none if the index leads outside of the file.
 //
 // Error: `Memory`.
 fn moves_in_order(
@@ -128,7 +128,7 @@ fn moves_in_order(
     Ok(Some(list))
 }
 
-// The value that the file gives the position to which the move leads; none where the index leads outside of the file.
+// The value that the file gives the position to which the move leads; none if the index leads outside of the file.
 fn value_after(file: &[u8], index: &[u64], asked: &AskedBy, the_move: Move) -> Option<Value>
     requires held { IsHeldBy file.now index.now asked.now.held.format asked.now.held.family asked.now.held.classes }
     requires member { IsPositionOf asked.now.held.family asked.now.position.setup }

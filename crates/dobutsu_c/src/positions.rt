@@ -16,7 +16,7 @@ pub struct DobutsuHand {
     pub giraffes: u8,
 }
 
-/// A position, seen from the side to move: what stands on each square from a1, b1, c1, a2 to c4, and both hands. A square's number is 0 where nothing stands
+/// A position, seen from the side to move: what stands on each square from a1, b1, c1, a2 to c4, and both hands. A square's number is 0 if nothing stands
 /// there, 1 to 5 for a chick, elephant, giraffe, hen or lion of the side to move, and 6 to 10 for one of the other side.
 #[repr(C)]
 #[derive(Clone, Copy)]

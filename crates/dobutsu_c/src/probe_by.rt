@@ -18,7 +18,7 @@ use crate::by_index::probe_by;
 use crate::value::{DobutsuValue, shown};
 
 /// What `dobutsu_probe` answers of the position, by the index of the file's family as `dobutsu_index` wrote it: the same value, or the same fault. By any other
-/// numbers it answers 0 and writes the value of some record of the file, or a fault and writes nothing: one that `dobutsu_probe` may answer, or 29 where they
+/// numbers it answers 0 and writes the value of some record of the file, or a fault and writes nothing: one that `dobutsu_probe` may answer, or 29 if they
 /// aren't marked as an index of the file's family, are fewer than it has, or lead outside of the file. Nothing is read outside of them. It takes no memory.
 #[unsafe(no_mangle)]
 pub extern "C" fn dobutsu_probe_by(

@@ -14,7 +14,7 @@ use crate::value::{DobutsuValue, shown};
 
 /// The value that the bytes of a database's file give the position whose text that is. It answers 0 and writes the value, or
 /// the number of the first fault that holds and writes nothing: 1 to 6 of the text; 15 to 19 and 27 of the file, by its header
-/// and its length; 26 where the file's profile doesn't allow the position, 7 where the position isn't of the file's set. One
+/// and its length; 26 if the file's profile doesn't allow the position, 7 if the position isn't of the file's set. One
 /// record is looked at, and no digest is read: damage elsewhere isn't seen. It takes no memory. By a file of the value table the
 /// value is the position's own.
 #[unsafe(no_mangle)]

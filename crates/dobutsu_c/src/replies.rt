@@ -58,10 +58,10 @@ impl ReplyFault {
 }
 
 /// The move that the bytes of a certificate's file give the position whose text that is: the catch of the lion, or the first move after which the other side is
-/// lost within the fewest plies that the lost list says. Its value is a win within so many plies. Of a position that the list says to be lost there is no
-/// move: its numbers are 0 and the value is a loss within so many plies. It answers 0 and writes that, which is right whoever made the certificate, since each
+/// lost within the fewest plies that the lost list says. Its value is a win within N plies. Of a position that the list says to be lost there is no
+/// move: its numbers are 0 and the value is a loss within N plies. It answers 0 and writes that, which is right whoever made the certificate, since each
 /// entry of the lost list is looked at before. Or it writes nothing: the first fault of the text, 1 to 6, or of the bytes as `dobutsu_verify` has them, or 26
-/// or else 7 of the position in the certificate, or 30 where an entry isn't supported, or 41 where the certificate says nothing of the position, or 23 where
+/// or else 7 of the position in the certificate, or 30 if an entry isn't supported, or 41 if the certificate says nothing of the position, or 23 where
 /// memory runs out. It takes memory and time as `dobutsu_verify`.
 #[unsafe(no_mangle)]
 pub extern "C" fn dobutsu_reply(

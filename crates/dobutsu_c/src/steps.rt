@@ -20,7 +20,7 @@ use dob_pieces::Memory;
 use std::alloc::Global;
 
 /// A move: a step of a piece of that kind from one square to another, or where it comes from 12 a drop. Chick 0, elephant 1, giraffe 2, hen 3, lion 4, as the
-/// piece was before; square a1 is 0, b1 1, c1 2, a2 3 and so on to c4, 11. `catches` is 1 where a piece is caught and `grows` where a chick becomes a hen,
+/// piece was before; square a1 is 0, b1 1, c1 2, a2 3 and so on to c4, 11. `catches` is 1 if a piece is caught and `grows` if a chick becomes a hen,
 /// else 0.
 #[repr(C)]
 #[derive(Clone, Copy)]
@@ -32,10 +32,10 @@ pub struct DobutsuStep {
     pub grows: u32,
 }
 
-/// The status of a position by the profile of that number, 0 where it is open, 1 where the enemy lion can be caught, 2 where it has tried, 3 where there is no
-/// move; and its moves in the move order. Where the enemy lion can be caught there is its first catch alone, and none where the position is lost already. It
+/// The status of a position by the profile of that number, 0 if it is open, 1 if the enemy lion can be caught, 2 if it has tried, 3 if there is no
+/// move; and its moves in the move order. Where the enemy lion can be caught there is its first catch alone, and none if the position is lost already. It
 /// answers 0, writes the status, how many moves there are into `count` and the first of them into `steps`, as many as there is room for; or a fault and writes
-/// nothing: those of `dobutsu_class`, or 23 where memory runs out, of which it takes some thousand bytes and gives all back.
+/// nothing: those of `dobutsu_class`, or 23 if memory runs out, it takes some thousand bytes and gives all back.
 #[unsafe(no_mangle)]
 pub extern "C" fn dobutsu_steps(
     alloc: Global,
@@ -69,7 +69,7 @@ pub extern "C" fn dobutsu_steps(
 }
 
 /// The position after a move of an open position, seen from the side that moves next. The move is one that `dobutsu_steps` lists of it. It answers 0 and writes
-/// the position, or a fault and writes nothing: those of `dobutsu_steps`, or 28 where the position isn't open or has no such move.
+/// the position, or a fault and writes nothing: those of `dobutsu_steps`, or 28 if the position isn't open or has no such move.
 #[unsafe(no_mangle)]
 pub extern "C" fn dobutsu_make(
     alloc: Global,

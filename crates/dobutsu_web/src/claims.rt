@@ -12,7 +12,7 @@ use dob_certificate::{Claim, EVER};
 use dob_pieces::Position;
 use dob_value::Value;
 
-/// The claim of that number with so many plies: 0 a draw, 1 a win, 2 a loss, 3 a win and 4 a loss within so many; `None` of another number.
+/// The claim of that number with N plies: 0 a draw, 1 a win, 2 a loss, 3 a win and 4 a loss within so many; `None` of another number.
 pub(crate) fn claim_of(kind: u32, plies: u16) -> Option<Claim>
     ensures { MatchOption result (4 < kind) (λ claim. IsClaimed claim kind plies) }
 {
@@ -26,7 +26,7 @@ pub(crate) fn claim_of(kind: u32, plies: u16) -> Option<Claim>
     }
 }
 
-// Whether the lists show that the position is a loss in so many plies.
+// Whether the lists show that the position is a loss in N plies.
 fn shows_loss(lost: &Listed, held: &Listed, position: &Position, plies: u16) -> bool
     requires lost { AreRanksIn lost.now }
     requires held { AreRanksIn held.now }
@@ -40,7 +40,7 @@ fn shows_loss(lost: &Listed, held: &Listed, position: &Position, plies: u16) -> 
     plies == 0 || is_said_held(held, plies - 1, position)
 }
 
-// Whether the lists show that the position is a win in so many plies.
+// Whether the lists show that the position is a win in N plies.
 fn shows_win(lost: &Listed, held: &Listed, position: &Position, plies: u16) -> bool
     requires lost { AreRanksIn lost.now }
     requires held { AreRanksIn held.now }

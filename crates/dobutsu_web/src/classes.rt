@@ -9,7 +9,7 @@ use crate::asked::ask;
 use dob_classes::class_number;
 
 /// The number of the class of the position of that text, among the classes of its pieces by the profile of that number, 0 for A
-/// and 1 for B. It answers 0 and writes it, or the number of a fault and writes nothing: 27 where there is no such profile, else 1 to
+/// and 1 for B. It answers 0 and writes it, or the number of a fault and writes nothing: 27 if there is no such profile, else 1 to
 /// 6 or 26 of the text. It takes no memory, and some hundredths of a second for two pieces of each kind.
 #[unsafe(no_mangle)]
 pub extern "C" fn dobutsu_class(text: &[u8], profile: u32, class: &mut u64) -> u32

@@ -7,7 +7,7 @@ use dob_dbfile::{Format, front_family, header_len};
 use dob_numbers::{file_number, profile_number};
 use dob_pieces::Family;
 
-/// What the header of a file says: how many classes its family has, how many bytes stand before the first class's record, of which each has two, the numbers
+/// What the header of a file says: how many classes its family has, how many bytes stand before the first class's record (each has two), the numbers
 /// of chicks, elephants and giraffes, and the profile's number, 0 for A and 1 for B.
 #[repr(C)]
 #[derive(Clone, Copy)]

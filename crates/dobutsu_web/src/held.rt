@@ -15,7 +15,7 @@ use dob_certificate::EVER;
 use dob_moves::{Status, status};
 use dob_pieces::Position;
 
-/// Whether the list says that the position isn't lost within so many plies, or that shows at once.
+/// Whether the list says that the position isn't lost within N plies, or that shows at once.
 pub(crate) fn is_said_held(listed: &Listed, plies: u16, position: &Position) -> bool
     requires ranks { AreRanksIn listed.now }
     requires member { IsPositionOf listed.now.family position.now.setup }
@@ -28,7 +28,7 @@ pub(crate) fn is_said_held(listed: &Listed, plies: u16, position: &Position) -> 
     }
 }
 
-// Whether the list has the position's class with at least so many plies.
+// Whether the list has the position's class with at least N plies.
 fn is_listed_beyond(listed: &Listed, plies: u16, position: &Position) -> bool
     requires ranks { AreRanksIn listed.now }
     requires member { IsPositionOf listed.now.family position.now.setup }
@@ -40,7 +40,7 @@ fn is_listed_beyond(listed: &Listed, plies: u16, position: &Position) -> bool
     }
 }
 
-// Whether an open position's move at that place, if there is one, leads to one that is said not to be lost within so many plies.
+// Whether an open position's move at that place, if there is one, leads to one that is said not to be lost within N plies.
 fn is_held_at(listed: &Listed, plies: u16, position: &Position, place: usize) -> bool
     requires ranks { AreRanksIn listed.now }
     requires member { IsPositionOf listed.now.family position.now.setup }
@@ -54,7 +54,7 @@ fn is_held_at(listed: &Listed, plies: u16, position: &Position, place: usize) ->
     }
 }
 
-// Whether each of an open position's moves leads to one that is said not to be lost within so many plies.
+// Whether each of an open position's moves leads to one that is said not to be lost within N plies.
 fn are_all_held(listed: &Listed, plies: u16, position: &Position) -> bool
     requires ranks { AreRanksIn listed.now }
     requires member { IsPositionOf listed.now.family position.now.setup }
@@ -69,7 +69,7 @@ fn are_all_held(listed: &Listed, plies: u16, position: &Position) -> bool
     true
 }
 
-/// Whether the lion can't be caught, and each move leads to a position that is said not to be lost within so many plies.
+/// Whether the lion can't be caught, and each move leads to a position that is said not to be lost within N plies.
 pub(crate) fn is_safe(listed: &Listed, plies: u16, position: &Position) -> bool
     requires ranks { AreRanksIn listed.now }
     requires member { IsPositionOf listed.now.family position.now.setup }
@@ -111,7 +111,7 @@ fn has_escape(listed: &Listed, plies: u16, position: &Position) -> bool
     false
 }
 
-// What an entry with so many plies asks of the positions two plies later.
+// What an entry with N plies asks of the positions two plies later.
 fn plies_asked(plies: u16) -> u16
     requires { 2 ≤ plies }
     ensures { result ≡ plies_asked plies }
@@ -119,7 +119,7 @@ fn plies_asked(plies: u16) -> u16
     if plies < EVER { plies - 2 } else { plies }
 }
 
-// Whether the lion can be caught, or the position is open and has an escape where one is asked for.
+// Whether the lion can be caught, or the position is open and has an escape if one is asked for.
 fn is_hold_supported(listed: &Listed, plies: u16, position: &Position) -> bool
     requires ranks { AreRanksIn listed.now }
     requires member { IsPositionOf listed.now.family position.now.setup }

@@ -21,7 +21,7 @@ fn is_supported_at(kind: ListKind, listed: &Listed, place: usize) -> bool
     }
 }
 
-/// The place of the first entry that a list of that kind doesn't support, or `None` where it supports all.
+/// The place of the first entry that a list of that kind doesn't support, or `None` if it supports all.
 pub(crate) fn first_broken(kind: ListKind, listed: &Listed) -> Option<usize>
     requires { AreRanksIn listed.now }
     ensures { MatchOption result

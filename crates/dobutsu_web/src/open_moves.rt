@@ -16,7 +16,7 @@ pub(crate) const PLACES: usize = 180;
 // The first place of a drop, behind those of all steps.
 const FIRST_DROP: usize = 144;
 
-/// The move of an open position at that place by the rules of the profile, or `None` where it has none there, and of any other position.
+/// The move of an open position at that place by the rules of the profile, or `None` if it has none there, and of any other position.
 pub(crate) fn found_at(profile: Profile, position: &Position, place: usize) -> Option<Move>
     requires { place < 180 }
     ensures { MatchOption result

@@ -37,7 +37,7 @@ pub(crate) fn are_ranks(listed: &Listed) -> bool
     true
 }
 
-// Whether at that place stands the rank of a representative, above the one before; the family has so many positions.
+// Whether at that place stands the rank of a representative, above the one before; the family has that many positions.
 fn is_rank_at(family: Family, ranks: &[u32], count: u64, place: usize) -> bool
     requires within { place < length ranks.now }
     requires count { count ≡ size_of family }
@@ -88,7 +88,7 @@ pub(crate) fn position_at(listed: &Listed, place: usize) -> Position
     unrank(listed.family, u64::from(listed.ranks[place]))
 }
 
-/// The plies of the position's class, or `None` where it isn't listed.
+/// The plies of the position's class, or `None` if it isn't listed.
 pub(crate) fn plies_of(listed: &Listed, position: &Position) -> Option<u16>
     requires ranks { AreRanksIn listed.now }
     requires member { IsPositionOf listed.now.family position.now.setup }
@@ -103,7 +103,7 @@ pub(crate) fn plies_of(listed: &Listed, position: &Position) -> Option<u16>
     }
 }
 
-// The place of a rank, or `None` where it isn't there. A binary search.
+// The place of a rank, or `None` if it isn't there. A binary search.
 fn place_of(ranks: &[u32], rank: u64) -> Option<usize>
     requires { IsStrictlyIncreasing ranks.now }
     ensures { MatchOption result

@@ -31,7 +31,7 @@ pub extern "C" fn dobutsu_block(text: &[u8], profile: u32, block: &mut u64) -> u
     }
 }
 
-/// Writes the row of a block of the pieces of that position, 101 numbers. It answers 0; 29 where there is no such block or no such room; or a
+/// Writes the row of a block of the pieces of that position, 101 numbers. It answers 0; 29 if there is no such block or no such room; or a
 /// fault as `dobutsu_class` does.
 #[unsafe(no_mangle)]
 pub extern "C" fn dobutsu_row(text: &[u8], profile: u32, block: u64, row: &mut [u64]) -> u32
@@ -54,7 +54,7 @@ pub extern "C" fn dobutsu_row(text: &[u8], profile: u32, block: u64, row: &mut [
 
 /// The class of the position of that text by the row of its block, which `dobutsu_row` has written for a position of the same pieces: as
 /// `dobutsu_class`, but at once. `classes` is how many classes there are, which the file's header says. It answers 0 and writes the class's number, which is below
-/// `classes`; 29 where the row hasn't 101 numbers or what comes out isn't below `classes`, which is never so of the right row and number; or a fault
+/// `classes`; 29 if the row hasn't 101 numbers or what comes out isn't below `classes`, which is never so of the right row and number; or a fault
 /// as `dobutsu_class` does. By numbers that are no row of that block the class is some number below `classes`.
 #[unsafe(no_mangle)]
 pub extern "C" fn dobutsu_class_by(
@@ -82,7 +82,7 @@ pub extern "C" fn dobutsu_class_by(
     }
 }
 
-/// The class of a position of the family by those numbers, where it is below so many.
+/// The class of a position of the family by those numbers, if it is below `classes`.
 pub(crate) fn class_below(
     family: Family,
     row: &[u64],

@@ -12,8 +12,8 @@ use crate::asked::ask;
 use dob_moves::status_and_count;
 use dob_numbers::status_number;
 
-/// The status of the position, 0 where it is open, 1 where the enemy lion can be caught, 2 where it has tried, 3 where there is no move, and
-/// how many moves it has, 0 where it isn't open. It answers 0 and writes both, or a fault as `dobutsu_class` does.
+/// The status of the position, 0 if it is open, 1 if the enemy lion can be caught, 2 if it has tried, 3 if there is no move, and
+/// how many moves it has, 0 if it isn't open. It answers 0 and writes both, or a fault as `dobutsu_class` does.
 #[unsafe(no_mangle)]
 pub extern "C" fn dobutsu_status(
     text: &[u8],

@@ -19,7 +19,7 @@ use dob_numbers::{MoveNumbers, move_numbers};
 use dob_pieces::Position;
 
 /// A move: a step of a piece of that kind from one square to another, or where it comes from 12 a drop. Chick 0, elephant 1, giraffe 2, hen 3,
-/// lion 4, as the piece was before; square a1 is 0, b1 1, c1 2, a2 3 and so on to c4, 11. `catches` is 1 where a piece is caught and `grows` where
+/// lion 4, as the piece was before; square a1 is 0, b1 1, c1 2, a2 3 and so on to c4, 11. `catches` is 1 if a piece is caught and `grows` where
 /// a chick becomes a hen, else 0. `block` is that of the position that the move leads to, and 0 of a step that catches the lion.
 #[repr(C)]
 #[derive(Clone, Copy)]
@@ -34,7 +34,7 @@ pub struct DobutsuStep {
 
 /// The move of an open position at that place of the move order, or where the enemy lion can be caught the step at that place that catches it. The
 /// place of a step is 12 times the square that it leaves and the square that it reaches, that of a drop 144, 12 times its kind and the square. It answers
-/// 0 and writes the move, 28 where there is none at that place, or a fault as `dobutsu_class` does.
+/// 0 and writes the move, 28 if there is none at that place, or a fault as `dobutsu_class` does.
 #[unsafe(no_mangle)]
 pub extern "C" fn dobutsu_move(text: &[u8], profile: u32, place: u32, step: &mut DobutsuStep) -> u32
     ensures told { result ≡ 0 → IsToldStep text.now profile place step.new }
@@ -55,7 +55,7 @@ pub extern "C" fn dobutsu_move(text: &[u8], profile: u32, place: u32, step: &mut
 }
 
 /// The class of the position that the move of an open position at that place leads to, by the row of its block. `classes` and the row are as those of
-/// `dobutsu_class_by`. It answers 0 and writes the class's number, 28 where the position has no move at that place, 29 as `dobutsu_class_by`, or a fault as
+/// `dobutsu_class_by`. It answers 0 and writes the class's number, 28 if the position has no move at that place, 29 as `dobutsu_class_by`, or a fault as
 /// `dobutsu_class` does.
 #[unsafe(no_mangle)]
 pub extern "C" fn dobutsu_class_after(

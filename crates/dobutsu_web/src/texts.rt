@@ -16,7 +16,7 @@ use dob_numbers::{DobutsuText, position_text, written};
 use dob_pieces::{Side, Square};
 use dob_text::piece_letter;
 
-/// The text of the move or catch that `dobutsu_move` finds at that place. `second` is not 0 where the side that moves isn't the one that moves first in a
+/// The text of the move or catch that `dobutsu_move` finds at that place. `second` is not 0 if the side that moves isn't the one that moves first in a
 /// line: its letter is then in lower case, and its squares are turned back. It answers 0 and writes the text, or 28 or a fault as `dobutsu_move` does.
 #[unsafe(no_mangle)]
 pub extern "C" fn dobutsu_move_text(
@@ -44,7 +44,7 @@ pub extern "C" fn dobutsu_move_text(
 }
 
 /// The text of the position that the move of an open position at that place leads to, seen from the side that moves next. It answers 0 and writes the text,
-/// 28 where the position has no move at that place, or a fault as `dobutsu_class` does.
+/// 28 if the position has no move at that place, or a fault as `dobutsu_class` does.
 #[unsafe(no_mangle)]
 pub extern "C" fn dobutsu_after(
     text: &[u8],

@@ -18,7 +18,7 @@ pub struct DobutsuValue {
     pub plies: u32,
 }
 
-/// The value that a class's record, two bytes of a file, gives its positions, for the side to move. It answers 0 and writes the value, or 15 where the bytes
+/// The value that a class's record, two bytes of a file, gives its positions, for the side to move. It answers 0 and writes the value, or 15 if the bytes
 /// aren't two, and writes nothing.
 #[unsafe(no_mangle)]
 pub extern "C" fn dobutsu_value(bytes: &[u8], value: &mut DobutsuValue) -> u32

@@ -14,11 +14,11 @@ use crate::ranked::{Listed, are_ranks};
 use dob_certificate::{Claim, ListKind};
 use dob_pieces::Position;
 
-/// Whether the two lists of a certificate prove what is claimed of the position of that text: a draw, a win or a loss in so many plies where `kind` is 0, 1 or 2, a
+/// Whether the two lists of a certificate prove what is claimed of the position of that text: a draw, a win or a loss in N plies where `kind` is 0, 1 or 2, a
 /// win or a loss within so many where it is 3 or 4. A list has for each class the rank of its representative among the positions of the same pieces, ascending,
-/// and its plies, 65,535 for ever: the classes of the lost list are lost within so many, those of the held one aren't. It answers 0 where the lists prove it, so
-/// that it holds; 30 where an entry isn't supported by its list, and writes the place of the first one, those of the held list behind those of the lost; 31 where all
-/// are and the claim isn't shown; 34 of another kind; 29 where a list isn't one of such ranks with as many plies; or a fault as `dobutsu_class` does. It takes no
+/// and its plies, 65,535 for ever: the classes of the lost list are lost within so many, those of the held one aren't. It answers 0 if the lists prove it, so
+/// that it holds; 30 if an entry isn't supported by its list, and writes the place of the first one, those of the held list behind those of the lost; 31 if all
+/// are and the claim isn't shown; 34 of another kind; 29 if a list isn't one of such ranks with as many plies; or a fault as `dobutsu_class` does. It takes no
 /// memory, and some seconds for 200,000 entries.
 #[unsafe(no_mangle)]
 pub extern "C" fn dobutsu_certified(

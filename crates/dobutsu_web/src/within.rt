@@ -16,7 +16,7 @@ use crate::ranked::{Listed, plies_of, position_at};
 use dob_moves::{Move, Status, apply, status};
 use dob_pieces::{Family, Position};
 
-/// Whether the list says that the position is lost within so many plies, or that shows at once.
+/// Whether the list says that the position is lost within N plies, or that shows at once.
 pub(crate) fn is_said_lost(listed: &Listed, plies: u16, position: &Position) -> bool
     requires ranks { AreRanksIn listed.now }
     requires member { IsPositionOf listed.now.family position.now.setup }
@@ -29,7 +29,7 @@ pub(crate) fn is_said_lost(listed: &Listed, plies: u16, position: &Position) -> 
     }
 }
 
-// Whether the list has the position's class with at most so many plies.
+// Whether the list has the position's class with at most N plies.
 fn is_listed_within(listed: &Listed, plies: u16, position: &Position) -> bool
     requires ranks { AreRanksIn listed.now }
     requires member { IsPositionOf listed.now.family position.now.setup }
@@ -53,7 +53,7 @@ pub(crate) fn after(family: Family, position: &Position, the_move: Move) -> Posi
     apply(position, the_move)
 }
 
-// Whether an open position's move at that place leads to one that is said to be lost within so many plies.
+// Whether an open position's move at that place leads to one that is said to be lost within N plies.
 fn is_reply_at(listed: &Listed, plies: u16, position: &Position, place: usize) -> bool
     requires ranks { AreRanksIn listed.now }
     requires member { IsPositionOf listed.now.family position.now.setup }
@@ -67,7 +67,7 @@ fn is_reply_at(listed: &Listed, plies: u16, position: &Position, place: usize) -
     }
 }
 
-// Whether one of an open position's moves leads to one that is said to be lost within so many plies.
+// Whether one of an open position's moves leads to one that is said to be lost within N plies.
 fn has_reply(listed: &Listed, plies: u16, position: &Position) -> bool
     requires ranks { AreRanksIn listed.now }
     requires member { IsPositionOf listed.now.family position.now.setup }
@@ -82,7 +82,7 @@ fn has_reply(listed: &Listed, plies: u16, position: &Position) -> bool
     false
 }
 
-// Whether the side to move catches the lion, or some move leads to a position that is said to be lost within so many plies.
+// Whether the side to move catches the lion, or some move leads to a position that is said to be lost within N plies.
 fn is_answered(listed: &Listed, plies: u16, position: &Position) -> bool
     requires ranks { AreRanksIn listed.now }
     requires member { IsPositionOf listed.now.family position.now.setup }
@@ -95,7 +95,7 @@ fn is_answered(listed: &Listed, plies: u16, position: &Position) -> bool
     }
 }
 
-// Whether an open position's move at that place, if there is one, leads to one that is answered within so many plies.
+// Whether an open position's move at that place, if there is one, leads to one that is answered within N plies.
 fn is_answered_at(listed: &Listed, plies: u16, position: &Position, place: usize) -> bool
     requires ranks { AreRanksIn listed.now }
     requires member { IsPositionOf listed.now.family position.now.setup }
@@ -109,7 +109,7 @@ fn is_answered_at(listed: &Listed, plies: u16, position: &Position, place: usize
     }
 }
 
-// Whether each of an open position's moves leads to one that is answered within so many plies.
+// Whether each of an open position's moves leads to one that is answered within N plies.
 fn are_all_answered(listed: &Listed, plies: u16, position: &Position) -> bool
     requires ranks { AreRanksIn listed.now }
     requires member { IsPositionOf listed.now.family position.now.setup }
@@ -146,7 +146,7 @@ pub(crate) fn is_loss_supported_at(listed: &Listed, place: usize) -> bool
     is_loss_supported(listed, listed.plies[place], &position_at(listed, place))
 }
 
-/// Whether the list shows that the position is won within so many plies.
+/// Whether the list shows that the position is won within N plies.
 pub(crate) fn shows_won(listed: &Listed, plies: u16, position: &Position) -> bool
     requires ranks { AreRanksIn listed.now }
     requires member { IsPositionOf listed.now.family position.now.setup }

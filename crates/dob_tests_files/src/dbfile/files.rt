@@ -242,7 +242,7 @@ fn a_source_that_fails_at_each_place(rt: HostRuntime) {
     }
 }
 
-// The fault that reading those bytes gives where their source fails after so many of them.
+// The fault that reading those bytes gives if their source fails after `count` of them.
 fn fails_with(rt: &(impl Abort + AllocGlobal), bytes: Vec<u8>, count: usize, fault: Fault) {
     let source = MemSource::new(bytes).failing_after(count);
     assert!(rt; fault_of(rt, source) == Some(fault));

@@ -37,7 +37,7 @@ fn has_made_up(rt: &impl Abort, table: &Table) {
     }
 }
 
-// A table of so many classes asks for each value once, in order; it is written, and read back as it was.
+// A long table asks for each value once, in order; it is written, and read back as it was.
 #[test]
 fn a_table_past_a_segment(rt: HostRuntime) {
     let next = Cell::new(0u64);

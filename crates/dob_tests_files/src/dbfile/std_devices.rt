@@ -10,8 +10,8 @@ use dob_dbfile::{
 use std::io::{self, ErrorKind, Read, Seek, SeekFrom, Write};
 use std::process::Abort;
 
-/// A reader or a writer that moves at most that many bytes in one call. Where it has moved so many as it has room for,
-/// it answers the error, or, where there is none, that it moved nothing.
+/// A reader or a writer that moves at most that many bytes in one call. Where it has moved as many as it has room for,
+/// it answers the error, or, if there is none, that it moved nothing.
 #[derive(Drop)]
 struct Shaky {
     bytes: Vec<u8>,
@@ -169,7 +169,7 @@ impl Once {
         }
     }
 
-    // Counts a call, and fails where it is the one that does.
+    // Counts a call, and fails if it is the one that does.
     fn begin(&mut self) -> io::Result<()> {
         self.calls = self.calls.wrapping_add(1);
         if self.calls == self.failing {

@@ -14,7 +14,7 @@ use dob_safra::NodeCount;
 use std::alloc::Global;
 use std::process::Abort;
 
-// The openings of the classes in segments of so many items.
+// The openings of the classes in segments of `items` items.
 fn openings_of<A: Abort>(rt: &A, alloc: Global, classes: &Classes, items: u32) -> Segments<Opening>
     ensures { AreOpenings classes.now.family result }
 {
@@ -48,7 +48,7 @@ fn open_node<A: Abort>(
     Node::open(alloc, openings, family, id, two).expect(rt, "a node")
 }
 
-// The parts of two nodes that went on until they had nothing to do, with lists in segments of so many items.
+// The parts of two nodes that went on until they had nothing to do, with lists in segments of `items` items.
 fn parts_of<A: Abort>(rt: &A, alloc: Global, classes: &Classes, items: u32) -> (Part, Part) {
     let openings = openings_of(rt, alloc, classes, items);
     let mut first = open_node(rt, alloc, &openings, classes.family, 0);

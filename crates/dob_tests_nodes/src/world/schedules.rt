@@ -30,7 +30,7 @@ impl Dice {
         (mixed ^ (mixed >> 31)) % sides
     }
 
-    // The number of a node among so many, or now and then the one above.
+    // The number of a node among `n`, or now and then the one above.
     fn node(&mut self, n: usize) -> usize {
         let sides = (n as u64).saturating_add(1);
         self.roll(sides) as usize
@@ -48,7 +48,7 @@ impl Dice {
     }
 }
 
-// A world of the family with so many nodes, before its first event.
+// A world of the family with `n` nodes, before its first event.
 fn open(rt: &impl Abort, alloc: Global, family: Family, n: usize, dice: &mut Dice) -> World
     ensures standing { IsStanding result }
     ensures kept { StandsOrStopped result }
@@ -67,7 +67,7 @@ fn open(rt: &impl Abort, alloc: Global, family: Family, n: usize, dice: &mut Dic
     world_of(rt, alloc, family, n, batch, capacity)
 }
 
-// Makes so many events in the world of so many nodes.
+// Makes `events` events in the world of `n` nodes.
 fn happen(rt: &impl Abort, world: &mut World, n: usize, dice: &mut Dice, events: u64)
     requires standing { IsStanding world.old }
     requires kept { StandsOrStopped world.old }
@@ -159,7 +159,7 @@ fn are_sent_in_order(rt: &impl Abort, world: &World, n: usize, from: usize, told
     }
 }
 
-// Whether the items are the first of those sent that are for that node among so many.
+// Whether the items are the first of those sent that are for that node among `n`.
 fn begins(items: &[Item], told: &[Item], to: usize, n: usize) -> bool
     requires { 0 < n }
 {
@@ -175,7 +175,7 @@ fn begins(items: &[Item], told: &[Item], to: usize, n: usize) -> bool
     found == items.len()
 }
 
-// How many settlements of the world of so many nodes change a value that isn't a draw.
+// How many settlements of the world of `n` nodes change a value that isn't a draw.
 fn improvements(world: &World, n: usize) -> u64
     requires standing { IsStanding world.now }
     requires n { world.now.node_count ≡ n }
@@ -201,7 +201,7 @@ fn improvements_of(world: &World, node: usize) -> u64
     count
 }
 
-// Worlds of the set of that name under so many schedules of at most so many events, each driven to its end. The answer is how many of
+// Worlds of the set of that name under `schedules` schedules of at most `events` events, each driven to its end. The answer is how many of
 // their settlements improve a value.
 fn try_schedules(
     rt: &impl Abort,

@@ -43,7 +43,7 @@ fn stop_after(
     now
 }
 
-// Why the world stops in so many events.
+// Why the world stops within `events` events.
 fn stop_in(rt: &impl Abort, world: &mut World, events: usize) -> Option<Fault>
     requires { StandsOrStopped world.old }
     ensures { StandsOrStopped world.new }
@@ -136,7 +136,7 @@ fn answers_the_same(rt: &impl Abort, world: &mut World, fault: Fault)
     }
 }
 
-// At each growth that is refused: the same lists as those of a world to which the same has happened, but for that event.
+// At each growth that is refused: the same lists as those of a world to which the same has happened, except that event.
 #[test]
 fn a_stopped_world_is_as_before(rt: HostRuntime) {
     let Ok(mut world) = World::open(rt.alloc(), family_of(&rt, "000"), 2, 2, 1) else {

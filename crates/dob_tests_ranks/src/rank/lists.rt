@@ -9,7 +9,7 @@ use std::process::Abort;
 // How many items a segment has at most.
 const MOST: u64 = 1 << 20;
 
-// Segments of at most so many items.
+// Segments of at most `items` items.
 fn length_of(rt: &impl Abort, items: u32) -> SegmentLength {
     SegmentLength::of(items).expect(rt, "a length")
 }
@@ -24,7 +24,7 @@ fn append<A: Abort>(rt: &A, list: &mut Segments<u64>, number: u64) {
     assert!(rt; list.len() == before + 1);
 }
 
-// A list of 0, 10, 20, .. in segments of so many items.
+// A list of 0, 10, 20, .. in segments of `items` items.
 fn tens<A: Abort>(rt: &A, alloc: Global, items: u32, count: u64) -> Segments<u64>
     requires { count ≤ 100 }
     ensures { length result ≡ count }
@@ -46,7 +46,7 @@ fn has_tens<A: Abort>(rt: &A, list: &Segments<u64>)
     }
 }
 
-// The list has the tens but for the places 7 and 19, and its walk has the same.
+// The list has the tens except at the places 7 and 19, and its walk has the same.
 fn has_changed_tens<A: Abort>(rt: &A, list: &Segments<u64>)
     requires { length list.now ≡ 20 }
 {
@@ -85,7 +85,7 @@ fn changed_ten(number: u64) -> u64
     }
 }
 
-// The list has so many fives.
+// The list has `count` fives.
 fn has_fives<A: Abort>(rt: &A, list: &Segments<u64>, count: u64) {
     assert!(rt; list.len() == count);
     assert!(rt; list.is_empty() == (count == 0));
@@ -133,7 +133,7 @@ fn a_push_into_a_second_segment(rt: HostRuntime) {
     assert!(rt; list.segment_length().items() == 1 << 20);
 }
 
-// The list has so many sevens, in segments of the greatest length.
+// The list has `count` sevens, in segments of the greatest length.
 fn has_sevens(rt: &impl Abort, list: &Segments<u8>, count: u64) {
     assert!(rt; list.len() == count && list.segment_length().items() == 1 << 20);
     assert!(rt; list.iter().all(|item| item == 7));

@@ -74,7 +74,7 @@ fn rest(all: Hand, taken: Hand) -> Hand {
     }
 }
 
-// All the_moves of at most so many of each kind.
+// All hands of at most that many of each kind.
 fn hands_up_to(alloc: Global, most: Hand) -> Result<Vec<Hand>, AllocError> {
     let mut hands = Vec::new(alloc);
     for chicks in 0..=most.chicks {

@@ -31,7 +31,7 @@ fn agree_by(
     Ok(())
 }
 
-// What was listed are the moves that were expected, and so many are counted.
+// What was listed are the moves that were expected, and their number is the one counted.
 fn has_moves(
     rt: &impl Abort,
     profile: Profile,

@@ -35,7 +35,7 @@ fn are_same(scanned: &Segments<Opening>, listed: &Segments<Opening>) -> bool {
     true
 }
 
-// Both find the openings in segments of that length, of so many items.
+// Both find the openings in segments of that length.
 fn finds_in_segments(
     rt: &(impl Abort + Threads + Sync),
     alloc: Global,
@@ -70,7 +70,7 @@ fn is_opening_of(rt: &impl Abort, classes: &Classes, openings: &Segments<Opening
     );
 }
 
-// Openings of so many classes go on in a second segment, as do those that threads find.
+// Openings of this many classes go on in a second segment, as do those that threads find.
 #[test]
 fn openings_past_a_segment(rt: HostRuntime) {
     let classes = classes_of(&rt, rt.alloc(), "022");

@@ -117,7 +117,7 @@ fn turned_by_hand(rt: HostRuntime) {
     assert!(rt; is_done(&built, 2) && is_table_of_lions(&built.table) && has_sent(&built));
 }
 
-// Lets so many turns begin, and counts those that were asked for.
+// Lets some turns begin, and counts those that were asked for.
 #[derive(Drop)]
 struct Counting {
     most: usize,

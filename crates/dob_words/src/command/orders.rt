@@ -19,7 +19,7 @@ pub(super) enum Asker {
     Best,
 }
 
-/// What the matches of the subcommand of that name ask for; nothing where that isn't clear, as `probe` and `line` with both a position
+/// What the matches of the subcommand of that name ask for; nothing if that isn't clear, as `probe` and `line` with both a position
 /// and `--each`.
 pub(super) fn order_named<'a>(name: &str, inner: &ArgMatches<'a>) -> Option<Order<'a>>
     requires named { IsNamed name.now forms }
@@ -143,7 +143,7 @@ fn certify_order<'a>(inner: &ArgMatches<'a>) -> Order<'a>
     }
 }
 
-// What the matches of `probe`, `look`, `moves` or `best` ask for, where it is clear.
+// What the matches of `probe`, `look`, `moves` or `best` ask for, if it is clear.
 fn asked_order<'a>(inner: &ArgMatches<'a>, asker: Asker) -> Option<Order<'a>>
     requires { HasFit (form_named (codes "probe")) inner.now }
     ensures { IsReadFor (settled (asks (name_of_asker asker) (texts_in (form_named (codes "probe")) inner.now))) result }
@@ -161,7 +161,7 @@ fn asked_order<'a>(inner: &ArgMatches<'a>, asker: Asker) -> Option<Order<'a>>
     }
 }
 
-// What the matches of `line` ask for, where it is clear.
+// What the matches of `line` ask for, if it is clear.
 fn line_order<'a>(inner: &ArgMatches<'a>) -> Option<Order<'a>>
     requires { HasFit (form_named (codes "line")) inner.now }
     ensures { IsReadFor (settled (asks (codes "line") (texts_in (form_named (codes "line")) inner.now))) result }
@@ -178,7 +178,7 @@ fn line_order<'a>(inner: &ArgMatches<'a>) -> Option<Order<'a>>
     }
 }
 
-// The position that is asked for, or none where it is `--each`; nothing where both are given, or none of them.
+// The position that is asked for, or none if it is `--each`; nothing if both are given, or none of them.
 fn asked_of<'a>(inner: &ArgMatches<'a>) -> Option<Option<&'a str>>
     ensures { IsOneOf (first_value (found_of inner.now) (codes "each")) (first_value (found_of inner.now) (codes "POSITION")) result }
 {
@@ -212,7 +212,7 @@ fn number(text: &str) -> u64
     }
 }
 
-// The number that the text gives, where there is one.
+// The number that the text gives, if there is one.
 fn number_given(text: Option<&str>) -> Option<u64>
     requires { IfSome (text_given text) (λ t. is_number t ≡ true) }
     ensures { result ≡ option_map number_in (text_given text.entry) }
