@@ -208,7 +208,8 @@ walk = table.positions()
 next(walk)
 table.close()
 table.close()
-calls = [(table.__getitem__, text), (table.get, text), (table.__contains__, text), (table.moves, text), (table.line, text), (table.positions,), (table.stats,), (table.probe_many, [])]
+calls = [(table.__getitem__, text), (table.get, text), (table.__contains__, text), (table.moves, text), (table.line, text)]
+calls += [(table.positions,), (table.stats,), (table.probe_many, [])]
 for call, *words in [*calls, (len, table), (iter, table), (next, walk), (lambda: table.set,), (lambda: table.rules,)]:
     raises(ValueError, call, *words)
 with Table("testdata/one_chick_2.db", library) as inner:

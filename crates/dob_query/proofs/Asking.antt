@@ -53,14 +53,6 @@ answered_weaker c Is Other Holds Also (Err given) right fault is = (fault given 
 
 -- ---- faults of asking a source
 
--- what is wrong with the header
-pub front_asks : (question : Question) (Gives : Stream → Type 0) (p : Setup) (fault : file.Fault)
-    → ((stream : Stream) → Gives stream → (fault ≡ file_fault.Memory) ⊎ HasFrontFault stream fault) → IsFaultOfAsking question Gives p (File fault)
-front_asks question Gives p fault holds = λ stream known. elim (holds stream known) [
-  | inl none ↦ inl none
-  | inr wrong ↦ inr (inl wrong)
-]
-
 -- the family that refuses the position
 pub refusal_asks : (question : Question) (Gives : Stream → Type 0) (p : Setup) (format : Format) (family : Family) (fault : probing.Fault)
     → IsRefusal family p fault → ((stream : Stream) → Gives stream → CountsClasses format family stream.bytes) → IsFaultOfAsking question Gives p (Table fault)
@@ -92,10 +84,6 @@ records_ask question Gives Shows p format family Io named shows holds = absurd h
 -- ---- faults of asking the file
 
 module _ (question : Question) (Has : List ℕ → Type 0) (p : Setup) where
-  pub shut_asks : (lower : ShelfFault) → ((bytes : List ℕ) → Has bytes → lower ≡ shelf_fault.Memory) → IsAskingFault question Has p (fault_of_shelf lower)
-  shut_asks shelf_fault.Memory found = tt
-  shut_asks shelf_fault.Failed found = is_shut Has found
-
   -- a fault of asking a source that gives the file
   pub source_asks : (Gives : Stream → Type 0) (fault : Fault) → ((bytes : List ℕ) → Has bytes → Gives (whole bytes)) → IsFaultOfAsking question Gives p fault
       → IsAskingFault question Has p fault

@@ -49,10 +49,6 @@ module _ (stream : Stream) (format : Format) (family : Family) (p : Setup) where
   abbrev Has : Setup → Value → Type 0
   Has = IsRecorded stream format family
 
-  -- the record of p itself
-  pub lacks_own : (fault : file.Fault) → LacksRecord stream format family p fault → IsFaultOfLine stream format family p (File fault)
-  lacks_own fault lacks = (p, inl refl, lacks)
-
   -- a fault of looking for the next move is one of the line
   pub gap_breaks : (moves : List Move) (q : Setup) (value wanted : Value) (fault : Fault) → IsOnLine family Has p moves q value → ¬ CanCatch q
       → value_wanted value ≡ Some wanted → IsGap stream format family q wanted fault → IsFaultOfLine stream format family p fault

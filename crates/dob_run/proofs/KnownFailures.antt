@@ -15,10 +15,6 @@ use Rattle.dob_run.specs.BuildEnd.{AllKnow, IsFailure, IsFailureOf, AreFailurele
 abbrev pub IsNone : List Runner → Type 0
 IsNone runners = AreFailureless runners × (AllKnow Ended runners → AreUnfailed runners)
 
--- of no runners
-pub none_of_none : (runners : List Runner) → ((k : ℕ) (runner : Runner) → slice_get runners k ≡ Some runner → ⊥) → IsNone runners
-none_of_none runners none = (λ node why failure. none node failure.runner failure.at, λ know k runner at. absurd (none k runner at))
-
 module _ (runners : List Runner) (halt : Halt) (first : Runner) (at : slice_get runners 0 ≡ Some first) (halt_is : first.endpoint.seat.halt ≡ halt) where
   -- where one is, each knows what the first does
   known : (node : ℕ) (why : Cause) → IsFailure runners node why → AllKnow halt runners
@@ -31,15 +27,6 @@ module _ (runners : List Runner) (halt : Halt) (first : Runner) (at : slice_get 
   none_apart apart = (
     λ node why failure. apart (known node why failure),
     λ know. absurd (apart (subst (λ (h : Halt). AllKnow h runners) (sym (know 0 first at) ∙ halt_is) know)),
-  )
-
-  pub none_running : halt ≡ Running → IsNone runners
-  none_running runs = (
-    λ node why failure. elim failure.known [
-      | inl know ↦ (let word = ap halt_word (sym (know 0 first at) ∙ halt_is ∙ runs) in omega (arith, word))
-      | inr late ↦ (let word = ap halt_word (sym (late.0 0 first at) ∙ halt_is ∙ runs) in omega (arith, word))
-    ],
-    λ know. absurd (let word = ap halt_word (sym (know 0 first at) ∙ halt_is ∙ runs) in omega (arith, word)),
   )
 
   pub none_failed : (node : ℕ) → halt ≡ Failed node → ((why : Cause) → IsFailure runners node why → ⊥) → IsNone runners
@@ -60,12 +47,6 @@ pub or_failed : (runners : List Runner) (halt : Halt) (first : Runner) → slice
     MatchOption result (IsNone runners) (IsFailureOf runners)
 or_failed runners halt first at halt_is node fails None none = none_failed runners halt first at halt_is node fails none
 or_failed runners halt first at halt_is node fails (Some fault) failure = failure
-
-pub none_unfailed : (runners : List Runner) → AreUnfailed runners → IsNone runners
-none_unfailed runners unfailed = (
-  λ node why failure. (let e : (let o : _ = Some why in o) ≡ None = sym failure.cause ∙ unfailed node failure.runner failure.at in cc),
-  λ know. unfailed,
-)
 
 -- a runner that failed although the end was announced
 pub late_failure : (runners : List Runner) (fault : Fault) → AllKnow Ended runners → IsFirstFailed runners fault → IsFailureOf runners fault

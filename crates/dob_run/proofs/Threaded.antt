@@ -76,11 +76,6 @@ made_all R xs given (Err why) are is = tt
 
 -- ---- what goes over a ring for one
 
--- both ends are those of one ring as before
-pub still_pair : (giving : Producer Handed Global AnyItems) (taking after : Consumer Handed Global AnyItems) → IsPair giving taking →
-    SameConsumer taking after → IsPair giving after
-still_pair giving taking after pair same = (same.0.0 ∙ pair.0, same.0.1 ∙ pair.1, same.0.2 ∙ pair.2, same.0.3 ∙ pair.3)
-
 -- and where the giver has sent more
 pub still_given : (giving after : Producer Handed Global AnyItems) (taking : Consumer Handed Global AnyItems) → IsPair giving taking →
     SameProducer giving after → IsPair after taking

@@ -22,20 +22,3 @@ worse_exchanged (Loss m) Draw worse = worse
 worse_exchanged Draw (Win n) worse = worse
 worse_exchanged Draw (Loss n) worse = worse
 worse_exchanged Draw Draw worse = worse
-
--- a loss with what is no win, and a draw with a loss
-pub loss_worse : (plies : ℕ) (other : Value) → ((n : ℕ) → ¬ (other ≡ Win n)) → IsWorse (Loss plies) other
-loss_worse plies (Win n) no_win = absurd (no_win n refl)
-loss_worse plies (Loss n) no_win = omega (arith, ints)
-loss_worse plies Draw no_win = omega (arith, ints)
-
-pub draw_worse : (plies : ℕ) → IsWorse Draw (Loss plies)
-draw_worse plies = omega (arith, ints)
-
-pub draw_not_worse : (other : Value) → IsWorse Draw other → (plies : ℕ) × (other ≡ Loss plies)
-draw_not_worse (Win n) worse = absurd (omega (arith, ints, worse))
-draw_not_worse (Loss n) worse = (n, refl)
-draw_not_worse Draw worse = absurd (omega (arith, ints, worse))
-
-pub loss_not_worse : (plies n : ℕ) → ¬ IsWorse (Loss plies) (Win n)
-loss_not_worse plies n worse = absurd (omega (arith, ints, worse))
