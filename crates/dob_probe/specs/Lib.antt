@@ -3,6 +3,7 @@ pub mod Checks
 pub mod Sums
 pub mod ValuedMoves
 pub mod Walks
+pub mod Outlines  -- positions that are alike
 pub mod Puzzles
 pub mod SingleMoves
 pub mod Statistics

@@ -9,6 +9,7 @@ mod groups;
 pub mod laws;
 mod lines;
 mod members;
+mod outlines;
 mod probes;
 mod puzzles;
 mod successors;
