@@ -161,6 +161,14 @@ expect 0 '34  l../.../.L./... - -  Lb2-c3
 expect 0 'none' '' puzzles --db "$lions" --plies 3 --count 5 --random 10 --from 27
 expect 0 '.l./.../.../.L. - -  Lb1-b2' '' puzzles --db "$lions" --plies 5 --count 1 --random 2
 expect 0 'none' '' puzzles --db "$lions" --plies 9 --count 1 --random 18446744073709551615
+# from a seed on no two have the lions on the same squares and as many pieces of each kind on the board; by an independent program
+expect 0 '727  l../.../h../.L. - -  Lb1xa2
+770  .l./c../.../.L. - -  Lb1-b2
+1100  l../.../L../C.. - -  La2-b2
+1162  .l./c../L../... - -  La2-b2
+1407  l../.../.Lh/... - -  Lb2xc2' '' puzzles --db "$chick" --plies 7 --count 5 --random 2 --numbered
+expect 0 '~^' '' puzzles --db "$chick" --plies 3 --count 100 --random 1
+note 'twelve puzzles of 93 are left of which no two are alike' "$([ "$(wc -l <"$work/out")" = 12 ] && echo yes || echo no)"
 for plies in 0 1 2 4 18446744073709551614; do
     expect 2 '' 'dobutsu: --plies is an odd number of at least 3' puzzles --db "$work/none.db" --plies "$plies" --count 1
 done

@@ -9,4 +9,5 @@ pub mod Verdicts  -- the first fault among the verdicts of all classes
 pub mod ByValue  -- moves with their values, best first, as the list grows
 pub mod Slotted  -- what is counted of each code, part by part, and the groups that are there
 pub mod Walked  -- places in the order of a walk, and their classes
+pub mod Alike  -- outlines of positions, and puzzles that are alike
 pub mod OnlyMoves  -- the only move to a value, and the puzzles of the places so far

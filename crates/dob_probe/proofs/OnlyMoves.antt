@@ -1,5 +1,5 @@
 -- The only move to a value, and the puzzles of the places so far of a walk over the classes.
-use Rattle.std.proofs.Common.{◌≡◌, ℕ, ◌+◌, ◌-◌, ◌≤◌, ◌<◌, inl, inr, sym, subst, ap, ap₂, ◌∙◌, arith, List, [], ◌∷◌, ◌++◌, length, get_or}
+use Rattle.std.proofs.Common.{◌⊎◌, ◌≡◌, ℕ, ◌+◌, ◌-◌, ◌≤◌, ◌<◌, inl, inr, sym, subst, ap, ap₂, ◌∙◌, arith, List, [], ◌∷◌, ◌++◌, length, get_or, Bool, length-append}
 use Rattle.std.proofs.Common.{true, false, true≢false, is_some, Option, Some, None, Contains, AllPairs, slice_get}
 use Rattle.std.proofs.lemmas.Bool.{cases_lt}
 use Rattle.std.proofs.lemmas.Option.{slice_get-get_or, slice_get_within, same_Some}
@@ -18,7 +18,8 @@ use Rattle.dob_value.specs.Follows.{ClassTable, IsEntry, IsTable}
 use Rattle.dob_probe.specs.declared.puzzles.Puzzle.{Puzzle}
 use Rattle.dob_probe.specs.Checks.{HasEntry}
 use Rattle.dob_probe.specs.Lines.{GivenBy, LeadsTo}
-use Rattle.dob_probe.specs.Puzzles.{ArePuzzles, IsOnlyTo, IsPuzzle, IsWalked, walk_place}
+use Rattle.dob_probe.specs.Outlines.{AreLike}
+use Rattle.dob_probe.specs.Puzzles.{ArePuzzles, IsListedNext, IsOnlyTo, IsPassed, IsPuzzle, IsSpread, IsWalked, walk_place}
 use Rattle.dob_probe.specs.Walks.{begin_at, class_on, first_class}
 use Rattle.dob_probe.specs.declared.walks.Walk.{Walk}
 use Rattle.dob_probe.specs.SingleMoves.{IsPuzzleOf, IsSingleMove}
@@ -161,13 +162,15 @@ module _ (table : ClassTable) (plies : ℕ) (walk : Walk) where
     pub sound : (puzzle : Puzzle) → Contains list puzzle
         → (begin ≤ walk_place table walk puzzle.class) × (walk_place table walk puzzle.class < upto) × IsPuzzle table plies puzzle
     pub whole : (puzzle : Puzzle) → IsPuzzle table plies puzzle → begin ≤ walk_place table walk puzzle.class → walk_place table walk puzzle.class < upto
-        → Contains list puzzle
+        → Contains list puzzle ⊎ IsPassed table walk list puzzle
+    pub unlike : IsSpread walk → AllPairs (λ a b. ¬ AreLike table a b) list
     pub ordered : AllPairs (λ a b. walk_place table walk a.class < walk_place table walk b.class) list
 
   pub puzzles_none : ArePuzzlesBelow begin []
   puzzles_none = record {
     sound = λ puzzle there. absurd (omega (arith, there.1));
     whole = λ puzzle is from below. absurd (omega (arith, from, below));
+    unlike = λ spread i j d before within. absurd (omega (arith, within));
     ordered = λ i j d before within. absurd (omega (arith, within));
   }
 
@@ -193,12 +196,40 @@ module _ (table : ClassTable) (plies : ℕ) (walk : Walk) where
         | inl earlier ↦ are.whole puzzle is from earlier
         | inr later ↦ absurd (none puzzle (of_place puzzle is below later) is)
       ];
+      unlike = are.unlike;
       ordered = are.ordered;
     }
 
-    pub puzzles_more : (list : List Puzzle) (more : Puzzle) → begin ≤ upto → IsPuzzleOf table plies class (Some more) → ArePuzzlesBelow upto list
+    -- what was listed or passed is so of a longer list
+    longer : (list : List Puzzle) (more puzzle : Puzzle) → Contains list puzzle ⊎ IsPassed table walk list puzzle
+        → Contains (list ++ more ∷ []) puzzle ⊎ IsPassed table walk (list ++ more ∷ []) puzzle
+    longer list more puzzle (inl there) = inl (Contains-append_left list (more ∷ []) puzzle there)
+    longer list more puzzle (inr passed) = inr (passed.0, (passed.1.0, Contains-append_left list (more ∷ []) passed.1.0 passed.1.1, passed.1.2, passed.1.3))
+
+    -- a puzzle is passed
+    pub puzzles_passed : (list : List Puzzle) (more : Puzzle) → IsPuzzleOf table plies class (Some more) → IsSpread walk
+        → (listed : Puzzle) → Contains list listed → AreLike table listed more → ArePuzzlesBelow upto list → ArePuzzlesBelow (upto + 1) list
+    puzzles_passed list more found spread listed there like are = record {
+      sound = λ puzzle stands.
+          let known = are.sound puzzle stands in
+          let below : walk_place table walk puzzle.class < upto = known.1 in
+          (known.0, omega (arith, below), known.2);
+      whole = λ puzzle is from below. elim (cases_lt (walk_place table walk puzzle.class) upto) [
+        | inl earlier ↦ are.whole puzzle is from earlier
+        | inr later ↦
+            let class_is : more.class ≡ puzzle.class = found.0 ∙ sym (of_place puzzle is below later) in
+            let same = one_puzzle table plies more puzzle class_is found.1 is in
+            let before : walk_place table walk listed.class < upto = (are.sound listed there).1 in
+            inr (spread, (listed, there, subst (λ (x : Puzzle). AreLike table listed x) same like, omega (arith, before, later)))
+      ];
+      unlike = are.unlike;
+      ordered = are.ordered;
+    }
+
+    pub puzzles_more : (list : List Puzzle) (more : Puzzle) → begin ≤ upto → IsPuzzleOf table plies class (Some more)
+        → (IsSpread walk → (listed : Puzzle) → Contains list listed → ¬ AreLike table listed more) → ArePuzzlesBelow upto list
         → ArePuzzlesBelow (upto + 1) (list ++ more ∷ [])
-    puzzles_more list more from found are =
+    puzzles_more list more from found fresh are =
         let here_is : walk_place table walk more.class ≡ upto =
         ap (walk_place table walk) (found.0 ∙ on) ∙ place_class _ (length table.values) upto (first_below walk.seed (length table.values) (omega (arith, here))) here in record {
           sound = λ puzzle there. elim (Contains-push_cases list more puzzle there) [
@@ -211,16 +242,31 @@ module _ (table : ClassTable) (plies : ℕ) (walk : Walk) where
                 (omega (arith, place, here_is, from), omega (arith, place, here_is), subst (λ x. IsPuzzle table plies x) same found.1)
           ];
           whole = λ puzzle is first below. elim (cases_lt (walk_place table walk puzzle.class) upto) [
-            | inl earlier ↦ Contains-append_left list (more ∷ []) puzzle (are.whole puzzle is first earlier)
+            | inl earlier ↦ longer list more puzzle (are.whole puzzle is first earlier)
             | inr later ↦
                 let class_is : more.class ≡ puzzle.class = found.0 ∙ sym (of_place puzzle is below later) in
-                subst (λ x. Contains (list ++ more ∷ []) x) (one_puzzle table plies more puzzle class_is found.1 is) (Contains-push list more)
+                inl (subst (λ x. Contains (list ++ more ∷ []) x) (one_puzzle table plies more puzzle class_is found.1 is) (Contains-push list more))
           ];
+          unlike = λ spread. all_pairs_push (λ a b. ¬ AreLike table a b) list more (are.unlike spread)
+              (λ k d within. fresh spread (get_or list k d) (Contains-get_or list k d within));
           ordered = all_pairs_push (λ a b. walk_place table walk a.class < walk_place table walk b.class) list more are.ordered
               (λ k d within.
               let below : walk_place table walk (get_or list k d).class < upto = (are.sound (get_or list k d) (Contains-get_or list k d within)).1 in
               omega (arith, below, here_is));
         }
+
+    -- a puzzle is listed next, or passed
+    pub puzzles_next : (is_spread : Bool) (list new : List Puzzle) (more : Puzzle) → is_spread ≡ is_some walk.seed → begin ≤ upto
+        → IsPuzzleOf table plies class (Some more) → IsListedNext table is_spread more list new → ArePuzzlesBelow upto list → ArePuzzlesBelow (upto + 1) new
+    puzzles_next is_spread list new more same from found (inl next) are =
+        subst (ArePuzzlesBelow (upto + 1)) (sym next.0) (puzzles_more list more from found (λ spread. next.1 (same ∙ spread)) are)
+    puzzles_next is_spread list new more same from found (inr passed) are =
+        subst (ArePuzzlesBelow (upto + 1)) (sym passed.0) (puzzles_passed list more found (sym same ∙ passed.1) passed.2.0 passed.2.1 passed.2.2 are)
+
+  -- so it is one more at most
+  pub next_few : (is_spread : Bool) (list new : List Puzzle) (more : Puzzle) → IsListedNext table is_spread more list new → length new ≤ length list + 1
+  next_few is_spread list new more (inl next) = let long = length-append list (more ∷ []) in let e = ap length next.0 in omega (arith, long, e)
+  next_few is_spread list new more (inr passed) = let e = ap length passed.0 in omega (arith, e)
 
   -- what is listed is walked over
   sound_walked : (upto : ℕ) (list : List Puzzle) → ArePuzzlesBelow upto list → (puzzle : Puzzle) → Contains list puzzle
@@ -232,6 +278,12 @@ module _ (table : ClassTable) (plies : ℕ) (walk : Walk) where
         begin_behind walk.behind _ (length table.values) puzzle.class (first_below walk.seed (length table.values) (omega (arith, within))) within found.0,
       )
 
+  -- what is listed or passed is what a puzzle may be
+  settled : (list : List Puzzle) (puzzle : Puzzle) {Full : Type 0} → Contains list puzzle ⊎ IsPassed table walk list puzzle
+      → Contains list puzzle ⊎ IsPassed table walk list puzzle ⊎ Full
+  settled list puzzle (inl there) = inl there
+  settled list puzzle (inr passed) = inr (inl passed)
+
   -- as many as were asked for, or all of them
   pub puzzles_full : (upto count : ℕ) (list : List Puzzle) → length list ≡ count → ArePuzzlesBelow upto list → ArePuzzles table walk plies count list
   puzzles_full upto count list full are = record {
@@ -239,14 +291,15 @@ module _ (table : ClassTable) (plies : ℕ) (walk : Walk) where
     ordered = are.ordered;
     few = omega (arith, full);
     whole = λ puzzle is walked. elim (cases_lt (walk_place table walk puzzle.class) upto) [
-      | inl earlier ↦ inl (are.whole puzzle is (behind_begin walk.behind _ (length table.values) puzzle.class (class_of puzzle is) walked) earlier)
-      | inr later ↦ inr (
+      | inl earlier ↦ settled list puzzle (are.whole puzzle is (behind_begin walk.behind _ (length table.values) puzzle.class (class_of puzzle is) walked) earlier)
+      | inr later ↦ inr (inr (
         full,
         λ listed there.
             let below : walk_place table walk listed.class < upto = (are.sound listed there).1 in
             omega (arith, below, later),
-      )
+      ))
     ];
+    unlike = are.unlike;
   }
 
   pub puzzles_all : (upto count : ℕ) (list : List Puzzle) → length table.values ≤ upto → length list ≤ count → ArePuzzlesBelow upto list →
@@ -259,7 +312,8 @@ module _ (table : ClassTable) (plies : ℕ) (walk : Walk) where
         let within = class_of puzzle is in
         let first = first_below walk.seed (length table.values) (omega (arith, within)) in
         let below = place_below _ (length table.values) puzzle.class first within in
-        inl (are.whole puzzle is (behind_begin walk.behind _ (length table.values) puzzle.class within walked) (omega (arith, below, all)));
+        settled list puzzle (are.whole puzzle is (behind_begin walk.behind _ (length table.values) puzzle.class within walked) (omega (arith, below, all)));
+    unlike = are.unlike;
   }
 
   -- no table has so long a distance
@@ -268,6 +322,7 @@ module _ (table : ClassTable) (plies : ℕ) (walk : Walk) where
     sound = λ puzzle there. absurd (omega (arith, there.1));
     ordered = λ i j d before within. absurd (omega (arith, within));
     few = omega arith;
+    unlike = λ spread i j d before within. absurd (omega (arith, within));
     whole = λ puzzle given walked.
         let entry : IsEntry (Win plies) = all_at IsEntry table.values puzzle.class (Win plies) is.entries given.won.entry in
         let short : plies ≤ MAX_DISTANCE = entry.1 in

@@ -4,6 +4,7 @@ pub mod Sums
 pub mod ShownMoves
 pub mod ValuedMoves
 pub mod Walks
+pub mod Outlines  -- positions that are alike
 pub mod Puzzles
 pub mod SingleMoves
 pub mod Statistics

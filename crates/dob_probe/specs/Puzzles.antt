@@ -1,5 +1,5 @@
 -- Puzzles of a table: classes that are won in so many plies, by one move alone.
-use Rattle.std.specs.Prelude.{◌≡◌, ◌⊎◌, ℕ, ◌-◌, ◌<◌, ◌≤◌, List, length, Contains, AllPairs}
+use Rattle.std.specs.Prelude.{◌≡◌, ◌⊎◌, ℕ, ◌-◌, ◌<◌, ◌≤◌, Bool, List, [], ◌∷◌, ◌++◌, length, is_some, true, Contains, AllPairs}
 use Rattle.dob_pieces.specs.declared.profile.Profile.{Profile}
 use Rattle.dob_pieces.specs.declared.setup.Setup.{Setup}
 use Rattle.dob_moves.specs.declared.game_move.Move.{Move}
@@ -9,6 +9,7 @@ use Rattle.dob_value.specs.Follows.{ClassTable}
 use Rattle.dob_probe.specs.declared.puzzles.Puzzle.{Puzzle}
 use Rattle.dob_probe.specs.Checks.{HasEntry}
 use Rattle.dob_probe.specs.Lines.{GivenBy, LeadsTo}
+use Rattle.dob_probe.specs.Outlines.{AreLike}
 use Rattle.dob_probe.specs.declared.walks.Walk.{Walk}
 use Rattle.dob_probe.specs.Walks.{IsBehind, first_class, place_from}
 
@@ -33,11 +34,31 @@ walk_place table walk class = place_from (first_class walk.seed (length table.va
 abbrev pub IsWalked : ClassTable → Walk → ℕ → Type 0
 IsWalked table walk class = IsBehind walk.behind (first_class walk.seed (length table.values)) (length table.values) class
 
--- The first puzzles of a walk, at most so many, each once: each one that isn't listed stands behind as many as were asked for.
+-- a walk that a seed begins lists no two puzzles that are alike
+abbrev pub IsSpread : Walk → Type 0
+IsSpread walk = is_some walk.seed ≡ true
+
+-- by such a walk the puzzle is passed, since one that is alike is listed, and stands before it
+abbrev pub IsPassed : ClassTable → Walk → List Puzzle → Puzzle → Type 0
+IsPassed table walk list puzzle = IsSpread walk
+    × ((listed : Puzzle) × Contains list listed × AreLike table listed puzzle × (walk_place table walk listed.class < walk_place table walk puzzle.class))
+
+abbrev pub puzzle_of : ℕ → Move → Puzzle
+puzzle_of class the_move = record { class = class; the_move = the_move }
+
+-- the puzzle comes behind those that are listed, where none of them has to be unlike it and isn't; else the list stays
+abbrev pub IsListedNext : ClassTable → Bool → Puzzle → List Puzzle → List Puzzle → Type 0
+IsListedNext table is_spread puzzle old new =
+    ((new ≡ old ++ puzzle ∷ []) × (is_spread ≡ true → (listed : Puzzle) → Contains old listed → ¬ AreLike table listed puzzle))
+    ⊎ ((new ≡ old) × (is_spread ≡ true) × ((listed : Puzzle) × Contains old listed × AreLike table listed puzzle))
+
+-- The first puzzles of a walk, at most so many, each once, and no two alike where a seed begins it: each one that isn't listed is passed, or
+-- stands behind as many as were asked for.
 pub record ArePuzzles (table : ClassTable) (walk : Walk) (plies count : ℕ) (list : List Puzzle) : Type 0 where
   pub sound : (puzzle : Puzzle) → Contains list puzzle → IsPuzzle table plies puzzle × IsWalked table walk puzzle.class
   pub ordered : AllPairs (λ a b. walk_place table walk a.class < walk_place table walk b.class) list
+  pub unlike : IsSpread walk → AllPairs (λ a b. ¬ AreLike table a b) list
   pub few : length list ≤ count
   pub whole : (puzzle : Puzzle) → IsPuzzle table plies puzzle → IsWalked table walk puzzle.class
-      → Contains list puzzle
+      → Contains list puzzle ⊎ IsPassed table walk list puzzle
       ⊎ ((length list ≡ count) × ((listed : Puzzle) → Contains list listed → walk_place table walk listed.class < walk_place table walk puzzle.class))

@@ -19,6 +19,7 @@ mod groups;
 pub mod laws;
 mod lines;
 mod members;
+mod outlines;
 mod probes;
 mod puzzles;
 mod shown_moves;

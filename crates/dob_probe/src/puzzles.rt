@@ -1,13 +1,17 @@
 // Puzzles of a table: classes with exactly one fastest winning move.
-ghost use Rattle.std.specs.Prelude.{◌≡◌, ◌<◌, ◌≤◌, length, IfOk};
+ghost use Rattle.std.specs.Prelude.{◌≡◌, ◌<◌, ◌≤◌, ◌&&◌, length, IfOk, OnOk};
+ghost use Rattle.std.specs.List.{list_any};
+ghost use Rattle.dob_moves.specs.declared.game_move.Move.{Move as Moved};
+ghost use Rattle.dob_probe.specs.Outlines.{AreOutlines, IsOutlineOf, same_outline};
 ghost use Rattle.dob_moves.specs.Statuses.{AreMoves};
 ghost use Rattle.dob_rank.specs.Families.{IsPositionOf};
 ghost use Rattle.dob_value.specs.Follows.{IsTable};
 ghost use Rattle.dob_value.specs.declared.value.Value.TheVariants.{Loss};
 ghost use Rattle.dob_probe.specs.Lines.{GivenBy};
-ghost use Rattle.dob_probe.specs.Puzzles.{ArePuzzles};
+ghost use Rattle.dob_probe.specs.Puzzles.{ArePuzzles, IsListedNext, puzzle_of};
 ghost use Rattle.dob_probe.specs.SingleMoves.{IsPuzzleOf, IsSingleMove};
 
+use crate::outlines::{Outline, has_outline, outline_of};
 use crate::successors::{list_moves, value_to};
 use crate::walks::{Walk, begin_at, class_on, first_class};
 use dob_moves::Move;
@@ -23,8 +27,9 @@ pub struct Puzzle {
 }
 
 /// The first classes of the walk, at most `count`, that the table says are won in `plies` plies and of whose representative just one
-/// move leads to a position lost in one ply less, each with that move, in the walk's order. The classes are looked at up to the last one
-/// listed, and all of the walk if there are fewer; one room is kept for lists of moves.
+/// move leads to a position lost in one ply less, each with that move, in the walk's order. If a seed begins the walk, no two of them are of
+/// one block with the lions on the same squares: the first of such classes is listed. The classes are looked at up to the last one listed, and
+/// all of the walk if there are fewer; one room is kept for lists of moves.
 ///
 /// # Errors
 ///
@@ -44,10 +49,12 @@ pub fn first_puzzles(
     if plies > u16::MAX as u64 {
         return Ok(Vec::new(alloc));
     }
+    let is_spread = walk.seed.is_some();
     let classes = table.class_count();
     let first = first_class(walk.seed, classes);
     let begin = begin_at(walk.behind, first, classes);
     let mut list = Vec::new(alloc);
+    let mut outlines = Vec::new(alloc);
     let mut room = Vec::new(alloc);
     for place in begin..classes {
         if list.len() as u64 >= count {
@@ -59,10 +66,55 @@ pub fn first_puzzles(
             plies as u16,
             class_on(first, classes, place),
         )? {
-            list.push(puzzle)?;
+            let Puzzle { class, the_move } = puzzle;
+            list_puzzle(table, &mut list, &mut outlines, is_spread, class, the_move)?;
         }
     }
     Ok(list)
+}
+
+// Lists the puzzle of that class and that move, and the outline of its class's representative, but passes it where it is to be unlike those that are listed, and isn't.
+//
+// Error: `Memory`.
+fn list_puzzle(
+    table: &Table,
+    list: &mut Vec<Puzzle>,
+    outlines: &mut Vec<Outline>,
+    is_spread: bool,
+    class: u64,
+    the_move: Move,
+) -> Result<(), Memory>
+    requires within { class < length table.now.values }
+    requires outlines { AreOutlines table.now list.old.items outlines.old.items }
+    ensures outlines { OnOk result (AreOutlines table.now list.new.items outlines.new.items) }
+    ensures listed { OnOk result (IsListedNext table.now is_spread (puzzle_of class the_move) list.old.items list.new.items) }
+{
+    let outline = outline_at(table, class);
+    if is_passed(outlines, is_spread, outline) {
+        return Ok(());
+    }
+    list.push(Puzzle { class, the_move })?;
+    outlines.push(outline)?;
+    Ok(())
+}
+
+// The outline of the class's representative.
+fn outline_at(table: &Table, class: u64) -> Outline
+    requires { class < length table.now.values }
+    ensures { (the_move : Moved) → IsOutlineOf table.now (puzzle_of class the_move) result }
+{
+    outline_of(&table.classes().class_at(class))
+}
+
+// Whether a puzzle with that outline is passed.
+fn is_passed(outlines: &[Outline], is_spread: bool, outline: Outline) -> bool
+    ensures { result ≡ (is_spread && list_any (same_outline outline) outlines.now) }
+{
+    if is_spread {
+        has_outline(outlines, outline)
+    } else {
+        false
+    }
 }
 
 // The class as a puzzle, if it is one. Moves are listed in the room, whatever is in it.

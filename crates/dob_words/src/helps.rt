@@ -256,8 +256,9 @@ number are printed, never its own: with the number of the last one it goes on wh
 twice. Behind a number that no class has there is none.
 
 With `--random SEED` the order begins at a class that the number SEED makes, the same on each machine, and goes on with the first
-class of the file behind the last one, so that N positions are found wherever there are so many. `--from` goes on in this order too,
-where both are given.
+class of the file behind the last one. No two of the positions that one call prints then have as many pieces of each kind on the board
+and the lions on the same squares: of such ones the first is printed, and fewer than N where there are no more. `--from` goes on in this
+order too, where both are given.
 
 Example: dobutsu puzzles --db 000.db --plies 3 --count 1 prints `.../..l/L../... - -  La2-a3`.";
 

@@ -1,13 +1,13 @@
 -- The puzzles of one place more, until there are as many as were asked for.
-use Rattle.std.proofs.Common.{◌≡◌, ◌≤◌, ◌<◌, ◌+◌, ◌++◌, ◌∷◌, [], ℕ, rules, arith, length, length-append, subst, sym, ap, ◌∙◌, List, None, Some, Option, vec_len}
+use Rattle.std.proofs.Common.{◌≡◌, ◌≤◌, ◌<◌, [], ℕ, rules, arith, length, subst, sym, ap, ◌∙◌, List, None, Some, Option, vec_len}
 use Rattle.dob_probe.specs.declared.puzzles.Puzzle.{Puzzle}
 use Rattle.dob_probe.specs.Puzzles.{ArePuzzles}
 use Rattle.dob_probe.specs.SingleMoves.{IsPuzzleOf}
 use Rattle.dob_probe.specs.Walks.{begin_at, class_on, first_class}
-use Rattle.dob_probe.proofs.OnlyMoves.{ArePuzzlesBelow, begin, puzzles_all, puzzles_full, puzzles_more, puzzles_none, puzzles_same, puzzles_too_long}
+use Rattle.dob_probe.proofs.OnlyMoves.{ArePuzzlesBelow, begin, next_few, puzzles_all, puzzles_full, puzzles_next, puzzles_none, puzzles_same, puzzles_too_long}
 use Rattle.dob_probe.proofs.Walked.{first_below}
 use Rattle.dob_probe.proofs.puzzles.first_puzzles.Goals as goal
-use Rattle.dob_probe.proofs.puzzles.first_puzzles.Goals.{After-begin_at-begin, in-Some+in_ok-push, in_default}
+use Rattle.dob_probe.proofs.puzzles.first_puzzles.Goals.{After-begin_at-begin, in-Some+in_ok-list_puzzle, in_default}
 
 -- the class that comes first, and the first place, by the table's classes
 first_is : (c : After-begin_at-begin) → c.first_class-first.result ≡ first_class c.args.walk.seed (length c.args.table.now.values)
@@ -41,6 +41,7 @@ loop-place-init c =
       omega (arith, at),
       rw empty (omega arith),
       rw empty (subst (λ (n : ℕ). ArePuzzlesBelow table c.args.plies c.args.walk n []) (sym at) (puzzles_none table c.args.plies c.args.walk)),
+      rw (empty, c.new-outlines.ensures.items) tt,
     )
 
 pub returns-then-len-count : goal.returns-then-len-count
@@ -71,22 +72,30 @@ loop-place-preserved c =
     c.class_on.ensures.class ∙ (ap (λ (n : ℕ). class_on c.first_class-first.result n place) count
     ∙ ap (λ (n : ℕ). class_on n (length table.values) place) (first_is (goal.at.loop-place-preserved c).After-begin_at-begin)) in
     elim c.match-branch-2.branch [
-      | in-Some+in_ok-push w ↦
+      | in-Some+in_ok-list_puzzle w ↦
           let puzzle : Puzzle = w.in-Some.puzzle in
           let found : IsPuzzleOf table plies class (Some puzzle) =
           subst (λ (o : Option Puzzle). IsPuzzleOf table plies class o) w.in-Some.is (c.in_ok-puzzle.ensures) in
-          let more : length (list ++ puzzle ∷ []) ≡ length list + 1 = length-append list (puzzle ∷ []) in
-          let same : c.match-branch-2.list.items ≡ list ++ puzzle ∷ [] = search rules in
-          rw same (
+          let next = w.in_ok-list_puzzle.ensures.listed in
+          let more = next_few table plies walk c.is_some-is_spread.result list w.list_puzzle.new.list.items puzzle next in
+          rw (w.list-is, w.outlines-is) (
             omega (arith, from),
             omega (arith, more, long, fewer, is),
-            puzzles_more table plies walk place class here on list puzzle from found c.loop-place.invariant.2,
+            puzzles_next table plies walk place class here on c.is_some-is_spread.result list w.list_puzzle.new.list.items puzzle c.is_some-is_spread.ensures from found next
+                c.loop-place.invariant.2,
+            w.in_ok-list_puzzle.ensures.outlines,
           )
       | in_default w ↦
           let missing : IsPuzzleOf table plies class None =
           subst (λ (o : Option Puzzle). IsPuzzleOf table plies class o) w.in_default.is (c.in_ok-puzzle.ensures) in
           let same : c.match-branch-2.list.items ≡ list = search rules in
-          rw same (omega (arith, from), c.loop-place.invariant.1, puzzles_same table plies walk place class here on list missing c.loop-place.invariant.2)
+          let same_outlines : c.match-branch-2.outlines.items ≡ c.loop-place.outlines.items = search rules in
+          rw (same, same_outlines) (
+            omega (arith, from),
+            c.loop-place.invariant.1,
+            puzzles_same table plies walk place class here on list missing c.loop-place.invariant.2,
+            c.loop-place.invariant.3,
+          )
     ]
 
 pub returns : goal.returns

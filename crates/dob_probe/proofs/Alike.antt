@@ -1,0 +1,109 @@
+-- Outlines of positions, and puzzles that are alike.
+use Rattle.std.proofs.Common.{◌≡◌, ◌∙◌, ◌==◌, ◌&&◌, ℕ, Bool, true, false, true≢false, List, [], ◌∷◌, ◌++◌, ap, arith, inl, inr, refl, subst, sym, Contains}
+use Rattle.std.specs.List.{list_any}
+use Rattle.std.proofs.lemmas.Bool.{cases_Bool, eq-eqb, eqb-true}
+use Rattle.std.proofs.lemmas.List.Elements.{Contains-append_right}
+use Rattle.dob_pieces.specs.declared.kind.Side.TheVariants.{Mover, Enemy}
+use Rattle.dob_pieces.specs.declared.setup.Setup.{Setup}
+use Rattle.dob_pieces.specs.Setups.{HasLions}
+use Rattle.dob_pieces.proofs.Boards.{one_lion}
+use Rattle.dob_pieces.proofs.Lists.{cons_cases}
+use Rattle.dob_rank.specs.Families.{class_setup}
+use Rattle.dob_value.specs.Follows.{ClassTable}
+use Rattle.dob_probe.specs.declared.outlines.Outline.{Outline}
+use Rattle.dob_probe.specs.declared.puzzles.Puzzle.{Puzzle}
+use Rattle.dob_probe.specs.Outlines.{AreAlike, AreLike, AreOutlines, IsOutline, IsOutlineOf, same_outline}
+
+abbrev outline_with : ℕ → ℕ → ℕ → ℕ → ℕ → Outline
+outline_with chicks elephants giraffes lion enemy_lion =
+    record { chicks = chicks; elephants = elephants; giraffes = giraffes; lion = lion; enemy_lion = enemy_lion }
+
+same_fields : (a b : Outline) → a.chicks ≡ b.chicks → a.elephants ≡ b.elephants → a.giraffes ≡ b.giraffes → a.lion ≡ b.lion → a.enemy_lion ≡ b.enemy_lion → a ≡ b
+same_fields a b c e g l n =
+    ap (λ (k : ℕ). outline_with k a.elephants a.giraffes a.lion a.enemy_lion) c
+    ∙ (ap (λ (k : ℕ). outline_with b.chicks k a.giraffes a.lion a.enemy_lion) e
+    ∙ (ap (λ (k : ℕ). outline_with b.chicks b.elephants k a.lion a.enemy_lion) g
+    ∙ (ap (λ (k : ℕ). outline_with b.chicks b.elephants b.giraffes k a.enemy_lion) l
+    ∙ ap (λ (k : ℕ). outline_with b.chicks b.elephants b.giraffes b.lion k) n)))
+
+-- a position has one outline
+one_outline : (p : Setup) (a b : Outline) → HasLions p → IsOutline p a → IsOutline p b → a ≡ b
+one_outline p a b lions is_a is_b =
+    same_fields a b (is_a.chicks ∙ sym is_b.chicks) (is_a.elephants ∙ sym is_b.elephants) (is_a.giraffes ∙ sym is_b.giraffes)
+    (one_lion Mover p a.lion b.lion lions is_a.lion is_b.lion) (one_lion Enemy p a.enemy_lion b.enemy_lion lions is_a.enemy_lion is_b.enemy_lion)
+
+both : (a b : Bool) → (a && b) ≡ true → (a ≡ true) × (b ≡ true)
+both true true e = (refl, refl)
+both true false e = absurd (true≢false (sym e))
+both false b e = absurd (true≢false (sym e))
+
+join : (a b : Bool) → a ≡ true → b ≡ true → (a && b) ≡ true
+join a b x y = rw (x, y) refl
+
+same_itself : (a : Outline) → same_outline a a ≡ true
+same_itself a =
+    let is : (n : ℕ) → (n == n) ≡ true = λ n. eq-eqb n n refl in
+    join (a.chicks == a.chicks) _ (is a.chicks) (join (a.elephants == a.elephants) _ (is a.elephants)
+    (join (a.giraffes == a.giraffes) _ (is a.giraffes) (join (a.lion == a.lion) _ (is a.lion) (is a.enemy_lion))))
+
+same_is : (a b : Outline) → same_outline a b ≡ true → a ≡ b
+same_is a b e =
+    let chicks = both (a.chicks == b.chicks) _ e in
+    let elephants = both (a.elephants == b.elephants) _ chicks.1 in
+    let giraffes = both (a.giraffes == b.giraffes) _ elephants.1 in
+    let lions = both (a.lion == b.lion) _ giraffes.1 in
+    same_fields a b (eqb-true a.chicks b.chicks chicks.0) (eqb-true a.elephants b.elephants elephants.0) (eqb-true a.giraffes b.giraffes giraffes.0)
+    (eqb-true a.lion b.lion lions.0) (eqb-true a.enemy_lion b.enemy_lion lions.1)
+
+module _ (table : ClassTable) (q : Setup) (outline : Outline) (is : IsOutline q outline) where
+  -- one of the puzzles has the outline, and is alike
+  pub some_like : (puzzles : List Puzzle) (outlines : List Outline) → AreOutlines table puzzles outlines → list_any (same_outline outline) outlines ≡ true
+      → (listed : Puzzle) × Contains puzzles listed × AreAlike (class_setup table.family listed.class) q
+  some_like [] [] are any = absurd (true≢false (sym any))
+  some_like [] (o ∷ outlines) are any = absurd are
+  some_like (p ∷ puzzles) [] are any = absurd are
+  some_like (p ∷ puzzles) (o ∷ outlines) are any = elim (cases_Bool (same_outline outline o)) [
+    | inl same ↦ (p, (0, omega arith, refl), (outline, subst (IsOutline (class_setup table.family p.class)) (sym (same_is outline o same)) are.0.same, is))
+    | inr other ↦
+        let later = some_like puzzles outlines are.1 (rw other at any) in
+        (later.0, Contains-append_right (p ∷ []) puzzles later.0 later.1, later.2)
+  ]
+
+  -- none has it, and none is alike
+  pub none_like : HasLions q → (puzzles : List Puzzle) (outlines : List Outline) → AreOutlines table puzzles outlines → list_any (same_outline outline) outlines ≡ false
+      → (listed : Puzzle) → Contains puzzles listed → ¬ AreAlike (class_setup table.family listed.class) q
+  none_like lions [] outlines are none listed there alike = absurd (omega (arith, there.1))
+  none_like lions (p ∷ puzzles) [] are none listed there alike = absurd are
+  none_like lions (p ∷ puzzles) (o ∷ outlines) are none listed there alike = elim (cases_Bool (same_outline outline o)) [
+    | inl same ↦ absurd (true≢false (rw same at none))
+    | inr other ↦ elim (cons_cases p puzzles listed there) [
+      | inl first ↦
+          let of_p : IsOutline (class_setup table.family p.class) alike.0 = subst (λ (x : Puzzle). IsOutline (class_setup table.family x.class) alike.0) (sym first) alike.1 in
+          let own : outline ≡ o = one_outline q outline alike.0 lions is alike.2 ∙ one_outline (class_setup table.family p.class) alike.0 o are.0.lions of_p are.0.same in
+          absurd (true≢false (sym (subst (λ (x : Outline). same_outline outline x ≡ true) own (same_itself outline)) ∙ other))
+      | inr later ↦ none_like lions puzzles outlines are.1 (rw other at none) listed later alike
+    ]
+  ]
+
+-- one puzzle more with its outline
+pub outlines_more : (table : ClassTable) (puzzles : List Puzzle) (outlines : List Outline) (puzzle : Puzzle) (outline : Outline) → IsOutlineOf table puzzle outline
+    → AreOutlines table puzzles outlines → AreOutlines table (puzzles ++ puzzle ∷ []) (outlines ++ outline ∷ [])
+outlines_more table [] [] puzzle outline is are = (is, tt)
+outlines_more table [] (o ∷ outlines) puzzle outline is are = absurd are
+outlines_more table (p ∷ puzzles) [] puzzle outline is are = absurd are
+outlines_more table (p ∷ puzzles) (o ∷ outlines) puzzle outline is are = (are.0, outlines_more table puzzles outlines puzzle outline is are.1)
+
+module _ (table : ClassTable) (puzzles : List Puzzle) (outlines : List Outline) (puzzle : Puzzle) (outline : Outline) (is : IsOutlineOf table puzzle outline)
+    (are : AreOutlines table puzzles outlines) where
+  -- the puzzle is passed, since one that is alike is listed
+  pub passed_one : (is_spread : Bool) → (is_spread && list_any (same_outline outline) outlines) ≡ true → (is_spread ≡ true)
+      × ((listed : Puzzle) × Contains puzzles listed × AreLike table listed puzzle)
+  passed_one is_spread passed =
+      let parts = both is_spread _ passed in
+      (parts.0, some_like table (class_setup table.family puzzle.class) outline is.same puzzles outlines are parts.1)
+
+  -- it isn't passed, so that none is, where that is asked for
+  pub listed_one : (is_spread : Bool) → (is_spread && list_any (same_outline outline) outlines) ≡ false → is_spread ≡ true → (listed : Puzzle) → Contains puzzles listed
+      → ¬ AreLike table listed puzzle
+  listed_one true kept spread listed there = none_like table (class_setup table.family puzzle.class) outline is.same is.lions puzzles outlines are kept listed there
+  listed_one false kept spread listed there = absurd (true≢false (sym spread))
