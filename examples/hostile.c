@@ -1,9 +1,9 @@
-/* Asks a file for a position in each state that a caller may hand over: hostile FILE POSITION. Of the file the first n bytes are asked, for n from 0 to
-   its length; then all of it with one byte changed, for each byte of the first 32 and of the last; with a header that claims each other set; and for the
-   first n bytes of the position. It asks for the value, the moves into no room, into too little and into enough, and whether the file is
-   consistent; for the value and the moves by the index of the file's family too. Then the file is asked by the first n numbers of the index, by all of them
-   with one changed, and by the index of each other family; and for many texts at once, that end anywhere. Last comes the position with each of its numbers
-   changed: its text, its moves into as much room, what comes of each move and of moves with each of their numbers changed, its class, and that class's position.
+/* Asks a file for a position in each state that a caller may hand over: hostile FILE POSITION. Of the file the first n bytes are asked, for n from 0 to its
+   length; then all of it with one byte changed, for each byte of the first 32 and of the last; with a header that claims each other set; and for the first n
+   bytes of the position. It asks for the value, the moves into no room, into too little and into enough, and whether the file is consistent; for the value
+   and the moves by the index of the file's family too. Then the file is asked by the first n numbers of the index, by all of them with one changed, and by
+   the index of each other family; and for many texts at once, that end anywhere. Last comes the position with each of its numbers changed: its text, its
+   moves into as much room, what comes of each move and of moves with each of their numbers changed, its class, and that class's position.
 
    All that is handed over lies against a page that nobody may touch, once behind it and once before it. What a call reads can't be written, and of what it
    writes all else must stay as it was. So a call that touches what isn't its own ends the program with status 20, whatever the library was built by. Prints

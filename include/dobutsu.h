@@ -2,7 +2,8 @@
 
    Link with libdobutsu.a or libdobutsu.so. A call keeps nothing, starts no thread and touches no file: the bytes of a database's file are the caller's, read
    or mapped as a whole. Only dobutsu_moves, dobutsu_moves_by, dobutsu_steps, dobutsu_make, dobutsu_class_at, dobutsu_check and dobutsu_verify take memory, by
-   malloc and realloc, and give all back by free. Files of both formats are read. examples/search.c plays by these calls. Calls may be made by several threads at once, and none from a signal handler. Each pointer must be valid for as many items as its length says, aligned as its type is, and none may be
+   malloc and realloc, and give all back by free. Files of both formats are read. examples/search.c finds values by these calls. Calls may be made by several
+   threads at once, and none from a signal handler. Each pointer must be valid for as many items as its length says, aligned as its type is, and none may be
    null, also where a length is 0; what is written to is read and written by nobody else meanwhile, and a file's bytes stay as they are: where a mapped file
    is cut the system ends the program. */
 
@@ -70,7 +71,8 @@ enum { DOBUTSU_MOVER = 1, DOBUTSU_ENEMY = 6 };
    lost too). */
 enum { DOBUTSU_OPEN = 0, DOBUTSU_CAUGHT = 1, DOBUTSU_TRIED = 2, DOBUTSU_STUCK = 3 };
 
-/* A hint for how much room to give dobutsu_moves and dobutsu_steps: no position was seen to have more moves, but nothing proves it. What `count` says decides. */
+/* A hint for how much room to give dobutsu_moves and dobutsu_steps: no position was seen to have more moves, but nothing proves it. What `count` says
+   decides. */
 enum { DOBUTSU_MOST_MOVES = 38 };
 
 /* A value for the side to move: a kind, and in how many plies it can be forced at the least; 0 for a draw. */
@@ -181,10 +183,10 @@ uint64_t dobutsu_index_words(uint32_t chicks, uint32_t elephants, uint32_t giraf
    fewer than dobutsu_index_words says. It takes some hundredths of a second for two pieces of each kind. */
 uint32_t dobutsu_index(uint32_t chicks, uint32_t elephants, uint32_t giraffes, uint32_t profile, uint64_t *words, size_t words_len);
 
-/* What dobutsu_probe and dobutsu_moves give, by an index. With the index of the file's family as dobutsu_index wrote it the answers are just theirs, and right
-   where the file is the family's table. With any other numbers a call still returns and reads nothing outside of them. It answers the value of some record of the
-   file, or all moves by the values of such records; or a fault that dobutsu_probe may answer, or 29: where the first number isn't that of an index of the
-   file's family, where the third or how many there are isn't what it has, or where they lead outside of the file. */
+/* What dobutsu_probe and dobutsu_moves give, by an index. With the index of the file's family as dobutsu_index wrote it the answers are just theirs, and
+   right where the file is the family's table. With any other numbers a call still returns and reads nothing outside of them. It answers the value of some
+   record of the file, or all moves by the values of such records; or a fault that dobutsu_probe may answer, or 29: where the first number isn't that of an
+   index of the file's family, where the third or how many there are isn't what it has, or where they lead outside of the file. */
 uint32_t dobutsu_probe_by(const uint8_t *file, size_t file_len, const uint64_t *words, size_t words_len, const uint8_t *text, size_t text_len,
                           DobutsuValue *answer);
 uint32_t dobutsu_moves_by(const uint8_t *file, size_t file_len, const uint64_t *words, size_t words_len, const uint8_t *text, size_t text_len,
@@ -195,10 +197,10 @@ uint32_t dobutsu_moves_by(const uint8_t *file, size_t file_len, const uint64_t *
 uint32_t dobutsu_class_by(uint32_t chicks, uint32_t elephants, uint32_t giraffes, uint32_t profile, const uint64_t *words, size_t words_len,
                           const uint8_t *text, size_t text_len, uint64_t *class_number);
 
-/* What dobutsu_probe_by answers of many positions: the texts stand one behind the other in `texts`, and `ends` says for each where it ends and the next begins.
-   (A text that ends before it begins is empty, and what lies behind the bytes isn't there, so that any numbers may be given.) For each text, as far as there
-   are answers, the fault is written, and the value where that is 0; where it isn't the value is left as it was. Answers how many answers it has written: the less
-   of `ends_len` and `answers_len`. The others are left as they were. */
+/* What dobutsu_probe_by answers of many positions: the texts stand one behind the other in `texts`, and `ends` says for each where it ends and the next
+   begins. (A text that ends before it begins is empty, and what lies behind the bytes isn't there, so that any numbers may be given.) For each text, as far
+   as there are answers, the fault is written, and the value where that is 0; where it isn't the value is left as it was. Answers how many answers it has
+   written: the less of `ends_len` and `answers_len`. The others are left as they were. */
 uint64_t dobutsu_probe_many(const uint8_t *file, size_t file_len, const uint64_t *words, size_t words_len, const uint8_t *texts, size_t texts_len,
                             const uint64_t *ends, size_t ends_len, DobutsuAnswer *answers, size_t answers_len);
 
@@ -206,8 +208,8 @@ uint64_t dobutsu_probe_many(const uint8_t *file, size_t file_len, const uint64_t
 uint64_t dobutsu_probe_positions(const uint8_t *file, size_t file_len, const uint64_t *words, size_t words_len, const DobutsuPosition *positions,
                                  size_t positions_len, DobutsuAnswer *answers, size_t answers_len);
 
-/* ---- Positions, without a file. `profile` is 0 (A) or 1 (B). A call on a DobutsuPosition with a profile answers 27 where there is no such profile; else 2 where
-   a number of the board is above 10, 4 to 6 as of a text; else 26 where rules B don't let a chick stand where one does; and then writes nothing. */
+/* ---- Positions, without a file. `profile` is 0 (A) or 1 (B). A call on a DobutsuPosition with a profile answers 27 where there is no such profile; else 2
+   where a number of the board is above 10, 4 to 6 as of a text; else 26 where rules B don't let a chick stand where one does; and then writes nothing. */
 
 /* The position of a text. Answers 0 and writes it; or the text's fault, 1 to 6, and writes nothing. */
 uint32_t dobutsu_read(const uint8_t *text, size_t text_len, DobutsuPosition *position);
@@ -216,8 +218,8 @@ uint32_t dobutsu_read(const uint8_t *text, size_t text_len, DobutsuPosition *pos
 uint32_t dobutsu_write(const DobutsuPosition *position, DobutsuText *text);
 
 /* The status of a position, and its moves in the order of moves. Where the enemy lion can be caught there is its first catch alone, and no move where the
-   position is lost already. Answers 0, writes the status, how many moves there are, and the first of them, as many as there is room for; or a fault as above, or
-   23 where memory ran out, and writes nothing. */
+   position is lost already. Answers 0, writes the status, how many moves there are, and the first of them, as many as there is room for; or a fault as
+   above, or 23 where memory ran out, and writes nothing. */
 uint32_t dobutsu_steps(const DobutsuPosition *position, uint32_t profile, DobutsuStep *steps, size_t steps_len, uint64_t *count, uint32_t *status);
 
 /* The position after a move of an open position, as the side sees it that moves next. Answers 0 and writes it; or a fault as above, 28 where the position isn't
@@ -235,8 +237,8 @@ uint32_t dobutsu_class(const DobutsuPosition *position, uint32_t profile, uint64
 uint32_t dobutsu_class_at(uint32_t chicks, uint32_t elephants, uint32_t giraffes, uint32_t profile, uint64_t first, DobutsuPosition *positions,
                           size_t positions_len);
 
-/* The text of a fault, as the program prints it: "E7 OtherSet". The class that it prints behind 21 and 30 isn't there. Answers how many bytes the text has; 0 for a
-   number that is none of the faults above, whose text is empty. */
+/* The text of a fault, as the program prints it: "E7 OtherSet". The class that it prints behind 21 and 30 isn't there. Answers how many bytes the text has;
+   0 for a number that is none of the faults above, whose text is empty. */
 uint32_t dobutsu_fault_text(uint32_t fault, DobutsuText *text);
 
 /* The version, which is that of the program. */

@@ -7,7 +7,8 @@ enum { READ_PAST_FILE = 1, READ_PAST_INDEX, WRITE_PAST_MOVES, WRITE_FILE, READ_B
 uint32_t __real_dobutsu_probe(const uint8_t *, size_t, const uint8_t *, size_t, DobutsuValue *);
 uint32_t __real_dobutsu_probe_by(const uint8_t *, size_t, const uint64_t *, size_t, const uint8_t *, size_t, DobutsuValue *);
 uint32_t __real_dobutsu_moves(const uint8_t *, size_t, const uint8_t *, size_t, DobutsuMove *, size_t, uint64_t *);
-uint64_t __real_dobutsu_probe_many(const uint8_t *, size_t, const uint64_t *, size_t, const uint8_t *, size_t, const uint64_t *, size_t, DobutsuAnswer *, size_t);
+uint64_t __real_dobutsu_probe_many(const uint8_t *, size_t, const uint64_t *, size_t, const uint8_t *, size_t, const uint64_t *, size_t, DobutsuAnswer *,
+                                   size_t);
 uint32_t __real_dobutsu_write(const DobutsuPosition *, DobutsuText *);
 
 static volatile uint64_t seen;

@@ -5,6 +5,7 @@
     table["gle/.c./.C./ELG - -"]            # Value('loss', 78)
     table.moves("gle/.c./.C./ELG - -")      # each move with its value, best first
     table.line("gle/.c./.C./ELG - -")       # best play to the end
+    table.probe_many(texts)                 # each text's value or fault, many at once
     table.stats().longest_win               # (Value('win', 173), 'lgc/e../.../Lgc E -')
     for text, value in table.positions():   # each class, in the order of the file
         ...

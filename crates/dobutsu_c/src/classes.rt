@@ -13,9 +13,9 @@ use crate::positions::{DobutsuPosition, shown_position};
 use dob_classes::{Classes, class_number};
 use std::alloc::Global;
 
-/// The number of the position's class among those of its pieces by the profile of that number, 0 for A and 1 for B. It answers 0 and writes it, or a fault and
-/// writes nothing: 27 where there is no such profile, else 2 or 4 to 6 where the numbers are no position, else 26 where the profile doesn't allow it. It takes no
-/// memory, and some hundredths of a second for two pieces of each kind.
+/// The number of the position's class among those of its pieces by the profile of that number, 0 for A and 1 for B. It answers 0 and writes it, or a fault
+/// and writes nothing: 27 where there is no such profile, else 2 or 4 to 6 where the numbers are no position, else 26 where the profile doesn't allow it. It
+/// takes no memory, and some hundredths of a second for two pieces of each kind.
 #[unsafe(no_mangle)]
 pub extern "C" fn dobutsu_class(position: &DobutsuPosition, profile: u32, class: &mut u64) -> u32
     ensures told { result ≡ 0 → (family : AnyFamily) × (setup : AnySetup) × IsNumbersAsked position.now profile family setup × IsInClass family setup class.new }
@@ -32,8 +32,9 @@ pub extern "C" fn dobutsu_class(position: &DobutsuPosition, profile: u32, class:
 }
 
 /// The positions by which classes of a family stand, from the class of that number on, as many as there is room for. The family is that of so many chicks,
-/// elephants and giraffes by the profile of that number. It answers 0 and writes them all, or a fault and writes nothing: 25 and 27 as `dobutsu_count`, 33 where
-/// the family has too few classes, or 23 where memory runs out, of which it takes some millions of bytes for two pieces of each kind and gives all back.
+/// elephants and giraffes by the profile of that number. It answers 0 and writes them all, or a fault and writes nothing: 25 and 27 as `dobutsu_count`, 33
+/// where the family has too few classes, or 23 where memory runs out, of which it takes some millions of bytes for two pieces of each kind and gives all
+/// back.
 #[unsafe(no_mangle)]
 pub extern "C" fn dobutsu_class_at(
     alloc: Global,

@@ -34,8 +34,8 @@ pub extern "C" fn dobutsu_read(text: &[u8], position: &mut DobutsuPosition) -> u
     }
 }
 
-/// The text of the position of those numbers. It answers 0 and writes the text, or a fault and writes nothing: 2 where a number of the board stands for nothing,
-/// or 4 to 6 where what stands there is no position. It takes no memory.
+/// The text of the position of those numbers. It answers 0 and writes the text, or a fault and writes nothing: 2 where a number of the board stands for
+/// nothing, or 4 to 6 where what stands there is no position. It takes no memory.
 #[unsafe(no_mangle)]
 pub extern "C" fn dobutsu_write(position: &DobutsuPosition, text: &mut DobutsuText) -> u32
     ensures told { result ≡ 0 → (setup : AnySetup) × IsLegal setup × IsShown position.now setup × IsText text.new (text_of setup) }

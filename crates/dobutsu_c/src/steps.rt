@@ -20,7 +20,8 @@ use dob_pieces::Memory;
 use std::alloc::Global;
 
 /// A move: a step of a piece of that kind from one square to another, or where it comes from 12 a drop. Chick 0, elephant 1, giraffe 2, hen 3, lion 4, as the
-/// piece was before; square a1 is 0, b1 1, c1 2, a2 3 and so on to c4, 11. `catches` is 1 where a piece is caught and `grows` where a chick becomes a hen, else 0.
+/// piece was before; square a1 is 0, b1 1, c1 2, a2 3 and so on to c4, 11. `catches` is 1 where a piece is caught and `grows` where a chick becomes a hen,
+/// else 0.
 #[repr(C)]
 #[derive(Clone, Copy)]
 pub struct DobutsuStep {
@@ -49,6 +50,7 @@ pub extern "C" fn dobutsu_steps(
     ensures status { result ≡ 0 → (family : AnyFamily) × (setup : AnySetup) × (of : AnyStatus) × IsNumbersAsked position.now profile family setup
         × HasStatus family.profile setup of × (status_is.new ≡ status_number of) }
     ensures refused { result ≢ 0 → (result ≡ 23) ⊎ IsRefused position.now profile result }
+    ensures memory { result ≡ 23 → (family : AnyFamily) × (setup : AnySetup) × IsNumbersAsked position.now profile family setup }
     ensures unchanged { result ≢ 0 → (steps.new ≡ steps.old) × (count.new ≡ count.old) × (status_is.new ≡ status_is.old) }
 {
     let asked = match ask_numbers(position, profile) {
@@ -82,6 +84,7 @@ pub extern "C" fn dobutsu_make(
     ensures none { result ≡ 28 → (family : AnyFamily) × (setup : AnySetup) × IsNumbersAsked position.now profile family setup
         × ((the_move : AnyMove) → HasStatus family.profile setup Open → CanGo family.profile setup the_move → shown_step the_move ≢ step.now) }
     ensures refused { result ≢ 0 → result ≢ 28 → (result ≡ 23) ⊎ IsRefused position.now profile result }
+    ensures memory { result ≡ 23 → (family : AnyFamily) × (setup : AnySetup) × IsNumbersAsked position.now profile family setup }
     ensures unchanged { result ≢ 0 → after.new ≡ after.old }
 {
     let asked = match ask_numbers(position, profile) {
