@@ -29,6 +29,9 @@ text_at texts ends place = take (get_or ends place 0 - start_at ends place) (dro
 -- The answer of a position's text: with the index of the file's family the value or the fault that the text has without one, where the value is right by the
 -- file of a value table; and with any numbers what is told by them. A fault leaves the value as it was.
 pub record IsAnswer (file : List ℕ) (by : Numbering) (text : List ℕ) (old new : DobutsuAnswer) : Type 0 where
+  pub told : IsIndexFor file by → (value : Value) → IsTold file text value → (new.fault ≡ 0) × (new.value ≡ shown value)
+  pub fault : IsIndexFor file by → (fault : Fault) → HasProbeFault file text fault → new.fault ≡ fault_number fault
+  pub right : IsIndexFor file by → (table : ClassTable) (setup : Setup) → IsFile file table → IsValueTable table.family table.values
       → IsTextOf text setup → new.fault ≡ 0 → (value : Value) × HasValue table.family.profile setup value × (new.value ≡ shown value)
   pub told_by : new.fault ≡ 0 → (value : Value) × IsToldBy file text by value × (new.value ≡ shown value)
   pub refused_by : new.fault ≢ 0 → (fault : ByFault) × HasByFault file text by fault × (new.fault ≡ number_by fault)
