@@ -10,6 +10,7 @@ use Rattle.dob_value.specs.declared.value.Value.{Value}
 use Rattle.dobutsu_c.specs.declared.by_index.ByFault.{ByFault}
 use Rattle.dobutsu_c.specs.declared.many.DobutsuAnswer.{DobutsuAnswer}
 use Rattle.dobutsu_c.specs.declared.positions.DobutsuPosition.{DobutsuPosition}
+use Rattle.dobutsu_c.specs.declared.numbering.Numbering.{Numbering}
 use Rattle.dobutsu_c.specs.ByIndex.{IsToldBy, HasByFault, number_by}
 use Rattle.dobutsu_c.specs.Many.{IsAnswer, start_at}
 use Rattle.dobutsu_c.specs.Positions.{IsShown}
@@ -17,25 +18,25 @@ use Rattle.dobutsu_c.specs.Probes.{shown}
 use Rattle.dobutsu_c.proofs.Exact.{no_fault, one_told, told_right}
 use Rattle.dobutsu_c.proofs.Indexed.{told_by_right, no_fault_by, one_fault_by}
 
-pub answered : (file index text : List ℕ) (old new : DobutsuAnswer) (probed : Result Value ByFault)
-    → MatchResult probed (IsToldBy file text index) (HasByFault file text index)
+pub answered : (file : List ℕ) (by : Numbering) (text : List ℕ) (old new : DobutsuAnswer) (probed : Result Value ByFault)
+    → MatchResult probed (IsToldBy file text by) (HasByFault file text by)
     → MatchResult probed (λ value. (new.fault ≡ 0) × (new.value ≡ shown value))
     (λ fault. (new.fault ≡ number_by fault) × (new.fault ≢ 0) × (new.value ≡ old.value))
-    → IsAnswer file index text old new
-answered file index text old new (Ok value) is new_is = record {
-  told = λ for v at. (new_is.0, new_is.1 ∙ ap shown (one_told file text value v (told_by_right file text index value for is) at));
+    → IsAnswer file by text old new
+answered file by text old new (Ok value) is new_is = record {
+  told = λ for v at. (new_is.0, new_is.1 ∙ ap shown (one_told file text value v (told_by_right file text by value for is) at));
   fault = λ for f holds.
-      let told = told_by_right file text index value for is in
+      let told = told_by_right file text by value for is in
       absurd (no_fault file text told.0 told.1 told.2 f told.3 holds);
   right = λ for table setup file_is right named none.
-      (value, told_right file text table setup value file_is right named (told_by_right file text index value for is), new_is.1);
+      (value, told_right file text table setup value file_is right named (told_by_right file text by value for is), new_is.1);
   told_by = λ none. (value, is, new_is.1);
   refused_by = λ some. absurd (some new_is.0);
   unchanged = λ some. absurd (some new_is.0);
 }
-answered file index text old new (Err fault) is new_is = record {
-  told = λ for v at. absurd (no_fault_by file text index at.0 at.1 at.2 fault for at.3 is);
-  fault = λ for f holds. new_is.0 ∙ one_fault_by file text index fault f for is holds;
+answered file by text old new (Err fault) is new_is = record {
+  told = λ for v at. absurd (no_fault_by file text by at.0 at.1 at.2 fault for at.3 is);
+  fault = λ for f holds. new_is.0 ∙ one_fault_by file text by fault f for is holds;
   right = λ for table setup file_is right named none. absurd (new_is.1 none);
   told_by = λ none. absurd (new_is.1 none);
   refused_by = λ some. (fault, is, new_is.0);

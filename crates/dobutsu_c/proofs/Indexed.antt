@@ -9,7 +9,7 @@ use Rattle.dob_rank.specs.Families.{family_of, classes_of}
 use Rattle.dob_rank.proofs.OfFamilies.ClassBounds.{classes_of-below}
 use Rattle.dob_rank.proofs.Positions.Sets.{same_numbers}
 use Rattle.dob_value.specs.declared.value.Value.{Value}
-use Rattle.dob_index.specs.Index.{IsIndex, IsMarked}
+use Rattle.dob_index.specs.Index.{IsIndex}
 use Rattle.dob_dbfile.specs.declared.header.Format.{Format}
 use Rattle.dob_dbfile.specs.declared.header.Format.TheVariants.{First, Second}
 use Rattle.dob_dbfile.specs.Devices.{whole}
@@ -17,6 +17,8 @@ use Rattle.dob_dbfile.specs.Format.{count_bytes}
 use Rattle.dob_dbfile.specs.Faults.{NamesFamily, IsNoLonger, count_place, header_len}
 use Rattle.dob_dbfile.proofs.Places.{same_head}
 use Rattle.dobutsu_c.specs.declared.fault.Fault.TheVariants.{Text, File, FarChick, OtherSet}
+use Rattle.dobutsu_c.specs.declared.numbering.Numbering.{Numbering}
+use Rattle.dobutsu_c.specs.declared.numbering.Numbering.TheVariants as numbering
 use Rattle.dobutsu_c.specs.declared.by_index.ByFault.{ByFault}
 use Rattle.dobutsu_c.specs.declared.by_index.ByFault.TheVariants.{Asked, Index}
 use Rattle.dob_numbers.specs.Profiles.{profile_number}
@@ -24,7 +26,7 @@ use Rattle.dobutsu_c.specs.Counts.{IsFamily}
 use Rattle.dobutsu_c.specs.declared.fault.Fault.{Fault}
 use Rattle.dobutsu_c.specs.Faults.{fault_number}
 use Rattle.dobutsu_c.specs.Probes.{IsTextOf, AreRead, IsAsked, IsGiven, IsTold, HasProbeFault}
-use Rattle.dobutsu_c.specs.ByIndex.{IsIndexFor, IsLongFor, IsHeldBy, IsAskedBy, IsGivenBy, AreNoIndex, IsToldBy, HasByFault, HasFileFault, HasHeldFault, number_by}
+use Rattle.dobutsu_c.specs.ByIndex.{IsRight, IsMarkedBy, IsIndexFor, IsLongFor, IsHeldBy, IsAskedBy, IsGivenBy, AreNoIndex, IsToldBy, HasByFault, HasFileFault, HasHeldFault, number_by}
 use Rattle.dobutsu_c.proofs.Exact.{no_text_fault, no_file_fault, no_fault, one_fault}
 
 -- ---- one family has those numbers
@@ -44,6 +46,15 @@ one_family chicks elephants giraffes profile f g is also =
 
 -- ---- what is held
 
+-- a count is right of each family
+pub all_counted : (file : List ℕ) → IsIndexFor file numbering.Counted
+all_counted file format family named = tt
+
+-- what is right is marked
+right_marked : (by : Numbering) (family : Family) → IsRight by family → IsMarkedBy by family
+right_marked numbering.Counted family is = is
+right_marked (numbering.Index words) family is = is.marked
+
 -- the classes that an index counts are those of its family
 pub counted : (family : Family) (index : List ℕ) (classes : ℕ) → (get_or index 1 0 ≤ 2 ^ 42 → classes ≡ get_or index 1 0) → IsIndex family index
     → classes ≡ classes_of family
@@ -52,10 +63,10 @@ counted family index classes read is =
     let count = is.count_is in
     read (omega (arith, below, count)) ∙ count
 
-pub held_right : (file index : List ℕ) (format : Format) (family : Family) (classes : ℕ) → NamesFamily format family file
+pub held_right : (file : List ℕ) (by : Numbering) (format : Format) (family : Family) (classes : ℕ) → NamesFamily format family file
     → take 8 (drop (count_place format) file) ≡ count_bytes classes → length file ≡ header_len format + 2 * classes + 32 → classes ≡ classes_of family
     → (classes ≡ classes_of family) × IsNoLonger format family (whole file)
-held_right file index format family classes named bytes long is =
+held_right file by format family classes named bytes long is =
     (is, (((named, bytes ∙ ap count_bytes is), omega (arith, long, is)), omega (arith, long, is)))
 
 -- a file of a family is as long as its classes need, which half of what is left of its length are
@@ -82,13 +93,13 @@ both found x none some = (let e : (let o : Option _ = None in o) ≡ Some x = sy
 
 -- ---- what is asked
 
-pub by_file : (file text index : List ℕ) (setup : Setup) (fault : ByFault) → IsTextOf text setup → HasHeldFault file index fault
-    → HasByFault file text index fault
-by_file file text index setup (Asked (File fault)) named is = (setup, named, is.0, is.1)
-by_file file text index setup (Asked (Text fault)) named is = absurd is
-by_file file text index setup (Asked FarChick) named is = absurd is
-by_file file text index setup (Asked OtherSet) named is = absurd is
-by_file file text index setup Index named is = (
+pub by_file : (file text : List ℕ) (by : Numbering) (setup : Setup) (fault : ByFault) → IsTextOf text setup → HasHeldFault file by fault
+    → HasByFault file text by fault
+by_file file text by setup (Asked (File fault)) named is = (setup, named, is.0, is.1)
+by_file file text by setup (Asked (Text fault)) named is = absurd is
+by_file file text by setup (Asked FarChick) named is = absurd is
+by_file file text by setup (Asked OtherSet) named is = absurd is
+by_file file text by setup Index named is = (
   is.0,
   is.1,
   setup,
@@ -99,88 +110,88 @@ by_file file text index setup Index named is = (
   ],
 )
 
-pub by_file_fault : (file index : List ℕ) (fault : ByFault) → HasFileFault file fault
-    → ((format : Format) (family : Family) → IsNoLonger format family (whole file) → IsIndex family index → ⊥) → HasHeldFault file index fault
-by_file_fault file index (Asked (File fault)) is wrong = is
-by_file_fault file index (Asked (Text fault)) is wrong = absurd is
-by_file_fault file index (Asked FarChick) is wrong = absurd is
-by_file_fault file index (Asked OtherSet) is wrong = absurd is
-by_file_fault file index Index is wrong = (is.0, is.1, inr (is.2, wrong is.0 is.1 is.2))
+pub by_file_fault : (file : List ℕ) (by : Numbering) (fault : ByFault) → HasFileFault file fault
+    → ((format : Format) (family : Family) → IsNoLonger format family (whole file) → IsRight by family → ⊥) → HasHeldFault file by fault
+by_file_fault file by (Asked (File fault)) is wrong = is
+by_file_fault file by (Asked (Text fault)) is wrong = absurd is
+by_file_fault file by (Asked FarChick) is wrong = absurd is
+by_file_fault file by (Asked OtherSet) is wrong = absurd is
+by_file_fault file by Index is wrong = (is.0, is.1, inr (is.2, wrong is.0 is.1 is.2))
 
-pub read_by : (file text index : List ℕ) (format : Format) (family : Family) (classes : ℕ) (setup : Setup) → IsIndexFor file index → IsTextOf text setup
-    → IsHeldBy file index format family classes → AreRead file text format family setup
-read_by file text index format family classes setup for named held = (named, (held.right (for format family held.named)).1)
+pub read_by : (file text : List ℕ) (by : Numbering) (format : Format) (family : Family) (classes : ℕ) (setup : Setup) → IsIndexFor file by → IsTextOf text setup
+    → IsHeldBy file by format family classes → AreRead file text format family setup
+read_by file text by format family classes setup for named held = (named, (held.right (for format family held.named)).1)
 
-pub asked_by : (file text index : List ℕ) (format : Format) (family : Family) (classes : ℕ) (setup : Setup) → IsIndexFor file index
-    → IsAskedBy file text index format family classes setup → IsAsked file text format family setup
-asked_by file text index format family classes setup for is = (read_by file text index format family classes setup for is.named is.held, is.member)
+pub asked_by : (file text : List ℕ) (by : Numbering) (format : Format) (family : Family) (classes : ℕ) (setup : Setup) → IsIndexFor file by
+    → IsAskedBy file text by format family classes setup → IsAsked file text format family setup
+asked_by file text by format family classes setup for is = (read_by file text by format family classes setup for is.named is.held, is.member)
 
-pub given_by : (file index : List ℕ) (format : Format) (family : Family) (classes : ℕ) (setup : Setup) (value : Value) → IsIndex family index
-    → IsGivenBy file index format family classes setup value → IsGiven file format family setup value
-given_by file index format family classes setup value index_is given = (given.class, given.right index_is, given.read)
+pub given_by : (file : List ℕ) (by : Numbering) (format : Format) (family : Family) (classes : ℕ) (setup : Setup) (value : Value) → IsRight by family
+    → IsGivenBy file by format family classes setup value → IsGiven file format family setup value
+given_by file by format family classes setup value index_is given = (given.class, given.right index_is, given.read)
 
 -- what is told by the index of the family is what is told without one
-pub told_by_right : (file text index : List ℕ) (value : Value) → IsIndexFor file index → IsToldBy file text index value → IsTold file text value
-told_by_right file text index value for is = (
+pub told_by_right : (file text : List ℕ) (by : Numbering) (value : Value) → IsIndexFor file by → IsToldBy file text by value → IsTold file text value
+told_by_right file text by value for is = (
   is.0,
   is.1,
   is.3,
-  asked_by file text index is.0 is.1 is.2 is.3 for is.4,
-  given_by file index is.0 is.1 is.2 is.3 value (for is.0 is.1 is.4.held.named) is.5,
+  asked_by file text by is.0 is.1 is.2 is.3 for is.4,
+  given_by file by is.0 is.1 is.2 is.3 value (for is.0 is.1 is.4.held.named) is.5,
 )
 
 -- ---- faults
 
 -- the numbers are no index of the family that the file names
-no_index : (file index : List ℕ) (format : Format) (family : Family) (setup : Setup) → IsIndexFor file index → AreNoIndex file index format family setup → ⊥
-no_index file index format family setup for wrong = elim wrong [
-  | inl unmarked ↦ unmarked.0 (for format family unmarked.2.named).marked
+no_index : (file : List ℕ) (by : Numbering) (format : Format) (family : Family) (setup : Setup) → IsIndexFor file by → AreNoIndex file by format family setup → ⊥
+no_index file by format family setup for wrong = elim wrong [
+  | inl unmarked ↦ unmarked.0 (right_marked by family (for format family unmarked.2.named))
   | inr none ↦ none.0 (elim none.1 [
     | inl read ↦ for format family read.0.0.0
     | inr fits ↦ for format family fits.1.named
   ])
 ]
 
-pub some_fault_by : (file text index : List ℕ) (given : ByFault) → IsIndexFor file index → HasByFault file text index given
+pub some_fault_by : (file text : List ℕ) (by : Numbering) (given : ByFault) → IsIndexFor file by → HasByFault file text by given
     → (fault : Fault) × HasProbeFault file text fault × (number_by given ≡ fault_number fault)
-some_fault_by file text index (Asked (Text fault)) for is = (Text fault, is, refl)
-some_fault_by file text index (Asked (File fault)) for is = (File fault, is, refl)
-some_fault_by file text index (Asked FarChick) for is =
-    (FarChick, (is.0, is.1, is.3, read_by file text index is.0 is.1 is.2 is.3 for is.4.0 is.4.1, is.5), refl)
-some_fault_by file text index (Asked OtherSet) for is =
-    (OtherSet, (is.0, is.1, is.3, read_by file text index is.0 is.1 is.2 is.3 for is.4.0 is.4.1, is.5, is.6), refl)
-some_fault_by file text index Index for is = absurd (no_index file index is.0 is.1 is.2 for is.4)
+some_fault_by file text by (Asked (Text fault)) for is = (Text fault, is, refl)
+some_fault_by file text by (Asked (File fault)) for is = (File fault, is, refl)
+some_fault_by file text by (Asked FarChick) for is =
+    (FarChick, (is.0, is.1, is.3, read_by file text by is.0 is.1 is.2 is.3 for is.4.0 is.4.1, is.5), refl)
+some_fault_by file text by (Asked OtherSet) for is =
+    (OtherSet, (is.0, is.1, is.3, read_by file text by is.0 is.1 is.2 is.3 for is.4.0 is.4.1, is.5, is.6), refl)
+some_fault_by file text by Index for is = absurd (no_index file by is.0 is.1 is.2 for is.4)
 
-pub no_fault_by : (file text index : List ℕ) (format : Format) (family : Family) (setup : Setup) (given : ByFault) → IsIndexFor file index
-    → IsAsked file text format family setup → HasByFault file text index given → ⊥
-no_fault_by file text index format family setup given for asked wrong =
-    let some = some_fault_by file text index given for wrong in
+pub no_fault_by : (file text : List ℕ) (by : Numbering) (format : Format) (family : Family) (setup : Setup) (given : ByFault) → IsIndexFor file by
+    → IsAsked file text format family setup → HasByFault file text by given → ⊥
+no_fault_by file text by format family setup given for asked wrong =
+    let some = some_fault_by file text by given for wrong in
     no_fault file text format family setup some.0 asked some.1
 
-pub one_fault_by : (file text index : List ℕ) (given : ByFault) (fault : Fault) → IsIndexFor file index → HasByFault file text index given
+pub one_fault_by : (file text : List ℕ) (by : Numbering) (given : ByFault) (fault : Fault) → IsIndexFor file by → HasByFault file text by given
     → HasProbeFault file text fault → number_by given ≡ fault_number fault
-one_fault_by file text index given fault for is holds =
-    let some = some_fault_by file text index given for is in
+one_fault_by file text by given fault for is holds =
+    let some = some_fault_by file text by given for is in
     some.2 ∙ ap fault_number (one_fault file text some.0 fault some.1 holds)
 
 -- ---- numbers that aren't marked as an index of the file's family
 
 -- the family that a file names is the one that it is held by
-marked_by : (file index : List ℕ) (format f : Format) (family g : Family) (classes : ℕ) → IsHeldBy file index format family classes → NamesFamily f g file
-    → (IsMarked g index → ⊥) → ⊥
-marked_by file index format f family g classes held names wrong =
-    wrong (subst (λ (p : Family). IsMarked p index) (same_head format f family g file held.named names).1 held.marked)
+marked_by : (file : List ℕ) (by : Numbering) (format f : Format) (family g : Family) (classes : ℕ) → IsHeldBy file by format family classes → NamesFamily f g file
+    → (IsMarkedBy by g → ⊥) → ⊥
+marked_by file by format f family g classes held names wrong =
+    wrong (subst (λ (p : Family). IsMarkedBy by p) (same_head format f family g file held.named names).1 held.marked)
 
-pub not_unmarked : (file text index : List ℕ) (format f : Format) (family g : Family) (classes : ℕ) (s : Setup)
-    → IsHeldBy file index format family classes → AreRead file text f g s → (IsMarked g index → ⊥) → ⊥
-not_unmarked file text index format f family g classes s held read wrong = marked_by file index format f family g classes held read.1.0.0.0 wrong
+pub not_unmarked : (file text : List ℕ) (by : Numbering) (format f : Format) (family g : Family) (classes : ℕ) (s : Setup)
+    → IsHeldBy file by format family classes → AreRead file text f g s → (IsMarkedBy by g → ⊥) → ⊥
+not_unmarked file text by format f family g classes s held read wrong = marked_by file by format f family g classes held read.1.0.0.0 wrong
 
-pub unmarked_fault : (file text index : List ℕ) (format : Format) (family : Family) (setup : Setup) (given : ByFault)
-    → AreRead file text format family setup → (IsMarked family index → ⊥) → HasByFault file text index given → number_by given ≡ 29
-unmarked_fault file text index format family setup (Asked (Text fault)) read wrong is = absurd (no_text_fault text setup fault read.0 is)
-unmarked_fault file text index format family setup (Asked (File fault)) read wrong is = absurd (no_file_fault file format family fault read.1 is.2 is.3)
-unmarked_fault file text index format family setup (Asked FarChick) read wrong is =
-    absurd (marked_by file index is.0 format is.1 family is.2 is.4.1 read.1.0.0.0 wrong)
-unmarked_fault file text index format family setup (Asked OtherSet) read wrong is =
-    absurd (marked_by file index is.0 format is.1 family is.2 is.4.1 read.1.0.0.0 wrong)
-unmarked_fault file text index format family setup Index read wrong is = refl
+pub unmarked_fault : (file text : List ℕ) (by : Numbering) (format : Format) (family : Family) (setup : Setup) (given : ByFault)
+    → AreRead file text format family setup → (IsMarkedBy by family → ⊥) → HasByFault file text by given → number_by given ≡ 29
+unmarked_fault file text by format family setup (Asked (Text fault)) read wrong is = absurd (no_text_fault text setup fault read.0 is)
+unmarked_fault file text by format family setup (Asked (File fault)) read wrong is = absurd (no_file_fault file format family fault read.1 is.2 is.3)
+unmarked_fault file text by format family setup (Asked FarChick) read wrong is =
+    absurd (marked_by file by is.0 format is.1 family is.2 is.4.1 read.1.0.0.0 wrong)
+unmarked_fault file text by format family setup (Asked OtherSet) read wrong is =
+    absurd (marked_by file by is.0 format is.1 family is.2 is.4.1 read.1.0.0.0 wrong)
+unmarked_fault file text by format family setup Index read wrong is = refl

@@ -14,11 +14,11 @@ use Rattle.dob_moves.proofs.ByProfile.{goes}
 use Rattle.dob_moves.proofs.Outcomes.{HasOutcome-is}
 use Rattle.dob_rank.specs.Families.{IsPositionOf}
 use Rattle.dob_value.specs.declared.value.Value.{Value}
-use Rattle.dob_index.specs.Index.{IsIndex}
 use Rattle.dob_dbfile.specs.declared.header.Format.{Format}
 use Rattle.dob_probe.specs.declared.by_value.ValuedMove.{ValuedMove}
 use Rattle.dob_probe.specs.ValuedMoves.{AreValuedMoves, ComesBefore, HasMoveValue, seen_from_before}
-use Rattle.dobutsu_c.specs.ByIndex.{IsGivenBy}
+use Rattle.dobutsu_c.specs.declared.numbering.Numbering.{Numbering}
+use Rattle.dobutsu_c.specs.ByIndex.{IsRight, IsGivenBy}
 use Rattle.dobutsu_c.specs.Moves.{AreMovesBy}
 use Rattle.dobutsu_c.specs.Probes.{IsGiven}
 use Rattle.dobutsu_c.proofs.Exact.{one_given}
@@ -117,10 +117,10 @@ more_listed profile Has p the_moves upto list new more value here goes_on can_go
         let one : place a.the_move ≡ place more.the_move = ap place (same ∙ ap (λ (x : ValuedMove). x.the_move) last) in
         omega (arith, rising, one)
 
-module _ (file index : List ℕ) (format : Format) (family : Family) (classes : ℕ) (setup : Setup) where
+module _ (file : List ℕ) (by : Numbering) (format : Format) (family : Family) (classes : ℕ) (setup : Setup) where
   pub all_listed : (the_moves : List Move) (upto : ℕ) (list : List ValuedMove) → (CanCatch setup → ⊥) → AreMoves family.profile setup the_moves
-      → length the_moves ≤ upto → AreListedBy family.profile (IsGivenBy file index format family classes) setup the_moves upto list → AllPairs ComesBefore list
-      → AreMovesBy file index format family classes setup list
+      → length the_moves ≤ upto → AreListedBy family.profile (IsGivenBy file by format family classes) setup the_moves upto list → AllPairs ComesBefore list
+      → AreMovesBy file by format family classes setup list
   all_listed the_moves upto list free are all listed ordered = record {
     sound = λ valued there. inr (listed.sound valued there);
     caught = λ catch. absurd (free catch);
@@ -135,7 +135,7 @@ module _ (file index : List ℕ) (format : Format) (family : Family) (classes : 
   }
 
   -- by the index of the family they are the moves by what the file gives
-  pub right_moves : IsIndex family index → IsPositionOf family setup → (list : List ValuedMove) → AreMovesBy file index format family classes setup list
+  pub right_moves : IsRight by family → IsPositionOf family setup → (list : List ValuedMove) → AreMovesBy file by format family classes setup list
       → AreValuedMoves family.profile (IsGiven file format family) setup list
   right_moves index_is member list are = record {
     sound = λ valued there. elim (are.sound valued there) [
@@ -151,7 +151,7 @@ module _ (file index : List ℕ) (format : Format) (family : Family) (classes : 
               let goes : Goes family.profile setup valued.the_move found.outcome =
               subst (λ (m : Move). Goes family.profile setup m found.outcome) known.2 found.goes in
               let outcome : found.outcome ≡ has.outcome = one_outcome valued.the_move found.outcome has.outcome goes has.goes in
-              let given = given_by file index format family classes found.outcome found.value index_is found.has in
+              let given = given_by file by format family classes found.outcome found.value index_is found.has in
               let value : found.value ≡ has.value = one_given file format family has.outcome found.value has.value
               (subst (λ (q : Setup). IsGiven file format family q found.value) outcome given) has.has in
               let same : known.0 ≡ valued = same_valued known.0 valued known.2 (found.seen ∙ ap seen_from_before value ∙ sym has.seen) in
@@ -160,14 +160,14 @@ module _ (file index : List ℕ) (format : Format) (family : Family) (classes : 
     ordered = are.ordered;
   }
     where
-      by_file : (valued : ValuedMove) → HasMoveValue family.profile (IsGivenBy file index format family classes) setup valued
+      by_file : (valued : ValuedMove) → HasMoveValue family.profile (IsGivenBy file by format family classes) setup valued
           → HasMoveValue family.profile (IsGiven file format family) setup valued
       by_file valued has = record {
         goes_on = has.goes_on;
         outcome = has.outcome;
         goes = has.goes;
         value = has.value;
-        has = given_by file index format family classes has.outcome has.value index_is has.has;
+        has = given_by file by format family classes has.outcome has.value index_is has.has;
         seen = has.seen;
       }
 

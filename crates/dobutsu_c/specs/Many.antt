@@ -9,6 +9,7 @@ use Rattle.dob_value.specs.Values.{HasValue}
 use Rattle.dob_dbfile.specs.Format.{IsFile}
 use Rattle.dobutsu_c.specs.declared.by_index.ByFault.{ByFault}
 use Rattle.dobutsu_c.specs.declared.fault.Fault.{Fault}
+use Rattle.dobutsu_c.specs.declared.numbering.Numbering.{Numbering}
 use Rattle.dobutsu_c.specs.declared.many.DobutsuAnswer.{DobutsuAnswer}
 use Rattle.dobutsu_c.specs.declared.positions.DobutsuPosition.{DobutsuPosition}
 use Rattle.dobutsu_c.specs.declared.positions.NumbersFault.{NumbersFault}
@@ -27,28 +28,28 @@ text_at texts ends place = take (get_or ends place 0 - start_at ends place) (dro
 
 -- The answer of a position's text: with the index of the file's family the value or the fault that the text has without one, where the value is right by the
 -- file of a value table; and with any numbers what is told by them. A fault leaves the value as it was.
-pub record IsAnswer (file index text : List ℕ) (old new : DobutsuAnswer) : Type 0 where
-  pub told : IsIndexFor file index → (value : Value) → IsTold file text value → (new.fault ≡ 0) × (new.value ≡ shown value)
-  pub fault : IsIndexFor file index → (fault : Fault) → HasProbeFault file text fault → new.fault ≡ fault_number fault
-  pub right : IsIndexFor file index → (table : ClassTable) (setup : Setup) → IsFile file table → IsValueTable table.family table.values
+pub record IsAnswer (file : List ℕ) (by : Numbering) (text : List ℕ) (old new : DobutsuAnswer) : Type 0 where
+  pub told : IsIndexFor file by → (value : Value) → IsTold file text value → (new.fault ≡ 0) × (new.value ≡ shown value)
+  pub fault : IsIndexFor file by → (fault : Fault) → HasProbeFault file text fault → new.fault ≡ fault_number fault
+  pub right : IsIndexFor file by → (table : ClassTable) (setup : Setup) → IsFile file table → IsValueTable table.family table.values
       → IsTextOf text setup → new.fault ≡ 0 → (value : Value) × HasValue table.family.profile setup value × (new.value ≡ shown value)
-  pub told_by : new.fault ≡ 0 → (value : Value) × IsToldBy file text index value × (new.value ≡ shown value)
-  pub refused_by : new.fault ≢ 0 → (fault : ByFault) × HasByFault file text index fault × (new.fault ≡ number_by fault)
+  pub told_by : new.fault ≡ 0 → (value : Value) × IsToldBy file text by value × (new.value ≡ shown value)
+  pub refused_by : new.fault ≢ 0 → (fault : ByFault) × HasByFault file text by fault × (new.fault ≡ number_by fault)
   pub unchanged : new.fault ≢ 0 → new.value ≡ old.value
 
 -- each of the first texts has its answer, and the other places hold what they held
-pub record AreAnswers (file index texts ends : List ℕ) (old new : List DobutsuAnswer) : Type 0 where
+pub record AreAnswers (file : List ℕ) (by : Numbering) (texts ends : List ℕ) (old new : List DobutsuAnswer) : Type 0 where
   pub answers : (place : ℕ) (e : DobutsuAnswer) → place < length ends → place < length new
-      → IsAnswer file index (text_at texts ends place) (get_or old place e) (get_or new place e)
+      → IsAnswer file by (text_at texts ends place) (get_or old place e) (get_or new place e)
   pub others : (place : ℕ) (e : DobutsuAnswer) → length ends ≤ place → get_or new place e ≡ get_or old place e
 
 -- The answer of a position by its numbers: that of its text; or why they are none, and the value as it was.
-abbrev pub IsAnswerAt : List ℕ → List ℕ → DobutsuPosition → DobutsuAnswer → DobutsuAnswer → Type 0
-IsAnswerAt file index numbers old new =
-    ((setup : Setup) × IsLegal setup × IsShown numbers setup × IsAnswer file index (text_of setup) old new)
+abbrev pub IsAnswerAt : List ℕ → Numbering → DobutsuPosition → DobutsuAnswer → DobutsuAnswer → Type 0
+IsAnswerAt file by numbers old new =
+    ((setup : Setup) × IsLegal setup × IsShown numbers setup × IsAnswer file by (text_of setup) old new)
     ⊎ ((fault : NumbersFault) × HasNumbersFault numbers fault × (new.fault ≡ numbers_fault fault) × (new.value ≡ old.value))
 
-pub record AreAnswersAt (file index : List ℕ) (positions : List DobutsuPosition) (old new : List DobutsuAnswer) : Type 0 where
+pub record AreAnswersAt (file : List ℕ) (by : Numbering) (positions : List DobutsuPosition) (old new : List DobutsuAnswer) : Type 0 where
   pub answers : (place : ℕ) (d : DobutsuPosition) (e : DobutsuAnswer) → place < length positions → place < length new
-      → IsAnswerAt file index (get_or positions place d) (get_or old place e) (get_or new place e)
+      → IsAnswerAt file by (get_or positions place d) (get_or old place e) (get_or new place e)
   pub others : (place : ℕ) (e : DobutsuAnswer) → length positions ≤ place → get_or new place e ≡ get_or old place e

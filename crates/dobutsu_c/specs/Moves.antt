@@ -13,8 +13,10 @@ use Rattle.dob_numbers.specs.Moves.{move_numbers}
 use Rattle.dob_probe.specs.declared.by_value.ValuedMove.{ValuedMove}
 use Rattle.dob_probe.specs.ValuedMoves.{AreValuedMoves, ComesBefore, HasMoveValue, IsWinningCatch}
 use Rattle.dobutsu_c.specs.declared.moves.DobutsuMove.{DobutsuMove}
+use Rattle.dobutsu_c.specs.declared.by_index.ByFault.{ByFault}
+use Rattle.dobutsu_c.specs.declared.numbering.Numbering.{Numbering}
 use Rattle.dobutsu_c.specs.declared.value.DobutsuValue.{DobutsuValue}
-use Rattle.dobutsu_c.specs.ByIndex.{IsAskedBy, IsGivenBy}
+use Rattle.dobutsu_c.specs.ByIndex.{IsAskedBy, IsGivenBy, HasByFault, number_by}
 use Rattle.dobutsu_c.specs.Probes.{IsAsked, IsGiven, shown}
 
 -- the numbers of a move and a value as one
@@ -40,15 +42,20 @@ AreToldMoves file text list = (format : Format) × (family : Family) × (setup :
 
 -- What any numbers give of a position's moves: of an open position each move once, with a value that a record of the file gives what it leads to, best first and
 -- equal ones in the move order; where the lion can be caught its first catch alone; else none.
-pub record AreMovesBy (file index : List ℕ) (format : Format) (family : Family) (classes : ℕ) (setup : Setup) (list : List ValuedMove) : Type 0 where
+pub record AreMovesBy (file : List ℕ) (by : Numbering) (format : Format) (family : Family) (classes : ℕ) (setup : Setup) (list : List ValuedMove) : Type 0 where
   pub sound : (valued : ValuedMove) → Contains list valued
-      → IsWinningCatch setup valued ⊎ HasMoveValue family.profile (IsGivenBy file index format family classes) setup valued
+      → IsWinningCatch setup valued ⊎ HasMoveValue family.profile (IsGivenBy file by format family classes) setup valued
   pub caught : CanCatch setup → length list ≡ 1
   pub whole : (move : Move) → HasStatus family.profile setup Open → CanGo family.profile setup move
       → (valued : ValuedMove) × Contains list valued × (valued.the_move ≡ move)
   pub once : (a b : ValuedMove) → Contains list a → Contains list b → a.the_move ≡ b.the_move → a ≡ b
   pub ordered : AllPairs ComesBefore list
 
-abbrev pub AreToldMovesBy : List ℕ → List ℕ → List ℕ → List ValuedMove → Type 0
-AreToldMovesBy file text index list = (format : Format) × (family : Family) × (classes : ℕ) × (setup : Setup)
-    × IsAskedBy file text index format family classes setup × AreMovesBy file index format family classes setup list
+abbrev pub AreToldMovesBy : List ℕ → List ℕ → Numbering → List ValuedMove → Type 0
+AreToldMovesBy file text by list = (format : Format) × (family : Family) × (classes : ℕ) × (setup : Setup)
+    × IsAskedBy file text by format family classes setup × AreMovesBy file by format family classes setup list
+
+-- why they aren't told, as a fault's number: memory ran out, once the position and the file were read; or the first fault
+abbrev pub IsMovesFault : List ℕ → List ℕ → Numbering → ℕ → Type 0
+IsMovesFault file text by number = ((number ≡ 23) × (format : Format) × (family : Family) × (classes : ℕ) × (setup : Setup)
+    × IsAskedBy file text by format family classes setup) ⊎ ((fault : ByFault) × HasByFault file text by fault × (number ≡ number_by fault))

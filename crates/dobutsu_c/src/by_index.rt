@@ -1,21 +1,22 @@
 // What is asked of a file whose bytes are held, by the numbers of an index: a position of its family. Where they are the index of that family, the answer is
 // that without one. By any other numbers it is the value of some record of the file, or a fault: one that an index has too, or that they are none.
-ghost use Rattle.std.specs.Prelude.{◌≡◌, ◌≢◌, ℕ, List, MatchOption, MatchResult};
+ghost use Rattle.std.specs.Prelude.{◌≡◌, ◌≢◌, ◌-◌, ◌/◌, ℕ, List, length, MatchOption, MatchResult};
 ghost use Rattle.dob_pieces.specs.declared.profile.Family.{Family as AnyFamily};
 ghost use Rattle.dob_dbfile.specs.declared.header.Format.{Format as AnyFormat};
 ghost use Rattle.dob_dbfile.specs.Devices.{whole};
 ghost use Rattle.dob_dbfile.specs.Faults.{IsNoLonger};
 ghost use Rattle.dob_rank.specs.Families.{IsPositionOf};
 ghost use Rattle.dob_value.specs.Follows.{IsEntry};
-ghost use Rattle.dob_index.specs.Index.{IsIndex};
-ghost use Rattle.dobutsu_c.specs.ByIndex.{IsLongFor, IsHeldBy, IsAskedBy, IsGivenBy, IsToldBy, HasByFault, HasFileFault, HasHeldFault};
+ghost use Rattle.dobutsu_c.specs.declared.numbering.Numbering.TheVariants.{Counted, Index};
+ghost use Rattle.dobutsu_c.specs.ByIndex.{IsRight, IsLongFor, IsHeldBy, IsAskedBy, IsGivenBy, IsToldBy, HasByFault, HasFileFault, HasHeldFault};
 ghost use Rattle.dobutsu_c.specs.Probes.{IsTextOf};
 
 use crate::asked::is_of_set;
 use crate::fault::Fault;
+use crate::numbering::Numbering;
 use crate::numbers::INDEX;
 use dob_dbfile::{Format, held_counted, held_family, held_value};
-use dob_index::{class_by, classes_in, is_index_of};
+use dob_index::{classes_in, is_index_of};
 use dob_pieces::{Family, Position, Profile};
 use dob_text::read_position_bytes;
 use dob_value::Value;
@@ -64,24 +65,24 @@ pub(crate) struct AskedBy {
 }
 
 /// What is asked, or the first fault.
-pub(crate) fn ask_by(file: &[u8], index: &[u64], text: &[u8]) -> Result<AskedBy, ByFault>
+pub(crate) fn ask_by(file: &[u8], by: Numbering, text: &[u8]) -> Result<AskedBy, ByFault>
     ensures { MatchResult result
-        (λ asked. IsAskedBy file.now text.now index.now asked.held.format asked.held.family asked.held.classes asked.position.setup)
-        (HasByFault file.now text.now index.now) }
+        (λ asked. IsAskedBy file.now text.now by.entry asked.held.format asked.held.family asked.held.classes asked.position.setup)
+        (HasByFault file.now text.now by.entry) }
 {
     match read_position_bytes(Profile::A, text) {
-        Ok(position) => ask_at(file, index, position),
+        Ok(position) => ask_at(file, by, position),
         Err(fault) => Err(ByFault::Asked(Fault::Text(fault))),
     }
 }
 
 /// The same of a position, which is that of its text.
-pub(crate) fn ask_at(file: &[u8], index: &[u64], position: Position) -> Result<AskedBy, ByFault>
+pub(crate) fn ask_at(file: &[u8], by: Numbering, position: Position) -> Result<AskedBy, ByFault>
     ensures { (text : List ℕ) → IsTextOf text position.setup → MatchResult result
-        (λ asked. IsAskedBy file.now text index.now asked.held.format asked.held.family asked.held.classes asked.position.setup)
-        (HasByFault file.now text index.now) }
+        (λ asked. IsAskedBy file.now text by.entry asked.held.format asked.held.family asked.held.classes asked.position.setup)
+        (HasByFault file.now text by.entry) }
 {
-    let held = match held_by(file, index) {
+    let held = match held_by(file, by) {
         Ok(held) => held,
         Err(fault) => return Err(fault),
     };
@@ -95,45 +96,73 @@ pub(crate) fn ask_at(file: &[u8], index: &[u64], position: Position) -> Result<A
 }
 
 /// The value of the position whose text that is, or the first fault.
-pub(crate) fn probe_by(file: &[u8], index: &[u64], text: &[u8]) -> Result<Value, ByFault>
-    ensures { MatchResult result (IsToldBy file.now text.now index.now) (HasByFault file.now text.now index.now) }
+pub(crate) fn probe_by(file: &[u8], by: Numbering, text: &[u8]) -> Result<Value, ByFault>
+    ensures { MatchResult result (IsToldBy file.now text.now by.entry) (HasByFault file.now text.now by.entry) }
 {
     match read_position_bytes(Profile::A, text) {
-        Ok(position) => probe_at(file, index, position),
+        Ok(position) => probe_at(file, by, position),
         Err(fault) => Err(ByFault::Asked(Fault::Text(fault))),
     }
 }
 
 /// The value of a position, which is that of its text, or the first fault.
-pub(crate) fn probe_at(file: &[u8], index: &[u64], position: Position) -> Result<Value, ByFault>
+pub(crate) fn probe_at(file: &[u8], by: Numbering, position: Position) -> Result<Value, ByFault>
     ensures { (text : List ℕ) → IsTextOf text position.setup → MatchResult result
-        (IsToldBy file.now text index.now)
-        (HasByFault file.now text index.now) }
+        (IsToldBy file.now text by.entry)
+        (HasByFault file.now text by.entry) }
 {
-    let asked = match ask_at(file, index, position) {
+    let asked = match ask_at(file, by, position) {
         Ok(asked) => asked,
         Err(fault) => return Err(fault),
     };
-    match value_by(file, index, asked.held, &asked.position) {
+    match value_by(file, by, asked.held, &asked.position) {
         Some(value) => Ok(value),
         None => Err(ByFault::Index),
     }
 }
 
-// The file's format, family and number of classes, or the first fault of the file and the index. The family's classes are counted only if the file is
-// longer or shorter than it says, or the index is marked as one of the file's family and says another number.
-fn held_by(file: &[u8], index: &[u64]) -> Result<HeldBy, ByFault>
+// The file's format, family and number of classes, or the first fault of the file and of what numbers its classes.
+fn held_by(file: &[u8], by: Numbering) -> Result<HeldBy, ByFault>
     ensures { MatchResult result
-        (λ held. IsHeldBy file.now index.now held.format held.family held.classes)
-        (HasHeldFault file.now index.now) }
+        (λ held. IsHeldBy file.now by.entry held.format held.family held.classes)
+        (HasHeldFault file.now by.entry) }
+{
+    match by {
+        Numbering::Counted => held_counting(file),
+        Numbering::Index(words) => held_with(file, words),
+    }
+}
+
+// The same where classes are counted.
+fn held_counting(file: &[u8]) -> Result<HeldBy, ByFault>
+    ensures { MatchResult result
+        (λ held. IsHeldBy file.now Counted held.format held.family held.classes)
+        (HasHeldFault file.now Counted) }
+{
+    match held_family(file) {
+        Ok((format, family)) => Ok(HeldBy {
+            format,
+            family,
+            classes: classes_by_length(file),
+        }),
+        Err(fault) => Err(ByFault::Asked(Fault::File(fault))),
+    }
+}
+
+// The same by an index. The family's classes are counted only where the file is longer or shorter than it says, or the index is marked as one of the file's
+// family and says another number.
+fn held_with(file: &[u8], words: &[u64]) -> Result<HeldBy, ByFault>
+    ensures { MatchResult result
+        (λ held. IsHeldBy file.now (Index words.entry) held.format held.family held.classes)
+        (HasHeldFault file.now (Index words.entry)) }
 {
     let Some(held) = held_as_long(file) else {
         return Err(fault_of(file));
     };
-    if !is_index_of(held.family, index) {
+    if !is_index_of(held.family, words) {
         return Err(ByFault::Index);
     }
-    if classes_in(index) == held.classes {
+    if classes_in(words) == held.classes {
         Ok(held)
     } else {
         Err(fault_of(file))
@@ -156,7 +185,7 @@ fn held_as_long(file: &[u8]) -> Option<HeldBy>
         ((format : AnyFormat) (family : AnyFamily) → ¬ IsNoLonger format family (whole file.now))
         (λ held. IsLongFor file.now held.format held.family held.classes) }
 {
-    let classes = (file.len() as u64).saturating_sub(LEAST_LEN) / 2;
+    let classes = classes_by_length(file);
     if classes > MOST_CLASSES {
         return None;
     }
@@ -168,19 +197,26 @@ fn held_as_long(file: &[u8]) -> Option<HeldBy>
     })
 }
 
-/// The value that the file gives a position of its family by the index; none if the index leads outside of the file.
+// How many classes a file of so many bytes has records for.
+fn classes_by_length(file: &[u8]) -> u64
+    ensures { result ≡ (length file.now - 52) / 2 }
+{
+    (file.len() as u64).saturating_sub(LEAST_LEN) / 2
+}
+
+/// The value that the file gives a position of its family by the index; none where the index leads outside of the file.
 pub(crate) fn value_by(
     file: &[u8],
-    index: &[u64],
+    by: Numbering,
     held: HeldBy,
     position: &Position,
 ) -> Option<Value>
-    requires held { IsHeldBy file.now index.now held.format held.family held.classes }
+    requires held { IsHeldBy file.now by held.format held.family held.classes }
     requires member { IsPositionOf held.family position.now.setup }
-    ensures { MatchOption result (¬ IsIndex held.family index.now)
-        (λ value. IsEntry value × IsGivenBy file.now index.now held.format held.family held.classes position.now.setup value) }
+    ensures { MatchOption result (¬ IsRight by.entry held.family)
+        (λ value. IsEntry value × IsGivenBy file.now by.entry held.format held.family held.classes position.now.setup value) }
 {
-    let class = class_by(held.family, index, position);
+    let class = by.class_of(held.family, position);
     if class < held.classes {
         Some(held_value(file, held.format, class))
     } else {

@@ -25,6 +25,7 @@ mod many;
 mod moves;
 mod moves_by;
 mod numbered;
+mod numbering;
 mod numbers;
 mod positions;
 mod probe_by;

@@ -1,10 +1,12 @@
 // The values of many positions by one call.
 ghost use Rattle.std.specs.Prelude.{◌≡◌, ◌≢◌, ◌-◌, min, length, take, drop, MatchResult};
 ghost use Rattle.dobutsu_c.specs.Many.{IsAnswer, AreAnswers, IsAnswerAt, AreAnswersAt};
+ghost use Rattle.dobutsu_c.specs.declared.numbering.Numbering.TheVariants.{Index};
 ghost use Rattle.dobutsu_c.specs.ByIndex.{number_by};
 ghost use Rattle.dobutsu_c.specs.Probes.{shown};
 
 use crate::by_index::{ByFault, probe_at, probe_by};
+use crate::numbering::Numbering;
 use crate::positions::{DobutsuPosition, position_of};
 use crate::value::{DobutsuValue, shown};
 use dob_value::Value;
@@ -29,14 +31,15 @@ pub extern "C" fn dobutsu_probe_many(
     ends: &[u64],
     answers: &mut [DobutsuAnswer],
 ) -> u64
-    ensures answers { AreAnswers file.now index.now texts.now ends.now answers.old answers.new }
+    ensures answers { AreAnswers file.now (Index index.entry) texts.now ends.now answers.old answers.new }
     ensures count { result ≡ min (length ends.now) (length answers.old) }
 {
+    let by = Numbering::Index(index);
     let count = ends.len().min(answers.len());
     let mut start = 0;
     for place in 0..count {
         let end = ends[place];
-        answers[place] = answer_by(file, index, text_between(texts, start, end), answers[place]);
+        answers[place] = answer_by(file, by, text_between(texts, start, end), answers[place]);
         start = end;
     }
     count as u64
@@ -51,12 +54,13 @@ pub extern "C" fn dobutsu_probe_positions(
     positions: &[DobutsuPosition],
     answers: &mut [DobutsuAnswer],
 ) -> u64
-    ensures answers { AreAnswersAt file.now index.now positions.now answers.old answers.new }
+    ensures answers { AreAnswersAt file.now (Index index.entry) positions.now answers.old answers.new }
     ensures count { result ≡ min (length positions.now) (length answers.old) }
 {
+    let by = Numbering::Index(index);
     let count = positions.len().min(answers.len());
     for place in 0..count {
-        answers[place] = answer_at(file, index, &positions[place], answers[place]);
+        answers[place] = answer_at(file, by, &positions[place], answers[place]);
     }
     count as u64
 }
@@ -72,23 +76,23 @@ fn text_between(texts: &[u8], start: u64, end: u64) -> &[u8]
 }
 
 // The answer of a text; a fault keeps the value.
-fn answer_by(file: &[u8], index: &[u64], text: &[u8], old: DobutsuAnswer) -> DobutsuAnswer
-    ensures { IsAnswer file.now index.now text.now old result }
+fn answer_by(file: &[u8], by: Numbering, text: &[u8], old: DobutsuAnswer) -> DobutsuAnswer
+    ensures { IsAnswer file.now by.entry text.now old result }
 {
-    answer_of(probe_by(file, index, text), old)
+    answer_of(probe_by(file, by, text), old)
 }
 
 // The answer of a position's numbers; a fault keeps the value.
 fn answer_at(
     file: &[u8],
-    index: &[u64],
+    by: Numbering,
     numbers: &DobutsuPosition,
     old: DobutsuAnswer,
 ) -> DobutsuAnswer
-    ensures { IsAnswerAt file.now index.now numbers.now old result }
+    ensures { IsAnswerAt file.now by.entry numbers.now old result }
 {
     match position_of(numbers) {
-        Ok(position) => answer_of(probe_at(file, index, position), old),
+        Ok(position) => answer_of(probe_at(file, by, position), old),
         Err(fault) => DobutsuAnswer {
             fault: fault.number(),
             value: old.value,

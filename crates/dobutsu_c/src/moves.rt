@@ -1,30 +1,22 @@
 // The moves of a position with their values by the bytes of a database's file, best first.
-ghost use Rattle.std.specs.Prelude.{◌≡◌, ◌≢◌, ◌⊎◌, ◌≤◌, List, length, IfOk};
+ghost use Rattle.std.specs.Prelude.{◌≡◌, ◌≢◌, ◌⊎◌, List, length};
 ghost use Rattle.dob_pieces.specs.declared.setup.Setup.{Setup};
-ghost use Rattle.dob_moves.specs.Moves.{Goes, CanGo};
-ghost use Rattle.dob_moves.specs.Statuses.{AreMoves, CanCatch, HasStatus};
-ghost use Rattle.dob_moves.specs.declared.position_status.Status.TheVariants.{Open};
-ghost use Rattle.dob_rank.specs.Families.{IsPositionOf};
-ghost use Rattle.dob_value.specs.Follows.{ClassTable, IsEntry, IsValueTable};
+ghost use Rattle.dob_value.specs.Follows.{ClassTable, IsValueTable};
 ghost use Rattle.dob_value.specs.Values.{HasValue};
-ghost use Rattle.dob_dbfile.specs.Devices.{whole};
-ghost use Rattle.dob_dbfile.specs.Faults.{IsNoLonger};
 ghost use Rattle.dob_dbfile.specs.Format.{IsFile};
 ghost use Rattle.dob_probe.specs.declared.by_value.ValuedMove.{ValuedMove as Valued};
 ghost use Rattle.dob_probe.specs.ValuedMoves.{AreValuedMoves};
 ghost use Rattle.dobutsu_c.specs.declared.fault.Fault.{Fault as AnyFault};
 ghost use Rattle.dobutsu_c.specs.Faults.{fault_number};
 ghost use Rattle.dobutsu_c.specs.Moves.{AreToldMoves, AreWritten, shown_move};
-ghost use Rattle.dobutsu_c.specs.Probes.{HasProbeFault, IsGiven, IsTextOf};
+ghost use Rattle.dobutsu_c.specs.Probes.{HasProbeFault, IsTextOf};
 
-use crate::asked::{Asked, ask, value_of};
-use crate::numbers::MEMORY;
+use crate::moves_by::told_moves;
+use crate::numbering::Numbering;
 use crate::value::{DobutsuValue, shown};
-use dob_moves::{Move, apply, first_catch, moves};
+use dob_moves::Move;
 use dob_numbers::{MoveNumbers, move_numbers};
-use dob_pieces::Memory;
-use dob_probe::{ValuedMove, insert_by_value, value_seen};
-use dob_value::Value;
+use dob_probe::ValuedMove;
 use std::alloc::Global;
 
 /// A move with the value that the side that makes it then has: a step of a piece of that kind from one square to another, or
@@ -65,81 +57,14 @@ pub extern "C" fn dobutsu_moves(
     ensures fault { (fault : AnyFault) → HasProbeFault file.now text.now fault → result ≡ fault_number fault }
     ensures unchanged { result ≢ 0 → (moves.new ≡ moves.old) × (count.new ≡ count.old) }
 {
-    let asked = match ask(file, text) {
-        Ok(asked) => asked,
-        Err(fault) => return fault.number(),
-    };
-    match valued_moves(alloc, file, asked) {
+    match told_moves(alloc, file, Numbering::Counted, text) {
         Ok(list) => {
             write_moves(moves, &list);
             *count = list.len() as u64;
             0
         }
-        Err(Memory) => MEMORY,
+        Err(fault) => fault,
     }
-}
-
-// The moves with their values.
-//
-// Error: `Memory`.
-fn valued_moves(alloc: Global, file: &[u8], asked: Asked) -> Result<Vec<ValuedMove>, Memory>
-    requires held { IsNoLonger asked.format asked.family (whole file.now) }
-    requires member { IsPositionOf asked.family asked.position.setup }
-    ensures { IfOk result (λ list. AreValuedMoves asked.family.profile (IsGiven file.now asked.format asked.family) asked.position.setup list.items) }
-{
-    if let Some(the_move) = first_catch(&asked.position) {
-        let mut list = Vec::new(alloc);
-        let value = Value::Win(1);
-        list.push(ValuedMove { the_move, value })?;
-        return Ok(list);
-    }
-    let the_moves = moves(alloc, asked.family.profile, &asked.position)?;
-    moves_by_value(alloc, file, asked, &the_moves)
-}
-
-// Those moves with their values, best first.
-//
-// Error: `Memory`.
-fn moves_by_value(
-    alloc: Global,
-    file: &[u8],
-    asked: Asked,
-    the_moves: &[Move],
-) -> Result<Vec<ValuedMove>, Memory>
-    requires held { IsNoLonger asked.format asked.family (whole file.now) }
-    requires member { IsPositionOf asked.family asked.position.setup }
-    requires the_moves { AreMoves asked.family.profile asked.position.setup the_moves.now }
-    requires free { ¬ CanCatch asked.position.setup }
-    ensures { IfOk result (λ list. AreValuedMoves asked.family.profile (IsGiven file.now asked.format asked.family) asked.position.setup list.items) }
-{
-    let mut list = Vec::new(alloc);
-    for the_move in the_moves {
-        let value = value_seen(value_to(file, &asked, *the_move));
-        let valued = ValuedMove {
-            the_move: *the_move,
-            value,
-        };
-        insert_by_value(&mut list, valued)?;
-    }
-    Ok(list)
-}
-
-// The value that the file gives the position to which the move leads.
-fn value_to(file: &[u8], asked: &Asked, the_move: Move) -> Value
-    requires held { IsNoLonger asked.now.format asked.now.family (whole file.now) }
-    requires member { IsPositionOf asked.now.family asked.now.position.setup }
-    requires open { HasStatus asked.now.family.profile asked.now.position.setup Open }
-    requires can_go { CanGo asked.now.family.profile asked.now.position.setup the_move }
-    ensures given { (q : Setup) → Goes asked.now.family.profile asked.now.position.setup the_move q
-        → IsGiven file.now asked.now.format asked.now.family q result }
-    ensures entry { IsEntry result }
-{
-    value_of(
-        file,
-        asked.format,
-        asked.family,
-        &apply(&asked.position, the_move),
-    )
 }
 
 /// Writes the first of the moves, as many as there are places.

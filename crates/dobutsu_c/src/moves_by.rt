@@ -1,5 +1,5 @@
 // The moves of a position with their values by the bytes of a database's file and the index of its family, best first.
-ghost use Rattle.std.specs.Prelude.{◌≡◌, ◌≢◌, ◌⊎◌, List, length, IfOk, MatchOption};
+ghost use Rattle.std.specs.Prelude.{◌≡◌, ◌≢◌, ◌⊎◌, List, length, IfOk, IfErr, MatchOption, MatchResult};
 ghost use Rattle.dob_pieces.specs.declared.profile.Family.{Family as AnyFamily};
 ghost use Rattle.dob_pieces.specs.declared.setup.Setup.{Setup};
 ghost use Rattle.dob_moves.specs.Moves.{Goes, CanGo};
@@ -8,20 +8,22 @@ ghost use Rattle.dob_moves.specs.declared.position_status.Status.TheVariants.{Op
 ghost use Rattle.dob_rank.specs.Families.{IsPositionOf};
 ghost use Rattle.dob_value.specs.Follows.{ClassTable, IsEntry, IsValueTable};
 ghost use Rattle.dob_value.specs.Values.{HasValue};
-ghost use Rattle.dob_index.specs.Index.{IsIndex, IsMarked};
+ghost use Rattle.dob_index.specs.Index.{IsMarked};
 ghost use Rattle.dob_dbfile.specs.declared.header.Format.{Format as AnyFormat};
 ghost use Rattle.dob_dbfile.specs.Format.{IsFile};
 ghost use Rattle.dob_probe.specs.declared.by_value.ValuedMove.{ValuedMove as Valued};
 ghost use Rattle.dob_probe.specs.ValuedMoves.{AreValuedMoves};
+ghost use Rattle.dobutsu_c.specs.declared.numbering.Numbering.TheVariants.{Index};
 ghost use Rattle.dobutsu_c.specs.declared.by_index.ByFault.{ByFault as AnyByFault};
 ghost use Rattle.dobutsu_c.specs.declared.fault.Fault.{Fault as AnyFault};
-ghost use Rattle.dobutsu_c.specs.ByIndex.{IsIndexFor, IsHeldBy, IsGivenBy, HasByFault, number_by};
+ghost use Rattle.dobutsu_c.specs.ByIndex.{IsRight, IsIndexFor, IsHeldBy, IsGivenBy, HasByFault, number_by};
 ghost use Rattle.dobutsu_c.specs.Faults.{fault_number};
-ghost use Rattle.dobutsu_c.specs.Moves.{AreMovesBy, AreToldMoves, AreToldMovesBy, AreWritten};
+ghost use Rattle.dobutsu_c.specs.Moves.{AreMovesBy, AreToldMoves, AreToldMovesBy, AreWritten, IsMovesFault};
 ghost use Rattle.dobutsu_c.specs.Probes.{AreRead, HasProbeFault, IsTextOf};
 
 use crate::by_index::{AskedBy, ask_by, value_by};
 use crate::moves::{DobutsuMove, write_moves};
+use crate::numbering::Numbering;
 use crate::numbers::{INDEX, MEMORY};
 use dob_moves::{Move, apply, first_catch, moves};
 use dob_pieces::Memory;
@@ -42,34 +44,50 @@ pub extern "C" fn dobutsu_moves_by(
     moves: &mut [DobutsuMove],
     count: &mut u64,
 ) -> u32
-    ensures moves { IsIndexFor file.now index.now → result ≡ 0 → (list : List Valued) × AreToldMoves file.now text.now list
+    ensures moves { IsIndexFor file.now (Index index.entry) → result ≡ 0 → (list : List Valued) × AreToldMoves file.now text.now list
         × AreWritten list moves.old moves.new × (count.new ≡ length list) }
-    ensures right { IsIndexFor file.now index.now → (table : ClassTable) (setup : Setup) → IsFile file.now table → IsValueTable table.family table.values
+    ensures right { IsIndexFor file.now (Index index.entry) → (table : ClassTable) (setup : Setup) → IsFile file.now table → IsValueTable table.family table.values
         → IsTextOf text.now setup → result ≡ 0 → (list : List Valued) × AreValuedMoves table.family.profile (HasValue table.family.profile) setup list
         × AreWritten list moves.old moves.new × (count.new ≡ length list) }
-    ensures refused { IsIndexFor file.now index.now → result ≢ 0
+    ensures refused { IsIndexFor file.now (Index index.entry) → result ≢ 0
         → (result ≡ 23) ⊎ ((fault : AnyFault) × HasProbeFault file.now text.now fault × (result ≡ fault_number fault)) }
-    ensures fault { IsIndexFor file.now index.now → (fault : AnyFault) → HasProbeFault file.now text.now fault → result ≡ fault_number fault }
-    ensures told_by { result ≡ 0 → (list : List Valued) × AreToldMovesBy file.now text.now index.now list
+    ensures fault { IsIndexFor file.now (Index index.entry) → (fault : AnyFault) → HasProbeFault file.now text.now fault → result ≡ fault_number fault }
+    ensures told_by { result ≡ 0 → (list : List Valued) × AreToldMovesBy file.now text.now (Index index.entry) list
         × AreWritten list moves.old moves.new × (count.new ≡ length list) }
     ensures refused_by { result ≢ 0
-        → (result ≡ 23) ⊎ ((fault : AnyByFault) × HasByFault file.now text.now index.now fault × (result ≡ number_by fault)) }
+        → (result ≡ 23) ⊎ ((fault : AnyByFault) × HasByFault file.now text.now (Index index.entry) fault × (result ≡ number_by fault)) }
     ensures unmarked { (format : AnyFormat) (family : AnyFamily) (setup : Setup) → AreRead file.now text.now format family setup → ¬ IsMarked family index.now
         → result ≡ 29 }
     ensures unchanged { result ≢ 0 → (moves.new ≡ moves.old) × (count.new ≡ count.old) }
 {
-    let asked = match ask_by(file, index, text) {
-        Ok(asked) => asked,
-        Err(fault) => return fault.number(),
-    };
-    match valued_moves_by(alloc, file, index, asked) {
-        Ok(Some(list)) => {
+    match told_moves(alloc, file, Numbering::Index(index), text) {
+        Ok(list) => {
             write_moves(moves, &list);
             *count = list.len() as u64;
             0
         }
-        Ok(None) => INDEX,
-        Err(Memory) => MEMORY,
+        Err(fault) => fault,
+    }
+}
+
+/// The moves of the position whose text that is, with their values, or the number of the first fault.
+pub(crate) fn told_moves(
+    alloc: Global,
+    file: &[u8],
+    by: Numbering,
+    text: &[u8],
+) -> Result<Vec<ValuedMove>, u32>
+    ensures told { MatchResult result (λ list. AreToldMovesBy file.now text.now by.entry list.items) (IsMovesFault file.now text.now by.entry) }
+    ensures positive { IfErr result (λ number. number ≢ 0) }
+{
+    let asked = match ask_by(file, by, text) {
+        Ok(asked) => asked,
+        Err(fault) => return Err(fault.number()),
+    };
+    match valued_moves_by(alloc, file, by, asked) {
+        Ok(Some(list)) => Ok(list),
+        Ok(None) => Err(INDEX),
+        Err(Memory) => Err(MEMORY),
     }
 }
 
@@ -79,13 +97,13 @@ pub extern "C" fn dobutsu_moves_by(
 fn valued_moves_by(
     alloc: Global,
     file: &[u8],
-    index: &[u64],
+    by: Numbering,
     asked: AskedBy,
 ) -> Result<Option<Vec<ValuedMove>>, Memory>
-    requires held { IsHeldBy file.now index.now asked.held.format asked.held.family asked.held.classes }
+    requires held { IsHeldBy file.now by asked.held.format asked.held.family asked.held.classes }
     requires member { IsPositionOf asked.held.family asked.position.setup }
-    ensures { IfOk result (λ found. MatchOption found (¬ IsIndex asked.held.family index.now)
-        (λ list. AreMovesBy file.now index.now asked.held.format asked.held.family asked.held.classes asked.position.setup list.items)) }
+    ensures { IfOk result (λ found. MatchOption found (¬ IsRight by.entry asked.held.family)
+        (λ list. AreMovesBy file.now by.entry asked.held.format asked.held.family asked.held.classes asked.position.setup list.items)) }
 {
     if let Some(the_move) = first_catch(&asked.position) {
         let mut list = Vec::new(alloc);
@@ -94,7 +112,7 @@ fn valued_moves_by(
         return Ok(Some(list));
     }
     let the_moves = moves(alloc, asked.held.family.profile, &asked.position)?;
-    moves_in_order(alloc, file, index, asked, &the_moves)
+    moves_in_order(alloc, file, by, asked, &the_moves)
 }
 
 // Those moves with their values, best first; none if the index leads outside of the file.
@@ -103,20 +121,20 @@ fn valued_moves_by(
 fn moves_in_order(
     alloc: Global,
     file: &[u8],
-    index: &[u64],
+    by: Numbering,
     asked: AskedBy,
     the_moves: &[Move],
 ) -> Result<Option<Vec<ValuedMove>>, Memory>
-    requires held { IsHeldBy file.now index.now asked.held.format asked.held.family asked.held.classes }
+    requires held { IsHeldBy file.now by asked.held.format asked.held.family asked.held.classes }
     requires member { IsPositionOf asked.held.family asked.position.setup }
     requires the_moves { AreMoves asked.held.family.profile asked.position.setup the_moves.now }
     requires free { ¬ CanCatch asked.position.setup }
-    ensures { IfOk result (λ found. MatchOption found (¬ IsIndex asked.held.family index.now)
-        (λ list. AreMovesBy file.now index.now asked.held.format asked.held.family asked.held.classes asked.position.setup list.items)) }
+    ensures { IfOk result (λ found. MatchOption found (¬ IsRight by.entry asked.held.family)
+        (λ list. AreMovesBy file.now by.entry asked.held.format asked.held.family asked.held.classes asked.position.setup list.items)) }
 {
     let mut list = Vec::new(alloc);
     for the_move in the_moves {
-        let Some(value) = value_after(file, index, &asked, *the_move) else {
+        let Some(value) = value_after(file, by, &asked, *the_move) else {
             return Ok(None);
         };
         let valued = ValuedMove {
@@ -128,16 +146,16 @@ fn moves_in_order(
     Ok(Some(list))
 }
 
-// The value that the file gives the position to which the move leads; none if the index leads outside of the file.
-fn value_after(file: &[u8], index: &[u64], asked: &AskedBy, the_move: Move) -> Option<Value>
-    requires held { IsHeldBy file.now index.now asked.now.held.format asked.now.held.family asked.now.held.classes }
+// The value that the file gives the position to which the move leads; none where the index leads outside of the file.
+fn value_after(file: &[u8], by: Numbering, asked: &AskedBy, the_move: Move) -> Option<Value>
+    requires held { IsHeldBy file.now by asked.now.held.format asked.now.held.family asked.now.held.classes }
     requires member { IsPositionOf asked.now.held.family asked.now.position.setup }
     requires open { HasStatus asked.now.held.family.profile asked.now.position.setup Open }
     requires can_go { CanGo asked.now.held.family.profile asked.now.position.setup the_move }
-    ensures { MatchOption result (¬ IsIndex asked.now.held.family index.now) (λ value. IsEntry value
+    ensures { MatchOption result (¬ IsRight by.entry asked.now.held.family) (λ value. IsEntry value
         × ((q : Setup) → Goes asked.now.held.family.profile asked.now.position.setup the_move q
-        → IsGivenBy file.now index.now asked.now.held.format asked.now.held.family asked.now.held.classes q value)) }
+        → IsGivenBy file.now by.entry asked.now.held.format asked.now.held.family asked.now.held.classes q value)) }
 {
     let after = apply(&asked.position, the_move);
-    value_by(file, index, asked.held, &after)
+    value_by(file, by, asked.held, &after)
 }

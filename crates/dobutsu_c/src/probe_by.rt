@@ -12,9 +12,11 @@ ghost use Rattle.dobutsu_c.specs.declared.by_index.ByFault.{ByFault as AnyByFaul
 ghost use Rattle.dobutsu_c.specs.declared.fault.Fault.{Fault as AnyFault};
 ghost use Rattle.dobutsu_c.specs.Faults.{fault_number};
 ghost use Rattle.dobutsu_c.specs.Probes.{IsTextOf, AreRead, IsTold, HasProbeFault, shown};
+ghost use Rattle.dobutsu_c.specs.declared.numbering.Numbering.TheVariants.{Index};
 ghost use Rattle.dobutsu_c.specs.ByIndex.{IsIndexFor, IsToldBy, HasByFault, number_by};
 
 use crate::by_index::probe_by;
+use crate::numbering::Numbering;
 use crate::value::{DobutsuValue, shown};
 
 /// What `dobutsu_probe` answers of the position, by the index of the file's family as `dobutsu_index` wrote it: the same value, or the same fault. By any other
@@ -27,19 +29,19 @@ pub extern "C" fn dobutsu_probe_by(
     text: &[u8],
     answer: &mut DobutsuValue,
 ) -> u32
-    ensures value { IsIndexFor file.now index.now → result ≡ 0 → (value : AnyValue) × IsTold file.now text.now value × (answer.new ≡ shown value) }
-    ensures told { IsIndexFor file.now index.now → (value : AnyValue) → IsTold file.now text.now value → (result ≡ 0) × (answer.new ≡ shown value) }
-    ensures right { IsIndexFor file.now index.now → (table : ClassTable) (setup : AnySetup) → IsFile file.now table → IsValueTable table.family table.values
+    ensures value { IsIndexFor file.now (Index index.entry) → result ≡ 0 → (value : AnyValue) × IsTold file.now text.now value × (answer.new ≡ shown value) }
+    ensures told { IsIndexFor file.now (Index index.entry) → (value : AnyValue) → IsTold file.now text.now value → (result ≡ 0) × (answer.new ≡ shown value) }
+    ensures right { IsIndexFor file.now (Index index.entry) → (table : ClassTable) (setup : AnySetup) → IsFile file.now table → IsValueTable table.family table.values
         → IsTextOf text.now setup → result ≡ 0 → (value : AnyValue) × HasValue table.family.profile setup value × (answer.new ≡ shown value) }
-    ensures refused { IsIndexFor file.now index.now → result ≢ 0 → (fault : AnyFault) × HasProbeFault file.now text.now fault × (result ≡ fault_number fault) }
-    ensures fault { IsIndexFor file.now index.now → (fault : AnyFault) → HasProbeFault file.now text.now fault → result ≡ fault_number fault }
-    ensures told_by { result ≡ 0 → (value : AnyValue) × IsToldBy file.now text.now index.now value × (answer.new ≡ shown value) }
-    ensures refused_by { result ≢ 0 → (fault : AnyByFault) × HasByFault file.now text.now index.now fault × (result ≡ number_by fault) }
+    ensures refused { IsIndexFor file.now (Index index.entry) → result ≢ 0 → (fault : AnyFault) × HasProbeFault file.now text.now fault × (result ≡ fault_number fault) }
+    ensures fault { IsIndexFor file.now (Index index.entry) → (fault : AnyFault) → HasProbeFault file.now text.now fault → result ≡ fault_number fault }
+    ensures told_by { result ≡ 0 → (value : AnyValue) × IsToldBy file.now text.now (Index index.entry) value × (answer.new ≡ shown value) }
+    ensures refused_by { result ≢ 0 → (fault : AnyByFault) × HasByFault file.now text.now (Index index.entry) fault × (result ≡ number_by fault) }
     ensures unmarked { (format : AnyFormat) (family : AnyFamily) (setup : AnySetup) → AreRead file.now text.now format family setup → ¬ IsMarked family index.now
         → result ≡ 29 }
     ensures unchanged { result ≢ 0 → answer.new ≡ answer.old }
 {
-    match probe_by(file, index, text) {
+    match probe_by(file, Numbering::Index(index), text) {
         Ok(value) => {
             *answer = shown(value);
             0

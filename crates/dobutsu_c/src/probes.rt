@@ -9,7 +9,8 @@ ghost use Rattle.dobutsu_c.specs.declared.fault.Fault.{Fault as AnyFault};
 ghost use Rattle.dobutsu_c.specs.Faults.{fault_number};
 ghost use Rattle.dobutsu_c.specs.Probes.{IsTextOf, IsTold, HasProbeFault, shown};
 
-use crate::asked::ask;
+use crate::by_index::probe_by;
+use crate::numbering::Numbering;
 use crate::value::{DobutsuValue, shown};
 
 /// The value that the bytes of a database's file give the position whose text that is. It answers 0 and writes the value, or
@@ -27,9 +28,9 @@ pub extern "C" fn dobutsu_probe(file: &[u8], text: &[u8], answer: &mut DobutsuVa
     ensures fault { (fault : AnyFault) → HasProbeFault file.now text.now fault → result ≡ fault_number fault }
     ensures unchanged { result ≢ 0 → answer.new ≡ answer.old }
 {
-    match ask(file, text) {
-        Ok(asked) => {
-            *answer = shown(asked.value(file));
+    match probe_by(file, Numbering::Counted, text) {
+        Ok(value) => {
+            *answer = shown(value);
             0
         }
         Err(fault) => fault.number(),

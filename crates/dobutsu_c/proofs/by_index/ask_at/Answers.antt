@@ -4,7 +4,7 @@ use Rattle.dobutsu_c.proofs.Indexed.{by_file}
 use Rattle.dobutsu_c.proofs.by_index.ask_at.Goals as goal
 
 pub returns-in-Err : goal.returns-in-Err
-returns-in-Err c = λ text named. by_file c.args.file.now text c.args.index.now c.args.position.setup c.in-Err.fault named c.in-Err.ensures
+returns-in-Err c = λ text named. by_file c.args.file.now text c.args.by c.args.position.setup c.in-Err.fault named c.in-Err.ensures
 
 pub returns-then-not-is_allowed : goal.returns-then-not-is_allowed
 returns-then-not-is_allowed c = λ text named.

@@ -8,4 +8,4 @@ pub returns-then-classes-gt-MOST_CLASSES : goal.returns-then-classes-gt-MOST_CLA
 returns-then-classes-gt-MOST_CLASSES c = λ format family is.
     let few = classes_of-below family in
     let same = long_classes c.args.file.now format family is in
-    omega (arith, few, same, c.if-classes-gt-MOST_CLASSES.true)
+    omega (arith, few, same, c.classes_by_length-classes.ensures, c.if-classes-gt-MOST_CLASSES.true)

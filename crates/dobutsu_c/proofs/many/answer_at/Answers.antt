@@ -10,6 +10,6 @@ returns-in-Ok c =
       position.setup,
       position.legal,
       c.in-Ok.ensures,
-      answered c.args.file.now c.args.index.now (text_of position.setup) c.args.old c.answer_of.result c.probe_at.result
+      answered c.args.file.now c.args.by (text_of position.setup) c.args.old c.answer_of.result c.probe_at.result
           (c.probe_at.ensures (text_of position.setup) (position.legal, record { squares = position.legal.squares; spelled = refl })) c.answer_of.ensures,
     )

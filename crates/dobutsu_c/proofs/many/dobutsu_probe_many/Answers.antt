@@ -1,6 +1,8 @@
 -- Each text is read from where the one before ended, and its answer stays.
 use Rattle.std.proofs.Common.{◌≡◌, ◌∙◌, ℕ, List, refl, sym, subst, ap, arith, get_or, take, drop, ◌-◌, ◌<◌, length, slice_set}
 use Rattle.std.proofs.lemmas.List.{get_or_default, length-set}
+use Rattle.dobutsu_c.specs.declared.numbering.Numbering.{Numbering}
+use Rattle.dobutsu_c.specs.declared.numbering.Numbering.TheVariants as numbering
 use Rattle.dobutsu_c.specs.declared.many.DobutsuAnswer.{DobutsuAnswer}
 use Rattle.dobutsu_c.specs.Many.{IsAnswer, start_at, text_at}
 use Rattle.dobutsu_c.proofs.Answered.{begins_next, one_written, others_left}
@@ -18,7 +20,7 @@ pub loop-place-preserved : goal.loop-place-preserved
 loop-place-preserved c =
     let loop = c.loop-place in
     let file = c.args.file.now in
-    let index = c.args.index.now in
+    let index : Numbering = numbering.Index c.args.index in
     let texts = c.args.texts.now in
     let ends = c.args.ends.now in
     let old = c.args.answers.now in

@@ -9,6 +9,6 @@ invariant-loop-place l = record {
   begins : l.start ≡ start_at l.ends l.place;
   size : length l.answers ≡ length l.initial.answers;
   answers : (k : ℕ) (e : DobutsuAnswer) → k < l.place
-      → IsAnswer l.file l.index (text_at l.texts l.ends k) (get_or l.initial.answers k e) (get_or l.answers k e);
+      → IsAnswer l.file l.by (text_at l.texts l.ends k) (get_or l.initial.answers k e) (get_or l.answers k e);
   others : (k : ℕ) (e : DobutsuAnswer) → l.place ≤ k → get_or l.answers k e ≡ get_or l.initial.answers k e;
 }

@@ -1,6 +1,8 @@
 -- Each position's answer stays.
 use Rattle.std.proofs.Common.{◌≡◌, ◌∙◌, ℕ, List, subst, arith, get_or, ◌<◌, ◌≤◌, length}
 use Rattle.std.proofs.lemmas.List.{length-set}
+use Rattle.dobutsu_c.specs.declared.numbering.Numbering.{Numbering}
+use Rattle.dobutsu_c.specs.declared.numbering.Numbering.TheVariants as numbering
 use Rattle.dobutsu_c.specs.declared.many.DobutsuAnswer.{DobutsuAnswer}
 use Rattle.dobutsu_c.specs.declared.positions.DobutsuPosition.{DobutsuPosition}
 use Rattle.dobutsu_c.specs.Many.{IsAnswerAt}
@@ -11,7 +13,7 @@ pub loop-place-preserved : goal.loop-place-preserved
 loop-place-preserved c =
     let loop = c.loop-place in
     let file = c.args.file.now in
-    let index = c.args.index.now in
+    let index : Numbering = numbering.Index c.args.index in
     let positions = c.args.positions.now in
     let old = c.args.answers.now in
     let P = λ (k : ℕ) (before after : DobutsuAnswer). (d : DobutsuPosition) → IsAnswerAt file index (get_or positions k d) before after in

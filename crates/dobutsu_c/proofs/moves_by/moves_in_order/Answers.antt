@@ -27,7 +27,7 @@ insert_by_value-requires-clause-later c =
 pub loop-the_move-init : goal.loop-the_move-init
 loop-the_move-init c =
     let held = c.args.asked.held in
-    let Has = IsGivenBy c.args.file.now c.args.index.now held.format held.family held.classes in
+    let Has = IsGivenBy c.args.file.now c.args.by held.format held.family held.classes in
     record {
       ordered = subst (AllPairs ComesBefore) (sym c.new-list.ensures.items) none_ordered;
       first = subst (AreOfFirst c.args.the_moves.now 0) (sym c.new-list.ensures.items) (none_first c.args.the_moves.now);
@@ -49,7 +49,7 @@ loop-the_move-preserved c =
       ordered = c.in_ok-insert_by_value.ensures.ordered;
       first = one_more the_moves index c.loop-the_move.list.items c.insert_by_value.new.list.items more here c.in_ok-insert_by_value.ensures.items
           c.loop-the_move.invariant.first;
-      listed = more_listed held.family.profile (IsGivenBy c.args.file.now c.args.index.now held.format held.family held.classes) setup the_moves index
+      listed = more_listed held.family.profile (IsGivenBy c.args.file.now c.args.by held.format held.family held.classes) setup the_moves index
           c.loop-the_move.list.items c.insert_by_value.new.list.items more c.in-Some.value here goes.0 goes.1 c.in-Some.ensures.1 c.value_seen.ensures
           c.in_ok-insert_by_value.ensures.items
           (before_next held.family.profile setup the_moves index c.loop-the_move.list.items the_move c.requires.the_moves c.loop-the_move-test.true here
@@ -60,6 +60,6 @@ loop-the_move-preserved c =
 pub returns : goal.returns
 returns c =
     let held = c.args.asked.held in
-    all_listed c.args.file.now c.args.index.now held.format held.family held.classes c.args.asked.position.setup c.args.the_moves.now
+    all_listed c.args.file.now c.args.by held.format held.family held.classes c.args.asked.position.setup c.args.the_moves.now
     c.loop-the_move.the_move-index c.loop-the_move.list.items c.requires.free c.requires.the_moves c.loop-the_move-test.false
     c.loop-the_move.invariant.listed c.loop-the_move.invariant.ordered

@@ -7,10 +7,9 @@ use Rattle.dob_moves.proofs.ProfileMoves.{goes_there, status_there}
 use Rattle.dob_value.proofs.Successors.{moves_keep_the_family}
 use Rattle.dob_pieces.specs.declared.setup.Setup.{Setup}
 use Rattle.dob_moves.specs.Moves.{Goes}
-use Rattle.dob_index.specs.Index.{IsIndex}
 use Rattle.dob_value.specs.Follows.{IsEntry}
 use Rattle.dob_value.specs.declared.value.Value.{Value}
-use Rattle.dobutsu_c.specs.ByIndex.{IsGivenBy}
+use Rattle.dobutsu_c.specs.ByIndex.{IsRight, IsGivenBy}
 use Rattle.dobutsu_c.proofs.IndexedMoves.{onward}
 use Rattle.dobutsu_c.proofs.moves_by.value_after.Goals as goal
 
@@ -33,8 +32,8 @@ value_by-requires-clause-member c =
 pub returns : goal.returns
 returns c =
     let asked = c.args.asked.now in
-    let Given = IsGivenBy c.args.file.now c.args.index.now asked.held.format asked.held.family asked.held.classes in
-    onward c.value_by.result (IsIndex asked.held.family c.args.index.now → ⊥)
+    let Given = IsGivenBy c.args.file.now c.args.by asked.held.format asked.held.family asked.held.classes in
+    onward c.value_by.result (IsRight c.args.by asked.held.family → ⊥)
     (λ (v : Value). IsEntry v × Given c.apply-after.result.setup v)
     (λ (v : Value). IsEntry v × ((q : Setup) → Goes asked.held.family.profile asked.position.setup c.args.the_move q → Given q v))
     (λ v is. (
