@@ -149,7 +149,7 @@ fn held_counting(file: &[u8]) -> Result<HeldBy, ByFault>
     }
 }
 
-// The same by an index. The family's classes are counted only where the file is longer or shorter than it says, or the index is marked as one of the file's
+// The same by an index. The family's classes are counted only if the file is longer or shorter than it says, or the index is marked as one of the file's
 // family and says another number.
 fn held_with(file: &[u8], words: &[u64]) -> Result<HeldBy, ByFault>
     ensures { MatchResult result
@@ -204,7 +204,7 @@ fn classes_by_length(file: &[u8]) -> u64
     (file.len() as u64).saturating_sub(LEAST_LEN) / 2
 }
 
-/// The value that the file gives a position of its family by the index; none where the index leads outside of the file.
+/// The value that the file gives a position of its family by the index; none if the index leads outside of the file.
 pub(crate) fn value_by(
     file: &[u8],
     by: Numbering,

@@ -146,7 +146,7 @@ fn moves_in_order(
     Ok(Some(list))
 }
 
-// The value that the file gives the position to which the move leads; none where the index leads outside of the file.
+// The value that the file gives the position to which the move leads; none if the index leads outside of the file.
 fn value_after(file: &[u8], by: Numbering, asked: &AskedBy, the_move: Move) -> Option<Value>
     requires held { IsHeldBy file.now by asked.now.held.format asked.now.held.family asked.now.held.classes }
     requires member { IsPositionOf asked.now.held.family asked.now.position.setup }
