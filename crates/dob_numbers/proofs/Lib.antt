@@ -1,5 +1,2 @@
--- The lemmas, in the order in which they are read.
+-- The lemmas.
 mod Hands  -- a legal setup has at most two of each kind in each hand
-mod NoMoves  -- moves by their places
-mod Ranks  -- what ranks stand for
-mod Answered  -- what the lists of a certificate show of a position
