@@ -74,6 +74,19 @@ def untested(checks, screen, program):
     checks.expect("the file answers", screen.value(), "win 5")
 
 
+def large(checks, screen, program):
+    """A file of over 64 MB is opened without its digest, which the page says, and a value is still two bytes of it."""
+    classes, path = 588_021_930, program.folder / "large.db"
+    with path.open("wb") as file:
+        file.write(b"DOBUTSU2" + bytes([2, 2, 2, 2, 0]) + classes.to_bytes(8, "little"))
+        file.truncate(21 + 2 * classes + 32)
+    screen.give(path)
+    screen.in_both(checks, "a large file", screen.files, [["large.db set 222, rules A, 588,021,930 classes, digest not tested", False]],
+                   [["large.db セット 222、ルール A、588,021,930 局面類、ダイジェスト未テスト", False]])
+    screen.enter("gle/.c./.C./ELG - -")
+    checks.expect("a record of zeros", screen.value(), "draw")
+
+
 def rules(checks, screen, program):
     """One position by both rules, one after the other: by A a chick is dropped on its far row, by B it isn't."""
     text = "..l/.../.../L.. C -"
@@ -85,4 +98,4 @@ def rules(checks, screen, program):
         checks.expect(f"moves by rules {name}", [len(screen.moves()), sorted(far)], [number, ["C*a4", "C*b4"] if name == "A" else []])
 
 
-PARTS = {"dropped": dropped, "starts": starts, "short": short, "good": good, "ends_early": ends_early, "untested": untested, "rules": rules}
+PARTS = {"dropped": dropped, "starts": starts, "short": short, "good": good, "ends_early": ends_early, "untested": untested, "large": large, "rules": rules}
