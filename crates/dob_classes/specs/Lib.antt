@@ -7,6 +7,7 @@ pub mod FamilyRuns
 pub mod RunTables
 pub mod RunIndex
 pub mod RunShapes
+pub mod ImageForms
 pub mod BlockTables
 pub mod BlockRows
 pub mod Walks

@@ -40,7 +40,7 @@ layer_of_squares of_layer setup mask twelve are =
 
 -- ---- the cells on the first and the second square of a layer are of it
 
-first_layer : (t : ℕ) (cells : List Cell) → 0 < count t (map layer cells) → layer (get_or cells (first_square t (map layer cells)) None) ≡ t
+pub first_layer : (t : ℕ) (cells : List Cell) → 0 < count t (map layer cells) → layer (get_or cells (first_square t (map layer cells)) None) ≡ t
 first_layer t [] h = absurd (omega arith)
 first_layer t (cell ∷ cells) h = elim (cases_eq (layer cell) t) [
   | inl e ↦ ap (λ (k : ℕ). layer (get_or (cell ∷ cells) k None)) (first_at e) ∙ e
@@ -54,7 +54,7 @@ first_layer t (cell ∷ cells) h = elim (cases_eq (layer cell) t) [
     first_after : (layer cell ≡ t → ⊥) → first_square t (layer cell ∷ map layer cells) ≡ suc (first_square t (map layer cells))
     first_after n = rw (ne_eqb (layer cell) t n) refl
 
-second_layer : (t : ℕ) (cells : List Cell) → count t (map layer cells) ≡ 2 → layer (get_or cells (second_square t (map layer cells)) None) ≡ t
+pub second_layer : (t : ℕ) (cells : List Cell) → count t (map layer cells) ≡ 2 → layer (get_or cells (second_square t (map layer cells)) None) ≡ t
 second_layer t [] h = absurd (omega arith)
 second_layer t (cell ∷ cells) h = elim (cases_eq (layer cell) t) [
   | inl e ↦ (let more : suc (count t (map layer cells)) ≡ 2 = sym (ap (λ (x : ℕ). count t (x ∷ map layer cells)) e ∙ count_same t (map layer cells)) ∙ h in

@@ -7,14 +7,15 @@ ghost use Rattle.dob_rank.specs.Numbers.{product, block_bases, HasBlock};
 ghost use Rattle.dob_rank.specs.Runs.{runs_in, run_size, local_of};
 
 use crate::bits::bit_placing::bits_by;
+use crate::bits::image_forms::image_forms;
 use crate::bits::images::mirrored_bits;
-use crate::bits::shown_spots::spot_shown;
 use crate::run_shapes::RunShape;
 use dob_pieces::{PieceSet, Side};
 use dob_rank::block;
+use dob_rank::layers::Layer;
 use dob_rank::placing::places_by;
 use dob_rank::runs::Spot;
-use dob_rank::set_ranks::hands_of;
+use dob_rank::set_ranks::{digits_from, hands_of, spot_from};
 
 /// The place in its run of the mirror image of the position at that spot of the block, by the shape of the spot's run.
 pub(crate) fn image_place(set: PieceSet, block: u64, spot: Spot, shape: &RunShape) -> u64
@@ -30,5 +31,32 @@ pub(crate) fn image_place(set: PieceSet, block: u64, spot: Spot, shape: &RunShap
     let places = places_by(&on_board, &[digits[5], digits[6], digits[7]]);
     let hands = hands_of(set, &on_board, &digits);
     let bits = bits_by(Side::Mover, &on_board, &digits, &places, hands);
-    spot_shown(set, &mirrored_bits(&bits)).1.local
+    let image = mirrored_bits(&bits);
+    let masks = bits.layers();
+    let images = image.layers();
+    let forms = [
+        image_forms(
+            Layer::Chicks,
+            masks.chicks,
+            images.chicks,
+            on_board[0],
+            digits[8],
+        ),
+        image_forms(
+            Layer::Elephants,
+            masks.elephants,
+            images.elephants,
+            on_board[1],
+            digits[9],
+        ),
+        image_forms(
+            Layer::Giraffes,
+            masks.giraffes,
+            images.giraffes,
+            on_board[2],
+            digits[10],
+        ),
+    ];
+    let image_digits = digits_from(image.hands.mover, images, &on_board, &forms);
+    spot_from(set, &on_board, &image_digits).1.local
 }
