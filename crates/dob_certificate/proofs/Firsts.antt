@@ -68,7 +68,6 @@ not_supported Supported entries Claim found b is = absurd found
 
 -- why a list of the two isn't passed is why the certificate isn't
 module _ (family : Family) (lost held : List Entry) (p : Setup) (claim : Claimed) where
-
   pub held_refused : (why : Refusal) → SupportsAllLost family lost → IsListVerdict (SupportsHeld family held) held (Err why) → IsRefusal family lost held p claim why
   held_refused Memory all found = tt
   held_refused (Unsupported class) all found = inr (all, found)

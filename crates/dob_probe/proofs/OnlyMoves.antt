@@ -43,7 +43,6 @@ IsSingleBelow profile Has p wanted the_moves upto None = NoneBelow profile Has p
 IsSingleBelow profile Has p wanted the_moves upto (Some single) = IsOnlyBelow profile Has p wanted the_moves upto single
 
 module _ (profile : Profile) (Has : Setup → Value → Type 0) (p : Setup) (wanted : Value) (the_moves : List Move) where
-
   -- which move stands at the index, where it isn't below it
   here_is : (upto index : ℕ) (the_move move : Move) → slice_get the_moves upto ≡ Some the_move → index < upto + 1 → upto ≤ index →
       slice_get the_moves index ≡ Some move → move ≡ the_move

@@ -17,7 +17,6 @@ use Rattle.dob_runner.proofs.Counted.{there_set}
 use Rattle.dob_run.proofs.Places.{next_is, then_left, gone_all, behind, none_stands}
 
 module _ {X Z : Type 0} where
-
   pub dealt_one : (k : ℕ) (things : List X) (old new : List (Vec X Z)) (before row : Vec X Z) (x : X) → AreDealt k things old new →
       slice_get new k ≡ Some before → slice_get things k ≡ Some x → row.items ≡ before.items ++ x ∷ [] → AreDealt (k + 1) things old (set new k row)
   dealt_one k things old new before row x so_far at thing is = record {
