@@ -1,11 +1,7 @@
 -- One byte more of a number that is read or written.
-use Rattle.std.proofs.Common.{◌≡◌, ℕ, zero, suc, ◌+◌, ◌-◌, ◌*◌, ◌/◌, ◌%◌, ◌<◌, ◌≤◌, ltb, eqb, true, false, List, [], ◌∷◌, ◌++◌, Result, Ok, Err, refl, sym, ap, subst, ◌∙◌, arith, append_assoc}
-use Rattle.std.specs.Result.{OnOk}
-use Rattle.std.proofs.lemmas.Bool.{lt-ltb, le-ltb, eq-eqb, ne_eqb}
-use Rattle.dob_certfile.specs.declared.defect.Defect.{Defect}
-use Rattle.dob_certfile.specs.declared.defect.Defect.TheVariants.{EntryNumber}
+use Rattle.dob_certfile.proofs.Common.{◌%◌, ◌*◌, ◌++◌, ◌+◌, ◌-◌, ◌/◌, ◌<◌, ◌∙◌, ◌∷◌, ◌≡◌, ◌≤◌, Err, List, Ok, Result, [], ap, append_assoc, arith, eqb, false}
+use Rattle.dob_certfile.proofs.Common.{ltb, refl, subst, suc, sym, true, zero, ℕ, eq-eqb, le-ltb, lt-ltb, ne_eqb, OnOk, byte_at, number_at, Defect, EntryNumber}
 use Rattle.dob_certfile.specs.Numbers.{leb128, leb128_limit}
-use Rattle.dob_certfile.specs.Reading.{byte_at, number_at}
 
 -- ---- reading
 

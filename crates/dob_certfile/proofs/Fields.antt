@@ -1,10 +1,9 @@
 -- What a step of reading takes from the front, and numbers that are read and written.
-use Rattle.std.proofs.Common.{◌≡◌, ℕ, zero, suc, ◌+◌, ◌-◌, ◌*◌, ◌/◌, ◌%◌, ◌<◌, ◌≤◌, Bool, true, false, cond, ltb, eqb, List, [], ◌∷◌, ◌++◌, get_or, drop, Result, Ok, Err, refl, sym, ap, subst, ◌∙◌, append_assoc, arith, inl, inr}
-use Rattle.std.proofs.lemmas.Bool.{cases_lt, cases_Bool, ltb-true, ltb-false, lt-ltb, le-ltb, eqb-false, ne_eqb}
-use Rattle.dob_certfile.specs.declared.defect.Defect.{Defect}
-use Rattle.dob_certfile.specs.declared.defect.Defect.TheVariants.{EntryNumber}
+use Rattle.dob_certfile.proofs.Common.{◌%◌, ◌*◌, ◌++◌, ◌+◌, ◌-◌, ◌/◌, ◌<◌, ◌∙◌, ◌∷◌, ◌≡◌, ◌≤◌, Bool, Err, List, Ok, Result, [], ap, append_assoc, arith, cond}
+use Rattle.dob_certfile.proofs.Common.{drop, eqb, false, get_or, inl, inr, ltb, refl, subst, suc, sym, true, zero, ℕ, cases_Bool, cases_lt, le-ltb, lt-ltb}
+use Rattle.dob_certfile.proofs.Common.{ltb-true, ne_eqb, ◌>>=◌, byte_at, number_at, wants, Defect, EntryNumber}
+use Rattle.std.proofs.lemmas.Bool.{ltb-false, eqb-false}
 use Rattle.dob_certfile.specs.Numbers.{leb128, leb128_limit}
-use Rattle.dob_certfile.specs.Reading.{◌>>=◌, wants, byte_at, number_at}
 
 abbrev pub IsBytes : List ℕ → Type 0
 IsBytes bytes = (i : ℕ) → get_or bytes i 0 < 256

@@ -1,17 +1,11 @@
 -- A file that is read is the one that was written, and what was written is read again.
-use Rattle.std.proofs.Common.{◌≡◌, ℕ, ◌-◌, ◌<◌, ◌≤◌, Bool, true, false, leb, List, ◌∷◌, ◌++◌, length, take, drop, Ok, Err, refl, sym, ap, subst, ◌∙◌, append_assoc, arith}
-use Rattle.std.proofs.lemmas.Bool.{leb-true, le-leb}
-use Rattle.std.proofs.lemmas.List.{length-append, take_at}
-use Rattle.byteorder.specs.Endian.{little_bytes}
+use Rattle.dob_certfile.proofs.Common.{◌++◌, ◌-◌, ◌<◌, ◌∙◌, ◌∷◌, ◌≡◌, ◌≤◌, Bool, Err, List, Ok, ap, append_assoc, arith, drop, false, leb, length, refl, subst}
+use Rattle.dob_certfile.proofs.Common.{sym, take, true, ℕ, le-leb, leb-true, length-append, take_at, little_bytes, classes_of-below, classes_of, Entry, Content}
+use Rattle.dob_certfile.proofs.Common.{FitEntries, Fits, bytes_of, claim_bytes, contents_of, entries_bytes, head_bytes, title, ◌>>=◌, FrontContent, are_same}
+use Rattle.dob_certfile.proofs.Common.{entries_at, file_at, front_at, seal_at, wants, Digest, Trailing, Truncated}
 use Rattle.sha2.specs.Sha256.{sha256}
 use Rattle.sha2.proofs.Facts256.{length-sha256}
-use Rattle.dob_rank.specs.Families.{classes_of}
-use Rattle.dob_rank.proofs.OfFamilies.ClassBounds.{classes_of-below}
-use Rattle.dob_dbfile.specs.Format.{set_bytes, profile_byte}
-use Rattle.dob_certificate.specs.declared.entry.Entry.{Entry}
-use Rattle.dob_certfile.specs.declared.defect.Defect.TheVariants.{Truncated, Trailing, Digest}
-use Rattle.dob_certfile.specs.Format.{Content, Fits, FitEntries, bytes_of, claim_bytes, contents_of, entries_bytes, head_bytes, title}
-use Rattle.dob_certfile.specs.Reading.{◌>>=◌, wants, FrontContent, front_at, entries_at, seal_at, file_at, are_same}
+use Rattle.dob_dbfile.specs.Format.{set_bytes, profile_number}
 use Rattle.dob_certfile.proofs.Fields.{IsBytes, IsBytes-drop, bind_ok, wants_ok, ok_is}
 use Rattle.dob_certfile.proofs.Same.{same_is, is_same, not_same}
 use Rattle.dob_certfile.proofs.Lists.{entries_take, entries_again, rise_fit, rise_count, rise_ascends, fit_rises, starts_anywhere}
@@ -79,7 +73,7 @@ joined c rest =
     let lost : List ℕ = entries_bytes 0 c.lost in
     let held : List ℕ = entries_bytes 0 c.held in
     let more : List ℕ = little_bytes 4 (length c.lost) ++ (little_bytes 4 (length c.held) ++ (lost ++ held)) in
-    ap (λ (x : List ℕ). title ++ 1 ∷ (set_bytes c.family.set ++ profile_byte c.family.profile ∷ (little_bytes 4 c.root ++ x)))
+    ap (λ (x : List ℕ). title ++ 1 ∷ (set_bytes c.family.set ++ profile_number c.family.profile ∷ (little_bytes 4 c.root ++ x)))
     (append_assoc (claim_bytes c.claim) more rest)
 
 -- ---- reading again

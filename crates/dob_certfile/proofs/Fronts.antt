@@ -1,24 +1,20 @@
 -- The front that is read is the one that was written, and what was written is read again.
-use Rattle.std.proofs.Common.{◌≡◌, ◌≢◌, ℕ, zero, suc, ◌+◌, ◌*◌, ◌/◌, ◌%◌, ◌<◌, ◌≤◌, true, ltb, leb, eqb, List, [], ◌∷◌, ◌++◌, length, get_or, take, drop, slice_index, Result, Ok, Err, refl, sym, ap, subst, ◌∙◌, arith, inl, inr}
-use Rattle.std.proofs.lemmas.Bool.{cases_lt, cases_Bool, ltb-true, lt-ltb, leb-true, le-leb, eqb-true, eq-eqb}
+use Rattle.dob_certfile.proofs.Common.{◌%◌, ◌*◌, ◌++◌, ◌+◌, ◌/◌, ◌<◌, ◌∙◌, ◌∷◌, ◌≡◌, ◌≤◌, Err, List, Ok, Result, [], ap, arith, drop, eqb, get_or, inl, inr}
+use Rattle.dob_certfile.proofs.Common.{leb, length, ltb, refl, subst, suc, sym, take, true, zero, ℕ, cases_Bool, cases_lt, eq-eqb, eqb-true, le-leb, leb-true}
+use Rattle.dob_certfile.proofs.Common.{lt-ltb, ltb-true, little_bytes, little_number, Family, classes_of-below, classes_of, family_of, FitsClaim, claim_bytes}
+use Rattle.dob_certfile.proofs.Common.{title, ◌>>=◌, FrontContent, are_same, claim_at, claim_of_kind, family_at, few_at, front_at, part, profile_at, set_at}
+use Rattle.dob_certfile.proofs.Common.{wants, word, Defect, ClaimByte, EntryCount, Magic, ProfileByte, RootClass, SetByte, Truncated, Version}
+use Rattle.std.proofs.Common.{◌≢◌, slice_index}
 use Rattle.std.proofs.lemmas.List.{take-append-drop, drop-drop, length-drop, length-take-le, get_or-drop, get_or-take}
-use Rattle.byteorder.specs.Endian.{little_bytes, little_number}
 use Rattle.byteorder.specs.Numbers.{little_number-reads_back}
 use Rattle.dob_pieces.specs.declared.piece_set.PieceSet.{PieceSet}
-use Rattle.dob_pieces.specs.declared.profile.Family.{Family}
 use Rattle.dob_pieces.specs.declared.profile.Profile.{Profile}
 use Rattle.dob_pieces.specs.declared.profile.Profile.TheVariants.{A, B}
-use Rattle.dob_rank.specs.Families.{classes_of, family_of}
-use Rattle.dob_rank.proofs.OfFamilies.ClassBounds.{classes_of-below}
 use Rattle.dob_rank.proofs.Positions.Sets.{same_numbers}
 use Rattle.dob_value.specs.declared.value.Value.TheVariants.{Win, Loss, Draw}
-use Rattle.dob_dbfile.specs.Format.{set_bytes, profile_byte}
+use Rattle.dob_dbfile.specs.Format.{set_bytes, profile_number}
 use Rattle.dob_certificate.specs.declared.claim.Claim.{Claim}
 use Rattle.dob_certificate.specs.declared.claim.Claim.TheVariants.{Exactly, LostWithin, WonWithin}
-use Rattle.dob_certfile.specs.declared.defect.Defect.{Defect}
-use Rattle.dob_certfile.specs.declared.defect.Defect.TheVariants.{Truncated, Magic, Version, SetByte, RootClass, ClaimByte, EntryCount}
-use Rattle.dob_certfile.specs.Format.{FitsClaim, claim_bytes, title}
-use Rattle.dob_certfile.specs.Reading.{◌>>=◌, wants, part, word, few_at, set_at, profile_at, family_at, claim_of_kind, claim_at, FrontContent, front_at, are_same}
 use Rattle.dob_certfile.proofs.Fields.{IsBytes, bind_ok, wants_ok, ok_is}
 use Rattle.dob_certfile.proofs.Same.{same_is, is_same}
 
@@ -120,14 +116,19 @@ set_none (a ∷ b ∷ c ∷ d ∷ x ∷ bytes) long none = absurd (omega (arith,
 
 -- ---- the profile, the claim, words
 
-profile_takes : (byte : ℕ) (profile : Profile) → profile_at byte ≡ Ok profile → byte ≡ profile_byte profile
-profile_takes zero profile e = ap profile_byte (ok_is A profile e)
-profile_takes (suc zero) profile e = ap profile_byte (ok_is B profile e)
+profile_takes : (byte : ℕ) (profile : Profile) → profile_at byte ≡ Ok profile → byte ≡ profile_number profile
+profile_takes zero profile e = ap profile_number (ok_is A profile e)
+profile_takes (suc zero) profile e = ap profile_number (ok_is B profile e)
 profile_takes (suc (suc n)) profile e = absurd cc
 
-profile_again : (profile : Profile) → profile_at (profile_byte profile) ≡ Ok profile
+pub profile_again : (profile : Profile) → profile_at (profile_number profile) ≡ Ok profile
 profile_again A = refl
 profile_again B = refl
+
+pub profile_none : (byte : ℕ) → 2 ≤ byte → profile_at byte ≡ Err ProfileByte
+profile_none zero above = absurd (omega (arith, above))
+profile_none (suc zero) above = absurd (omega (arith, above))
+profile_none (suc (suc n)) above = refl
 
 -- a claim has those two bytes, and plies below 255
 abbrev IsClaimOf : ℕ → ℕ → Claim → Type 0
@@ -218,7 +219,7 @@ two_cells (suc place) (b ∷ bytes) within =
 -- ---- the whole front
 
 abbrev pub front_text : FrontContent → List ℕ → List ℕ
-front_text f rest = title ++ 1 ∷ (set_bytes f.family.set ++ profile_byte f.family.profile ∷ (little_bytes 4 f.root ++ (claim_bytes f.claim
+front_text f rest = title ++ 1 ∷ (set_bytes f.family.set ++ profile_number f.family.profile ∷ (little_bytes 4 f.root ++ (claim_bytes f.claim
     ++ (little_bytes 4 f.lost_count ++ (little_bytes 4 f.held_count ++ rest)))))
 
 pub record FitsFront (f : FrontContent) : Type 0 where
@@ -233,7 +234,7 @@ record NamesFamily (bytes : List ℕ) (family : Family) : Type 0 where
   titled : part 0 8 bytes ≡ title
   known : get_or bytes 8 0 ≡ 1
   set : part 9 4 bytes ≡ set_bytes family.set
-  profile : get_or bytes 13 0 ≡ profile_byte family.profile
+  profile : get_or bytes 13 0 ≡ profile_number family.profile
 
 family_takes : (bytes : List ℕ) (family : Family) → family_at bytes ≡ Ok family → NamesFamily bytes family
 unfolding family_at
@@ -271,8 +272,8 @@ front_takes bytes f fits e =
     cut 0 8 8 bytes title (omega arith) named.titled
     ∙ ap (λ (xs : List ℕ). title ++ xs) (cut 8 1 9 bytes (1 ∷ []) (omega arith) (one_cell 8 bytes (omega (arith, long)) ∙ ap (λ (n : ℕ). n ∷ []) named.known)
     ∙ ap (λ (xs : List ℕ). 1 ∷ xs) (cut 9 4 13 bytes (set_bytes family.set) (omega arith) named.set
-    ∙ ap (λ (xs : List ℕ). set_bytes family.set ++ xs) (cut 13 1 14 bytes (profile_byte family.profile ∷ []) (omega arith) (one_cell 13 bytes (omega (arith, long)) ∙ ap (λ (n : ℕ). n ∷ []) named.profile)
-    ∙ ap (λ (xs : List ℕ). profile_byte family.profile ∷ xs) (cut 14 4 18 bytes (little_bytes 4 (word 14 bytes)) (omega arith) (word_back (part 14 4 bytes) (part_long 14 4 bytes (omega (arith, long))) (part_fits 14 4 bytes fits))
+    ∙ ap (λ (xs : List ℕ). set_bytes family.set ++ xs) (cut 13 1 14 bytes (profile_number family.profile ∷ []) (omega arith) (one_cell 13 bytes (omega (arith, long)) ∙ ap (λ (n : ℕ). n ∷ []) named.profile)
+    ∙ ap (λ (xs : List ℕ). profile_number family.profile ∷ xs) (cut 14 4 18 bytes (little_bytes 4 (word 14 bytes)) (omega arith) (word_back (part 14 4 bytes) (part_long 14 4 bytes (omega (arith, long))) (part_fits 14 4 bytes fits))
     ∙ ap (λ (xs : List ℕ). little_bytes 4 (word 14 bytes) ++ xs) (cut 18 2 20 bytes (claim_bytes c.0) (omega arith) (two_cells 18 bytes (omega (arith, long)) ∙ sym claim.0)
     ∙ ap (λ (xs : List ℕ). claim_bytes c.0 ++ xs) (cut 20 4 24 bytes (little_bytes 4 (word 20 bytes)) (omega arith) (word_back (part 20 4 bytes) (part_long 20 4 bytes (omega (arith, long))) (part_fits 20 4 bytes fits))
     ∙ ap (λ (xs : List ℕ). little_bytes 4 (word 20 bytes) ++ xs) (cut 24 4 28 bytes (little_bytes 4 (word 24 bytes)) (omega arith) (word_back (part 24 4 bytes) (part_long 24 4 bytes (omega (arith, long))) (part_fits 24 4 bytes fits))))))))) in
@@ -308,7 +309,7 @@ claim_again (WonWithin plies) fits = (let small : ltb plies 255 ≡ true = lt-lt
 claim_again (LostWithin plies) fits = (let small : ltb plies 255 ≡ true = lt-ltb plies 255 fits in (4, plies, refl, rw small refl))
 
 abbrev cells : FrontContent → ℕ → ℕ → List ℕ → List ℕ
-cells f kind plies rest = title ++ 1 ∷ (set_bytes f.family.set ++ profile_byte f.family.profile ∷ (little_bytes 4 f.root ++ (kind ∷ plies ∷
+cells f kind plies rest = title ++ 1 ∷ (set_bytes f.family.set ++ profile_number f.family.profile ∷ (little_bytes 4 f.root ++ (kind ∷ plies ∷
     (little_bytes 4 f.lost_count ++ (little_bytes 4 f.held_count ++ rest)))))
 
 cells_again : (f : FrontContent) (kind plies : ℕ) (rest : List ℕ) → claim_at kind plies ≡ Ok f.claim → FitsFront f → f.root < 4294967296 → f.lost_count < 4294967296 → f.held_count < 4294967296
@@ -325,6 +326,6 @@ front_again f rest right =
     let held : f.held_count ≤ classes_of f.family = right.held in
     let found = claim_again f.claim right.claim in
     let again = cells_again f found.0 found.1 rest found.3 right (omega (arith, few, root)) (omega (arith, few, lost)) (omega (arith, few, held)) in
-    let text : front_text f rest ≡ cells f found.0 found.1 rest = ap (λ (x : List ℕ). title ++ 1 ∷ (set_bytes f.family.set ++ profile_byte f.family.profile ∷ (little_bytes 4 f.root ++ (x
+    let text : front_text f rest ≡ cells f found.0 found.1 rest = ap (λ (x : List ℕ). title ++ 1 ∷ (set_bytes f.family.set ++ profile_number f.family.profile ∷ (little_bytes 4 f.root ++ (x
     ++ (little_bytes 4 f.lost_count ++ (little_bytes 4 f.held_count ++ rest)))))) found.2 in
     (ap front_at text ∙ again.0, ap (drop 28) text ∙ again.1)

@@ -1,4 +1,5 @@
 -- The lemmas, in the order in which they are read.
+mod Common  -- names of other crates and of this one's definitions, for the proofs
 pub mod Fields  -- steps of reading, and numbers
 pub mod Digits  -- one byte more of a number
 pub mod Same  -- bytes that are the same

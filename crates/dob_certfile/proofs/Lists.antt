@@ -1,12 +1,9 @@
 -- Entries that are read are those that were written, and what was written is read again.
-use Rattle.std.proofs.Common.{◌≡◌, ℕ, zero, suc, ◌+◌, ◌-◌, ◌<◌, ◌≤◌, true, false, ltb, leb, List, [], ◌∷◌, ◌++◌, length, slice_index_or, All, Ok, refl, sym, ap, subst, ◌∙◌, append_assoc, arith, inl, inr}
-use Rattle.std.proofs.lemmas.Bool.{cases_lt, ltb-true, lt-ltb, le-ltb, leb-true, le-leb}
-use Rattle.dob_certificate.specs.declared.entry.Entry.{Entry}
-use Rattle.dob_certificate.specs.Ascending.{AreAscending, class_at}
-use Rattle.dob_certfile.specs.declared.defect.Defect.TheVariants.{EntryOrder, EntryClass}
+use Rattle.dob_certfile.proofs.Common.{◌++◌, ◌+◌, ◌-◌, ◌<◌, ◌∙◌, ◌∷◌, ◌≡◌, ◌≤◌, All, List, Ok, [], ap, append_assoc, arith, false, inl, inr, leb, length, ltb}
+use Rattle.dob_certfile.proofs.Common.{refl, slice_index_or, subst, suc, sym, true, zero, ℕ, cases_lt, le-leb, le-ltb, leb-true, lt-ltb, ltb-true, AreAscending}
+use Rattle.dob_certfile.proofs.Common.{class_at, Entry, FitEntries, FitEntry, FitsPlies, entries_bytes, entry_bytes, plies_byte, ◌>>=◌, byte_at, entries_at}
+use Rattle.dob_certfile.proofs.Common.{entry_at, number_at, plies_of, wants, EntryClass, EntryOrder}
 use Rattle.dob_certfile.specs.Numbers.{number_bytes}
-use Rattle.dob_certfile.specs.Format.{FitEntry, FitEntries, FitsPlies, entry_bytes, entries_bytes, plies_byte}
-use Rattle.dob_certfile.specs.Reading.{◌>>=◌, wants, byte_at, number_at, plies_of, entry_at, entries_at}
 use Rattle.dob_certfile.proofs.Fields.{IsBytes, bind_ok, wants_ok, ok_is, Takes, Takes-then, byte_takes, number_takes, number_again}
 
 -- ---- plies

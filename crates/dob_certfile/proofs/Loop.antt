@@ -1,9 +1,6 @@
 -- Reading entries one after the other, as a loop does.
-use Rattle.std.proofs.Common.{◌≡◌, ℕ, suc, ◌-◌, ◌+◌, ◌≤◌, ◌<◌, List, [], ◌∷◌, ◌++◌, Result, Ok, Err, refl, sym, ap, ◌∙◌, append_assoc, arith}
-use Rattle.std.proofs.lemmas.List.{append-nil}
-use Rattle.dob_certificate.specs.declared.entry.Entry.{Entry}
-use Rattle.dob_certfile.specs.declared.defect.Defect.{Defect}
-use Rattle.dob_certfile.specs.Reading.{◌>>=◌, entry_at, entries_at}
+use Rattle.dob_certfile.proofs.Common.{◌++◌, ◌+◌, ◌-◌, ◌<◌, ◌∙◌, ◌∷◌, ◌≡◌, ◌≤◌, Err, List, Ok, Result, [], ap, append_assoc, arith, refl, suc, sym, ℕ}
+use Rattle.dob_certfile.proofs.Common.{append-nil, Entry, ◌>>=◌, entries_at, entry_at, Defect}
 
 -- what was read before, and what is still read
 abbrev pub with_front : List Entry → Result (List Entry × List ℕ) Defect → Result (List Entry × List ℕ) Defect

@@ -1,12 +1,7 @@
 -- A refusal of what is claimed of the representative of the root's class.
-use Rattle.std.proofs.Common.{◌≡◌, ◌⊎◌, ℕ, List, Result, subst, inr}
-use Rattle.std.specs.Result.{IfErr}
-use Rattle.std.proofs.lemmas.Result.{IfErr-weaker}
-use Rattle.dob_pieces.specs.declared.profile.Family.{Family}
+use Rattle.dob_certfile.proofs.Common.{◌≡◌, ◌⊎◌, List, Result, inr, subst, ℕ, IfErr-weaker, IfErr, Family, HasClass, IsRepresentative, Entry}
 use Rattle.dob_pieces.specs.declared.setup.Setup.{Setup}
-use Rattle.dob_rank.specs.Families.{HasClass, IsRepresentative}
 use Rattle.dob_certificate.specs.declared.claim.Claim.{Claim}
-use Rattle.dob_certificate.specs.declared.entry.Entry.{Entry}
 use Rattle.dob_certificate.specs.declared.refusal.Refusal.{Refusal}
 use Rattle.dob_certificate.specs.declared.refusal.Refusal.TheVariants.{Memory}
 use Rattle.dob_certificate.specs.Refusals.{IsRefusal}

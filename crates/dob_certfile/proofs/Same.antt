@@ -1,8 +1,7 @@
 -- Bytes are compared as lists are.
-use Rattle.std.proofs.Common.{◌≡◌, ◌↔◌, ℕ, eqb, cond, Bool, true, false, List, [], ◌∷◌, refl, sym, ap, ◌∙◌, inl, inr}
+use Rattle.dob_certfile.proofs.Common.{◌↔◌, ◌∙◌, ◌∷◌, ◌≡◌, Bool, List, [], ap, cond, eqb, false, inl, inr, refl, sym, true, ℕ, cases_Bool, eq-eqb, eqb-true}
+use Rattle.dob_certfile.proofs.Common.{are_same}
 use Rattle.std.specs.Prelude.{IsTrue}
-use Rattle.std.proofs.lemmas.Bool.{cases_Bool, eqb-true, eq-eqb}
-use Rattle.dob_certfile.specs.Reading.{are_same}
 
 same_self : (xs : List ℕ) → are_same xs xs ≡ true
 same_self [] = refl

@@ -1,14 +1,9 @@
 -- What a reader's answer says of the bytes.
-use Rattle.std.proofs.Common.{◌≡◌, ◌⊎◌, List, ℕ, Result, Ok, Err, refl, inl, inr}
-use Rattle.std.specs.Result.{IfOk, IfErr}
-use Rattle.dob_certificate.specs.declared.entry.Entry.{Entry}
-use Rattle.dob_certificate.specs.Ascending.{AreAscending}
-use Rattle.dob_certfile.specs.declared.defect.Defect.{Defect}
+use Rattle.dob_certfile.proofs.Common.{◌≡◌, ◌⊎◌, Err, List, Ok, Result, inl, inr, refl, ℕ, IfErr, IfOk, AreAscending, Entry, Fits, bytes_of, content}
+use Rattle.dob_certfile.proofs.Common.{HasCertFault, MayGive, entries_at, file_at, Defect}
 use Rattle.dob_certfile.specs.declared.defect.ReadFault.{ReadFault}
 use Rattle.dob_certfile.specs.declared.defect.ReadFault.TheVariants as faults
 use Rattle.dob_certfile.specs.declared.file.CertificateFile.{CertificateFile}
-use Rattle.dob_certfile.specs.Format.{Fits, bytes_of, content}
-use Rattle.dob_certfile.specs.Reading.{HasCertFault, MayGive, entries_at, file_at}
 use Rattle.dob_certfile.proofs.Fields.{IsBytes}
 use Rattle.dob_certfile.proofs.Lists.{entries_take, rise_ascends}
 use Rattle.dob_certfile.proofs.Files.{file_takes}

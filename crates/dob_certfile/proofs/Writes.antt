@@ -1,9 +1,6 @@
 -- Entries that are written one after the other.
-use Rattle.std.proofs.Common.{◌≡◌, ℕ, zero, suc, ◌+◌, ◌<◌, ◌≤◌, List, [], ◌∷◌, ◌++◌, length, get_or, drop, refl, sym, ap, subst, ◌∙◌, append_assoc, arith}
-use Rattle.std.proofs.lemmas.List.{append-nil, drop_more}
-use Rattle.dob_certificate.specs.declared.entry.Entry.{Entry}
-use Rattle.dob_certificate.specs.Ascending.{AreAscending}
-use Rattle.dob_certfile.specs.Format.{entry_bytes, entries_bytes}
+use Rattle.dob_certfile.proofs.Common.{◌++◌, ◌+◌, ◌<◌, ◌∙◌, ◌∷◌, ◌≡◌, ◌≤◌, List, [], ap, append_assoc, arith, drop, get_or, length, refl, subst, suc, sym, zero}
+use Rattle.dob_certfile.proofs.Common.{ℕ, append-nil, drop_more, AreAscending, Entry, entries_bytes, entry_bytes}
 use Rattle.dob_certfile.proofs.Lists.{StartsFrom, tail_ascends, tail_starts}
 
 starts_after : (entries : List Entry) (i : ℕ) (d : Entry) → AreAscending entries → i < length entries → StartsFrom ((get_or entries i d).class + 1) (drop (suc i) entries)

@@ -5,7 +5,7 @@ use Rattle.sha2.specs.Sha256.{sha256}
 use Rattle.dob_pieces.specs.declared.profile.Family.{Family}
 use Rattle.dob_rank.specs.Families.{classes_of}
 use Rattle.dob_value.specs.declared.value.Value.TheVariants.{Win, Loss, Draw}
-use Rattle.dob_dbfile.specs.Format.{set_bytes, profile_byte}
+use Rattle.dob_dbfile.specs.Format.{set_bytes, profile_number}
 use Rattle.dob_certificate.specs.Ascending.{AreAscending}
 use Rattle.dob_certificate.specs.declared.claim.Claim.{Claim}
 use Rattle.dob_certificate.specs.declared.claim.Claim.TheVariants.{Exactly, LostWithin, WonWithin}
@@ -53,7 +53,7 @@ entries_bytes least (entry ∷ entries) = entry_bytes least entry ++ entries_byt
 
 -- what stands before the counts of entries
 abbrev pub head_bytes : Content → List ℕ
-head_bytes c = title ++ (1 ∷ (set_bytes c.family.set ++ (profile_byte c.family.profile ∷ (little_bytes 4 c.root ++ claim_bytes c.claim))))
+head_bytes c = title ++ (1 ∷ (set_bytes c.family.set ++ (profile_number c.family.profile ∷ (little_bytes 4 c.root ++ claim_bytes c.claim))))
 
 -- all that stands before the digest
 unfoldable pub contents_of : Content → List ℕ

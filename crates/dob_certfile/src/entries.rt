@@ -18,11 +18,11 @@ fn plies_of(byte: u8) -> u16
     if byte < 255 { byte as u16 } else { EVER }
 }
 
-/// The entry that stands in the first bytes, and the bytes after it. Its class is the least or above, and there are `classes` classes.
-///
-/// # Errors
-///
-/// `Truncated`, `EntryNumber`, `EntryOrder`, `EntryClass`.
+// The entry that stands in the first bytes, and the bytes after it. Its class is the least or above, and there are `classes` classes.
+//
+// # Errors
+//
+// `Truncated`, `EntryNumber`, `EntryOrder`, `EntryClass`.
 #[tactic(auto, unfolding(crate::specs::Reading::entry_at))]
 fn entry_of(bytes: &[u8], least: u64, classes: u64) -> Result<(Entry, &[u8]), Defect>
     requires few { classes < 2 ^ 31 }

@@ -59,10 +59,9 @@ fn set_of(bytes: &[u8]) -> Result<PieceSet, Defect>
 fn profile_at(byte: u8) -> Result<Profile, Defect>
     ensures { result ≡ profile_at byte }
 {
-    match byte {
-        0 => Ok(Profile::A),
-        1 => Ok(Profile::B),
-        _ => Err(Defect::ProfileByte),
+    match Profile::of_number(byte) {
+        Some(profile) => Ok(profile),
+        None => Err(Defect::ProfileByte),
     }
 }
 

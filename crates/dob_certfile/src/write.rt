@@ -14,7 +14,7 @@ use crate::numbers::push_number;
 use byteorder::{ByteOrder, LittleEndian};
 use dob_certificate::{Claim, EVER, Entry};
 use dob_classes::count_classes;
-use dob_dbfile::{FailedAfter, Sink, profile_byte, put_all};
+use dob_dbfile::{FailedAfter, Sink, put_all};
 use dob_pieces::Memory;
 use dob_value::Value;
 use sha2::{Digest, Sha256};
@@ -138,7 +138,7 @@ fn push_front(bytes: &mut Vec<u8>, file: &CertificateFile) -> Result<(), Memory>
     ensures { OnOk result (bytes.new.items ≡ bytes.old.items ++ head_bytes (content file.now)) }
 {
     let set = file.family.set;
-    let profile = profile_byte(file.family.profile);
+    let profile = file.family.profile.number();
     let claim = claim_bytes(file.claim);
     bytes.extend_from_slice(b"DOBUCERT")?;
     bytes.extend_from_slice(&[VERSION, set.chicks, set.elephants, set.giraffes, 2, profile])?;

@@ -1,23 +1,10 @@
 -- What lists say of positions is so, where they support each of their entries.
-use Rattle.std.proofs.Common.{◌≡◌, ℕ, zero, suc, ◌-◌, ◌≤◌, ◌<◌, ◌⊎◌, inl, inr, arith, List}
-use Rattle.std.proofs.lemmas.Bool.{cases_lt}
-use Rattle.std.proofs.lemmas.Bool.Decides.{nat_tests}
-use Rattle.dob_pieces.specs.declared.profile.Family.{Family}
-use Rattle.dob_pieces.specs.declared.profile.Profile.{Profile}
-use Rattle.dob_pieces.specs.declared.setup.Setup.{Setup}
-use Rattle.dob_moves.specs.declared.position_status.Status.TheVariants.{Caught, Open}
-use Rattle.dob_moves.specs.Statuses.{HasStatus}
-use Rattle.dob_rank.specs.Families.{classes_of, class_setup, IsInClass}
-use Rattle.dob_rank.proofs.OfFamilies.Present.{HasClasses-classes_of}
-use Rattle.dob_value.specs.Values.{Won, Lost}
+use Rattle.dob_certificate.proofs.Common.{◌-◌, ◌<◌, ◌≡◌, ◌≤◌, ◌⊎◌, List, arith, inl, inr, suc, zero, ℕ, cases_lt, nat_tests, Family, Profile, Setup, HasStatus}
+use Rattle.dob_certificate.proofs.Common.{Caught, Open, HasClasses-classes_of, IsInClass, class_setup, classes_of, lost_not_caught, lost_not_open, lost_stays}
+use Rattle.dob_certificate.proofs.Common.{Lost, Won, IsListedBeyond, IsSafe, IsSaidHeld, SupportsAllHeld, plies_asked, IsEntryFor, IsAnswered, IsListedWithin}
+use Rattle.dob_certificate.proofs.Common.{IsSaidLost, SupportsAllLost, Entry, EVER}
 use Rattle.dob_value.specs.Depths.{SameOutlook}
-use Rattle.dob_value.proofs.Depths.{lost_stays, lost_not_caught, lost_not_open}
 use Rattle.dob_value.proofs.Rows.{class_outlook}
-use Rattle.dob_certificate.specs.declared.entry.Entry.{Entry}
-use Rattle.dob_certificate.specs.declared.entry.TheConstants.{EVER}
-use Rattle.dob_certificate.specs.Listed.{IsEntryFor}
-use Rattle.dob_certificate.specs.Lost.{IsListedWithin, IsSaidLost, IsAnswered, SupportsAllLost}
-use Rattle.dob_certificate.specs.Held.{IsListedBeyond, IsSaidHeld, IsSafe, plies_asked, SupportsAllHeld}
 
 -- a position has the outlook of its class's representative
 class_alike : (family : Family) (p : Setup) (class : ℕ) → class < classes_of family → IsInClass family p class →

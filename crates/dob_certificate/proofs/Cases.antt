@@ -1,19 +1,9 @@
 -- What lists say of a position, by its status.
-use Rattle.std.proofs.Common.{◌≡◌, ℕ, ◌-◌, ◌≤◌, ◌<◌, ◌⊎◌, ◌↔◌, inl, inr, refl, sym, subst, arith, List, Bool, true, false, IsTrue, leb}
-use Rattle.std.proofs.lemmas.Bool.Decides.{nat_tests}
-use Rattle.dob_pieces.specs.declared.profile.Family.{Family}
-use Rattle.dob_pieces.specs.declared.profile.Profile.{Profile}
-use Rattle.dob_pieces.specs.declared.setup.Setup.{Setup}
+use Rattle.dob_certificate.proofs.Common.{◌-◌, ◌<◌, ◌↔◌, ◌≡◌, ◌≤◌, ◌⊎◌, Bool, IsTrue, List, arith, false, inl, inr, leb, refl, subst, sym, true, ℕ, nat_tests}
+use Rattle.dob_certificate.proofs.Common.{Family, Profile, Setup, HasStatus, Caught, Open, Stuck, Tried, HasClass, IsRepresentative, classes_of}
+use Rattle.dob_certificate.proofs.Common.{lost_not_caught, lost_not_open, HasLost, AreAllHeld, IsHoldSupported, IsSafe, IsSaidHeld, SupportsHeld, IsEntryFor}
+use Rattle.dob_certificate.proofs.Common.{AreAllAnswered, HasReply, IsAnswered, IsListedWithin, IsLossSupported, IsSaidLost, SupportsLost, Entry}
 use Rattle.dob_moves.specs.declared.position_status.Status.{Status}
-use Rattle.dob_moves.specs.declared.position_status.Status.TheVariants.{Caught, Tried, Stuck, Open}
-use Rattle.dob_moves.specs.Statuses.{HasStatus}
-use Rattle.dob_rank.specs.Families.{IsRepresentative, HasClass, classes_of}
-use Rattle.dob_value.specs.Values.{HasLost}
-use Rattle.dob_value.proofs.Depths.{lost_not_caught, lost_not_open}
-use Rattle.dob_certificate.specs.declared.entry.Entry.{Entry}
-use Rattle.dob_certificate.specs.Listed.{IsEntryFor}
-use Rattle.dob_certificate.specs.Lost.{IsListedWithin, IsSaidLost, HasReply, IsAnswered, AreAllAnswered, IsLossSupported, SupportsLost}
-use Rattle.dob_certificate.specs.Held.{IsSaidHeld, AreAllHeld, IsSafe, IsHoldSupported, SupportsHeld}
 use Rattle.dob_certificate.proofs.Replies.{at_class, of_class}
 
 -- ---- answers

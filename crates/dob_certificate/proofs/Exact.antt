@@ -1,19 +1,9 @@
 -- A claim that is proved holds.
-use Rattle.std.proofs.Common.{◌≡◌, ℕ, zero, suc, ◌-◌, ◌≤◌, ◌<◌, inl, inr, subst, arith, List}
-use Rattle.std.proofs.lemmas.Bool.{cases_lt}
-use Rattle.dob_pieces.specs.declared.profile.Family.{Family}
-use Rattle.dob_pieces.specs.declared.profile.Profile.{Profile}
-use Rattle.dob_pieces.specs.declared.setup.Setup.{Setup}
+use Rattle.dob_certificate.proofs.Common.{◌-◌, ◌<◌, ◌≡◌, ◌≤◌, List, arith, inl, inr, subst, suc, zero, ℕ, cases_lt, Family, Profile, Setup, lost_stays}
+use Rattle.dob_certificate.proofs.Common.{won_stays, HasValue, Lost, Won, Holds, Prove, ShowsDraw, ShowsLoss, ShowsWin, ShowsWon, SupportsAllHeld}
+use Rattle.dob_certificate.proofs.Common.{SupportsAllLost, Claim, Entry, EVER}
 use Rattle.dob_value.specs.declared.value.Value.TheVariants.{Win, Loss, Draw}
-use Rattle.dob_value.specs.Values.{Won, Lost, HasValue}
-use Rattle.dob_value.proofs.Depths.{won_stays, lost_stays}
-use Rattle.dob_certificate.specs.declared.claim.Claim.{Claim}
 use Rattle.dob_certificate.specs.declared.claim.Claim.TheVariants.{Exactly, LostWithin, WonWithin}
-use Rattle.dob_certificate.specs.declared.entry.Entry.{Entry}
-use Rattle.dob_certificate.specs.declared.entry.TheConstants.{EVER}
-use Rattle.dob_certificate.specs.Lost.{SupportsAllLost}
-use Rattle.dob_certificate.specs.Held.{SupportsAllHeld}
-use Rattle.dob_certificate.specs.Claims.{Holds, ShowsWon, ShowsLoss, ShowsWin, ShowsDraw, Prove}
 use Rattle.dob_certificate.proofs.Bounds.{said_lost, answered_won, said_held, safe_not_won}
 
 -- what is not lost within one ply less than d, where d isn't 0, is lost in no fewer than d

@@ -1,16 +1,10 @@
 -- Entries one after the other: all are supported so far, or the first that isn't is found.
-use Rattle.std.proofs.Common.{◌≡◌, ℕ, ◌+◌, ◌<◌, ◌≤◌, ◌≢◌, ◌↔◌, Bool, false, IsTrue, inl, inr, refl, sym, subst, arith, List, length, Contains, Err}
-use Rattle.std.proofs.lemmas.Bool.{cases_lt}
-use Rattle.std.proofs.lemmas.Option.{slice_get-get_or, get_or_from_slice_get, slice_get_within}
-use Rattle.dob_pieces.specs.declared.profile.Family.{Family}
-use Rattle.dob_pieces.specs.declared.setup.Setup.{Setup}
+use Rattle.dob_certificate.proofs.Common.{◌+◌, ◌<◌, ◌↔◌, ◌≡◌, ◌≢◌, ◌≤◌, Bool, Contains, Err, IsTrue, List, arith, false, inl, inr, length, refl, subst, sym, ℕ}
+use Rattle.dob_certificate.proofs.Common.{cases_lt, slice_get-get_or, Family, Setup, entry_at, SupportsHeld, SupportsAllLost, Entry}
+use Rattle.std.proofs.lemmas.Option.{get_or_from_slice_get, slice_get_within}
 use Rattle.dob_certificate.specs.declared.claim.Claim.{Claim as Claimed}
-use Rattle.dob_certificate.specs.declared.entry.Entry.{Entry}
 use Rattle.dob_certificate.specs.declared.refusal.Refusal.{Refusal}
 use Rattle.dob_certificate.specs.declared.refusal.Refusal.TheVariants.{Memory, Unsupported, Claim}
-use Rattle.dob_certificate.specs.Ascending.{entry_at}
-use Rattle.dob_certificate.specs.Lost.{SupportsAllLost}
-use Rattle.dob_certificate.specs.Held.{SupportsHeld}
 use Rattle.dob_certificate.specs.Refusals.{IsFirstUnsupported, IsEntryVerdict, IsListVerdict, IsRefusal}
 use Rattle.dob_certificate.proofs.Orders.{no_entry, read_at}
 

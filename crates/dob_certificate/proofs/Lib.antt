@@ -1,4 +1,5 @@
 -- The lemmas, in the order in which they are read.
+mod Common  -- names of other crates and of this one's definitions, for the proofs
 pub mod Orders  -- entries by ascending class
 pub mod Replies  -- what holds of each move of a list, and of each entry
 pub mod Firsts  -- the first entry that is not supported

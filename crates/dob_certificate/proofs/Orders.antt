@@ -1,19 +1,11 @@
 -- Entries by ascending class: what a search finds, and that a class has one entry at most.
-use Rattle.std.proofs.Common.{◌≡◌, ℕ, zero, suc, ◌+◌, ◌<◌, ◌≤◌, ◌≢◌, inl, inr, sym, subst, ap, ◌∙◌, arith, List, length, get_or, Contains, Result, Ok, Err, IfOk, IfErr, Option, Some, None, IfSome, IfNone}
+use Rattle.dob_certificate.proofs.Common.{◌+◌, ◌<◌, ◌∙◌, ◌≡◌, ◌≢◌, ◌≤◌, Contains, Err, IfErr, IfNone, IfOk, IfSome, List, None, Ok, Option, Result, Some, ap}
+use Rattle.dob_certificate.proofs.Common.{arith, get_or, inl, inr, length, subst, suc, sym, zero, ℕ, cases_lt, nat_tests, IsNonDecreasingBy-from_default}
+use Rattle.dob_certificate.proofs.Common.{Family, Setup, IsInClass, one_class, AreAscending, class_at, entry_at, IsEntryFor, Entry}
 use Rattle.std.specs.List.Sorted.{IsSearchInRange, IsBinarySearchResult, IsNonDecreasingBy}
 use Rattle.std.specs.Ordering.{nat_cmp, ordering_index}
-use Rattle.std.proofs.lemmas.Bool.{cases_lt}
-use Rattle.std.proofs.lemmas.Bool.Decides.{nat_tests}
 use Rattle.std.proofs.lemmas.Cmp.{ranked}
 use Rattle.std.proofs.lemmas.List.{get_or_default}
-use Rattle.std.proofs.lemmas.List.Sorted.{IsNonDecreasingBy-from_default}
-use Rattle.dob_pieces.specs.declared.profile.Family.{Family}
-use Rattle.dob_pieces.specs.declared.setup.Setup.{Setup}
-use Rattle.dob_rank.specs.Families.{IsInClass}
-use Rattle.dob_classes.proofs.OfFamilies.FamilyRepresentatives.{one_class}
-use Rattle.dob_certificate.specs.declared.entry.Entry.{Entry}
-use Rattle.dob_certificate.specs.Ascending.{entry_at, class_at, AreAscending}
-use Rattle.dob_certificate.specs.Listed.{IsEntryFor}
 
 -- what stands where no entry does
 abbrev pub no_entry : Entry

@@ -1,17 +1,9 @@
 -- What holds of what each move of a list leads to, and of each entry of a list.
-use Rattle.std.proofs.Common.{◌≡◌, ℕ, ◌+◌, ◌<◌, ◌≤◌, inl, inr, sym, subst, ap, ◌∙◌, arith, List, length, Option, Some, slice_get}
-use Rattle.std.proofs.lemmas.Bool.{cases_lt}
-use Rattle.std.proofs.lemmas.Option.{slice_get-get_or, same_Some}
-use Rattle.dob_pieces.specs.declared.profile.Family.{Family}
-use Rattle.dob_pieces.specs.declared.profile.Profile.{Profile}
-use Rattle.dob_pieces.specs.declared.setup.Setup.{Setup}
+use Rattle.dob_certificate.proofs.Common.{◌+◌, ◌<◌, ◌∙◌, ◌≡◌, ◌≤◌, List, Option, Some, ap, arith, inl, inr, length, slice_get, subst, sym, ℕ, cases_lt}
+use Rattle.dob_certificate.proofs.Common.{same_Some, slice_get-get_or, Family, Profile, Setup, AreMoves, HasStatus, Open, HasClasses-classes_of, HasClass}
+use Rattle.dob_certificate.proofs.Common.{IsRepresentative, class_setup, classes_of, class_setup_only}
 use Rattle.dob_moves.specs.declared.game_move.Move.{Move}
-use Rattle.dob_moves.specs.declared.position_status.Status.TheVariants.{Open}
 use Rattle.dob_moves.specs.Moves.{Goes}
-use Rattle.dob_moves.specs.Statuses.{HasStatus, AreMoves}
-use Rattle.dob_rank.specs.Families.{IsRepresentative, HasClass, classes_of, class_setup}
-use Rattle.dob_rank.proofs.OfFamilies.Present.{HasClasses-classes_of}
-use Rattle.dob_classes.proofs.OfFamilies.FamilyRepresentatives.{class_setup_only}
 
 -- it holds of what the moves below an index lead to
 abbrev pub AllBelow : Profile → (Setup → Type 0) → Setup → List Move → ℕ → Type 0

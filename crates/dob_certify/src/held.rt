@@ -12,16 +12,16 @@ use dob_value::Value;
 use std::alloc::Global;
 use std::mem;
 
-/// What a class costs that its side to move wins in 1 ply.
+// What a class costs that its side to move wins in 1 ply.
 const UNIT: u64 = 1 << 16;
 
-/// What a class costs that its side to move doesn't win in time.
+// What a class costs that its side to move doesn't win in time.
 const UNWON: u64 = 20 * UNIT;
 
-/// The greatest cost of a class. Those of a position's replies add up to less than a `u64` can have.
+// The greatest cost of a class. Those of a position's replies add up to less than a `u64` can have.
 const GREATEST: u64 = 1 << 50;
 
-/// For how many distances the costs are kept. Of the last one it is above `GREATEST`.
+// For how many distances the costs are kept. Of the last one it is above `GREATEST`.
 const DISTANCES: usize = 64;
 
 // The members so far.

@@ -1,56 +1,13 @@
 -- What is counted of parts of the classes that lie side by side, and of all of them.
-use Rattle.std.proofs.Common.{◌≡◌, ℕ, zero, suc, ◌+◌, ◌*◌, ◌≤◌, ◌<◌, ◌^◌, ◌++◌, refl, sym, ap, subst, ◌∙◌, arith, List, [], ◌∷◌, length, get_or, map, min, take}
-use Rattle.std.proofs.Common.{Ok, Err, IfOk, Option}
-use Rattle.std.specs.Prelude.{MatchResult, Result, Vec}
-use Rattle.std.specs.List.{AllZip, Contains, range_with_len}
+use Rattle.dob_check.proofs.Common.{◌*◌, ◌++◌, ◌+◌, ◌<◌, ◌^◌, ◌∙◌, ◌≡◌, ◌≤◌, List, Option, Some, [], ap, arith, length, min, subst, sym, take, ℕ, AllZip}
+use Rattle.dob_check.proofs.Common.{range_with_len, slice_get, each_is, AreSlots, part_of, Group, part_count, part_size}
 use Rattle.std.proofs.lemmas.List.{length-take, take_all, take_min}
 use Rattle.dob_value.specs.declared.value.Value.{Value}
-use Rattle.dob_probe.specs.Slots.{AreSlots, part_of}
-use Rattle.dob_probe.specs.declared.groups.Group.{Group}
 use Rattle.dob_probe.proofs.Slotted.{part_joins, slots_none}
-use Rattle.dob_check.specs.Parts.{part_count, part_size}
-
--- answers that are all Ok, in order
-all_ok : {X Y : Type 0} → (E : Type 0) (R : X → Y → Type 0) (xs : List X) (ys : List Y) → AllZip (λ (x : X) (r : Result Y E). IfOk r (R x)) xs (map Ok ys) → AllZip R xs ys
-all_ok E R [] [] are = tt
-all_ok E R [] (y ∷ ys) are = absurd are
-all_ok E R (x ∷ xs) [] are = absurd are
-all_ok E R (x ∷ xs) (y ∷ ys) are = (are.0, all_ok E R xs ys are.1)
-
--- things that were made side by side, all of them or none
-pub made_all : {X Y E Z : Type 0} → (R : X → Y → Type 0) (xs : List X) (given : List (Result Y E)) (result : Result (Vec Y Z) E)
-    → AllZip (λ (x : X) (r : Result Y E). IfOk r (R x)) xs given
-    → MatchResult result (λ made. (ys : List Y) × (given ≡ map Ok ys) × (made.items ≡ ys)) (λ why. Contains given (Err why))
-    → IfOk result (λ made. AllZip R xs made.items)
-made_all {X} {Y} {E} R xs given (Ok made) are is = subst (AllZip R xs) (sym is.2)
-    (all_ok E R xs is.0 (subst (λ (l : List (Result Y E)). AllZip (λ (x : X) (r : Result Y E). IfOk r (R x)) xs l) is.1 are))
-made_all R xs given (Err why) are is = tt
-
--- as many as there are numbers
-as_many : {Y : Type 0} → (R : ℕ → Y → Type 0) (from count : ℕ) (ys : List Y) → AllZip R (range_with_len from count) ys → length ys ≡ count
-as_many R from zero [] are = refl
-as_many R from zero (y ∷ ys) are = absurd are
-as_many R from (suc count) [] are = absurd are
-as_many R from (suc count) (y ∷ ys) are = let rest = as_many R (from + 1) count ys are.1 in omega (arith, rest)
-
-pub part_number : {Y : Type 0} → (R : ℕ → Y → Type 0) (count : ℕ) (ys : List Y) → AllZip R (range_with_len 0 count) ys → length ys ≡ count
-part_number R count ys are = as_many R 0 count ys are
 
 -- the one at a place
-one_at : {Y : Type 0} → (R : ℕ → Y → Type 0) (from count : ℕ) (ys : List Y) → AllZip R (range_with_len from count) ys → (k : ℕ) (d : Y) → k < length ys
-    → R (from + k) (get_or ys k d)
-one_at R from count [] are k d within = absurd (omega (arith, within))
-one_at R from zero (y ∷ ys) are k d within = absurd are
-one_at {Y} R from (suc count) (y ∷ ys) are zero d within = let here : from ≡ from + 0 = omega arith in subst (λ (n : ℕ). R n y) here are.0
-one_at {Y} R from (suc count) (y ∷ ys) are (suc k) d within =
-    let further : from + 1 + k ≡ from + suc k = omega arith in
-    subst (λ (n : ℕ). R n (get_or ys k d)) further (one_at R (from + 1) count ys are.1 k d (omega (arith, within)))
-
-pub part_at : {Y : Type 0} → (R : ℕ → Y → Type 0) (count : ℕ) (ys : List Y) → AllZip R (range_with_len 0 count) ys → (k : ℕ) (y : Y) → k < length ys
-    → y ≡ get_or ys k y → R k y
-part_at {Y} R count ys are k y within is =
-    let from : 0 + k ≡ k = omega arith in
-    subst (λ (x : Y). R k x) (sym is) (subst (λ (n : ℕ). R n (get_or ys k y)) from (one_at R 0 count ys are k y within))
+pub part_at : {Y : Type 0} → (R : ℕ → Y → Type 0) (count : ℕ) (ys : List Y) → AllZip R (range_with_len 0 count) ys → (k : ℕ) (y : Y) → slice_get ys k ≡ Some y → R k y
+part_at R count ys are k y at = let from : 0 + k ≡ k = omega arith in subst (λ n. R n y) from (each_is R 0 count ys are k y at)
 
 -- what is counted so far is of the first classes
 abbrev pub AreFirst : List Value → ℕ → List (Option Group) → Type 0

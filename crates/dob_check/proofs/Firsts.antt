@@ -1,11 +1,6 @@
 -- The first refusal among the verdicts of all entries of a list, as a search over them finds it.
-use Rattle.std.proofs.Common.{◌≡◌, ℕ, zero, suc, ◌+◌, ◌≤◌, ◌<◌, inl, inr, sym, subst, arith, List, [], ◌∷◌, length, Bool, true, false, Option, Some}
-use Rattle.std.proofs.Common.{None, Ok, Err}
-use Rattle.std.specs.Prelude.{is_err, slice_get, Result}
-use Rattle.std.specs.Option.{unwrap_or}
-use Rattle.std.specs.List.{AllZip, range_with_len}
-use Rattle.std.proofs.lemmas.Bool.{cases_lt}
-use Rattle.rayon.specs.Lists.{filter_by_mask}
+use Rattle.dob_check.proofs.Common.{◌+◌, ◌<◌, ◌∷◌, ◌≡◌, ◌≤◌, Bool, Err, List, None, Ok, Option, Some, [], arith, false, inl, inr, length, subst, suc, sym, true}
+use Rattle.dob_check.proofs.Common.{zero, ℕ, cases_lt, AllZip, range_with_len, unwrap_or, Result, is_err, slice_get, filter_by_mask}
 use Rattle.dob_certificate.specs.declared.entry.Entry.{Entry}
 use Rattle.dob_certificate.specs.declared.refusal.Refusal.{Refusal}
 use Rattle.dob_certificate.specs.Ascending.{entry_at}

@@ -1,17 +1,12 @@
 -- The first fault among the verdicts of all classes, as a search over them finds it.
-use Rattle.std.proofs.Common.{◌≡◌, ℕ, zero, suc, ◌+◌, ◌≤◌, ◌<◌, inl, inr, sym, subst, arith, List, [], ◌∷◌, length, Bool, true, false, Option, Some}
-use Rattle.std.proofs.Common.{None, Ok, Err, IfOk, IfErr}
-use Rattle.std.specs.Prelude.{is_err, slice_get}
-use Rattle.std.specs.Option.{unwrap_or}
-use Rattle.std.specs.List.{AllZip, range_with_len}
-use Rattle.std.proofs.lemmas.Bool.{cases_lt}
-use Rattle.rayon.specs.Lists.{filter_by_mask}
+use Rattle.dob_check.proofs.Common.{◌+◌, ◌<◌, ◌∷◌, ◌≡◌, ◌≤◌, Bool, Err, List, None, Ok, Option, Some, [], arith, false, inl, inr, length, subst, suc, sym, true}
+use Rattle.dob_check.proofs.Common.{zero, ℕ, cases_lt, AllZip, range_with_len, unwrap_or, is_err, slice_get, filter_by_mask, IsFirstFault, Verdict, fault_holds}
+use Rattle.std.proofs.Common.{IfOk, IfErr}
 use Rattle.dob_value.specs.Follows.{ClassTable, IsTable, IsConsistent, IsValueTable}
 use Rattle.dob_value.proofs.Consistency.{consistent_is_right}
 use Rattle.dob_probe.specs.Checks.{ClassFollows}
 use Rattle.dob_probe.specs.Faults.{IsVerdict, IsFaultOfCheck}
 use Rattle.dob_probe.proofs.Following.{consistent_of_all}
-use Rattle.dob_probe.proofs.Verdicts.{Verdict, IsFirstFault, fault_holds}
 
 -- what holds of each number for which there is something in a list
 pub each_has : {Y : Type 0} (P : ℕ → Type 0) (from count : ℕ) (ys : List Y) → AllZip (λ (k : ℕ) (y : Y). P k) (range_with_len from count) ys → (k : ℕ) →

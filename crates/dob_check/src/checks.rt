@@ -11,7 +11,7 @@ use rayon::prelude::*;
 use std::alloc::Global;
 use std::thread::Threads;
 
-/// How many classes are looked at between two words to a watch: a power of 2, so that a place among them is a mask.
+// How many classes are looked at between two words to a watch: a power of 2, so that a place among them is a mask.
 const EACH: u64 = 65_536;
 
 /// Receives how far a check is.

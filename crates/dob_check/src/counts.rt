@@ -12,7 +12,7 @@ use rayon::prelude::*;
 use std::alloc::Global;
 use std::thread::Threads;
 
-/// How many classes are counted by themselves. What is counted of them takes some 32 bytes for each distance that they have.
+// How many classes are counted by themselves. What is counted of them takes some 32 bytes for each distance that they have.
 const PART: u64 = 65_536;
 
 // What is counted of each code in a part of the classes.

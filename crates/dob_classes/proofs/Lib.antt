@@ -1,4 +1,5 @@
 -- The lemmas, in the order in which they are read, a folder for each topic.
+mod Common  -- names of other crates and of this one's definitions, for the proofs
 pub mod SquareSets  -- positions as sets of squares
 pub mod OfFamilies  -- the classes of a family and their representatives
 pub mod MarksOfRuns  -- the marks of the runs of a block

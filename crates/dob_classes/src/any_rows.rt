@@ -1,13 +1,14 @@
 // Class numbers by any numbers, as they come from a caller in another language.
-ghost use Rattle.std.specs.Prelude.{◌≡◌, ◌<◌, ◌≤◌, ◌+◌, length};
-ghost use Rattle.dob_classes.specs.BlockRows.{IsRow};
+ghost use Rattle.std.specs.Prelude.{◌≡◌, ◌<◌, ℕ, length};
+ghost use Rattle.dob_pieces.specs.declared.profile.Family.{Family as AnyFamily};
+ghost use Rattle.dob_classes.specs.BlockRows.{IsRow, IsRowOf};
 ghost use Rattle.dob_rank.specs.Families.{IsPositionOf, IsInClass, is_marked, classes_of, class_number as number_of_class};
 ghost use Rattle.dob_rank.specs.Marks.{marks_below};
-ghost use Rattle.dob_rank.specs.Numbers.{product, block_bases, block_of, start_of, rank_of_set};
-ghost use Rattle.dob_rank.specs.Runs.{runs_in, run_start};
+ghost use Rattle.dob_rank.specs.Numbers.{block_of, rank_of_set};
 
 use crate::class_numbers::classes_in_run;
 use crate::representatives::representative;
+use crate::rows::{BEFORE_PLACE, HAND_PLACE, ROW_LEN, Row};
 use dob_pieces::{Family, Position};
 use dob_rank::runs::LIONS;
 use dob_rank::set_ranks::spot_of;
@@ -16,7 +17,7 @@ use dob_rank::set_ranks::spot_of;
 /// some number comes out: nothing but them is read, and sums and products wrap.
 pub fn class_number_by_any(family: Family, row: &[u64], position: &Position) -> u64
     requires member { IsPositionOf family position.now.setup }
-    requires room { length row.now ≡ 101 }
+    requires room { length row.now ≡ ROW_LEN }
     ensures class { IsRow family (block_of family.set position.now.setup) row.now → IsInClass family position.now.setup result }
     ensures number { IsRow family (block_of family.set position.now.setup) row.now → result ≡ number_of_class family position.now.setup }
     ensures bound { IsRow family (block_of family.set position.now.setup) row.now → result < classes_of family }
@@ -24,31 +25,26 @@ pub fn class_number_by_any(family: Family, row: &[u64], position: &Position) -> 
     number_by_any(family, row, &representative(family.profile, position))
 }
 
-/// How many representatives stand before a position of the family, where the numbers are its block's row.
+// How many representatives stand before a position of the family, where the numbers are its block's row.
 fn number_by_any(family: Family, row: &[u64], position: &Position) -> u64
     requires member { IsPositionOf family position.now.setup }
-    requires room { length row.now ≡ 101 }
+    requires room { length row.now ≡ ROW_LEN }
     ensures { IsRow family (block_of family.set position.now.setup) row.now → result ≡ marks_below (is_marked family) (rank_of_set family.set position.now.setup) }
 {
     let (block, spot) = spot_of(family.set, position);
-    let blocks = row[100];
-    let runs = runs_by_any(family, block, row, spot.run);
+    let runs = row_at(row, spot.run).before_run(spot.run);
     let places = classes_in_run(family, block, spot.run, spot.local);
-    blocks.wrapping_add(runs).wrapping_add(places)
+    runs.wrapping_add(places)
 }
 
-/// How many representatives stand in the block's runs before one, where the numbers are the block's row: for each hand as many.
-fn runs_by_any(family: Family, block: u64, row: &[u64], run: u64) -> u64
-    requires block { block < product (block_bases family.set) }
-    requires run { run ≤ runs_in family.set block }
-    requires room { length row.now ≡ 101 }
-    ensures { IsRow family block row.now
-        → marks_below (is_marked family) (start_of family.set block) + result ≡ marks_below (is_marked family) (run_start family.set block run) }
+// What the numbers say of a run, where they are its block's row.
+fn row_at(row: &[u64], run: u64) -> Row
+    requires { length row.now ≡ ROW_LEN }
+    ensures { (family : AnyFamily) (block : ℕ) → IsRow family block row.now → IsRowOf family block run result }
 {
-    let _ = family;
-    let _ = block;
-    let hands = run / LIONS;
-    let whole = row[99];
-    let part = row[(run % LIONS) as usize];
-    hands.wrapping_mul(whole).wrapping_add(part)
+    Row {
+        before: row[BEFORE_PLACE],
+        hand: row[HAND_PLACE],
+        run: row[(run % LIONS) as usize],
+    }
 }

@@ -136,7 +136,7 @@ impl BlockClasses {
         }
     }
 
-    /// The run in which that representative stands: the last one with no more of them before it.
+    // The run in which that representative stands: the last one with no more of them before it.
     fn run_at(&self, class: u64) -> u64
         requires low { self.now.before ≤ class }
         requires high { class < self.now.after }
@@ -147,7 +147,7 @@ impl BlockClasses {
         self.index.run_at(&self.runs, self.before, class) as u64
     }
 
-    /// How many classes stand before a run.
+    // How many classes stand before a run.
     fn before_run(&self, run: u64) -> u64
         requires { run < runs_in self.now.family.set self.now.number }
         ensures { result ≡ marks_below (is_marked self.now.family) (run_start self.now.family.set self.now.number run) }
@@ -155,7 +155,7 @@ impl BlockClasses {
         self.runs[run as usize].before
     }
 
-    /// The kind of a run.
+    // The kind of a run.
     fn kind_of(&self, run: u64) -> RunKind
         requires { run < runs_in self.now.family.set self.now.number }
         ensures { result ≡ run_kind (run % LIONS) }
@@ -171,7 +171,7 @@ impl BlockClasses {
         self.runs[run as usize].digits
     }
 
-    /// The number of the representative with `left` others before it in its run.
+    // The number of the representative with `left` others before it in its run.
     fn number_at(&self, run: u64, left: u64) -> u64
         requires run { run < runs_in self.now.family.set self.now.number }
         requires left { marks_below (is_marked self.now.family) (run_start self.now.family.set self.now.number run) + left
@@ -190,7 +190,7 @@ impl BlockClasses {
         }
     }
 
-    /// The place in its run of the position of that number.
+    // The place in its run of the position of that number.
     fn place_at(&self, run: u64, number: u64) -> u64
         requires run { run < runs_in self.now.family.set self.now.number }
         requires number { number < run_size_in self.now.family self.now.number run }
@@ -203,11 +203,11 @@ impl BlockClasses {
     }
 }
 
-/// The number of a run's table, which is made for the first run of its lions; none is needed where these say its marks.
-///
-/// # Errors
-///
-/// `Memory`.
+// The number of a run's table, which is made for the first run of its lions; none is needed where these say its marks.
+//
+// # Errors
+//
+// `Memory`.
 fn table_of(
     alloc: Global,
     family: Family,
@@ -235,11 +235,11 @@ fn table_of(
     }
 }
 
-/// Appends the table of the first run of its lions.
-///
-/// # Errors
-///
-/// `Memory`.
+// Appends the table of the first run of its lions.
+//
+// # Errors
+//
+// `Memory`.
 fn push_table(
     alloc: Global,
     family: Family,
@@ -261,7 +261,7 @@ fn push_table(
     Ok(number)
 }
 
-/// How many classes a run of `size` places with that table has.
+// How many classes a run of `size` places with that table has.
 fn count_marks(
     family: Family,
     block: u64,

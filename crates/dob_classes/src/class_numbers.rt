@@ -2,6 +2,7 @@
 // stretch by stretch. No memory is taken.
 ghost use Rattle.std.specs.Prelude.{◌≡◌, ◌<◌, ◌≤◌, ◌+◌, ◌%◌};
 ghost use Rattle.dob_rank.specs.Families.{IsPositionOf, IsInClass, is_marked, classes_of, class_number as number_of_class};
+ghost use Rattle.dob_classes.specs.BlockRows.{IsRowOf};
 ghost use Rattle.dob_classes.specs.FamilyRuns.{is_there, local_marks_in};
 ghost use Rattle.dob_rank.specs.Marks.{marks_below};
 ghost use Rattle.dob_rank.specs.Numbers.{product, block_bases, start_of, rank_of_set};
@@ -10,6 +11,7 @@ ghost use Rattle.dob_rank.specs.declared.runs.RunKind.TheVariants.{Mixed};
 
 use crate::class_walks::MixedRun;
 use crate::representatives::representative;
+use crate::rows::Row;
 use crate::spots::count_before;
 use dob_pieces::{Family, Position};
 use dob_rank::block;
@@ -28,16 +30,16 @@ pub fn class_number(family: Family, position: &Position) -> u64
     classes_before_position(family, &representative(family.profile, position))
 }
 
-/// How many representatives stand before a position of the family.
+// How many representatives stand before a position of the family.
 fn classes_before_position(family: Family, position: &Position) -> u64
     requires { IsPositionOf family position.now.setup }
     ensures { result ≡ marks_below (is_marked family) (rank_of_set family.set position.now.setup) }
 {
     let (block, spot) = spot_of(family.set, position);
     let blocks = classes_before_block(family, block);
-    let runs = classes_before_run(family, block, spot.run);
+    let runs = row_of(family, block, blocks, spot.run).before_run(spot.run);
     let places = classes_in_run(family, block, spot.run, spot.local);
-    blocks + runs + places
+    runs + places
 }
 
 /// How many representatives stand in the blocks before one, or before the end of the last.
@@ -47,24 +49,27 @@ pub(crate) fn classes_before_block(family: Family, block: u64) -> u64
 {
     let mut count = 0;
     for earlier in 0..block {
-        count += classes_before_run(family, earlier, block::count_runs(family.set, earlier));
+        let runs = block::count_runs(family.set, earlier);
+        count = row_of(family, earlier, count, runs).before_run(runs);
     }
     count
 }
 
-/// How many representatives stand in the block's runs before one, or before the end of the last: for each hand as many.
-fn classes_before_run(family: Family, block: u64, run: u64) -> u64
+// What the row of a block with `before` classes before it says of a run, or of the end of the last.
+fn row_of(family: Family, block: u64, before: u64, run: u64) -> Row
     requires block { block < product (block_bases family.set) }
+    requires before { before ≡ marks_below (is_marked family) (start_of family.set block) }
     requires run { run ≤ runs_in family.set block }
-    ensures { marks_below (is_marked family) (start_of family.set block) + result ≡ marks_below (is_marked family) (run_start family.set block run) }
+    ensures { IsRowOf family block run result }
 {
-    let hands = run / LIONS;
-    let whole = classes_of_lions(family, block, LIONS);
-    let part = classes_of_lions(family, block, run % LIONS);
-    hands * whole + part
+    Row {
+        before,
+        hand: classes_of_lions(family, block, LIONS),
+        run: classes_of_lions(family, block, run % LIONS),
+    }
 }
 
-/// How many representatives stand in the first hand's runs before that of those lions, or before the end of its last.
+// How many representatives stand in the first hand's runs before that of those lions, or before the end of its last.
 fn classes_of_lions(family: Family, block: u64, lions: u64) -> u64
     requires block { block < product (block_bases family.set) }
     requires lions { lions ≤ LIONS }
@@ -92,7 +97,7 @@ pub fn classes_in_run(family: Family, block: u64, run: u64, place: u64) -> u64
     }
 }
 
-/// The classes before a place of a run whose lions both stand on column b, one stretch after another.
+// The classes before a place of a run whose lions both stand on column b, one stretch after another.
 fn classes_in_stretches(family: Family, block: u64, run: u64, place: u64) -> u64
     requires block { block < product (block_bases family.set) }
     requires run { run < runs_in family.set block }

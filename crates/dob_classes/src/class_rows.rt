@@ -6,22 +6,23 @@ ghost use Rattle.dob_rank.specs.Marks.{marks_below};
 ghost use Rattle.dob_rank.specs.Numbers.{product, block_bases, block_of, start_of};
 
 use crate::class_numbers::{classes_before_block, classes_in_run};
+use crate::rows::{BEFORE_PLACE, ROW_LEN};
 use dob_pieces::{Family, PieceSet, Position};
 use dob_rank::block;
 use dob_rank::runs::LIONS;
 use dob_rank::set_ranks::spot_of;
 
-/// Writes the row of a block with `before` classes before it: how many stand in the first hand's runs before each of them and before the end of
-/// the last, and then how many before the block.
+// Writes the row of a block with `before` classes before it: how many stand in the first hand's runs before each of them and before the end of
+// the last, and then how many before the block.
 fn class_row(family: Family, block: u64, before: u64, row: &mut [u64])
     requires block { block < product (block_bases family.set) }
     requires before { before ≡ marks_below (is_marked family) (start_of family.set block) }
-    requires room { length row.now ≡ 101 }
+    requires room { length row.now ≡ ROW_LEN }
     ensures { IsRow family block row.new }
 {
     let size = block::run_size_in(family.set, block);
     let mut count = 0;
-    row[100] = before;
+    row[BEFORE_PLACE] = before;
     row[0] = 0;
     for run in 0..LIONS {
         count += classes_in_run(family, block, run, size);
@@ -47,7 +48,7 @@ pub fn block_number(family: Family, position: &Position) -> u64
 /// Writes the row of a block. It takes some hundredths of a second for two pieces of each kind.
 pub fn write_row(family: Family, block: u64, row: &mut [u64])
     requires block { block < product (block_bases family.set) }
-    requires room { length row.now ≡ 101 }
+    requires room { length row.now ≡ ROW_LEN }
     ensures { IsRow family block row.new }
 {
     let before = classes_before_block(family, block);

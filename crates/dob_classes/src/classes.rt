@@ -82,7 +82,7 @@ impl Classes {
         }
     }
 
-    /// The class's number by the position's masks. It takes longer where the mirror image is the earlier one.
+    // The class's number by the position's masks. It takes longer where the mirror image is the earlier one.
     fn class_by(&self, position: &Position, masks: Masks) -> u64
         requires position { IsPositionOf self.now.family position.now.setup }
         requires masks { AreMasksOfBoard position.now.setup.board masks }
@@ -160,7 +160,7 @@ impl Classes {
         )
     }
 
-    /// The block in which the representative of that class stands: the last one with no more classes before it.
+    // The block in which the representative of that class stands: the last one with no more classes before it.
     fn block_at(&self, class: u64) -> usize
         requires { class < classes_of self.now.family }
         ensures block { result < product (block_bases self.now.family.set) }
@@ -175,7 +175,7 @@ impl Classes {
         0
     }
 
-    /// Whether a position of the family is a representative, and how many stand before it.
+    // Whether a position of the family is a representative, and how many stand before it.
     fn look_up(&self, position: &Position) -> (bool, u64)
         requires { IsPositionOf self.now.family position.now.setup }
         ensures mark { result.0 ≡ is_marked self.now.family (rank_of_set self.now.family.set position.now.setup) }
@@ -184,7 +184,7 @@ impl Classes {
         self.look_up_by(position, masks_of(&position.setup.board))
     }
 
-    /// The mark and the marks before it by the position's masks.
+    // The mark and the marks before it by the position's masks.
     #[inline(always)]
     fn look_up_by(&self, position: &Position, masks: Masks) -> (bool, u64)
         requires position { IsPositionOf self.now.family position.now.setup }
@@ -196,7 +196,7 @@ impl Classes {
         self.blocks[block as usize].look_up(spot)
     }
 
-    /// The mark and the marks before it by the sets of squares that show the position.
+    // The mark and the marks before it by the sets of squares that show the position.
     fn look_up_shown(&self, bits: &Bitboards) -> (bool, u64)
         requires { (setup : Setup) × IsShown self.now.family setup bits.now }
         ensures mark { (setup : Setup) → IsShown self.now.family setup bits.now

@@ -37,7 +37,7 @@ pub(crate) fn count_upto(set: PieceSet, block: u64, run: u64, last: u64) -> u64
     before * forms + count_forms_upto(chicks, chosen, forms, last % all_forms)
 }
 
-/// How many of the forms of all pieces up to that one have forms that chicks on those squares may have, if the others have `others`.
+// How many of the forms of all pieces up to that one have forms that chicks on those squares may have, if the others have `others`.
 fn count_forms_upto(chicks: u64, squares: (u64, u64), others: u64, last: u64) -> u64
     requires chicks { chicks ≤ 2 }
     requires others { 0 < others }
@@ -55,7 +55,7 @@ fn count_forms_upto(chicks: u64, squares: (u64, u64), others: u64, last: u64) ->
     }
 }
 
-/// How many of the numbers below one are of forms that chicks on those squares may have.
+// How many of the numbers below one are of forms that chicks on those squares may have.
 fn count_forms(chicks: u64, squares: (u64, u64), end: u64) -> u64
     requires chicks { chicks ≤ 2 }
     ensures value { result ≡ marks_below (forms_stand chicks squares.0 squares.1) end }

@@ -9,6 +9,8 @@
 // - A block has the places of each choice of its squares, a run the digits that its positions share, so that sets of squares are found without a division by
 //   a base.
 // - `count_classes` makes the same walk without its list, over the runs of one hand and then times the hands, with no memory.
+// - What a count without tables, a row or an index says of a run is a `Row`, and `Row::before_run` alone makes a class's number of it: for each hand as many,
+//   and those of the lions before. Its sums wrap, since a row may come from a caller.
 // - `Bitboards` are a setup as seven sets of squares and its hands, the least from which a place is found. A relation (`AreBitboards`) says what they show,
 //   so contracts can speak of a setup that the code doesn't have.
 // - A class's representative comes with the sets that a side sees of it (`Shown`): who reads these alone makes no board.
@@ -26,6 +28,7 @@ mod far_counts;
 pub mod laws;
 mod place_tables;
 mod representatives;
+mod rows;
 mod run_index;
 mod run_shapes;
 mod runs;
@@ -43,6 +46,7 @@ pub use class_rows::{block_number, count_blocks, write_row};
 pub use class_walks::{MixedRun, Walk};
 pub use classes::Classes;
 pub use representatives::representative;
+pub use rows::{BEFORE_PLACE, HAND_PLACE, ROW_LEN, Row};
 
 // What an index of classes is made by.
 pub use dob_rank::block::{count_runs, run_size_in};

@@ -58,14 +58,14 @@ impl RunIndex {
     }
 }
 
-/// The exponent of 2 by which runs of `size` places are indexed, so that each has 16 entries or more where all its places are classes.
+// The exponent of 2 by which runs of `size` places are indexed, so that each has 16 entries or more where all its places are classes.
 fn exponent_for(size: u64) -> u64
     ensures { result ≤ 32 }
 {
     u64::from(59u32.saturating_sub(size.leading_zeros()).min(32))
 }
 
-/// The last run with at most `class` classes before it: that one or a later one.
+// The last run with at most `class` classes before it: that one or a later one.
 fn last_run(runs: &Vec<Run>, from: usize, class: u64) -> usize
     requires { IsAtMost runs.now.items class from }
     ensures run { IsAtMost runs.now.items class result }

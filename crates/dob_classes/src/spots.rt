@@ -73,7 +73,7 @@ pub(crate) fn spot_shown_in(family: Family, bits: &Bitboards) -> (u64, Spot)
     (block, Spot { run, local })
 }
 
-/// Block and spot of a position in profile B, out of the way of what profile A does.
+// Block and spot of a position in profile B, out of the way of what profile A does.
 #[inline(never)]
 fn far_spot(set: PieceSet, position: &Position, masks: Masks) -> (u64, Spot)
     requires position { IsPositionOfSet set position.now.setup }

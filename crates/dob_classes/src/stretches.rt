@@ -70,7 +70,7 @@ pub(crate) fn stretch_from(
     (local <= other, (local / width + 1) * width)
 }
 
-/// How many places have the same digits up to the first in which two numbers differ.
+// How many places have the same digits up to the first in which two numbers differ.
 fn width_of(bases: &[u64; 6], local: u64, other: u64) -> u64
     requires positive { All (λ base. 0 < base) bases.now }
     requires fits { product bases.now < 2 ^ 64 }

@@ -1,23 +1,22 @@
 -- Records and the codes that they are.
-use Rattle.std.proofs.Common.{◌≡◌, ℕ, zero, suc, ◌+◌, ◌*◌, ◌/◌, ◌%◌, ◌≤◌, ◌<◌, List, [], ◌∷◌, ◌++◌, take, drop, length, slice_get}
-use Rattle.std.proofs.Common.{slice_index, Some, arith, refl, sym, ap, ◌∙◌, inl, inr, append-nil, take-add, length-drop}
-use Rattle.std.proofs.lemmas.Bool.{cases_eq}
+use Rattle.dob_dbfile.proofs.Common.{◌%◌, ◌*◌, ◌++◌, ◌+◌, ◌/◌, ◌<◌, ◌∙◌, ◌∷◌, ◌≡◌, ◌≤◌, List, Some, [], ap, append-nil, arith, drop, inl, inr, length}
+use Rattle.dob_dbfile.proofs.Common.{length-drop, refl, slice_get, slice_index, suc, sym, take, take-add, zero, ℕ, cases_eq, flat_map-append, flat_map}
+use Rattle.dob_dbfile.proofs.Common.{little_bytes, little_number, code_of_value, value_at_distance, value_of_code, values_of_codes, Value, code_bytes, records}
 use Rattle.std.proofs.lemmas.List.{take_more, get_or-drop}
-use Rattle.std.proofs.lemmas.List.Concat.{flat_map-append}
 use Rattle.std.proofs.lemmas.Option.{get_or_from_slice_get}
-use Rattle.byteorder.specs.Endian.{little_bytes, little_number}
-use Rattle.dob_value.specs.declared.value.Value.{Value}
-use Rattle.dob_value.specs.Codes.{value_at_distance, value_of_code, values_of_codes, code_of_value}
-use Rattle.dob_dbfile.specs.Format.{code_bytes, records}
+
+-- the bytes of one item more
+flat_more : {X : Type 0} (bytes : X → List ℕ) (xs : List X) (place : ℕ) (x : X) → place < length xs → slice_get xs place ≡ Some x
+    → flat_map bytes (take (place + 1) xs) ≡ flat_map bytes (take place xs) ++ bytes x
+flat_more {X} bytes xs place x below there =
+    ap (flat_map bytes) (take_more xs place x below ∙ ap (λ (y : X). take place xs ++ y ∷ []) (get_or_from_slice_get xs place x x there))
+    ∙ flat_map-append bytes (take place xs) (x ∷ [])
+    ∙ ap (λ (last : List ℕ). flat_map bytes (take place xs) ++ last) (append-nil (bytes x))
 
 -- the records of one class more
 pub records_more : (values : List Value) (class : ℕ) (value : Value) → class < length values → slice_get values class ≡ Some value
     → records (take (class + 1) values) ≡ records (take class values) ++ little_bytes 2 (code_of_value value)
-records_more values class value below there =
-    let bytes : Value → List ℕ = λ v. little_bytes 2 (code_of_value v) in
-    ap records (take_more values class value below ∙ ap (λ (v : Value). take class values ++ v ∷ []) (get_or_from_slice_get values class value value there))
-    ∙ flat_map-append bytes (take class values) (value ∷ [])
-    ∙ ap (λ (last : List ℕ). records (take class values) ++ last) (append-nil (bytes value))
+records_more = flat_more (λ (v : Value). little_bytes 2 (code_of_value v))
 
 -- a value has its code
 code_of_distance : (plies : ℕ) → code_of_value (value_at_distance plies) ≡ plies + 1

@@ -1,7 +1,6 @@
 -- A stream that is cut where it has so many bytes.
-use Rattle.std.proofs.Common.{◌≡◌, ℕ, ◌+◌, ◌-◌, ◌≤◌, List, Bool, true, false, nat_lt, take, drop, length, length-drop, arith, refl}
-use Rattle.std.proofs.lemmas.List.{drop-take}
-use Rattle.dob_dbfile.specs.Devices.{Stream}
+use Rattle.dob_dbfile.proofs.Common.{◌+◌, ◌-◌, ◌≡◌, ◌≤◌, Bool, List, arith, drop, false, length, length-drop, refl, take, true, ℕ, drop-take, Stream}
+use Rattle.std.proofs.Common.{nat_lt}
 use Rattle.dob_dbfile.specs.Memory.{cut}
 
 -- the bytes before the cut, kept as a front of all of them

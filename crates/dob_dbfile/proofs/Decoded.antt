@@ -1,12 +1,7 @@
 -- The values that records are.
-use Rattle.std.proofs.Common.{◌≡◌, ℕ, ◌+◌, ◌*◌, ◌/◌, ◌%◌, ◌<◌, List, [], ◌∷◌, length, arith, add-one, refl, sym, ap, ◌∙◌}
-use Rattle.std.specs.List.{All}
-use Rattle.std.proofs.lemmas.List.Elements.{All-tail}
-use Rattle.dob_value.specs.declared.value.Value.{Value}
+use Rattle.dob_dbfile.proofs.Common.{◌%◌, ◌*◌, ◌+◌, ◌/◌, ◌<◌, ◌∙◌, ◌∷◌, ◌≡◌, List, [], add-one, ap, arith, length, refl, sym, ℕ, All-tail, All, code_of_value}
+use Rattle.dob_dbfile.proofs.Common.{value_of_code, IsEntry, Value, records}
 use Rattle.dob_value.specs.declared.value.Value.TheVariants.{Win, Loss, Draw}
-use Rattle.dob_value.specs.Codes.{value_of_code, code_of_value}
-use Rattle.dob_value.specs.Follows.{IsEntry}
-use Rattle.dob_dbfile.specs.Format.{records}
 
 -- an entry's code fits two bytes
 code_fits : (value : Value) → IsEntry value → code_of_value value < 65536

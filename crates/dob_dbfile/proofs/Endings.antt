@@ -1,11 +1,7 @@
 -- What the end of a file shows.
-use Rattle.std.proofs.Common.{◌≡◌, ℕ, ◌*◌, ◌-◌, ◌≤◌, false, List, [], ◌++◌, take, drop, length, arith, sym, subst, ap, ◌∙◌, length-drop, take_all}
-use Rattle.sha2.specs.Sha256.{sha256}
-use Rattle.dob_dbfile.specs.declared.fault.Fault.{Fault}
+use Rattle.dob_dbfile.proofs.Common.{◌*◌, ◌++◌, ◌-◌, ◌∙◌, ◌≡◌, ◌≤◌, List, [], ap, arith, drop, false, length, length-drop, subst, sym, take, take_all, ℕ}
+use Rattle.dob_dbfile.proofs.Common.{sha256, Stream, after, whole, code_bytes, EndsWith, GivesFewer, HasDigestFault, IsDigest, ReadsCodes, TakesBytes, Fault}
 use Rattle.dob_dbfile.specs.declared.fault.Fault.TheVariants.{Truncated, Magic, SetByte, ClassCount, Trailing, Digest, Memory, Io, ProfileByte}
-use Rattle.dob_dbfile.specs.Devices.{Stream, after, whole}
-use Rattle.dob_dbfile.specs.Format.{code_bytes}
-use Rattle.dob_dbfile.specs.Reading.{TakesBytes, GivesFewer, ReadsCodes, IsDigest, EndsWith, HasDigestFault}
 
 -- a digest that is cut short
 pub digest_cut : (message : List ℕ) (before : ℕ) (stream : Stream) (fault : Fault) → GivesFewer 32 before stream fault → HasDigestFault message before stream fault

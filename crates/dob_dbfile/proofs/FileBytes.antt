@@ -1,15 +1,9 @@
 -- The bytes of a table's file, part after part.
-use Rattle.std.proofs.Common.{◌≡◌, ℕ, ◌+◌, ◌*◌, List, [], ◌++◌, take, drop, length, ap, sym, ◌∙◌, refl, append_assoc, inl, inr, arith}
-use Rattle.std.proofs.lemmas.List.{length-append, take_at, drop_at}
-use Rattle.sha2.specs.Sha256.{sha256}
-use Rattle.dob_pieces.specs.declared.profile.Family.{Family}
-use Rattle.dob_pieces.specs.declared.profile.Profile.{Profile}
-use Rattle.dob_pieces.specs.declared.profile.Profile.TheVariants.{A}
-use Rattle.dob_value.specs.Follows.{ClassTable}
-use Rattle.dob_dbfile.specs.declared.header.Format.{Format}
-use Rattle.dob_dbfile.specs.declared.header.Format.TheVariants.{First, Second}
-use Rattle.dob_dbfile.specs.Format.{title, set_bytes, profile_bytes, count_bytes, header_in, records, contents_in, bytes_in, IsFile}
-use Rattle.dob_dbfile.specs.Faults.{header_len}
+use Rattle.dob_dbfile.proofs.Common.{◌*◌, ◌++◌, ◌+◌, ◌∙◌, ◌≡◌, List, [], ap, append_assoc, arith, drop, inl, inr, length, refl, sym, take, ℕ, drop_at}
+use Rattle.dob_dbfile.proofs.Common.{length-append, length-map, take_at, sha256, Family, Profile, A, value_of_code, values_of_codes, ClassTable, class_table}
+use Rattle.dob_dbfile.proofs.Common.{header_len, IsFile, bytes_in, code_bytes, contents_in, count_bytes, digest_of, front_of, header_in, profile_bytes, records}
+use Rattle.dob_dbfile.proofs.Common.{set_bytes, title, Format, First, Second}
+use Rattle.dob_dbfile.proofs.CodeBytes.{records-codes}
 use Rattle.dob_dbfile.proofs.Decoded.{length-records}
 
 -- what stands before the digest
@@ -25,11 +19,24 @@ file_parts format table =
     ∙ append_assoc (header_in format table) (records table.values) (sha256 (contents_in format table))
 
 -- what is named of the family and the number of classes is the header's
-pub header_is : (table : ClassTable) (family : Family) (count : ℕ) (start front : List ℕ) → start ≡ [] → family ≡ table.family → count ≡ length table.values
-    → front ≡ start ++ (title Second ++ set_bytes family.set ++ profile_bytes Second family.profile ++ count_bytes count) → front ≡ header_in Second table
-header_is table family count start front none named counted is =
-    let of : Family → ℕ → List ℕ = λ f n. title Second ++ set_bytes f.set ++ profile_bytes Second f.profile ++ count_bytes n in
-    is ∙ ap (λ (s : List ℕ). s ++ of family count) none ∙ ap (λ (f : Family). of f count) named ∙ ap (of table.family) counted
+pub header_is : (table : ClassTable) (family : Family) (count : ℕ) → family ≡ table.family → count ≡ length table.values
+    → front_of family count ≡ header_in Second table
+header_is table family count named counted = ap (λ (f : Family). front_of f count) named ∙ ap (front_of table.family) counted
+
+-- the digest ends the file
+pub digest_is : (table : ClassTable) → digest_of table ≡ sha256 (contents_in Second table)
+unfolding digest_of
+digest_is table = refl
+
+-- the digest of the header and of the records that the codes are
+pub digest_of_codes : (family : Family) (codes : List ℕ)
+    → sha256 (front_of family (length codes) ++ code_bytes codes) ≡ digest_of (class_table family (values_of_codes codes))
+digest_of_codes family codes =
+    let table : ClassTable = class_table family (values_of_codes codes) in
+    ap (λ (count : ℕ). sha256 (front_of family count ++ code_bytes codes)) (sym (length-map codes value_of_code))
+    ∙ ap (λ (body : List ℕ). sha256 (header_in Second table ++ body)) (sym (records-codes codes))
+    ∙ ap sha256 (header_records Second table)
+    ∙ sym (digest_is table)
 
 pub length-header : (format : Format) (table : ClassTable) → length (header_in format table) ≡ header_len format
 length-header First table = refl

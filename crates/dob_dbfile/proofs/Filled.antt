@@ -1,10 +1,8 @@
 -- A room that fills with the bytes of a stream, piece by piece.
-use Rattle.std.proofs.Common.{◌≡◌, ℕ, ◌+◌, ◌≤◌, List, ◌++◌, take, drop, length, arith, refl, sym, ap, ◌∙◌, drop_at, length-take-le}
-use Rattle.std.proofs.Common.{length-drop, take-add, le_refl}
-use Rattle.std.proofs.lemmas.List.{take-append-le, drop-drop}
+use Rattle.dob_dbfile.proofs.Common.{◌++◌, ◌+◌, ◌∙◌, ◌≡◌, ◌≤◌, List, ap, arith, drop, length, length-drop, length-take-le, refl, sym, take, take-add, ℕ}
+use Rattle.dob_dbfile.proofs.Common.{drop-drop, take-append-le, post_of, put_mid, GivesFirst, Stream, after}
+use Rattle.std.proofs.Common.{drop_at, le_refl}
 use Rattle.std.proofs.lemmas.Slice.{take-put_mid_below}
-use borrow.Rule.Slice.PartMut.{put_mid, post_of}
-use Rattle.dob_dbfile.specs.Devices.{Stream, after, GivesFirst}
 
 -- the front of a room, a piece more of which was written
 take_more : (done count k : ℕ) (room part : List ℕ) → done ≤ length room → count ≤ length part

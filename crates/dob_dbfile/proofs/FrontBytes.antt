@@ -1,14 +1,9 @@
 -- What the first bytes of a file and its length show of the whole.
-use Rattle.std.proofs.Common.{◌≡◌, ◌<◌, ◌≤◌, ℕ, List, take, length, inl, inr, refl, subst, ap, arith}
+use Rattle.dob_dbfile.proofs.Common.{◌<◌, ◌≡◌, ◌≤◌, List, ap, arith, inl, inr, length, refl, subst, take, ℕ, Family, whole, CountsClasses, HasHeaderFault}
+use Rattle.dob_dbfile.proofs.Common.{HasReadFault, IsHeaderShort, header_len, HasFrontFault, Fault, Format}
 use Rattle.std.proofs.lemmas.List.{length-take}
-use Rattle.dob_pieces.specs.declared.profile.Family.{Family}
-use Rattle.dob_dbfile.specs.declared.fault.Fault.{Fault}
 use Rattle.dob_dbfile.specs.declared.fault.Fault.TheVariants as fault
-use Rattle.dob_dbfile.specs.declared.header.Format.{Format}
-use Rattle.dob_dbfile.specs.Devices.{whole}
-use Rattle.dob_dbfile.specs.Faults.{header_len, CountsClasses, HasHeaderFault, HasReadFault, IsHeaderShort}
 use Rattle.dob_dbfile.specs.Fronts.{IsFrontOf}
-use Rattle.dob_dbfile.specs.Looking.{HasFrontFault}
 use Rattle.dob_dbfile.proofs.Headers.{counts_lifts, fault_lifts, header_short}
 use Rattle.dob_dbfile.proofs.HeldBytes.{refused}
 

@@ -1,22 +1,7 @@
--- What a hasher has taken piece by piece, and the records in pieces.
-use Rattle.std.proofs.Common.{◌≡◌, ◌∙◌, ◌++◌, ◌*◌, ◌≤◌, [], List, ℕ, ap, sym, subst, take, drop, length, append-nil, append_assoc, length-take-le}
-use Rattle.std.proofs.lemmas.List.{take-append-drop}
-use Rattle.std.proofs.lemmas.List.Concat.{flat_map-append}
-use Rattle.byteorder.specs.Endian.{little_bytes}
-use Rattle.sha2.specs.Hashers.{Holds256}
-use Rattle.sha2.specs.declared.Sha256.{Sha256}
-use Rattle.dob_value.specs.declared.value.Value.{Value}
-use Rattle.dob_value.specs.Codes.{code_of_value}
-use Rattle.dob_dbfile.specs.Format.{records}
-use Rattle.dob_dbfile.specs.Writing.{Hashes}
+-- The records in pieces.
+use Rattle.dob_dbfile.proofs.Common.{◌*◌, ◌++◌, ◌∙◌, ◌≡◌, ◌≤◌, List, ap, append_assoc, drop, length, length-take-le, sym, take, ℕ, take-append-drop}
+use Rattle.dob_dbfile.proofs.Common.{flat_map-append, little_bytes, code_of_value, Value, records}
 use Rattle.dob_dbfile.proofs.Decoded.{length-records}
-
-pub hashes_nothing : (hasher : Sha256) → Hashes hasher [] hasher
-hashes_nothing hasher message holds = subst (Holds256 hasher) (sym (append-nil message)) holds
-
-pub hashes_after : (old mid new : Sha256) (xs ys : List ℕ) → Hashes old xs mid → Hashes mid ys new → Hashes old (xs ++ ys) new
-hashes_after old mid new xs ys first second message holds =
-    subst (Holds256 new) (append_assoc message xs ys) (second (message ++ xs) (first message holds))
 
 -- the records of the first classes, and of the others
 pub records_front : (values : List Value) (count : ℕ) → records values ≡ records (take count values) ++ records (drop count values)

@@ -1,20 +1,10 @@
 -- What the tests say of the first bytes they say of all of them.
-use Rattle.std.proofs.Common.{◌≡◌, ℕ, ◌+◌, ◌-◌, ◌≤◌, List, ◌++◌, take, drop, length, arith, inr, refl, sym, ap, subst, ◌∙◌, length-take-le, length-drop, take_all}
-use Rattle.std.proofs.lemmas.List.{drop-take, take-take, length-append, take_at, drop_at}
-use borrow.Rule.Slice.PartMut.{put_mid}
-use Rattle.dob_pieces.specs.declared.piece_set.PieceSet.{PieceSet}
-use Rattle.dob_pieces.specs.declared.profile.Family.{Family}
-use Rattle.dob_pieces.specs.declared.profile.Profile.{Profile}
-use Rattle.dob_rank.specs.Families.{family_of}
-use Rattle.dob_dbfile.specs.declared.fault.Fault.{Fault}
+use Rattle.dob_dbfile.proofs.Common.{◌++◌, ◌+◌, ◌-◌, ◌∙◌, ◌≡◌, ◌≤◌, List, ap, arith, drop, inr, length, length-drop, length-take-le, refl, subst, sym, take}
+use Rattle.dob_dbfile.proofs.Common.{take_all, ℕ, drop-take, drop_at, length-append, take_at, put_mid, PieceSet, Family, Profile, family_of, GivesFirst, Stream}
+use Rattle.dob_dbfile.proofs.Common.{after, CountsClasses, HasHeader, HasHeaderFault, HasTitle, NamesClasses, NamesFamily, NamesSet, SaysProfile, count_place}
+use Rattle.dob_dbfile.proofs.Common.{header_len, HasFrontFault, GivesFewer, TakesBytes, Fault, Format, First, Second}
+use Rattle.std.proofs.lemmas.List.{take-take}
 use Rattle.dob_dbfile.specs.declared.fault.Fault.TheVariants as fault
-use Rattle.dob_dbfile.specs.declared.header.Format.{Format}
-use Rattle.dob_dbfile.specs.declared.header.Format.TheVariants.{First, Second}
-use Rattle.dob_dbfile.specs.Devices.{Stream, after, GivesFirst}
-use Rattle.dob_dbfile.specs.Faults.{count_place, header_len, HasTitle, NamesSet, HasHeader, SaysProfile, NamesFamily, NamesClasses}
-use Rattle.dob_dbfile.specs.Faults.{CountsClasses, HasHeaderFault}
-use Rattle.dob_dbfile.specs.Looking.{HasFrontFault}
-use Rattle.dob_dbfile.specs.Reading.{GivesFewer, TakesBytes}
 use Rattle.dob_dbfile.proofs.Filled.{filled_more}
 
 -- the number of classes stands in the header's last eight bytes

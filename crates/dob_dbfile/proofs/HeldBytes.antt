@@ -1,9 +1,6 @@
 -- What the bytes of a file that is held show of the whole of it.
-use Rattle.std.proofs.Common.{ℕ, ◌≡◌, List}
-use Rattle.dob_dbfile.specs.declared.fault.Fault.{Fault}
+use Rattle.dob_dbfile.proofs.Common.{◌≡◌, List, ℕ, whole, HasHeaderFault, HasReadFault, Fault}
 use Rattle.dob_dbfile.specs.declared.fault.Fault.TheVariants as fault
-use Rattle.dob_dbfile.specs.Devices.{whole}
-use Rattle.dob_dbfile.specs.Faults.{HasHeaderFault, HasReadFault}
 use Rattle.dob_dbfile.proofs.Headers.{by_fault}
 
 -- a fault of the header is one of the file

@@ -1,4 +1,5 @@
 -- The lemmas, in the order in which they are read.
+mod Common  -- names of other crates and of this one's definitions, for the proofs
 -- What the bytes of a file are.
 mod CodeBytes  -- codes as records
 mod Decoded  -- records as values
@@ -17,4 +18,4 @@ pub mod Written  -- the file of a table passes
 pub mod Looked  -- what was read by place, and the records in a table's file
 -- Writing.
 mod Sinks  -- what sinks have received
-mod Hashed  -- what a hasher has taken, and records in pieces
+mod Hashed  -- records in pieces

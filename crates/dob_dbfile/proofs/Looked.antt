@@ -1,24 +1,9 @@
 -- What was read by place, and the record of a class in the file of a table.
-use Rattle.std.proofs.Common.{◌≡◌, ◌∙◌, ℕ, zero, suc, ◌*◌, ◌<◌, List, [], ◌∷◌, ◌++◌, take, drop, length, arith, sym, subst, ap}
-use Rattle.std.proofs.Common.{Some, slice_get, slice_index, take_all}
-use Rattle.std.specs.Prelude.{unwrap_or}
-use Rattle.std.proofs.lemmas.List.{drop-drop}
+use Rattle.dob_dbfile.proofs.Common.{◌*◌, ◌++◌, ◌<◌, ◌∙◌, ◌∷◌, ◌≡◌, List, Some, [], ap, arith, drop, length, slice_get, slice_index, subst, suc, sym, take}
+use Rattle.dob_dbfile.proofs.Common.{take_all, zero, ℕ, drop-drop, All-tail, All, unwrap_or, little_bytes, little_number, sha256, Family, classes_of}
+use Rattle.dob_dbfile.proofs.Common.{code_of_value, value_of_code, ClassTable, IsEntry, IsTable, Value, Stream, after, whole, CountsClasses, header_len, IsFile}
+use Rattle.dob_dbfile.proofs.Common.{contents_in, records, HasRecord, RecordsAreEntries, place_of, TakesBytes, Format}
 use Rattle.std.proofs.lemmas.Option.{get_or_from_slice_get, same_Some, slice_get_within}
-use Rattle.std.proofs.lemmas.List.Elements.{All-tail}
-use Rattle.std.specs.List.{All}
-use Rattle.byteorder.specs.Endian.{little_bytes, little_number}
-use Rattle.sha2.specs.Sha256.{sha256}
-use Rattle.dob_pieces.specs.declared.profile.Family.{Family}
-use Rattle.dob_rank.specs.Families.{classes_of}
-use Rattle.dob_value.specs.declared.value.Value.{Value}
-use Rattle.dob_value.specs.Codes.{code_of_value, value_of_code}
-use Rattle.dob_value.specs.Follows.{ClassTable, IsEntry, IsTable}
-use Rattle.dob_dbfile.specs.declared.header.Format.{Format}
-use Rattle.dob_dbfile.specs.Devices.{Stream, after, whole}
-use Rattle.dob_dbfile.specs.Format.{IsFile, contents_in, records}
-use Rattle.dob_dbfile.specs.Faults.{CountsClasses, header_len}
-use Rattle.dob_dbfile.specs.Looking.{HasRecord, RecordsAreEntries, place_of}
-use Rattle.dob_dbfile.specs.Reading.{TakesBytes}
 use Rattle.dob_dbfile.proofs.CodeBytes.{code_of_code, pair_back}
 use Rattle.dob_dbfile.proofs.Decoded.{same_records}
 use Rattle.dob_dbfile.proofs.FileBytes.{behind_header, format_of}

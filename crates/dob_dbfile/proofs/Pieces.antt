@@ -1,17 +1,9 @@
 -- What is read piece after piece.
-use Rattle.std.proofs.Common.{◌≡◌, ℕ, ◌+◌, ◌*◌, ◌≤◌, List, [], ◌++◌, take, drop, length, arith, refl, sym, subst, ap, ◌∙◌, append-nil}
-use Rattle.std.proofs.Common.{append_assoc, take-add, length-drop, length-take, ◌-◌, min}
-use Rattle.std.proofs.lemmas.List.{length-append}
-use Rattle.std.proofs.Math.Nat.{min-le_left}
-use Rattle.std.proofs.lemmas.List.Concat.{flat_map-append}
-use Rattle.byteorder.specs.Endian.{little_bytes}
-use Rattle.sha2.specs.Hashers.{Holds256}
+use Rattle.dob_dbfile.proofs.Common.{◌*◌, ◌++◌, ◌+◌, ◌-◌, ◌∙◌, ◌≡◌, ◌≤◌, List, [], ap, append-nil, append_assoc, arith, drop, length, length-drop, length-take}
+use Rattle.dob_dbfile.proofs.Common.{min, refl, subst, sym, take, take-add, ℕ, min-le_left, length-append, flat_map-append, little_bytes, Holds256, Stream}
+use Rattle.dob_dbfile.proofs.Common.{after, code_bytes, GivesFewer, HashesNext, ReadsCodes, Fault}
 use Rattle.sha2.specs.declared.Sha256.{Sha256}
-use Rattle.dob_dbfile.specs.declared.fault.Fault.{Fault}
 use Rattle.dob_dbfile.specs.declared.fault.Fault.TheVariants.{Truncated, Magic, SetByte, ClassCount, Trailing, Digest, Memory, Io, ProfileByte}
-use Rattle.dob_dbfile.specs.Devices.{Stream, after}
-use Rattle.dob_dbfile.specs.Format.{code_bytes}
-use Rattle.dob_dbfile.specs.Reading.{GivesFewer, ReadsCodes, HashesNext}
 
 -- nothing has been read
 pub reads_none : (stream : Stream) (codes : List ℕ) → ReadsCodes stream 0 codes codes

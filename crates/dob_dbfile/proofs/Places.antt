@@ -1,22 +1,13 @@
 -- Of a stream one fault holds at most, and none where it passes all tests.
-use Rattle.std.proofs.Common.{◌≡◌, ℕ, zero, suc, ◌≤◌, ◌⊎◌, Bool, cond, false, true, List, ◌∷◌, [], length, slice_index, arith, inl, inr, refl, sym, subst, ap, ◌∙◌}
-use Rattle.std.proofs.Common.{Result, Ok, Err, ◌≢◌, ◌↔◌}
+use Rattle.dob_dbfile.proofs.Common.{◌↔◌, ◌∙◌, ◌∷◌, ◌≡◌, ◌≢◌, ◌≤◌, ◌⊎◌, Bool, Err, List, Ok, Result, [], ap, arith, cond, false, inl, inr, length, refl}
+use Rattle.dob_dbfile.proofs.Common.{slice_index, subst, suc, sym, true, zero, ℕ, cases_lt, cases_order, PieceSet, Family, Profile, A, B, family_of, Stream}
+use Rattle.dob_dbfile.proofs.Common.{CountsClasses, HasDigest, HasHeader, HasReadFault, HasTitle, IsHeaderShort, NamesFamily, NamesSet, PassesAll, SaysProfile}
+use Rattle.dob_dbfile.proofs.Common.{set_bytes, title, Fault, Format, First, Second}
 use Rattle.std.specs.Result.{IfOk, IfErr, IsErrOf, MatchResult}
-use Rattle.std.proofs.lemmas.Bool.{cases_lt, cases_order}
-use Rattle.dob_pieces.specs.declared.piece_set.PieceSet.{PieceSet}
-use Rattle.dob_pieces.specs.declared.profile.Family.{Family}
-use Rattle.dob_pieces.specs.declared.profile.Profile.{Profile}
-use Rattle.dob_pieces.specs.declared.profile.Profile.TheVariants.{A, B}
-use Rattle.dob_dbfile.specs.declared.fault.Fault.{Fault}
 use Rattle.dob_dbfile.specs.declared.fault.Fault.TheVariants as fault
-use Rattle.dob_dbfile.specs.declared.header.Format.{Format}
-use Rattle.dob_dbfile.specs.declared.header.Format.TheVariants.{First, Second}
-use Rattle.dob_dbfile.specs.Devices.{Stream}
-use Rattle.dob_dbfile.specs.Format.{title, set_bytes, profile_byte}
-use Rattle.dob_rank.specs.Families.{family_of}
+use Rattle.dob_dbfile.specs.Format.{profile_number}
 use Rattle.dob_rank.proofs.Positions.Sets.{same_numbers}
-use Rattle.dob_dbfile.specs.Faults.{HasFront, HasTitle, NamesSet, HasHeader, SaysProfile, NamesFamily, CountsClasses}
-use Rattle.dob_dbfile.specs.Faults.{IsHeaderShort, IsWhole, IsNoLonger, Ends, HasDigest, PassesAll, HasReadFault}
+use Rattle.dob_dbfile.specs.Faults.{HasFront, IsWhole, IsNoLonger, Ends}
 
 -- ---- one format, one set, one family
 
@@ -26,7 +17,7 @@ same_title Second Second same = refl
 same_title First Second same = let never : 49 ≡ 50 = ap (λ (xs : List ℕ). slice_index xs 7) same in absurd (omega (arith, never))
 same_title Second First same = let never : 50 ≡ 49 = ap (λ (xs : List ℕ). slice_index xs 7) same in absurd (omega (arith, never))
 
-same_byte : (p q : Profile) → profile_byte p ≡ profile_byte q → p ≡ q
+same_byte : (p q : Profile) → profile_number p ≡ profile_number q → p ≡ q
 same_byte A A same = refl
 same_byte B B same = refl
 same_byte A B same = absurd (omega (arith, same))
@@ -35,7 +26,7 @@ same_byte B A same = absurd (omega (arith, same))
 same_profile : (format : Format) (p q : Profile) (bytes : List ℕ) → SaysProfile format p bytes → SaysProfile format q bytes → p ≡ q
 same_profile First p q bytes at_p at_q = at_p ∙ sym at_q
 same_profile Second p q bytes at_p at_q =
-    let same : profile_byte p ∷ [] ≡ profile_byte q ∷ [] = sym at_p ∙ at_q in
+    let same : profile_number p ∷ [] ≡ profile_number q ∷ [] = sym at_p ∙ at_q in
     same_byte p q (ap (λ (xs : List ℕ). slice_index xs 0) same)
 
 pub same_format : (f g : Format) (bytes : List ℕ) → HasTitle f bytes → HasTitle g bytes → f ≡ g

@@ -1,15 +1,11 @@
 -- What sinks have received after one call and another.
-use Rattle.std.proofs.Common.{◌≡◌, ℕ, ◌+◌, ◌≤◌, true, false, List, [], ◌∷◌, ◌++◌, length, Option, Some, None, take, drop, sym, ap, ◌∙◌, append_assoc}
-use Rattle.std.proofs.Common.{append-nil, take-add, refl, arith}
-use Rattle.std.specs.Prelude.{◌||◌}
+use Rattle.dob_dbfile.proofs.Common.{◌++◌, ◌+◌, ◌∙◌, ◌∷◌, ◌≡◌, ◌≤◌, List, None, Option, Some, [], ap, append-nil, append_assoc, arith, drop, false, length}
+use Rattle.dob_dbfile.proofs.Common.{refl, sym, take, take-add, true, ℕ, or-false, or_right, drop_at, length-append, take-append-le, take_at, ◌||◌, AddsFlush}
+use Rattle.dob_dbfile.proofs.Common.{IsNotFlushed, IsSame, Puts, SinkState, SinkWorks, StopsAfter, TakesPiece, Writes, change}
 use Rattle.std.proofs.Math.Seq.{take-length}
-use Rattle.std.proofs.lemmas.Bool.{or_right}
 use Rattle.std.specs.Io.KnownBytes.{Appends, Keeps, append_known}
-use Rattle.std.proofs.Math.Bool.{or-false}
-use Rattle.std.proofs.lemmas.List.{length-append, take-append-le, take_at, drop_at}
 use Rattle.dob_dbfile.specs.declared.device.FailedAfter.{FailedAfter}
 use Rattle.dob_dbfile.specs.Writing.{StopsBehind}
-use Rattle.dob_dbfile.specs.Sinks.{AddsFlush, IsNotFlushed, IsSame, Puts, SinkState, StopsAfter, TakesPiece, SinkWorks, Writes, change}
 
 -- bytes after bytes
 pub Appends-append : (a b c : Option (List ℕ)) (xs ys : List ℕ) → Appends a b xs → Appends b c ys → Appends a c (xs ++ ys)

@@ -1,22 +1,11 @@
 -- What the steps of reading say of the whole stream.
-use Rattle.std.proofs.Common.{◌≡◌, ℕ, ◌+◌, ◌*◌, ◌≤◌, ◌<◌, ◌⊎◌, List, ◌++◌, take, drop, length, arith, inl, inr, refl, sym}
-use Rattle.std.proofs.Common.{subst, ap, ◌∙◌, length-drop, length-take-le, take-add, append_assoc}
-use Rattle.std.proofs.lemmas.Bool.{cases_lt}
-use Rattle.std.proofs.lemmas.List.{take-append-drop, drop-drop, length-map}
-use Rattle.sha2.specs.Sha256.{sha256}
-use Rattle.dob_pieces.specs.declared.profile.Family.{Family}
-use Rattle.dob_pieces.specs.declared.profile.Profile.{Profile}
-use Rattle.dob_rank.specs.Families.{classes_of}
-use Rattle.dob_value.specs.Codes.{value_of_code, values_of_codes}
-use Rattle.dob_value.specs.Follows.{ClassTable, class_table}
-use Rattle.dob_dbfile.specs.declared.fault.Fault.{Fault}
+use Rattle.dob_dbfile.proofs.Common.{◌*◌, ◌++◌, ◌+◌, ◌<◌, ◌∙◌, ◌≡◌, ◌≤◌, ◌⊎◌, List, ap, append_assoc, arith, drop, inl, inr, length, length-drop}
+use Rattle.dob_dbfile.proofs.Common.{length-take-le, refl, subst, sym, take, take-add, ℕ, cases_lt, drop-drop, length-map, take-append-drop, sha256, Family}
+use Rattle.dob_dbfile.proofs.Common.{Profile, classes_of, value_of_code, values_of_codes, ClassTable, class_table, Stream, after, CountsClasses, HasDigest}
+use Rattle.dob_dbfile.proofs.Common.{HasReadFault, SaysProfile, contents_len, file_len, header_len, IsFile, bytes_in, contents_in, count_bytes, header_in}
+use Rattle.dob_dbfile.proofs.Common.{profile_bytes, records, set_bytes, title, EndsWith, HasRestFault, TakesBytes, Fault, Format, First, Second}
 use Rattle.dob_dbfile.specs.declared.fault.Fault.TheVariants as fault
-use Rattle.dob_dbfile.specs.declared.header.Format.{Format}
-use Rattle.dob_dbfile.specs.declared.header.Format.TheVariants.{First, Second}
-use Rattle.dob_dbfile.specs.Devices.{Stream, after}
-use Rattle.dob_dbfile.specs.Format.{title, set_bytes, profile_bytes, count_bytes, records, header_in, contents_in, bytes_in, IsFile}
-use Rattle.dob_dbfile.specs.Faults.{header_len, SaysProfile, CountsClasses, contents_len, file_len, IsNoLonger, HasDigest, IsCutShort, HasReadFault}
-use Rattle.dob_dbfile.specs.Reading.{EndsWith, HasRestFault, TakesBytes}
+use Rattle.dob_dbfile.specs.Faults.{IsNoLonger, IsCutShort}
 use Rattle.dob_dbfile.proofs.CodeBytes.{records-codes}
 use Rattle.dob_dbfile.proofs.Headers.{header_short}
 use Rattle.dob_dbfile.proofs.FileBytes.{Tells, header_records, is_file}

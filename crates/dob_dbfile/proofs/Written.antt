@@ -1,24 +1,14 @@
 -- A file of a table passes all tests, and is that of no other table.
-use Rattle.std.proofs.Common.{◌≡◌, ℕ, ◌+◌, ◌*◌, ◌≤◌, ◌⊎◌, false, List, take, drop, length, arith, inl, inr, refl, sym, subst, ap, ◌∙◌, Result, Ok, Err}
-use Rattle.std.proofs.Common.{length-take, min}
-use Rattle.std.proofs.Math.Nat.{min-le_right}
+use Rattle.dob_dbfile.proofs.Common.{◌*◌, ◌+◌, ◌∙◌, ◌≡◌, ◌≤◌, ◌⊎◌, Err, List, Ok, Result, ap, arith, drop, false, inl, inr, length, length-take, min, refl}
+use Rattle.dob_dbfile.proofs.Common.{subst, sym, take, ℕ, min-le_right, drop_at, length-append, take_at, sha256, Family, classes_of, ClassTable, IsTable}
+use Rattle.dob_dbfile.proofs.Common.{class_table, Value, whole, CountsClasses, HasDigest, HasReadFault, NamesFamily, PassesAll, SaysProfile, contents_len}
+use Rattle.dob_dbfile.proofs.Common.{count_place, header_len, IsFile, bytes_in, contents_in, count_bytes, header_in, records, Fault, Format, First, Second}
 use Rattle.std.specs.Result.{IfOk, IfErr, MatchResult}
-use Rattle.std.proofs.lemmas.List.{length-append, take_at, drop_at}
-use Rattle.sha2.specs.Sha256.{sha256}
 use Rattle.sha2.proofs.Facts256.{length-sha256}
-use Rattle.dob_pieces.specs.declared.profile.Family.{Family}
-use Rattle.dob_rank.specs.Families.{IsRepresentative, classes_of}
+use Rattle.dob_rank.specs.Families.{IsRepresentative}
 use Rattle.dob_rank.proofs.OfFamilies.Present.{HasClasses-classes_of}
-use Rattle.dob_value.specs.declared.value.Value.{Value}
-use Rattle.dob_value.specs.Follows.{ClassTable, IsTable, class_table}
 use Rattle.dob_value.proofs.ClassNumbers.{one_count}
-use Rattle.dob_dbfile.specs.declared.fault.Fault.{Fault}
 use Rattle.dob_dbfile.specs.declared.fault.Fault.TheVariants as fault
-use Rattle.dob_dbfile.specs.declared.header.Format.{Format}
-use Rattle.dob_dbfile.specs.declared.header.Format.TheVariants.{First, Second}
-use Rattle.dob_dbfile.specs.Devices.{whole}
-use Rattle.dob_dbfile.specs.Format.{count_bytes, header_in, records, contents_in, bytes_in, IsFile}
-use Rattle.dob_dbfile.specs.Faults.{count_place, header_len, SaysProfile, NamesFamily, CountsClasses, contents_len, HasDigest, PassesAll, HasReadFault}
 use Rattle.dob_dbfile.proofs.Decoded.{same_records}
 use Rattle.dob_dbfile.proofs.FileBytes.{Tells, IsFileIn, contents-rest, format_of, header-front, length-contents, length-header}
 use Rattle.dob_dbfile.proofs.Headers.{counts_lifts, header_long}

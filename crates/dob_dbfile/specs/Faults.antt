@@ -11,7 +11,7 @@ use Rattle.dob_dbfile.specs.declared.fault.Fault.TheVariants.{Truncated, Magic, 
 use Rattle.dob_dbfile.specs.declared.header.Format.{Format}
 use Rattle.dob_dbfile.specs.declared.header.Format.TheVariants.{First, Second}
 use Rattle.dob_dbfile.specs.Devices.{Stream}
-use Rattle.dob_dbfile.specs.Format.{title, set_bytes, profile_byte, count_bytes}
+use Rattle.dob_dbfile.specs.Format.{title, set_bytes, profile_number, count_bytes}
 
 -- whether it is the fault of a device that failed
 abbrev pub is_io : Fault → Bool
@@ -49,7 +49,7 @@ HasHeader format set bytes = NamesSet format set bytes × (header_len format ≤
 -- byte 12 is the profile's; in the first format it isn't asked, and the profile is A
 abbrev pub SaysProfile : Format → Profile → List ℕ → Type 0
 SaysProfile First profile bytes = profile ≡ A
-SaysProfile Second profile bytes = take 1 (drop 12 bytes) ≡ profile_byte profile ∷ []
+SaysProfile Second profile bytes = take 1 (drop 12 bytes) ≡ profile_number profile ∷ []
 
 abbrev pub NamesFamily : Format → Family → List ℕ → Type 0
 NamesFamily format family bytes = HasHeader format family.set bytes × SaysProfile format family.profile bytes

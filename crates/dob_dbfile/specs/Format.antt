@@ -4,8 +4,10 @@ use Rattle.std.specs.List.{flat_map}
 use Rattle.byteorder.specs.Endian.{little_bytes}
 use Rattle.sha2.specs.Sha256.{sha256}
 use Rattle.dob_pieces.specs.declared.piece_set.PieceSet.{PieceSet}
+use Rattle.dob_pieces.specs.declared.profile.Family.{Family}
 use Rattle.dob_pieces.specs.declared.profile.Profile.{Profile}
-use Rattle.dob_pieces.specs.declared.profile.Profile.TheVariants.{A, B}
+use Rattle.dob_pieces.specs.declared.profile.Profile.TheVariants.{A}
+pub use Rattle.dob_pieces.specs.Profiles.{profile_number}
 use Rattle.dob_value.specs.declared.value.Value.{Value}
 use Rattle.dob_value.specs.Codes.{code_of_value}
 use Rattle.dob_value.specs.Follows.{ClassTable}
@@ -21,15 +23,10 @@ title Second = codes "DOBUTSU2"
 abbrev pub set_bytes : PieceSet → List ℕ
 set_bytes set = set.chicks ∷ set.elephants ∷ set.giraffes ∷ 2 ∷ []
 
--- the number of a profile
-abbrev pub profile_byte : Profile → ℕ
-profile_byte A = 0
-profile_byte B = 1
-
 -- the profile, of which the first format says nothing
 abbrev pub profile_bytes : Format → Profile → List ℕ
 profile_bytes First profile = []
-profile_bytes Second profile = profile_byte profile ∷ []
+profile_bytes Second profile = profile_number profile ∷ []
 
 -- the number of classes in eight bytes, the lowest first
 abbrev pub count_bytes : ℕ → List ℕ
@@ -43,6 +40,10 @@ code_bytes codes = flat_map (λ code. little_bytes 2 code) codes
 abbrev pub records : List Value → List ℕ
 records values = flat_map (λ value. little_bytes 2 (code_of_value value)) values
 
+-- what stands before the records of a file in the second format, of so many classes of the family
+abbrev pub front_of : Family → ℕ → List ℕ
+front_of family count = title Second ++ set_bytes family.set ++ profile_bytes Second family.profile ++ count_bytes count
+
 -- what stands before the records
 abbrev pub header_in : Format → ClassTable → List ℕ
 header_in format table =
@@ -55,6 +56,10 @@ contents_in format table = header_in format table ++ records table.values
 -- the contents and their digest
 abbrev pub bytes_in : Format → ClassTable → List ℕ
 bytes_in format table = contents_in format table ++ sha256 (contents_in format table)
+
+-- the digest that ends the file of a table in the second format
+unfoldable pub digest_of : ClassTable → List ℕ
+digest_of table = sha256 (contents_in Second table)
 
 -- the file of a table, in the second format: the one that is written
 abbrev pub bytes_of : ClassTable → List ℕ

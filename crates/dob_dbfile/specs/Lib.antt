@@ -8,3 +8,4 @@ pub mod Reading
 pub mod Looking
 pub mod Fronts
 pub mod Writing
+pub mod Digests

@@ -5,7 +5,7 @@ ghost use Rattle.dob_pieces.specs.declared.piece_set.PieceSet.{PieceSet as AnySe
 ghost use Rattle.dob_pieces.specs.declared.profile.Profile.{Profile as AnyProfile};
 ghost use Rattle.dob_dbfile.specs.declared.header.Format.{Format as AnyFormat};
 ghost use Rattle.dob_dbfile.specs.declared.header.Format.TheVariants.{Second};
-ghost use Rattle.dob_dbfile.specs.Format.{title, set_bytes, profile_byte, profile_bytes, count_bytes};
+ghost use Rattle.dob_dbfile.specs.Format.{title, set_bytes, profile_number, profile_bytes, count_bytes};
 ghost use Rattle.dob_dbfile.specs.Faults.{SaysProfile, NamesSet, NamesFamily, NamesClasses, HasHeader, CountsClasses, HasHeaderFault, count_place, header_len};
 
 use crate::fault::Fault;
@@ -20,7 +20,7 @@ pub(crate) const FRONT_LEN: usize = 20;
 /// How many bytes the header of the second format has.
 pub(crate) const HEADER_LEN: usize = 21;
 
-/// How many bytes of a header are the number of classes, its last ones.
+// How many bytes of a header are the number of classes, its last ones.
 const COUNT_LEN: usize = 8;
 
 /// The formats of a file.
@@ -51,23 +51,13 @@ pub(crate) fn push_header(bytes: &mut Vec<u8>, family: Family, count: u64) -> Re
     ensures capacity { vec_capacity bytes.old ≤ vec_capacity bytes.new }
 {
     let set = family.set;
-    let profile = profile_byte(family.profile);
+    let profile = family.profile.number();
     bytes.extend_from_slice(b"DOBUTSU2")?;
     bytes.extend_from_slice(&[set.chicks, set.elephants, set.giraffes, 2, profile])?;
     let mut word = [0; COUNT_LEN];
     LittleEndian::write_u64(&mut word, count);
     bytes.extend_from_slice(&word)?;
     Ok(())
-}
-
-/// The number of a profile.
-pub fn profile_byte(profile: Profile) -> u8
-    ensures { result ≡ profile_byte profile }
-{
-    match profile {
-        Profile::A => 0,
-        Profile::B => 1,
-    }
 }
 
 /// The format and the set that the first bytes name.
@@ -205,13 +195,12 @@ fn profile_named(format: Format, header: &[u8]) -> Option<Profile>
     }
 }
 
-/// The profile of that number.
-pub fn profile_of(bytes: &[u8]) -> Option<Profile>
-    ensures { MatchOption result ((profile : AnyProfile) → bytes.now ≢ profile_byte profile ∷ []) (λ profile. bytes.now ≡ profile_byte profile ∷ []) }
+// The profile that the byte names.
+fn profile_of(bytes: &[u8]) -> Option<Profile>
+    ensures { MatchOption result ((profile : AnyProfile) → bytes.now ≢ profile_number profile ∷ []) (λ profile. bytes.now ≡ profile_number profile ∷ []) }
 {
     match *bytes {
-        [0] => Some(Profile::A),
-        [1] => Some(Profile::B),
+        [number] => Profile::of_number(number),
         _ => None,
     }
 }

@@ -12,6 +12,7 @@
 #![tactic(auto)]
 
 mod device;
+mod digest;
 mod fault;
 mod front;
 mod header;
@@ -29,8 +30,9 @@ mod transfer;
 mod write;
 
 pub use device::{Failed, FailedAfter, PlacedSource, Sink, Source};
+pub use digest::{FileHasher, digest_of};
 pub use fault::Fault;
-pub use header::{Format, profile_byte, profile_of, set_named};
+pub use header::{Format, set_named};
 pub use held::{held_counted, held_family, held_value};
 pub use held_front::{front_family, header_len};
 pub use held_source::HeldSource;
@@ -41,4 +43,4 @@ pub use read::read_table;
 pub use records::value_in;
 pub use std_device::{Lent, Std};
 pub use transfer::{put_all, read_full, write_all};
-pub use write::write_table;
+pub use write::{write_digested, write_table};

@@ -27,7 +27,7 @@ pub(crate) fn piece_room(alloc: Global) -> Result<Vec<u8>, Memory>
     Ok(vec![in alloc; 0u8; PIECE_LEN]?)
 }
 
-/// Appends a record; `Memory` only if there is no room for it.
+// Appends a record; `Memory` only if there is no room for it.
 fn push_record(bytes: &mut Vec<u8>, code: u16) -> Result<(), Memory>
     ensures items { OnOk result (bytes.new.items ≡ bytes.old.items ++ little_bytes 2 code) }
     ensures len { OnOk result (vec_len bytes.new ≡ vec_len bytes.old + 2) }
@@ -52,6 +52,22 @@ pub(crate) fn put_records(bytes: &mut Vec<u8>, table: &Table, first: u64, end: u
     bytes.clear();
     for class in first..end {
         let Ok(()) = push_record(bytes, code_of_value(table.value(class))) else {
+            unreachable!()
+        };
+    }
+}
+
+/// Puts the records that the codes from the first on are, up to the end, in place of the bytes, which have room for them.
+pub(crate) fn put_codes(bytes: &mut Vec<u8>, codes: &[u16], first: usize, end: usize)
+    requires order { first ≤ end }
+    requires within { end ≤ length codes.now }
+    requires room { 2 * (end - first) ≤ vec_capacity bytes.old }
+    ensures records { code_bytes (take first codes.now) ++ bytes.new.items ≡ code_bytes (take end codes.now) }
+    ensures capacity { vec_capacity bytes.old ≤ vec_capacity bytes.new }
+{
+    bytes.clear();
+    for place in first..end {
+        let Ok(()) = push_record(bytes, codes[place]) else {
             unreachable!()
         };
     }

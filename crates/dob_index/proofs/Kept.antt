@@ -1,19 +1,8 @@
 -- What is written stays where more is written behind it.
-use Rattle.std.proofs.Common.{◌≡◌, ◌≢◌, ℕ, ◌+◌, ◌*◌, ◌/◌, ◌%◌, ◌^◌, ◌<◌, ◌≤◌, ◌⊎◌, ◌∙◌, refl, sym, ap, subst, inl, inr, arith, List, length, get_or, slice_set}
-use Rattle.std.proofs.lemmas.Bool.{cases_lt}
-use Rattle.std.proofs.lemmas.List.{get_or-set_same, get_or-set_other, length-set}
-use Rattle.dob_pieces.specs.declared.profile.Family.{Family}
-use Rattle.dob_rank.specs.Families.{is_marked}
-use Rattle.dob_rank.specs.Marks.{marks_below}
-use Rattle.dob_rank.specs.Numbers.{product, block_bases, start_of}
-use Rattle.dob_rank.specs.Runs.{runs_in, run_start, run_kind, lion_pairs}
-use Rattle.dob_rank.specs.declared.runs.RunKind.{RunKind}
-use Rattle.dob_rank.specs.declared.runs.RunKind.TheVariants.{Mixed}
-use Rattle.dob_classes.proofs.Tables.FamilyBlocks.{classes_few}
-use Rattle.dob_rank.proofs.InRuns.RunSums.{runs_by_hand}
-use Rattle.dob_classes.proofs.Counting.ClassesBefore.{none_before, by_hands, one_block_more}
-use Rattle.dob_index.specs.Layout.{row_at, entries_in, entry_places, where_mixed, run_words}
-use Rattle.dob_index.specs.Index.{AreEntriesFrom, IsKeptRun, IsKeptBlock}
+use Rattle.dob_index.proofs.Common.{◌%◌, ◌*◌, ◌+◌, ◌/◌, ◌<◌, ◌^◌, ◌∙◌, ◌≡◌, ◌≢◌, ◌≤◌, ◌⊎◌, List, ap, arith, get_or, inl, inr, length, refl, slice_set, subst}
+use Rattle.dob_index.proofs.Common.{sym, ℕ, cases_lt, get_or-set_other, get_or-set_same, length-set, Family, runs_by_hand, is_marked, marks_below, block_bases}
+use Rattle.dob_index.proofs.Common.{product, start_of, lion_pairs, run_kind, run_start, runs_in, RunKind, Mixed, by_hands, none_before, one_block_more}
+use Rattle.dob_index.proofs.Common.{classes_few, AreEntriesFrom, IsKeptBlock, IsKeptRun, entries_in, entry_places, row_at, run_words, where_mixed}
 
 -- the entries of a run stay
 pub entries_stay : (family : Family) (block lions at : ℕ) (old new : List ℕ)

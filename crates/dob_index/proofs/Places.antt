@@ -1,15 +1,10 @@
 -- Where the numbers of an index stand: the entries of one run behind those of the run before, and all of them among so many numbers.
-use Rattle.std.proofs.Common.{◌≡◌, ℕ, zero, suc, ◌+◌, ◌*◌, ◌<◌, ◌≤◌, ◌^◌, ap, inl, inr, arith}
-use Rattle.std.proofs.lemmas.Bool.{cases_lt}
+use Rattle.dob_index.proofs.Common.{◌*◌, ◌+◌, ◌<◌, ◌^◌, ◌≡◌, ◌≤◌, ap, arith, inl, inr, suc, zero, ℕ, cases_lt, blocks_small, block_bases, product, sum_below}
+use Rattle.dob_index.proofs.Common.{lion_pairs, run_kind, RunKind, First, Later, Mixed, entries_at, entries_in, row_at, run_words, where_mixed, words_of}
 use Rattle.dob_pieces.specs.declared.piece_set.PieceSet.{PieceSet}
-use Rattle.dob_rank.specs.Numbers.{product, sum_below, block_bases}
-use Rattle.dob_rank.specs.Runs.{run_kind, lion_pairs}
-use Rattle.dob_rank.specs.declared.runs.RunKind.{RunKind}
-use Rattle.dob_rank.specs.declared.runs.RunKind.TheVariants.{First, Later, Mixed}
 use Rattle.dob_lists.proofs.Sums.{sum_below-rises}
-use Rattle.dob_rank.proofs.Positions.Blocks.{sum_below_more, blocks_small}
+use Rattle.dob_rank.proofs.Positions.Blocks.{sum_below_more}
 use Rattle.dob_rank.proofs.InRuns.RunPlaces.{run_size-small}
-use Rattle.dob_index.specs.Layout.{row_at, entries_in, where_mixed, run_words, entries_at, words_of}
 
 -- the entries of all runs of a block
 abbrev block_words : PieceSet → ℕ → ℕ

@@ -1,19 +1,7 @@
 -- What an index says of a block's runs is read from it.
-use Rattle.std.proofs.Common.{◌≡◌, ℕ, zero, suc, ◌+◌, ◌*◌, ◌^◌, ◌<◌, ◌≤◌, ◌∙◌, sym, ap, subst, arith, List, get_or}
-use Rattle.std.proofs.Math.Nat.{mul-le-mul_right}
-use Rattle.dob_pieces.specs.declared.profile.Family.{Family}
-use Rattle.dob_rank.specs.Families.{is_marked}
-use Rattle.dob_rank.specs.Marks.{marks_below}
-use Rattle.dob_rank.specs.Numbers.{product, block_bases, start_of}
-use Rattle.dob_rank.specs.Runs.{run_start, run_kind, lion_pairs}
-use Rattle.dob_classes.proofs.Tables.RunTables.{marks_small}
-use Rattle.dob_classes.proofs.Counting.ClassesBefore.{none_before, all_lions}
-use Rattle.dob_rank.proofs.InRuns.RunSums.{lions_same}
-use Rattle.dob_classes.specs.declared.class_walks.MixedRun.{MixedRun}
-use Rattle.dob_classes.specs.declared.class_walks.Walk.{Walk}
-use Rattle.dob_classes.specs.Walks.{IsWalk, marks_before}
-use Rattle.dob_index.specs.Layout.{row_at, entry_places}
-use Rattle.dob_index.specs.Index.{IsIndex}
+use Rattle.dob_index.proofs.Common.{◌*◌, ◌+◌, ◌<◌, ◌^◌, ◌∙◌, ◌≡◌, ◌≤◌, List, ap, arith, get_or, subst, suc, sym, zero, ℕ, Family, lions_same, is_marked}
+use Rattle.dob_index.proofs.Common.{marks_below, block_bases, product, start_of, lion_pairs, run_kind, run_start, all_lions, none_before, marks_small, IsWalk}
+use Rattle.dob_index.proofs.Common.{marks_before, MixedRun, Walk, IsIndex, entry_places, row_at}
 use Rattle.dob_index.proofs.Walked.{walked}
 
 -- how many classes of the block stand before a run of the first hand, or before the end of the last
@@ -37,12 +25,6 @@ row_small family block lions words is within upto =
     let all = all_lions family block within in
     let few = marks_small family block lions within (omega (arith, upto, all)) in
     omega (arith, read, few)
-
--- the hands before have few
-pub hands_few : (hands whole part : ℕ) → hands ≤ 41 → whole ≤ 2 ^ 42 → part ≤ 2 ^ 42 → hands * whole + part ≤ 2 ^ 48
-hands_few hands whole part few small less =
-    let times : hands * whole ≤ 41 * whole = mul-le-mul_right whole few in
-    omega (arith, times, small, less)
 
 -- an entry of the first hand's run is what a walk from the run's start to its place counts
 pub entry_read : (run : MixedRun) (words : List ℕ) (first entry : ℕ) (walk : Walk) → IsIndex run.family words → run.run < lion_pairs

@@ -1,19 +1,8 @@
 -- How many representatives stand before a place of a run: the same for each hand, and by a walk.
-use Rattle.std.proofs.Common.{◌≡◌, ℕ, ◌+◌, ◌%◌, ◌<◌, ◌≤◌, ◌∙◌, refl, ap, arith}
-use Rattle.dob_pieces.specs.declared.profile.Family.{Family}
-use Rattle.dob_classes.specs.declared.class_walks.MixedRun.{MixedRun}
-use Rattle.dob_classes.specs.declared.class_walks.Walk.{Walk}
-use Rattle.dob_rank.specs.declared.runs.RunKind.TheVariants.{Mixed}
-use Rattle.dob_rank.specs.Families.{is_marked}
-use Rattle.dob_classes.specs.FamilyRuns.{is_there, local_marks_in}
-use Rattle.dob_rank.specs.Marks.{marks_below}
-use Rattle.dob_rank.specs.Numbers.{product, block_bases}
-use Rattle.dob_rank.specs.Runs.{runs_in, run_size, run_start, run_kind, lion_pairs}
-use Rattle.dob_classes.specs.Walks.{IsWalk, marks_before}
-use Rattle.dob_rank.proofs.InRuns.RunMarks.{marks_agree, lions_run}
+use Rattle.dob_index.proofs.Common.{◌%◌, ◌+◌, ◌<◌, ◌∙◌, ◌≡◌, ◌≤◌, ap, arith, refl, ℕ, Family, lions_run, marks_agree, marks_below-upto, is_marked, marks_below}
+use Rattle.dob_index.proofs.Common.{block_bases, product, lion_pairs, run_kind, run_size, run_start, runs_in, Mixed, in_run_before, is_there, local_marks_in}
+use Rattle.dob_index.proofs.Common.{IsWalk, marks_before, MixedRun, Walk}
 use Rattle.dob_classes.proofs.MarksOfRuns.FamilyMarks.{there_by_lions, alike_by_lions}
-use Rattle.dob_rank.proofs.Marked.Words.{marks_below-upto}
-use Rattle.dob_classes.proofs.Counting.ClassesBefore.{in_run_before}
 
 -- ---- by a walk
 

@@ -3,20 +3,15 @@
 use Rattle.std.specs.Prelude.{ℕ, ◌+◌, ◌*◌, ◌/◌}
 use Rattle.dob_pieces.specs.declared.piece_set.PieceSet.{PieceSet}
 use Rattle.dob_pieces.specs.declared.profile.Family.{Family}
-use Rattle.dob_pieces.specs.declared.profile.Profile.{Profile}
-use Rattle.dob_pieces.specs.declared.profile.Profile.TheVariants.{A, B}
+use Rattle.dob_pieces.specs.Profiles.{profile_number}
 use Rattle.dob_rank.specs.Numbers.{product, sum_below, block_bases}
 use Rattle.dob_rank.specs.Runs.{run_size, run_kind, lion_pairs}
 use Rattle.dob_rank.specs.declared.runs.RunKind.{RunKind}
 use Rattle.dob_rank.specs.declared.runs.RunKind.TheVariants.{First, Later, Mixed}
 
-abbrev pub profile_digit : Profile → ℕ
-profile_digit A = 0
-profile_digit B = 1
-
 -- the first number: the eight letters "dobuidx1", and which family it is
 abbrev pub mark_of : Family → ℕ
-mark_of family = 7237111382626564145 + (27 * profile_digit family.profile + 9 * family.set.chicks + 3 * family.set.elephants + family.set.giraffes)
+mark_of family = 7237111382626564145 + (27 * profile_number family.profile + 9 * family.set.chicks + 3 * family.set.elephants + family.set.giraffes)
 
 -- where the block's row begins: the classes of the block before each of the first hand's runs and before their end, the classes before the
 -- block, and where the entries of each of those runs begin

@@ -5,16 +5,20 @@ ghost use Rattle.dob_rank.specs.Runs.{run_kind, lion_pairs};
 ghost use Rattle.dob_index.specs.Layout.{mark_of, row_at, entries_in, run_words, where_mixed, words_of};
 ghost use Rattle.dob_index.specs.Index.{IsMarked};
 
-use dob_classes::{LIONS, RunKind, count_blocks, kind_of, run_size_in};
-use dob_pieces::{Family, PieceSet, Profile};
+use dob_classes::{
+    BEFORE_PLACE, HAND_PLACE, LIONS, ROW_LEN, RunKind, count_blocks, kind_of, run_size_in,
+};
+use dob_pieces::{Family, PieceSet};
 
 /// How many places an entry stands for.
 pub(crate) const ENTRY_PLACES: u64 = 256;
 
-/// In a row the places of the number of classes before the block, and of where the entries of the first run begin.
-pub(crate) const BEFORE: u64 = 100;
+/// The places of a row of `dob_classes` that aren't runs', and behind that row where the entries of the first run begin.
+pub(crate) const HAND: u64 = HAND_PLACE as u64;
 
-pub(crate) const ENTRIES: u64 = 101;
+pub(crate) const BEFORE: u64 = BEFORE_PLACE as u64;
+
+pub(crate) const ENTRIES: u64 = ROW_LEN as u64;
 
 /// How many pairs of squares the lions have where both stand on column b: three of the own lion, and then three of the enemy's.
 const MIXED_RUNS: u64 = 9;
@@ -75,12 +79,8 @@ pub(crate) fn mark_of(family: Family) -> u64
     ensures { result ≡ mark_of family }
 {
     let set = family.set;
-    let profile = match family.profile {
-        Profile::A => 0,
-        Profile::B => 1,
-    };
     u64::from_be_bytes(*b"dobuidx1")
-        + 27 * profile
+        + 27 * u64::from(family.profile.number())
         + 9 * u64::from(set.chicks)
         + 3 * u64::from(set.elephants)
         + u64::from(set.giraffes)

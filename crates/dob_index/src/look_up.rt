@@ -1,13 +1,17 @@
 // The number of a position's class by an index.
 ghost use Rattle.std.specs.Prelude.{◌≡◌, ◌<◌, ◌≤◌, ◌+◌, ◌^◌};
+ghost use Rattle.dob_pieces.specs.declared.profile.Family.{Family as AnyFamily};
 ghost use Rattle.dob_rank.specs.Families.{IsPositionOf, is_marked, class_number};
 ghost use Rattle.dob_rank.specs.Marks.{marks_below};
-ghost use Rattle.dob_rank.specs.Numbers.{product, block_bases, start_of, rank_of_set};
+ghost use Rattle.dob_rank.specs.Numbers.{product, block_bases, rank_of_set};
 ghost use Rattle.dob_rank.specs.Runs.{runs_in, run_size, run_start};
+ghost use Rattle.dob_classes.specs.BlockRows.{IsRowOf};
 ghost use Rattle.dob_index.specs.Index.{IsIndex};
 
-use crate::layout::{BEFORE, ENTRIES, ENTRY_PLACES, row_at, word};
-use dob_classes::{LIONS, MixedRun, RunKind, classes_in_run, kind_of, representative, spot_of};
+use crate::layout::{BEFORE, ENTRIES, ENTRY_PLACES, HAND, row_at, word};
+use dob_classes::{
+    LIONS, MixedRun, Row, RunKind, classes_in_run, kind_of, representative, spot_of,
+};
 use dob_pieces::{Family, Position};
 
 /// The number of the class of a position of the family by its index; some number by any others.
@@ -24,27 +28,22 @@ fn classes_before(family: Family, words: &[u64], position: &Position) -> u64
     ensures { IsIndex family words.now → result ≡ marks_below (is_marked family) (rank_of_set family.set position.now.setup) }
 {
     let (block, spot) = spot_of(family.set, position);
-    let row = row_at(block);
-    let blocks = word(words, row + BEFORE);
-    let runs = before_run(family, words, block, spot.run);
+    let runs = row_of(words, block, spot.run).before_run(spot.run);
     let places = before_place(family, words, block, spot.run, spot.local);
-    blocks + runs + places
+    runs.wrapping_add(places)
 }
 
-// How many of them stand in the block's runs before one: for each hand as many.
-fn before_run(family: Family, words: &[u64], block: u64, run: u64) -> u64
-    requires block { block < product (block_bases family.set) }
-    requires run { run < runs_in family.set block }
-    ensures right { IsIndex family words.now
-        → marks_below (is_marked family) (start_of family.set block) + result ≡ marks_below (is_marked family) (run_start family.set block run) }
-    ensures bound { result ≤ 2 ^ 54 }
+// What the block's row says of a run.
+fn row_of(words: &[u64], block: u64, run: u64) -> Row
+    requires { block ≤ 27 }
+    ensures { (family : AnyFamily) → block < product (block_bases family.set) → IsIndex family words.now → IsRowOf family block run result }
 {
-    let _ = family;
     let row = row_at(block);
-    let hands = run / LIONS;
-    let whole = word(words, row + LIONS);
-    let part = word(words, row + run % LIONS);
-    hands * whole + part
+    Row {
+        before: word(words, row + BEFORE),
+        hand: word(words, row + HAND),
+        run: word(words, row + run % LIONS),
+    }
 }
 
 // How many of them stand in the run before that place.

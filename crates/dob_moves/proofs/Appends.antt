@@ -1,5 +1,4 @@
 -- Lists of moves appended piece by piece.
-use Rattle.std.proofs.Common.{append_assoc}
-use Rattle.std.proofs.lemmas.List.{append-nil}
+use Rattle.dob_moves.proofs.Common.{append_assoc, append-nil}
 
 pub ruleset appends = (append_assoc, append-nil)

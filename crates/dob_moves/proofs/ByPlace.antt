@@ -1,25 +1,13 @@
 -- What is looked for at a place of the move order is the move there.
-use Rattle.std.proofs.Common.{◌≡◌, ℕ, ◌+◌, ◌*◌, ◌<◌, ◌≤◌, ◌&&◌, nat_lt, Bool, true, false, cond, Option, Some, None, MatchOption, length}
-use Rattle.std.proofs.Common.{refl, sym, subst, arith}
-use Rattle.std.proofs.lemmas.Bool.{and_parts, ltb-true, lt-ltb}
-use Rattle.dob_pieces.specs.declared.kind.Kind.{Kind}
-use Rattle.dob_pieces.specs.declared.kind.HandKind.{HandKind}
+use Rattle.dob_moves.proofs.Common.{◌&&◌, ◌*◌, ◌+◌, ◌<◌, ◌≡◌, ◌≤◌, Bool, MatchOption, None, Option, Some, arith, cond, false, length, nat_lt, refl, subst, sym}
+use Rattle.dob_moves.proofs.Common.{true, ℕ, and_parts, lt-ltb, ltb-true, leads-to_board, within-from_piece, own_kind, leads, Cell, at, held, piece_of}
+use Rattle.dob_moves.proofs.Common.{HandKind, Kind, Mover, Profile, Setup, CanGo, first_drop, hand_place, may_put, place, put_if, step_onto, Aim, AtLion}
+use Rattle.dob_moves.proofs.Common.{Elsewhere, Move, Put, Step}
 use Rattle.dob_pieces.specs.declared.kind.HandKind.TheVariants as hand
-use Rattle.dob_pieces.specs.declared.kind.Side.TheVariants.{Mover}
-use Rattle.dob_pieces.specs.declared.profile.Profile.{Profile}
-use Rattle.dob_pieces.specs.declared.setup.Setup.{Setup}
-use Rattle.dob_pieces.specs.Pieces.{leads}
-use Rattle.dob_pieces.specs.Setups.{Cell, at, held, piece_of}
-use Rattle.dob_pieces.proofs.Boards.{within-from_piece, leads-to_board}
-use Rattle.dob_moves.specs.declared.game_move.Move.{Move}
-use Rattle.dob_moves.specs.declared.game_move.Move.TheVariants.{Step, Put}
-use Rattle.dob_moves.specs.declared.first_moves.Aim.{Aim}
-use Rattle.dob_moves.specs.declared.first_moves.Aim.TheVariants.{AtLion, Elsewhere}
-use Rattle.dob_moves.specs.Moves.{CanGo, hand_place, may_put, place, first_drop}
 use Rattle.dob_moves.specs.AtPlaces.{step_of, step_between, drop_on}
-use Rattle.dob_moves.specs.Walks.{own_kind, step_onto, put_if}
+use Rattle.dob_pieces.proofs.OwnKinds.{own_cell}
 use Rattle.dob_moves.proofs.ByProfile.{goes, may, can_go, can_go_in}
-use Rattle.dob_moves.proofs.Reach.{IsFound, Meets, go_found, lion_found, own_cell, step_sound, step_place, step_may}
+use Rattle.dob_moves.proofs.Reach.{IsFound, Meets, go_found, lion_found, step_sound, step_place, step_may}
 
 -- the same as one fact of a move
 pub as_pairs : (P : Move → Type 0) (there : ℕ) (o : Option Move) → MatchOption o ((m : Move) → P m → place m ≡ there → ⊥) (λ m. P m × (place m ≡ there))
@@ -122,7 +110,7 @@ drop_found profile p kind to (q, g) =
 drop_square : (profile : Profile) (p : Setup) (kind : HandKind) (to : ℕ) → CanGo profile p (Put kind to) → to < 12
 drop_square profile p kind to (q, g) = (goes profile p (Put kind to) q g).on_board
 
-one_kind : (a b : HandKind) → hand_place a ≡ hand_place b → a ≡ b
+pub one_kind : (a b : HandKind) → hand_place a ≡ hand_place b → a ≡ b
 one_kind hand.Chick hand.Chick e = refl
 one_kind hand.Chick hand.Elephant e = absurd (omega (arith, e))
 one_kind hand.Chick hand.Giraffe e = absurd (omega (arith, e))
@@ -134,7 +122,7 @@ one_kind hand.Giraffe hand.Elephant e = absurd (omega (arith, e))
 one_kind hand.Giraffe hand.Giraffe e = refl
 
 -- a step's place is before those of drops
-step_before : (profile : Profile) (p : Setup) (kind : Kind) (from to : ℕ) (catch grows : Bool) → length p.board ≡ 12 → CanGo profile p (Step kind from to catch grows)
+pub step_before : (profile : Profile) (p : Setup) (kind : Kind) (from to : ℕ) (catch grows : Bool) → length p.board ≡ 12 → CanGo profile p (Step kind from to catch grows)
     → 12 * from + to < first_drop
 step_before profile p kind from to catch grows len can =
     let found = go_found p kind from to catch grows (can_go profile p (Step kind from to catch grows) can) in

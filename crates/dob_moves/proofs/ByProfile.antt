@@ -1,11 +1,5 @@
 -- Moves by the rules of a profile are moves, those that the profile forbids left out.
-use Rattle.std.proofs.Common.{◌≡◌, true, refl}
-use Rattle.dob_pieces.specs.declared.profile.Profile.{Profile}
-use Rattle.dob_pieces.specs.declared.profile.Profile.TheVariants.{A, B}
-use Rattle.dob_pieces.specs.declared.setup.Setup.{Setup}
-use Rattle.dob_moves.specs.declared.game_move.Move.{Move}
-use Rattle.dob_moves.specs.declared.game_move.Move.TheVariants.{Step, Put}
-use Rattle.dob_moves.specs.Moves.{HasOutcome, Goes, CanGo, may_go}
+use Rattle.dob_moves.proofs.Common.{◌≡◌, refl, true, Profile, A, B, Setup, CanGo, Goes, HasOutcome, may_go, Move, Put, Step}
 
 pub goes : (profile : Profile) (p : Setup) (m : Move) (q : Setup) → Goes profile p m q → HasOutcome p m q
 goes A p m q g = g

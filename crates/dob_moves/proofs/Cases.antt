@@ -1,20 +1,6 @@
 -- The cases of the rules exclude each other.
-use Rattle.std.proofs.Common.{◌≡◌, ℕ, Bool, true, false, Some, None, refl, sym, ap, ◌∙◌}
-use Rattle.dob_pieces.specs.declared.kind.Kind.{Kind}
-use Rattle.dob_pieces.specs.declared.kind.Kind.TheVariants.{Lion}
-use Rattle.dob_pieces.specs.declared.kind.HandKind.{HandKind}
-use Rattle.dob_pieces.specs.declared.kind.Side.TheVariants.{Mover, Enemy}
-use Rattle.dob_pieces.specs.declared.profile.Profile.{Profile}
-use Rattle.dob_pieces.specs.declared.profile.Profile.TheVariants.{A}
-use Rattle.dob_pieces.specs.declared.setup.Setup.{Setup}
-use Rattle.dob_pieces.specs.Pieces.{kind_in_hand}
-use Rattle.dob_pieces.specs.Setups.{at, piece_of}
-use Rattle.dob_moves.specs.declared.game_move.Move.{Move}
-use Rattle.dob_moves.specs.declared.game_move.Move.TheVariants.{Step, Put}
-use Rattle.dob_moves.specs.declared.position_status.Status.{Status}
-use Rattle.dob_moves.specs.declared.position_status.Status.TheVariants.{Caught, Tried, Stuck, Open}
-use Rattle.dob_moves.specs.Moves.{CanGo, CatchesLion, CanTake, grows_at}
-use Rattle.dob_moves.specs.Statuses.{HasStatus}
+use Rattle.dob_moves.proofs.Common.{◌∙◌, ◌≡◌, Bool, None, Some, ap, false, refl, sym, true, ℕ, kind_in_hand, at, piece_of, HandKind, Kind, Lion, Enemy, Mover}
+use Rattle.dob_moves.proofs.Common.{Profile, A, Setup, CanGo, CanTake, CatchesLion, grows_at, HasStatus, Move, Put, Step, Status, Caught, Open, Stuck, Tried}
 use Rattle.dob_moves.proofs.Turns.{kind_of}
 
 -- a setup has one status by the rules of a profile

@@ -1,12 +1,6 @@
 -- The first move of a list that is made piece by piece.
-use Rattle.std.proofs.Common.{◌≡◌, ℕ, zero, suc, ◌+◌, ◌<◌, true, false, List, [], ◌∷◌, ◌++◌, Option, Some, None, length, get_or, drop, refl}
-use Rattle.std.proofs.Common.{sym, ap, ◌∙◌, inl, inr, arith, add-one, drop-cons, option_to_list}
-use Rattle.std.specs.Option.{is_some}
-use Rattle.std.specs.List.{filter_map, cons_option}
-use Rattle.std.proofs.lemmas.Bool.{cases_lt}
-use Rattle.dob_pieces.specs.Lists.{each_below}
-use Rattle.dob_moves.specs.declared.game_move.Move.{Move}
-use Rattle.dob_moves.specs.Walks.{first}
+use Rattle.dob_moves.proofs.Common.{◌++◌, ◌+◌, ◌<◌, ◌∙◌, ◌∷◌, ◌≡◌, List, None, Option, Some, [], add-one, ap, arith, drop, drop-cons, false, get_or, inl, inr}
+use Rattle.dob_moves.proofs.Common.{length, option_to_list, refl, suc, sym, true, zero, ℕ, cases_lt, cons_option, filter_map, is_some, each_below, first, Move}
 
 -- a value that is there comes first
 first-cons_some : (o : Option Move) (rest : List Move) → is_some o ≡ true → first (cons_option o rest) ≡ o

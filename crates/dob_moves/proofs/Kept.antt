@@ -1,24 +1,9 @@
 -- What a move by the rules of a profile leads to is allowed by it: no chick is dropped on its far row, and one that steps there grows.
-use Rattle.std.proofs.Common.{◌≡◌, ℕ, ◌<◌, Bool, true, false, not, List, Some, None, length, slice_index_or, refl, sym, ap, subst, ◌∙◌}
-use Rattle.std.proofs.Common.{arith, inl, inr, get_or, set}
-use Rattle.std.proofs.lemmas.Bool.{cases_eq}
-use Rattle.std.proofs.lemmas.List.{length-set, get_or-set_same, get_or-set_other}
-use Rattle.dob_pieces.specs.declared.kind.Kind.{Kind}
-use Rattle.dob_pieces.specs.declared.kind.Kind.TheVariants.{Lion, Giraffe, Elephant, Chick, Hen}
-use Rattle.dob_pieces.specs.declared.kind.HandKind.{HandKind}
-use Rattle.dob_pieces.specs.declared.kind.Side.TheVariants.{Mover}
-use Rattle.dob_pieces.specs.declared.profile.Profile.{Profile}
-use Rattle.dob_pieces.specs.declared.profile.Profile.TheVariants.{A, B}
-use Rattle.dob_pieces.specs.declared.setup.Setup.{Setup}
-use Rattle.dob_pieces.specs.Pieces.{kind_on_board}
-use Rattle.dob_pieces.specs.Setups.{Cell, piece_of}
-use Rattle.dob_pieces.specs.Profiles.{may_stand, IsAllowed}
+use Rattle.dob_moves.proofs.Common.{◌<◌, ◌∙◌, ◌≡◌, Bool, List, None, Some, ap, arith, false, get_or, inl, inr, length, not, refl, set, slice_index_or, subst}
+use Rattle.dob_moves.proofs.Common.{sym, true, ℕ, cases_eq, get_or-set_other, get_or-set_same, length-set, leads-to_board, within-from_piece, kind_on_board}
+use Rattle.dob_moves.proofs.Common.{IsAllowed, may_stand, Cell, piece_of, HandKind, Kind, Chick, Elephant, Giraffe, Hen, Lion, Mover, Profile, A, B, Setup}
+use Rattle.dob_moves.proofs.Common.{Goes, HasOutcome, grows_at, may_put, arrives_as, dropped, stepped, Move, Put, Step}
 use Rattle.dob_pieces.proofs.Allowed.{stands-from_allowed, allowed-from_stands, IsAllowed-turned}
-use Rattle.dob_pieces.proofs.Boards.{within-from_piece, leads-to_board}
-use Rattle.dob_moves.specs.declared.game_move.Move.{Move}
-use Rattle.dob_moves.specs.declared.game_move.Move.TheVariants.{Step, Put}
-use Rattle.dob_moves.specs.Moves.{HasOutcome, Goes, grows_at, may_put}
-use Rattle.dob_moves.specs.Outcomes.{arrives_as, stepped, dropped}
 use Rattle.dob_moves.proofs.ByProfile.{goes, may}
 use Rattle.dob_moves.proofs.Outcomes.{HasOutcome-is, length-stepped, length-dropped, IsStep-from}
 

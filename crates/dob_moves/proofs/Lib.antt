@@ -1,4 +1,5 @@
 -- The lemmas, in the order in which they are read.
+mod Common  -- names of other crates and of this one's definitions, for the proofs
 -- What a move leads to.
 pub mod Turns  -- when a turned setup is a position
 pub mod Outcomes  -- what stands after a move is legal
@@ -21,5 +22,4 @@ pub mod Appends  -- moves appended piece by piece
 pub mod PlainLists  -- the same in the plain program
 pub mod ProfileMoves  -- what moves by a profile lead to, and their mirror images
 pub mod MoveLists  -- the list has just the moves
-pub mod OwnKinds  -- the mover's piece on a square, by the masks
 pub mod MoveCounts  -- moves counted without a list

@@ -1,25 +1,8 @@
 -- The steps and drops that masks give are those of the walk over all squares.
-use Rattle.std.proofs.Common.{◌≡◌, ℕ, ◌<◌, ◌&&◌, nat_lt, Bool, true, false, bit_and, cond, List, [], ◌∷◌, Some, None, length, refl}
-use Rattle.std.proofs.Common.{sym, ap, ◌∙◌, option_to_list}
-use Rattle.std.specs.Option.{is_some}
-use Rattle.std.proofs.lemmas.Bool.{lt-ltb}
-use Rattle.dob_pieces.specs.declared.kind.Kind.{Kind}
-use Rattle.dob_pieces.specs.declared.kind.HandKind.{HandKind}
-use Rattle.dob_pieces.specs.declared.kind.Side.{Side}
-use Rattle.dob_pieces.specs.declared.kind.Side.TheVariants.{Mover, Enemy}
-use Rattle.dob_pieces.specs.declared.profile.Profile.{Profile}
-use Rattle.dob_pieces.specs.declared.setup.Setup.{Setup}
-use Rattle.dob_pieces.specs.Lists.{each_below}
-use Rattle.dob_pieces.specs.Pieces.{leads}
-use Rattle.dob_pieces.specs.Setups.{Cell, at, held}
-use Rattle.dob_pieces.specs.Masks.{IsMask, is_own, is_end, is_empty}
-use Rattle.dob_pieces.proofs.MaskBits.{bit_if, IsMask-and}
-use Rattle.dob_pieces.proofs.MaskWalks.{IsQuiet, IsCounting}
-use Rattle.dob_moves.specs.declared.game_move.Move.{Move}
-use Rattle.dob_moves.specs.declared.game_move.Move.TheVariants.{Step, Put}
-use Rattle.dob_moves.specs.declared.first_moves.Aim.TheVariants.{Elsewhere}
-use Rattle.dob_moves.specs.Moves.{grows_at, may_put}
-use Rattle.dob_moves.specs.Walks.{may_end, own_kind, steps_if, steps_from, put_if, put_on, drops_of}
+use Rattle.dob_moves.proofs.Common.{◌&&◌, ◌<◌, ◌∙◌, ◌∷◌, ◌≡◌, Bool, List, None, Some, [], ap, bit_and, cond, false, length, nat_lt, option_to_list, refl, sym}
+use Rattle.dob_moves.proofs.Common.{true, ℕ, lt-ltb, is_some, IsMask-and, bit_if, IsCounting, IsQuiet, each_below, IsMask, is_empty, is_end, is_own, own_kind}
+use Rattle.dob_moves.proofs.Common.{leads, Cell, at, held, HandKind, Kind, Side, Enemy, Mover, Profile, Setup, grows_at, may_put, drops_of, may_end, put_if}
+use Rattle.dob_moves.proofs.Common.{put_on, steps_from, steps_if, Elsewhere, Move, Put, Step}
 use Rattle.dob_moves.proofs.Masked.{end_is}
 use Rattle.dob_moves.proofs.Tables.{step_to}
 

@@ -1,27 +1,10 @@
 -- What the masks of a position say of its status.
-use Rattle.std.proofs.Common.{◌≡◌, ◌≢◌, ℕ, ◌/◌, ◌<◌, ◌≤◌, ◌&&◌, Bool, true, false, true≢false, bit_and, Some, None, length}
-use Rattle.dob_pieces.specs.declared.profile.Profile.TheVariants.{A}
-use Rattle.std.proofs.Common.{refl, sym, ap, ◌∙◌, arith, inl, inr}
+use Rattle.dob_moves.proofs.Common.{◌&&◌, ◌/◌, ◌<◌, ◌∙◌, ◌≡◌, ◌≢◌, ◌≤◌, Bool, None, Some, ap, arith, bit_and, false, inl, inr, length, refl, sym, true}
+use Rattle.dob_moves.proofs.Common.{true≢false, ℕ, and_parts, cases_lt, is_some, attacks_piece, own_attacks, one_lion, within-from_piece, IsLowest, IsMask-and}
+use Rattle.dob_moves.proofs.Common.{lowest_is, none_passes, IsMask, attacks, is_end, is_prey, leads, Cell, HasLions, at, piece_of, Kind, Chick, Elephant}
+use Rattle.dob_moves.proofs.Common.{Giraffe, Hen, Lion, Side, Enemy, Mover, A, Setup, CanGo, CatchesLion, grows_at, place, CanCatch, HasTried, IsFirstCatch}
+use Rattle.dob_moves.proofs.Common.{may_end, step_onto, Elsewhere, Move, Put, Step}
 use Rattle.std.specs.Int.{trailing_zeros, w16}
-use Rattle.std.specs.Option.{is_some}
-use Rattle.std.proofs.lemmas.Bool.{and_parts, cases_lt}
-use Rattle.dob_pieces.specs.declared.kind.Kind.{Kind}
-use Rattle.dob_pieces.specs.declared.kind.Kind.TheVariants.{Lion, Giraffe, Elephant, Chick, Hen}
-use Rattle.dob_pieces.specs.declared.kind.Side.{Side}
-use Rattle.dob_pieces.specs.declared.kind.Side.TheVariants.{Mover, Enemy}
-use Rattle.dob_pieces.specs.declared.setup.Setup.{Setup}
-use Rattle.dob_pieces.specs.Pieces.{leads}
-use Rattle.dob_pieces.specs.Setups.{Cell, at, piece_of, HasLions}
-use Rattle.dob_pieces.specs.Masks.{IsMask, is_prey, is_end, attacks}
-use Rattle.dob_pieces.proofs.Boards.{one_lion, within-from_piece}
-use Rattle.dob_pieces.proofs.MaskBits.{IsMask-and, IsLowest, lowest_is, none_passes}
-use Rattle.dob_pieces.proofs.Attacks.{attacks_piece, own_attacks}
-use Rattle.dob_moves.specs.declared.game_move.Move.{Move}
-use Rattle.dob_moves.specs.declared.game_move.Move.TheVariants.{Step, Put}
-use Rattle.dob_moves.specs.declared.first_moves.Aim.TheVariants.{Elsewhere}
-use Rattle.dob_moves.specs.Moves.{CanGo, CatchesLion, grows_at, place}
-use Rattle.dob_moves.specs.Statuses.{CanCatch, HasTried, IsFirstCatch}
-use Rattle.dob_moves.specs.Walks.{may_end, step_onto}
 use Rattle.dob_moves.proofs.Reach.{IsStep, step_sound}
 
 -- ---- who catches the enemy lion

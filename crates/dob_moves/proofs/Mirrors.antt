@@ -1,26 +1,11 @@
 -- The mirror image of a move is a move of the mirror image, and leads to the mirror image of its outcome.
-use Rattle.std.proofs.Common.{◌≡◌, ◌≢◌, ℕ, ◌<◌, ◌==◌, true, false, List, Some, None, length, get_or, set, refl, sym, ap, subst, ◌∙◌, ⊎_elim, arith}
-use Rattle.dob_pieces.specs.declared.profile.Profile.TheVariants.{A}
-use Rattle.std.proofs.lemmas.Bool.{cases_eq}
-use Rattle.std.proofs.lemmas.List.{length-set, get_or-set_same, get_or-set_other}
-use Rattle.dob_pieces.specs.declared.kind.Kind.{Kind}
-use Rattle.dob_pieces.specs.declared.kind.Kind.TheVariants.{Lion, Giraffe, Elephant, Chick, Hen}
-use Rattle.dob_pieces.specs.declared.kind.HandKind.{HandKind}
-use Rattle.dob_pieces.specs.declared.kind.Side.TheVariants.{Mover}
-use Rattle.dob_pieces.specs.declared.hand.Hands.{Hands}
-use Rattle.dob_pieces.specs.declared.setup.Setup.{Setup}
-use Rattle.dob_pieces.specs.Squares.{row, mirrored_square}
-use Rattle.dob_pieces.specs.Pieces.{kind_on_board}
-use Rattle.dob_pieces.specs.Setups.{Cell, at, board_by, piece_of, turned, mirrored, with_one_less}
-use Rattle.dob_pieces.proofs.Boards.{board_by-from_cells, length-board_by, at-board_by, length-mirrored, within-from_piece, leads-to_board}
+use Rattle.dob_moves.proofs.Common.{◌<◌, ◌==◌, ◌∙◌, ◌≡◌, ◌≢◌, List, None, Some, ap, arith, false, get_or, length, refl, set, subst, sym, true, ℕ, ⊎_elim}
+use Rattle.dob_moves.proofs.Common.{cases_eq, get_or-set_other, get_or-set_same, length-set, at-board_by, board_by-from_cells, leads-to_board, length-board_by}
+use Rattle.dob_moves.proofs.Common.{length-mirrored, within-from_piece, kind_on_board, Cell, at, board_by, mirrored, piece_of, turned, with_one_less}
+use Rattle.dob_moves.proofs.Common.{mirrored_square, row, Hands, HandKind, Kind, Chick, Elephant, Giraffe, Hen, Lion, Mover, A, Setup, mirrored_move, CanGo}
+use Rattle.dob_moves.proofs.Common.{CanTake, CatchesLion, Drops, HasOutcome, Steps, grows_at, hands_after_catch, CanCatch, HasStatus, HasTried, Move, Put, Step}
+use Rattle.dob_moves.proofs.Common.{Status, Caught, Open, Stuck, Tried}
 use Rattle.dob_pieces.proofs.Symmetries.{mirrored_square_bound, mirrored_square_twice, at-image, mirrored-mirrored, turned-mirrored, leads-mirrored}
-use Rattle.dob_moves.specs.declared.game_move.Move.{Move}
-use Rattle.dob_moves.specs.declared.game_move.Move.TheVariants.{Step, Put}
-use Rattle.dob_moves.specs.declared.position_status.Status.{Status}
-use Rattle.dob_moves.specs.declared.position_status.Status.TheVariants.{Caught, Tried, Stuck, Open}
-use Rattle.dob_moves.specs.Moves.{HasOutcome, CanGo, CatchesLion, Steps, Drops, CanTake, hands_after_catch, grows_at}
-use Rattle.dob_moves.specs.Statuses.{CanCatch, HasTried, HasStatus}
-use Rattle.dob_moves.specs.Mirrors.{mirrored_move}
 
 -- ---- squares
 

@@ -1,29 +1,12 @@
 -- Moves counted piece by piece.
-use Rattle.std.proofs.Common.{◌≡◌, ◌≢◌, ℕ, ◌+◌, ◌*◌, ◌<◌, ◌≤◌, ◌||◌, if◌then◌else◌, Bool, true, false, List, [], ◌∷◌, ◌++◌, Option, Some}
-use Rattle.std.proofs.Common.{None, length, refl, ap, ◌∙◌, arith, Contains, bit_and, count_ones}
+use Rattle.dob_moves.proofs.Common.{if◌then◌else◌, ◌*◌, ◌++◌, ◌+◌, ◌<◌, ◌||◌, ◌∙◌, ◌∷◌, ◌≡◌, ◌≢◌, ◌≤◌, Bool, Contains, List, None, Option, Some, [], ap, arith}
+use Rattle.dob_moves.proofs.Common.{bit_and, count_ones, false, length, refl, true, ℕ, length-append, is_some, head_in, next_left, without, IsCounted, IsWalked}
+use Rattle.dob_moves.proofs.Common.{counted_ones, walk_end, walk_next_at, walk_start, IsMask, is_empty, is_end, leads, at, held, HandKind, Kind, Profile, Setup}
+use Rattle.dob_moves.proofs.Common.{may_put, HasStatus, all_drops, all_steps, drops_of, first, steps_by, steps_from, AtLion, Elsewhere, Move, Status, Open}
 use Rattle.std.specs.Int.{trailing_zeros, w16}
-use Rattle.std.specs.Option.{is_some}
-use Rattle.std.proofs.lemmas.List.{length-append}
-use Rattle.dob_pieces.specs.declared.kind.Kind.{Kind}
-use Rattle.dob_pieces.specs.declared.kind.HandKind.{HandKind}
-use Rattle.dob_pieces.specs.declared.profile.Profile.{Profile}
-use Rattle.dob_pieces.specs.declared.setup.Setup.{Setup}
-use Rattle.dob_pieces.specs.Pieces.{leads}
-use Rattle.dob_pieces.specs.Setups.{at, held}
-use Rattle.dob_pieces.specs.Masks.{IsMask, is_end, is_empty}
-use Rattle.dob_pieces.proofs.MaskBits.{without, next_left}
-use Rattle.dob_pieces.proofs.MaskWalks.{IsWalked, IsCounted, walk_start, walk_next_at, walk_end, counted_ones}
-use Rattle.dob_moves.proofs.Listed.{own_at, can_put, may_step, steps_to, puts_on, from_quiet, steps_counting, puts_counting, may_step_mask}
-use Rattle.dob_moves.proofs.Listed.{can_put_mask, drops_all}
+use Rattle.dob_moves.proofs.Listed.{own_at, can_put, may_step, steps_to, puts_on, from_quiet, steps_counting, puts_counting, may_step_mask, can_put_mask}
+use Rattle.dob_moves.proofs.Listed.{drops_all}
 use Rattle.dob_moves.proofs.Tables.{steps_by-squares}
-use Rattle.dob_pieces.proofs.Lists.{head_in}
-use Rattle.dob_moves.specs.declared.game_move.Move.{Move}
-use Rattle.dob_moves.specs.declared.position_status.Status.{Status}
-use Rattle.dob_moves.specs.declared.position_status.Status.TheVariants.{Open}
-use Rattle.dob_moves.specs.declared.first_moves.Aim.TheVariants.{AtLion, Elsewhere}
-use Rattle.dob_moves.specs.Moves.{may_put}
-use Rattle.dob_moves.specs.Statuses.{HasStatus}
-use Rattle.dob_moves.specs.Walks.{first, steps_by, steps_from, all_steps, drops_of, all_drops}
 use Rattle.dob_moves.specs.MoveLists.{has_tried, moves_of}
 use Rattle.dob_moves.proofs.Cases.{one_status}
 use Rattle.dob_moves.proofs.MoveLists.{tried_at, AreMoves-moves_of}

@@ -1,21 +1,8 @@
 -- The list of a position's moves has just its moves.
-use Rattle.std.proofs.Common.{◌≡◌, ◌+◌, ℕ, zero, suc, ◌<◌, ◌||◌, if◌then◌else◌, Bool, true, false, [], ◌++◌, Option, Some, None, length, refl}
-use Rattle.std.proofs.Common.{ap, arith}
-use Rattle.std.specs.Option.{is_some}
-use Rattle.dob_pieces.specs.declared.kind.Kind.{Kind}
-use Rattle.dob_pieces.specs.declared.kind.Kind.TheVariants.{Lion, Giraffe, Elephant, Chick, Hen}
-use Rattle.dob_pieces.specs.declared.kind.Side.{Side}
-use Rattle.dob_pieces.specs.declared.kind.Side.TheVariants.{Mover, Enemy}
-use Rattle.dob_pieces.specs.declared.profile.Profile.{Profile}
-use Rattle.dob_pieces.specs.declared.setup.Setup.{Setup}
-use Rattle.dob_pieces.specs.Setups.{Cell, at, holds_lion, piece_of}
-use Rattle.dob_pieces.proofs.Lists.{rising-append, rising-pairs}
-use Rattle.dob_moves.specs.declared.game_move.Move.{Move}
-use Rattle.dob_moves.specs.declared.position_status.Status.TheVariants.{Caught, Tried}
-use Rattle.dob_moves.specs.declared.first_moves.Aim.TheVariants.{AtLion, Elsewhere}
-use Rattle.dob_moves.specs.Moves.{place, first_drop}
-use Rattle.dob_moves.specs.Statuses.{CanCatch, HasTried, AreMoves}
-use Rattle.dob_moves.specs.Walks.{first, all_steps, all_drops}
+use Rattle.dob_moves.proofs.Common.{if◌then◌else◌, ◌++◌, ◌+◌, ◌<◌, ◌||◌, ◌≡◌, Bool, None, Option, Some, [], ap, arith, false, length, refl, suc, true, zero, ℕ}
+use Rattle.dob_moves.proofs.Common.{is_some, rising-append, rising-pairs, Cell, at, holds_lion, piece_of, Kind, Chick, Elephant, Giraffe, Hen, Lion, Side}
+use Rattle.dob_moves.proofs.Common.{Enemy, Mover, Profile, Setup, first_drop, place, AreMoves, CanCatch, HasTried, all_drops, all_steps, first, AtLion}
+use Rattle.dob_moves.proofs.Common.{Elsewhere, Move, Caught, Tried}
 use Rattle.dob_moves.specs.MoveLists.{has_tried, moves_of}
 use Rattle.dob_moves.proofs.Reach.{steps_rising, drops_rising}
 use Rattle.dob_moves.proofs.Verdicts.{catch_answer, listed_goes, open_answer, other_answer}

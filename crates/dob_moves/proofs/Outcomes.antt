@@ -1,27 +1,13 @@
 -- Every outcome of a move is the turned form of `moved`, and legal where the position was legal and open.
-use Rattle.std.proofs.Common.{◌≡◌, ◌≢◌, ℕ, ◌+◌, ◌<◌, ◌≤◌, Bool, true, false, cond, ◌&&◌, List, Some, None, length, get_or, set, refl, sym}
-use Rattle.dob_pieces.specs.declared.profile.Profile.TheVariants.{A}
-use Rattle.std.proofs.Common.{ap, subst, ◌∙◌, ⊎_elim, arith}
-use Rattle.std.specs.List.{count_by}
-use Rattle.std.proofs.lemmas.Bool.{cases_eq, and_right, false≢true}
-use Rattle.std.proofs.lemmas.List.{length-set, get_or-set_same, get_or-set_other}
-use Rattle.dob_pieces.specs.declared.kind.Kind.{Kind}
-use Rattle.dob_pieces.specs.declared.kind.Kind.TheVariants.{Lion, Giraffe, Elephant, Chick, Hen}
-use Rattle.dob_pieces.specs.declared.kind.HandKind.{HandKind}
+use Rattle.dob_moves.proofs.Common.{◌&&◌, ◌+◌, ◌<◌, ◌∙◌, ◌≡◌, ◌≢◌, ◌≤◌, Bool, List, None, Some, ap, arith, cond, false, get_or, length, refl, set, subst, sym}
+use Rattle.dob_moves.proofs.Common.{true, ℕ, ⊎_elim, cases_eq, get_or-set_other, get_or-set_same, length-set, count_by, count-moved, count-set, leads-apart}
+use Rattle.dob_moves.proofs.Common.{leads-to_board, lions-turned, one_if, total-turned, within-from_piece, kind_in_hand, kind_on_board, leads, other_side, Cell}
+use Rattle.dob_moves.proofs.Common.{IsLegal, at, held, holds_kind, holds_lion, piece_of, total, turned, with_one_less, with_one_more, Hand, Hands, HandKind}
+use Rattle.dob_moves.proofs.Common.{Kind, Chick, Elephant, Giraffe, Hen, Lion, Side, Enemy, Mover, A, Setup, CanGo, CanTake, Drops, HasOutcome, Steps, grows_at}
+use Rattle.dob_moves.proofs.Common.{hands_after_catch, arrives_as, dropped, moved, stepped, with_caught, HasTried, Move, Put, Step}
+use Rattle.std.proofs.lemmas.Bool.{and_right, false≢true}
 use Rattle.dob_pieces.specs.declared.kind.HandKind.TheVariants as hand
-use Rattle.dob_pieces.specs.declared.kind.Side.{Side}
-use Rattle.dob_pieces.specs.declared.kind.Side.TheVariants.{Mover, Enemy}
-use Rattle.dob_pieces.specs.declared.hand.Hand.{Hand}
-use Rattle.dob_pieces.specs.declared.hand.Hands.{Hands}
-use Rattle.dob_pieces.specs.declared.setup.Setup.{Setup}
-use Rattle.dob_pieces.specs.Pieces.{kind_in_hand, kind_on_board, is_lion, is_side, other_side, counts_as, leads}
-use Rattle.dob_pieces.specs.Setups.{Cell, at, held, piece_of, turned, total, holds_kind, holds_lion, IsLegal, with_one_more, with_one_less}
-use Rattle.dob_moves.specs.declared.game_move.Move.{Move}
-use Rattle.dob_moves.specs.declared.game_move.Move.TheVariants.{Step, Put}
-use Rattle.dob_moves.specs.Moves.{HasOutcome, CanGo, Steps, Drops, CanTake, hands_after_catch, grows_at}
-use Rattle.dob_moves.specs.Statuses.{HasTried}
-use Rattle.dob_moves.specs.Outcomes.{arrives_as, with_caught, stepped, dropped, moved}
-use Rattle.dob_pieces.proofs.Boards.{one_if, total-turned, lions-turned, within-from_piece, count-set, count-moved, leads-to_board, leads-apart}
+use Rattle.dob_pieces.specs.Pieces.{is_lion, is_side, counts_as}
 use Rattle.dob_moves.proofs.Turns.{sides_apart, IsFreeOfTry, IsLegal-turned}
 
 -- a step's hands are those of `stepped`

@@ -1,12 +1,7 @@
 -- Moves appended piece by piece, as the plain program does.
-use Rattle.std.proofs.Common.{◌≡◌, ℕ, ◌+◌, ◌<◌, List, [], ◌∷◌, ◌++◌, Option, Some, None, length, get_or, take, refl, sym, ap, ◌∙◌, add-one}
-use Rattle.std.proofs.Common.{append_assoc, option_to_list}
-use Rattle.std.specs.List.{filter_map, cons_option}
+use Rattle.dob_moves.proofs.Common.{◌++◌, ◌+◌, ◌<◌, ◌∙◌, ◌∷◌, ◌≡◌, List, None, Option, Some, [], add-one, ap, append_assoc, get_or, length, option_to_list}
+use Rattle.dob_moves.proofs.Common.{refl, sym, take, ℕ, append-nil, filter_map-append, cons_option, filter_map, each_below, Move}
 use Rattle.std.proofs.Math.Seq.{take-suc}
-use Rattle.std.proofs.lemmas.List.{append-nil}
-use Rattle.std.proofs.lemmas.List.Elements.{filter_map-append}
-use Rattle.dob_pieces.specs.Lists.{each_below}
-use Rattle.dob_moves.specs.declared.game_move.Move.{Move}
 
 single : (o : Option Move) → option_to_list o ≡ cons_option o []
 single None = refl

@@ -1,25 +1,10 @@
 -- What moves by the rules of a profile lead to, and their mirror images.
-use Rattle.std.proofs.Common.{◌≡◌, ℕ, ◌<◌, Some, None, true, refl, sym, subst, ap, ◌∙◌, arith, length, not}
-use Rattle.std.proofs.lemmas.List.{get_or-set_same}
-use Rattle.dob_pieces.specs.declared.kind.HandKind.{HandKind}
-use Rattle.dob_pieces.specs.declared.kind.Side.TheVariants.{Mover}
-use Rattle.dob_pieces.specs.declared.profile.Profile.{Profile}
-use Rattle.dob_pieces.specs.declared.profile.Profile.TheVariants.{A, B}
-use Rattle.dob_pieces.specs.declared.setup.Setup.{Setup}
-use Rattle.dob_pieces.specs.Pieces.{kind_on_board}
-use Rattle.dob_pieces.specs.Squares.{mirrored_square}
-use Rattle.dob_pieces.specs.Profiles.{is_far, may_stand, IsAllowed}
-use Rattle.dob_pieces.specs.Setups.{IsLegal, mirrored, piece_of, total, turned}
+use Rattle.dob_moves.proofs.Common.{◌<◌, ◌∙◌, ◌≡◌, None, Some, ap, arith, length, not, refl, subst, sym, true, ℕ, get_or-set_same, IsLegal-mirrored}
+use Rattle.dob_moves.proofs.Common.{length-turned, kind_on_board, IsAllowed, is_far, may_stand, IsLegal, mirrored, piece_of, total, turned, mirrored_square}
+use Rattle.dob_moves.proofs.Common.{HandKind, Mover, Profile, A, B, Setup, mirrored_move, CanGo, Goes, HasOutcome, may_go, may_put, dropped, moved, HasStatus}
+use Rattle.dob_moves.proofs.Common.{HasTried, Move, Put, Step, Status}
 use Rattle.dob_pieces.proofs.Allowed.{stands-from_allowed, IsAllowed-turned}
-use Rattle.dob_pieces.proofs.Boards.{IsLegal-mirrored, length-turned}
 use Rattle.dob_pieces.proofs.Symmetries.{turned-turned}
-use Rattle.dob_moves.specs.declared.game_move.Move.{Move}
-use Rattle.dob_moves.specs.declared.game_move.Move.TheVariants.{Step, Put}
-use Rattle.dob_moves.specs.declared.position_status.Status.{Status}
-use Rattle.dob_moves.specs.Moves.{HasOutcome, Goes, CanGo, may_go, may_put}
-use Rattle.dob_moves.specs.Mirrors.{mirrored_move}
-use Rattle.dob_moves.specs.Outcomes.{moved, dropped}
-use Rattle.dob_moves.specs.Statuses.{HasStatus, HasTried}
 use Rattle.dob_moves.proofs.ByProfile.{goes, may, goes_in, can_go}
 use Rattle.dob_moves.proofs.Mirrors.{row-mirrored, HasOutcome-mirrored, HasStatus-mirrored_in_A}
 use Rattle.dob_moves.proofs.Outcomes.{length-dropped, HasOutcome-is, HasOutcome-moved, IsLegal-HasOutcome, total-HasOutcome}

@@ -1,34 +1,15 @@
 -- The lists of steps and of drops have exactly the moves of the rules, in the move order.
-use Rattle.std.proofs.Common.{◌≡◌, ℕ, suc, ◌+◌, ◌*◌, ◌<◌, ◌≤◌, Bool, true, false, cond, List, ◌++◌, Option, Some, None, length}
-use Rattle.std.proofs.Common.{refl, sym, ap, ◌∙◌, subst, inl, inr, arith, option_to_list, Contains}
-use Rattle.std.proofs.lemmas.Bool.{ltb-true, lt-ltb}
-use Rattle.std.proofs.lemmas.List.Elements.{Contains-append_left, Contains-append_right, Contains-append_cases}
-use Rattle.dob_pieces.specs.declared.kind.Kind.{Kind}
-use Rattle.dob_pieces.specs.declared.kind.Kind.TheVariants.{Lion, Giraffe, Elephant, Chick, Hen}
-use Rattle.dob_pieces.specs.declared.kind.HandKind.{HandKind}
+use Rattle.dob_moves.proofs.Common.{◌*◌, ◌++◌, ◌+◌, ◌<◌, ◌∙◌, ◌≡◌, ◌≤◌, Bool, Contains, List, None, Option, Some, ap, arith, cond, false, inl, inr, length}
+use Rattle.dob_moves.proofs.Common.{option_to_list, refl, subst, suc, sym, true, ℕ, lt-ltb, ltb-true, Contains-append_cases, Contains-append_left}
+use Rattle.dob_moves.proofs.Common.{Contains-append_right, is_some, leads-to_board, within-from_piece, Rising, cond_sound, cond_whole, each_sound, each_whole}
+use Rattle.dob_moves.proofs.Common.{none_in_empty, rising-append, rising-cond, rising-each, rising-lower, each_below, own_kind, kind_in_hand, leads, Cell, at}
+use Rattle.dob_moves.proofs.Common.{held, piece_of, HandKind, Kind, Chick, Elephant, Giraffe, Hen, Lion, Side, Enemy, Mover, Profile, A, Setup, CanGo, CanTake}
+use Rattle.dob_moves.proofs.Common.{CatchesLion, first_drop, grows_at, hand_place, may_go, may_put, place, IsFirstCatch, all_drops, all_steps, drops_of, first}
+use Rattle.dob_moves.proofs.Common.{may_end, put_if, put_on, step_onto, steps_by, steps_from, steps_if, Aim, AtLion, Elsewhere, Move, Put, Step}
 use Rattle.dob_pieces.specs.declared.kind.HandKind.TheVariants as hand
-use Rattle.dob_pieces.specs.declared.kind.Side.{Side}
-use Rattle.dob_pieces.specs.declared.kind.Side.TheVariants.{Mover, Enemy}
-use Rattle.dob_pieces.specs.declared.profile.Profile.{Profile}
-use Rattle.dob_pieces.specs.declared.profile.Profile.TheVariants.{A}
-use Rattle.dob_pieces.specs.declared.setup.Setup.{Setup}
-use Rattle.dob_pieces.specs.Lists.{each_below}
-use Rattle.dob_pieces.specs.Pieces.{leads, kind_in_hand}
-use Rattle.dob_pieces.specs.Setups.{Cell, at, held, piece_of}
-use Rattle.dob_pieces.proofs.Boards.{within-from_piece, leads-to_board}
-use Rattle.dob_pieces.proofs.Lists.{none_in_empty, cond_sound, cond_whole, each_sound, each_whole, Rising, rising-lower, rising-append}
-use Rattle.dob_pieces.proofs.Lists.{rising-cond, rising-each}
-use Rattle.dob_moves.specs.declared.game_move.Move.{Move}
-use Rattle.dob_moves.specs.declared.game_move.Move.TheVariants.{Step, Put}
-use Rattle.dob_moves.specs.declared.first_moves.Aim.{Aim}
-use Rattle.dob_moves.specs.declared.first_moves.Aim.TheVariants.{AtLion, Elsewhere}
-use Rattle.dob_moves.specs.Moves.{grows_at, CanTake, CanGo, may_put, may_go, CatchesLion, hand_place, place, first_drop}
-use Rattle.dob_moves.specs.Statuses.{IsFirstCatch}
-use Rattle.dob_moves.specs.Walks.{first, may_end, step_onto, steps_by, own_kind, own_by_side, steps_if, steps_from, all_steps, put_if}
-use Rattle.dob_moves.specs.Walks.{put_on, drops_of, all_drops}
+use Rattle.dob_pieces.proofs.OwnKinds.{own_cell}
 use Rattle.dob_moves.proofs.ByProfile.{goes, may, can_go_in}
 use Rattle.dob_moves.proofs.Runs.{rising-below, option_sound, option_whole, rising-option, first_none, first_some, first_least}
-use Rattle.std.specs.Option.{is_some}
 use Rattle.dob_moves.proofs.Tables.{step_to, steps_by-squares}
 
 -- ---- one step
@@ -159,13 +140,6 @@ found_in_steps_by aim p kind from to m lt h =
     (each_whole g 12 to m near (option_whole (step_to aim p kind from to) m it))
 
 -- ---- the steps from each square
-
-pub own_cell : (cell : Cell) (kind : Kind) → own_kind cell ≡ Some kind → cell ≡ Some (piece_of Mover kind)
-own_cell None kind e = cc
-own_cell (Some piece) kind e = by_side piece.side piece.kind e where
-  by_side : (side : Side) (k : Kind) → own_by_side side k ≡ Some kind → Some (piece_of side k) ≡ Some (piece_of Mover kind)
-  by_side Mover k e = ap (λ (x : Kind). Some (piece_of Mover x)) (let same : k ≡ kind = cc in same)
-  by_side Enemy k e = cc
 
 steps_from_sound : (aim : Aim) (p : Setup) (from : ℕ) (m : Move) → from < 12 → Contains (steps_from aim p from) m → Meets aim p m
 unfolding steps_from

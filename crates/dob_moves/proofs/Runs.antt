@@ -1,9 +1,6 @@
 -- Optional moves as lists, and the first move of a list.
-use Rattle.std.proofs.Common.{◌<◌, ◌≡◌, ℕ, suc, ◌≤◌, List, [], ◌∷◌, Option, Some, None, refl, sym, ap, subst, inl, inr, arith, option_to_list, Contains}
-use Rattle.dob_pieces.proofs.Lists.{none_in_empty, head_in, cons_cases, Rising, rising-after}
-use Rattle.dob_moves.specs.declared.game_move.Move.{Move}
-use Rattle.dob_moves.specs.Moves.{place}
-use Rattle.dob_moves.specs.Walks.{first}
+use Rattle.dob_moves.proofs.Common.{◌<◌, ◌∷◌, ◌≡◌, ◌≤◌, Contains, List, None, Option, Some, [], ap, arith, inl, inr, option_to_list, refl, subst, suc, sym, ℕ}
+use Rattle.dob_moves.proofs.Common.{Rising, cons_cases, head_in, none_in_empty, rising-after, place, first, Move}
 
 -- ---- an optional move
 

@@ -1,24 +1,10 @@
 -- A position has the same status by the rules of each profile: where a chick lies in hand, a square below row 4 is empty.
-use Rattle.std.proofs.Common.{◌≡◌, ◌↔◌, ℕ, zero, suc, ◌+◌, ◌<◌, ◌≤◌, Bool, true, false, List, [], ◌∷◌, Some, None, length, slice_index_or, refl}
-use Rattle.std.proofs.Common.{arith}
-use Rattle.std.specs.List.{count_by}
+use Rattle.dob_moves.proofs.Common.{◌+◌, ◌<◌, ◌↔◌, ◌∷◌, ◌≡◌, ◌≤◌, Bool, List, None, Some, [], arith, false, length, refl, slice_index_or, suc, true, zero, ℕ}
+use Rattle.dob_moves.proofs.Common.{count_by, all_below-at, one_if, Cell, IsLegal, at, held, holds_kind, holds_lion, piece_of, total, Kind, Chick, Elephant}
+use Rattle.dob_moves.proofs.Common.{Giraffe, Hen, Lion, Side, Enemy, Mover, Profile, A, B, Setup, CanGo, may_put, HasStatus, Move, Put, Step, Status, Caught}
+use Rattle.dob_moves.proofs.Common.{Open, Stuck, Tried}
 use Rattle.std.proofs.lemmas.List.Sums.{sum_by-cons}
-use Rattle.dob_pieces.specs.declared.kind.Kind.{Kind}
-use Rattle.dob_pieces.specs.declared.kind.Kind.TheVariants.{Lion, Giraffe, Elephant, Chick, Hen}
 use Rattle.dob_pieces.specs.declared.kind.HandKind.TheVariants as hand
-use Rattle.dob_pieces.specs.declared.kind.Side.{Side}
-use Rattle.dob_pieces.specs.declared.kind.Side.TheVariants.{Mover, Enemy}
-use Rattle.dob_pieces.specs.declared.profile.Profile.{Profile}
-use Rattle.dob_pieces.specs.declared.profile.Profile.TheVariants.{A, B}
-use Rattle.dob_pieces.specs.declared.setup.Setup.{Setup}
-use Rattle.dob_pieces.specs.Setups.{Cell, at, held, piece_of, holds_lion, holds_kind, total, IsLegal}
-use Rattle.dob_pieces.proofs.Boards.{one_if, all_below-at}
-use Rattle.dob_moves.specs.declared.game_move.Move.{Move}
-use Rattle.dob_moves.specs.declared.game_move.Move.TheVariants.{Step, Put}
-use Rattle.dob_moves.specs.declared.position_status.Status.{Status}
-use Rattle.dob_moves.specs.declared.position_status.Status.TheVariants.{Caught, Tried, Stuck, Open}
-use Rattle.dob_moves.specs.Moves.{CanGo, may_put}
-use Rattle.dob_moves.specs.Statuses.{HasStatus}
 use Rattle.dob_moves.proofs.ByProfile.{can_go}
 
 -- ---- an empty square

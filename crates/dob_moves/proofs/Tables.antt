@@ -1,19 +1,8 @@
 -- The steps of each kind lead, in their order, to exactly the squares to which a step of the kind leads, ascending.
-use Rattle.std.proofs.Common.{◌≡◌, ℕ, zero, suc, ◌<◌, Bool, true, false, ◌&&◌, cond, eqb, List, [], ◌∷◌, ◌++◌, Option, Some, None, refl, ap}
-use Rattle.std.proofs.Common.{◌∙◌, option_to_list}
-use Rattle.std.specs.List.{filter, filter_map, cons_option}
-use Rattle.std.proofs.lemmas.Bool.{and_parts, eqb-true}
-use Rattle.std.proofs.lemmas.List.Elements.{filter_map-append, filter-append}
-use Rattle.dob_pieces.specs.declared.kind.Kind.{Kind}
-use Rattle.dob_pieces.specs.declared.kind.Kind.TheVariants.{Lion, Giraffe, Elephant, Chick, Hen}
-use Rattle.dob_pieces.specs.declared.setup.Setup.{Setup}
-use Rattle.dob_pieces.specs.Lists.{each_below}
-use Rattle.dob_pieces.specs.Pieces.{leads, steps_of, square_after}
-use Rattle.dob_pieces.specs.Setups.{at}
-use Rattle.dob_pieces.proofs.Boards.{all_below, all_below-at}
-use Rattle.dob_moves.specs.declared.game_move.Move.{Move}
-use Rattle.dob_moves.specs.declared.first_moves.Aim.{Aim}
-use Rattle.dob_moves.specs.Walks.{step_onto, step_if, step_by, steps_by}
+use Rattle.dob_moves.proofs.Common.{◌&&◌, ◌++◌, ◌<◌, ◌∙◌, ◌∷◌, ◌≡◌, Bool, List, None, Option, Some, [], ap, cond, eqb, false, option_to_list, refl, suc, true}
+use Rattle.dob_moves.proofs.Common.{zero, ℕ, and_parts, eqb-true, filter-append, filter_map-append, cons_option, filter, filter_map, all_below, all_below-at}
+use Rattle.dob_moves.proofs.Common.{each_below, leads, at, Kind, Chick, Elephant, Giraffe, Hen, Lion, Setup, step_by, step_if, step_onto, steps_by, Aim, Move}
+use Rattle.dob_pieces.specs.Pieces.{steps_of, square_after}
 
 abbrev same_numbers : List ℕ → List ℕ → Bool
 same_numbers [] [] = true

@@ -1,15 +1,7 @@
 -- When a turned setup is a position.
-use Rattle.std.proofs.Common.{◌≡◌, ◌≢◌, ℕ, ◌-◌, ◌<◌, ◌≤◌, Some, None, length, sym, ap, ◌∙◌, ⊎_elim, arith}
-use Rattle.std.proofs.lemmas.Bool.{cases_lt}
-use Rattle.std.proofs.lemmas.List.{get_or_past}
-use Rattle.dob_pieces.specs.declared.kind.Kind.{Kind}
-use Rattle.dob_pieces.specs.declared.kind.Kind.TheVariants.{Lion}
-use Rattle.dob_pieces.specs.declared.kind.Side.{Side}
-use Rattle.dob_pieces.specs.declared.kind.Side.TheVariants.{Mover, Enemy}
-use Rattle.dob_pieces.specs.declared.setup.Setup.{Setup}
-use Rattle.dob_pieces.specs.Pieces.{other_side}
-use Rattle.dob_pieces.specs.Setups.{Cell, at, turned_cell, piece_of, turned, HasLions, HasFewPieces, HasLionOffFarRow, IsLegal}
-use Rattle.dob_pieces.proofs.Boards.{length-turned, at-turned, HasLions-turned, HasFewPieces-turned}
+use Rattle.dob_moves.proofs.Common.{◌-◌, ◌<◌, ◌∙◌, ◌≡◌, ◌≢◌, ◌≤◌, None, Some, ap, arith, length, sym, ℕ, ⊎_elim, cases_lt, get_or_past, HasFewPieces-turned}
+use Rattle.dob_moves.proofs.Common.{HasLions-turned, at-turned, length-turned, other_side, Cell, HasFewPieces, HasLionOffFarRow, HasLions, IsLegal, at}
+use Rattle.dob_moves.proofs.Common.{piece_of, turned, turned_cell, Kind, Lion, Side, Enemy, Mover, Setup}
 use Rattle.dob_pieces.proofs.Symmetries.{turned_cell_twice}
 
 -- the side and the kind of what stands on a square

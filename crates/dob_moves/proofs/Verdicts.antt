@@ -1,26 +1,13 @@
 -- What the searches say of a position.
-use Rattle.std.proofs.Common.{refl, ℕ, ◌∷◌, ◌≡◌, ◌≢◌, ◌+◌, List, [], ◌++◌, Contains, inl, inr, subst, arith, Bool, true, false, Option, Some, None}
-use Rattle.std.proofs.Common.{MatchOption, length, sym, ◌∙◌}
+use Rattle.dob_moves.proofs.Common.{◌++◌, ◌+◌, ◌∙◌, ◌∷◌, ◌≡◌, ◌≢◌, Bool, Contains, List, MatchOption, None, Option, Some, [], arith, false, inl, inr, length}
+use Rattle.dob_moves.proofs.Common.{refl, subst, sym, true, ℕ, cases_eq, Contains-append_cases, Contains-append_left, Contains-append_right, is_some}
+use Rattle.dob_moves.proofs.Common.{none_in_empty, rising-append, rising-pairs, Profile, A, Setup, CanGo, first_drop, place, AreMoves, CanCatch, HasStatus}
+use Rattle.dob_moves.proofs.Common.{IsFirstCatch, all_drops, all_steps, first, AtLion, Elsewhere, Move, Put, Step, Status, Caught, Open, Stuck, Tried}
 use Rattle.std.specs.Bool.{IsTrue}
-use Rattle.std.specs.Option.{is_some}
-use Rattle.std.proofs.lemmas.Bool.{cases_eq}
-use Rattle.dob_pieces.specs.declared.profile.Profile.{Profile}
-use Rattle.dob_pieces.specs.declared.profile.Profile.TheVariants.{A}
-use Rattle.dob_pieces.specs.declared.setup.Setup.{Setup}
-use Rattle.dob_pieces.proofs.Lists.{none_in_empty, rising-append, rising-pairs}
-use Rattle.dob_moves.specs.declared.game_move.Move.{Move}
-use Rattle.dob_moves.specs.declared.first_moves.Aim.TheVariants.{AtLion, Elsewhere}
-use Rattle.dob_moves.specs.declared.game_move.Move.TheVariants.{Step, Put}
-use Rattle.dob_moves.specs.declared.position_status.Status.{Status}
-use Rattle.dob_moves.specs.declared.position_status.Status.TheVariants.{Caught, Tried, Stuck, Open}
-use Rattle.std.proofs.lemmas.List.Elements.{Contains-append_left, Contains-append_right, Contains-append_cases}
-use Rattle.dob_moves.specs.Moves.{CanGo, place, first_drop}
-use Rattle.dob_moves.specs.Statuses.{CanCatch, HasStatus, AreMoves, IsFirstCatch}
-use Rattle.dob_moves.specs.Walks.{first, all_steps, all_drops}
 use Rattle.dob_moves.proofs.ByProfile.{can_go}
 use Rattle.dob_moves.proofs.Firsts.{none_from}
-use Rattle.dob_moves.proofs.Reach.{steps_go, steps_rising, found_in_steps, drops_sound, drops_rising, drops_whole, go_found, no_catch}
-use Rattle.dob_moves.proofs.Reach.{is_first_catch, no_move, step_goes, drop_goes}
+use Rattle.dob_moves.proofs.Reach.{steps_go, steps_rising, found_in_steps, drops_sound, drops_rising, drops_whole, go_found, no_catch, is_first_catch, no_move}
+use Rattle.dob_moves.proofs.Reach.{step_goes, drop_goes}
 
 pub catch_answer : (p : Setup) (o : Option Move) → length p.board ≡ 12 → o ≡ first (all_steps AtLion p) → MatchOption o (¬ CanCatch p) (λ m. IsFirstCatch p m)
 catch_answer p None len e = λ (w : CanCatch p). no_catch p len (sym e) w.0 w.1

@@ -11,7 +11,8 @@ use Rattle.dob_moves.specs.declared.first_moves.Aim.{Aim}
 use Rattle.dob_moves.specs.declared.position_status.Status.TheVariants.{Open}
 use Rattle.dob_moves.specs.Moves.{CanGo, CatchesLion, may_put, place}
 use Rattle.dob_moves.specs.Statuses.{HasStatus}
-use Rattle.dob_moves.specs.Walks.{own_kind, step_onto, put_if}
+use Rattle.dob_pieces.specs.Masks.{own_kind}
+use Rattle.dob_moves.specs.Walks.{step_onto, put_if}
 
 -- the move of an open position at that place
 abbrev pub IsMoveAt : Profile → Setup → ℕ → Move → Type 0

@@ -11,6 +11,7 @@ use Rattle.dob_pieces.specs.declared.profile.Profile.{Profile}
 use Rattle.dob_pieces.specs.declared.setup.Setup.{Setup}
 use Rattle.dob_pieces.specs.Lists.{each_below}
 use Rattle.dob_pieces.specs.Pieces.{is_lion, steps_of, square_after}
+use Rattle.dob_pieces.specs.Masks.{own_kind}
 use Rattle.dob_pieces.specs.Setups.{Cell, at, held}
 use Rattle.dob_moves.specs.declared.game_move.Move.{Move}
 use Rattle.dob_moves.specs.declared.game_move.Move.TheVariants.{Step, Put}
@@ -50,15 +51,6 @@ step_by aim p kind from step = step_if aim p kind from (square_after from step)
 -- the steps of a piece of that kind
 unfoldable pub steps_by : Aim → Setup → Kind → ℕ → List Move
 steps_by aim p kind from = filter_map (step_by aim p kind from) (steps_of kind)
-
-abbrev pub own_by_side : Side → Kind → Option Kind
-own_by_side Mover kind = Some kind
-own_by_side Enemy kind = None
-
--- the kind of the mover's piece that stands there
-abbrev pub own_kind : Cell → Option Kind
-own_kind None = None
-own_kind (Some piece) = own_by_side piece.side piece.kind
 
 abbrev pub steps_if : Aim → Setup → ℕ → Option Kind → List Move
 steps_if aim p from None = []

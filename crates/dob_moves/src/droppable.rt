@@ -2,12 +2,9 @@
 ghost use Rattle.dob_pieces.specs.Masks.{IsMask};
 ghost use Rattle.dob_moves.specs.Moves.{may_put};
 
-use dob_pieces::{HandKind, Profile};
+use dob_pieces::{ALL_SQUARES, HandKind, Profile};
 
-// All squares of the board.
-const ALL: u16 = 4095;
-
-// Those below row 4.
+// The squares below row 4.
 const BELOW_FAR_ROW: u16 = 511;
 
 /// The squares on which the profile lets a piece of that kind be dropped, empty or not, as a mask.
@@ -16,6 +13,6 @@ pub(crate) fn squares_for(profile: Profile, kind: HandKind) -> u16
 {
     match (profile, kind) {
         (Profile::B, HandKind::Chick) => BELOW_FAR_ROW,
-        _ => ALL,
+        _ => ALL_SQUARES,
     }
 }

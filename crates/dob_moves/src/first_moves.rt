@@ -1,8 +1,9 @@
 // The search for the first step or drop, in the move order.
 ghost use Rattle.std.specs.Prelude.{◌≡◌};
 ghost use Rattle.dob_pieces.specs.declared.profile.Profile.TheVariants as Profile;
+ghost use Rattle.dob_pieces.specs.Masks.{own_kind};
 ghost use Rattle.dob_moves.specs.Moves.{grows_at};
-ghost use Rattle.dob_moves.specs.Walks.{first, own_kind, may_end, step_onto, step_by, steps_by, steps_from, all_steps, put_on, drops_of, all_drops};
+ghost use Rattle.dob_moves.specs.Walks.{first, may_end, step_onto, step_by, steps_by, steps_from, all_steps, put_on, drops_of, all_drops};
 
 use crate::game_move::Move;
 use dob_pieces::{HandKind, Kind, Piece, Setup, Side, Square, Step};
@@ -29,7 +30,7 @@ pub(crate) fn own_kind(cell: Option<Piece>) -> Option<Kind>
     }
 }
 
-/// Whether such a step may end on what stands there.
+// Whether such a step may end on what stands there.
 fn may_end(aim: Aim, cell: Option<Piece>) -> bool
     ensures { result ≡ may_end aim cell }
 {
@@ -85,7 +86,7 @@ pub(crate) fn step_by(setup: &Setup, aim: Aim, kind: Kind, from: Square, step: S
     }
 }
 
-/// The first step of a piece of that kind on that square.
+// The first step of a piece of that kind on that square.
 #[tactic(auto, using(crate::proofs::Firsts::firsts), unfolding(crate::specs::Walks::steps_by))]
 fn first_step_by(setup: &Setup, aim: Aim, kind: Kind, from: Square) -> Option<Move>
     ensures { result ≡ first (steps_by aim setup.now kind from) }
@@ -99,7 +100,7 @@ fn first_step_by(setup: &Setup, aim: Aim, kind: Kind, from: Square) -> Option<Mo
     None
 }
 
-/// The first of the mover's steps from that square.
+// The first of the mover's steps from that square.
 #[tactic(auto, unfolding(crate::specs::Walks::steps_from))]
 fn first_step_from(setup: &Setup, aim: Aim, from: Square) -> Option<Move>
     ensures { result ≡ first (steps_from aim setup.now from) }
@@ -134,7 +135,7 @@ pub(crate) fn put_on(setup: &Setup, kind: HandKind, to: Square) -> Option<Move>
     }
 }
 
-/// The first drop of a piece of that kind.
+// The first drop of a piece of that kind.
 #[tactic(auto, using(crate::proofs::Firsts::firsts), unfolding(crate::specs::Walks::drops_of))]
 fn first_drop_of(setup: &Setup, kind: HandKind) -> Option<Move>
     ensures { result ≡ first (drops_of Profile.A setup.now kind) }

@@ -19,7 +19,7 @@ use std::alloc::Global;
 // more than 38 moves. Other positions have none, and cost no memory.
 const ROOM: usize = 40;
 
-/// Appends the steps of a piece of that kind on that square, other than onto the enemy lion.
+// Appends the steps of a piece of that kind on that square, other than onto the enemy lion.
 fn push_steps_by(
     moves: &mut Vec<Move>,
     setup: &Setup,
@@ -45,7 +45,7 @@ fn push_steps_by(
     Ok(())
 }
 
-/// Appends the mover's steps from that square.
+// Appends the mover's steps from that square.
 #[tactic(auto, using(crate::proofs::Appends::appends), unfolding(crate::specs::Walks::steps_from))]
 fn push_steps_from(
     moves: &mut Vec<Move>,
@@ -62,7 +62,7 @@ fn push_steps_from(
     }
 }
 
-/// Appends the mover's steps.
+// Appends the mover's steps.
 fn push_steps(moves: &mut Vec<Move>, setup: &Setup, masks: &Masks) -> Result<(), Memory>
     requires { AreMasks setup.now masks.now }
     ensures { OnOk result (moves.new.items ≡ moves.old.items ++ all_steps Elsewhere setup.now) }
@@ -76,7 +76,7 @@ fn push_steps(moves: &mut Vec<Move>, setup: &Setup, masks: &Masks) -> Result<(),
     Ok(())
 }
 
-/// Appends the drops of that kind.
+// Appends the drops of that kind.
 fn push_drops_of(
     moves: &mut Vec<Move>,
     profile: Profile,
@@ -99,7 +99,7 @@ fn push_drops_of(
     Ok(())
 }
 
-/// Appends the drops.
+// Appends the drops.
 #[tactic(auto, using(crate::proofs::Appends::appends), unfolding(crate::specs::Walks::all_drops))]
 fn push_drops(
     moves: &mut Vec<Move>,
@@ -141,7 +141,7 @@ pub fn moves_into(
     }
 }
 
-/// Appends the steps and drops.
+// Appends the steps and drops.
 fn push_moves(
     moves: &mut Vec<Move>,
     profile: Profile,

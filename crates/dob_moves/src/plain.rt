@@ -21,7 +21,7 @@ pub fn first_catch(position: &Position) -> Option<Move>
     first_step(&position.setup, Aim::AtLion)
 }
 
-/// Whether the enemy lion stands on that square.
+// Whether the enemy lion stands on that square.
 fn holds_enemy_lion(position: &Position, square: Square) -> bool
     ensures { IsTrue result ↔ (at position.now.setup square ≡ Some (piece_of Side.Enemy Kind.Lion)) }
 {
@@ -34,7 +34,7 @@ fn holds_enemy_lion(position: &Position, square: Square) -> bool
     )
 }
 
-/// Whether the enemy lion stands on row 1.
+// Whether the enemy lion stands on row 1.
 fn has_tried(position: &Position) -> bool
     ensures { IsTrue result ↔ HasTried position.now.setup }
 {
@@ -43,16 +43,16 @@ fn has_tried(position: &Position) -> bool
         || holds_enemy_lion(position, Square::new(2))
 }
 
-/// The status of the position by the rules of a profile, which asks for no other one than profile A: a catch is looked for first, then a
-/// try, then a move.
+/// The status of the position by the rules of a profile: a catch is looked for first, then a try, then a move.
 pub fn status(profile: Profile, position: &Position) -> Status
     ensures { HasStatus profile position.now.setup result }
 {
+    // Each profile has the statuses of profile A, so only the contract names this one.
     let _ = profile;
     status_in_a(position)
 }
 
-/// The same by the rules of profile A.
+// The same by the rules of profile A.
 fn status_in_a(position: &Position) -> Status
     ensures { HasStatus A position.now.setup result }
 {
@@ -67,7 +67,7 @@ fn status_in_a(position: &Position) -> Status
     }
 }
 
-/// Appends the move, if there is one.
+// Appends the move, if there is one.
 fn push_found(moves: &mut Vec<Move>, found: Option<Move>) -> Result<(), Memory>
     ensures { OnOk result (moves.new.items ≡ moves.old.items ++ option_to_list found) }
 {
@@ -77,7 +77,7 @@ fn push_found(moves: &mut Vec<Move>, found: Option<Move>) -> Result<(), Memory>
     Ok(())
 }
 
-/// Appends the steps of a piece of that kind on that square, other than onto the enemy lion.
+// Appends the steps of a piece of that kind on that square, other than onto the enemy lion.
 #[tactic(auto, using(crate::proofs::PlainLists::appends), unfolding(crate::specs::Walks::steps_by))]
 fn push_steps_by(
     moves: &mut Vec<Move>,
@@ -94,7 +94,7 @@ fn push_steps_by(
     Ok(())
 }
 
-/// Appends the mover's steps from that square.
+// Appends the mover's steps from that square.
 #[tactic(auto, using(crate::proofs::PlainLists::appends), unfolding(crate::specs::Walks::steps_from))]
 fn push_steps_from(moves: &mut Vec<Move>, setup: &Setup, from: Square) -> Result<(), Memory>
     ensures { OnOk result (moves.new.items ≡ moves.old.items ++ steps_from Elsewhere setup.now from) }
@@ -105,7 +105,7 @@ fn push_steps_from(moves: &mut Vec<Move>, setup: &Setup, from: Square) -> Result
     }
 }
 
-/// Appends the mover's steps.
+// Appends the mover's steps.
 #[tactic(auto, using(crate::proofs::PlainLists::appends), unfolding(crate::specs::Walks::all_steps))]
 fn push_steps(moves: &mut Vec<Move>, setup: &Setup) -> Result<(), Memory>
     ensures { OnOk result (moves.new.items ≡ moves.old.items ++ all_steps Elsewhere setup.now) }
@@ -116,7 +116,7 @@ fn push_steps(moves: &mut Vec<Move>, setup: &Setup) -> Result<(), Memory>
     Ok(())
 }
 
-/// The drop of that kind on that square by the rules of the profile, if nothing stands there.
+// The drop of that kind on that square by the rules of the profile, if nothing stands there.
 fn put_by(profile: Profile, setup: &Setup, kind: HandKind, to: Square) -> Option<Move>
     ensures { result ≡ put_on profile setup.now kind to }
 {
@@ -130,7 +130,7 @@ fn put_by(profile: Profile, setup: &Setup, kind: HandKind, to: Square) -> Option
     put_on(setup, kind, to)
 }
 
-/// Appends the drops of that kind.
+// Appends the drops of that kind.
 #[tactic(auto, using(crate::proofs::PlainLists::appends), unfolding(crate::specs::Walks::drops_of))]
 fn push_drops_of(
     profile: Profile,
@@ -150,7 +150,7 @@ fn push_drops_of(
     Ok(())
 }
 
-/// Appends the drops.
+// Appends the drops.
 #[tactic(auto, using(crate::proofs::PlainLists::appends), unfolding(crate::specs::Walks::all_drops))]
 fn push_drops(profile: Profile, moves: &mut Vec<Move>, setup: &Setup) -> Result<(), Memory>
     ensures { OnOk result (moves.new.items ≡ moves.old.items ++ all_drops profile setup.now) }

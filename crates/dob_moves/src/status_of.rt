@@ -13,7 +13,7 @@ use crate::game_move::Move;
 use crate::position_status::Status;
 use dob_pieces::{Hand, Kind, Masks, Position, Profile, Side, Square, lowest_square};
 
-/// The enemy lion's square.
+// The enemy lion's square.
 fn enemy_lion(position: &Position, masks: &Masks) -> Square
     requires { AreMasks position.now.setup masks.now }
     ensures { at position.now.setup result ≡ Some (piece_of Side.Enemy Kind.Lion) }
@@ -21,7 +21,7 @@ fn enemy_lion(position: &Position, masks: &Masks) -> Square
     lowest_square(masks.enemy_lion)
 }
 
-/// The mover's lion's square.
+// The mover's lion's square.
 fn own_lion(position: &Position, masks: &Masks) -> Square
     requires { AreMasks position.now.setup masks.now }
     ensures { at position.now.setup result ≡ Some (piece_of Side.Mover Kind.Lion) }
@@ -52,7 +52,7 @@ pub fn first_catch(position: &Position) -> Option<Move>
     }
 }
 
-/// Whether some step of the mover ends on the enemy lion, which stands on that square.
+// Whether some step of the mover ends on the enemy lion, which stands on that square.
 fn can_catch(position: &Position, masks: &Masks, lion: Square) -> bool
     requires masks { AreMasks position.now.setup masks.now }
     requires lion { at position.now.setup lion ≡ Some (piece_of Side.Enemy Kind.Lion) }
@@ -61,7 +61,7 @@ fn can_catch(position: &Position, masks: &Masks, lion: Square) -> bool
     masks.attackers(lion) != 0
 }
 
-/// Whether the mover's lion has a step, other than onto the enemy lion. Most positions that have a move have one.
+// Whether the mover's lion has a step, other than onto the enemy lion. Most positions that have a move have one.
 fn lion_can_step(position: &Position, masks: &Masks) -> bool
     requires { AreMasks position.now.setup masks.now }
     ensures { IsTrue result → (move : Moved) × CanGo A position.now.setup move }
@@ -76,7 +76,7 @@ pub(crate) fn finds_move(position: &Position) -> bool
     first_step(&position.setup, Aim::Elsewhere).is_some() || first_drop(&position.setup).is_some()
 }
 
-/// Whether the mover has a move while its steps onto the enemy lion aren't counted.
+// Whether the mover has a move while its steps onto the enemy lion aren't counted.
 fn can_move(position: &Position, masks: &Masks, hand: Hand) -> bool
     requires masks { AreMasks position.now.setup masks.now }
     requires hand { hand ≡ position.now.setup.hands.mover }

@@ -1,26 +1,14 @@
 -- A setup is allowed by a profile where each of its squares is, and so is its mirror image.
-use Rattle.std.proofs.Common.{◌≡◌, ℕ, zero, suc, ◌+◌, ◌-◌, ◌<◌, ◌==◌, Bool, true, false, ◌&&◌, not, List, [], ◌∷◌, Some, None, length, slice_index_or}
-use Rattle.std.proofs.Common.{refl, sym, ap, ◌∙◌, arith, eqb}
-use Rattle.std.proofs.lemmas.Bool.{and_parts, eqb-true}
-use mathlib.Core.Bool.{beq}
-use Rattle.dob_pieces.specs.declared.kind.Kind.{Kind}
-use Rattle.dob_pieces.specs.declared.kind.Kind.TheVariants.{Lion, Giraffe, Elephant, Chick, Hen}
-use Rattle.dob_pieces.specs.declared.kind.Side.{Side}
-use Rattle.dob_pieces.specs.declared.kind.Side.TheVariants.{Mover, Enemy}
+use Rattle.dob_pieces.proofs.Common.{◌&&◌, ◌+◌, ◌-◌, ◌<◌, ◌==◌, ◌∙◌, ◌∷◌, ◌≡◌, Bool, List, None, Some, [], ap, arith, eqb, false, length, not, refl}
+use Rattle.dob_pieces.proofs.Common.{slice_index_or, suc, sym, true, zero, ℕ, and_from, and_parts, eqb-true, beq, other_side, IsAllowed, is_allowed, is_far}
+use Rattle.dob_pieces.proofs.Common.{may_all_stand, may_stand, Cell, at, mirrored, turned, turned_cell, mirrored_square, row, turned_square, Kind, Chick}
+use Rattle.dob_pieces.proofs.Common.{Elephant, Giraffe, Hen, Lion, Side, Enemy, Mover, Setup}
 use Rattle.dob_pieces.specs.declared.profile.Profile.{Profile}
 use Rattle.dob_pieces.specs.declared.profile.Profile.TheVariants.{A, B}
-use Rattle.dob_pieces.specs.declared.setup.Setup.{Setup}
-use Rattle.dob_pieces.specs.Pieces.{other_side}
-use Rattle.dob_pieces.specs.Squares.{row, turned_square, mirrored_square}
-use Rattle.dob_pieces.specs.Setups.{Cell, at, turned_cell, turned, mirrored}
-use Rattle.dob_pieces.specs.Profiles.{is_far, may_stand, may_all_stand, is_allowed, IsAllowed}
 use Rattle.dob_pieces.proofs.Boards.{length-turned, at-turned, length-mirrored, at-mirrored, all_below, all_below-at}
 use Rattle.dob_pieces.proofs.Symmetries.{turned_square_twice, mirrored_square_bound, beq-true}
 
 -- ---- cells from a square on
-
-both_true : (a b : Bool) → a ≡ true → b ≡ true → (a && b) ≡ true
-both_true a b x y = ap (λ (c : Bool). c && b) x ∙ y
 
 -- each of them may stand where all may
 each_stands : (profile : Profile) (from : ℕ) (cells : List Cell) (k : ℕ) → may_all_stand profile from cells ≡ true → k < length cells
@@ -38,7 +26,7 @@ all_stand : (profile : Profile) (from : ℕ) (cells : List Cell)
     → ((k : ℕ) → k < length cells → may_stand profile (from + k) (slice_index_or cells k None) ≡ true) → may_all_stand profile from cells ≡ true
 all_stand profile from [] each = refl
 all_stand profile from (cell ∷ cells) each =
-    both_true (may_stand profile from cell) (may_all_stand profile (suc from) cells)
+    and_from (may_stand profile from cell) (may_all_stand profile (suc from) cells)
     (ap (λ (square : ℕ). may_stand profile square cell) (omega arith) ∙ each 0 (omega arith))
     (all_stand profile (suc from) cells
     (λ k lt. ap (λ (square : ℕ). may_stand profile square (slice_index_or cells k None)) (omega arith) ∙ each (suc k) (omega arith)))

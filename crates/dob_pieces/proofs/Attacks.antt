@@ -1,21 +1,10 @@
 -- Who attacks a square, and where the lions stand, by masks.
-use Rattle.std.proofs.Common.{◌≡◌, ℕ, suc, ◌+◌, ◌<◌, ◌&&◌, ◌||◌, Bool, true, false, bit_and, bit_or, List, [], ◌∷◌, Some, None, cond}
-use Rattle.std.proofs.Common.{length, get_or, refl, sym, ap, ◌∙◌, inl, inr, arith}
-use Rattle.std.specs.List.{count_by}
+use Rattle.dob_pieces.proofs.Common.{◌&&◌, ◌+◌, ◌<◌, ◌||◌, ◌∙◌, ◌∷◌, ◌≡◌, Bool, List, None, Some, [], ap, arith, bit_and, bit_or, cond, false, get_or, inl, inr}
+use Rattle.dob_pieces.proofs.Common.{length, refl, suc, sym, true, ℕ, and_parts, cases_Bool, sum_by-cons, trailing_zeros, w16, count_by, AreMasks, AreSquares}
+use Rattle.dob_pieces.proofs.Common.{IsMask, attacks, attacks_by, is_piece, is_lion, is_side, leads, Cell, HasLions, at, holds_lion, piece_of, Kind, Chick}
+use Rattle.dob_pieces.proofs.Common.{Elephant, Giraffe, Hen, Lion, Piece, Side, Enemy, Mover, Setup}
 use Rattle.std.proofs.Math.Bool.{or-false}
-use Rattle.std.proofs.lemmas.Bool.{and_parts, cases_Bool}
-use Rattle.std.proofs.lemmas.List.Sums.{sum_by-cons}
-use Rattle.std.specs.Int.{trailing_zeros, w16}
-use Rattle.dob_pieces.specs.declared.kind.Kind.{Kind}
-use Rattle.dob_pieces.specs.declared.kind.Kind.TheVariants.{Lion, Giraffe, Elephant, Chick, Hen}
-use Rattle.dob_pieces.specs.declared.kind.Piece.{Piece}
-use Rattle.dob_pieces.specs.declared.kind.Side.{Side}
-use Rattle.dob_pieces.specs.declared.kind.Side.TheVariants.{Mover, Enemy}
-use Rattle.dob_pieces.specs.declared.setup.Setup.{Setup}
 use Rattle.dob_pieces.specs.declared.masks.Masks.{Masks}
-use Rattle.dob_pieces.specs.Pieces.{leads, is_side, is_lion}
-use Rattle.dob_pieces.specs.Setups.{Cell, at, piece_of, holds_lion, HasLions}
-use Rattle.dob_pieces.specs.Masks.{IsMask, AreSquares, AreMasks, is_piece, attacks, attacks_by}
 use Rattle.dob_pieces.proofs.MaskBits.{IsMask-and, IsMask-or, IsMask-same, lowest_is, some_passes}
 
 -- ---- the lions

@@ -1,23 +1,12 @@
 -- Boards read, turned, mirrored and written.
-use Rattle.std.proofs.Common.{ltb, not, ◌≡◌, ◌≢◌, ℕ, zero, suc, ◌+◌, ◌-◌, ◌<◌, ◌≤◌, Bool, true, ◌&&◌, cond, List, [], ◌∷◌, Some, None}
-use Rattle.std.proofs.Common.{length, set, slice_index_or, refl, sym, ap, ◌∙◌, subst, arith, ⊎_elim}
-use Rattle.std.proofs.lemmas.List.FromFn.{get_or-map-range_with_len, fill_by_all}
-use Rattle.std.specs.List.{count_by, sum_by}
-use Rattle.std.proofs.lemmas.List.{length-set, get_or_past, get_or-set_other}
-use Rattle.std.proofs.lemmas.List.Sums.{sum_by-set, get_or-le-sum_by}
-use Rattle.std.proofs.lemmas.Bool.{and_parts, both_ways, not-true, cases_eq, cases_lt, ltb-true}
+use Rattle.dob_pieces.proofs.Common.{◌&&◌, ◌+◌, ◌-◌, ◌<◌, ◌∙◌, ◌∷◌, ◌≡◌, ◌≢◌, ◌≤◌, Bool, List, None, Some, [], ap, arith, cond, length, ltb, not, refl, set}
+use Rattle.dob_pieces.proofs.Common.{slice_index_or, subst, suc, sym, true, zero, ℕ, ⊎_elim, and_parts, both_ways, cases_eq, cases_lt, ltb-true, not-true}
+use Rattle.dob_pieces.proofs.Common.{get_or-set_other, get_or_past, length-set, fill_by_all, get_or-map-range_with_len, get_or-le-sum_by, sum_by-set, count_by}
+use Rattle.dob_pieces.proofs.Common.{sum_by, is_lion, is_side, leads, other_side, Cell, HasLions, IsLegal, at, board_by, holds_lion, mirrored, piece_of, turned}
+use Rattle.dob_pieces.proofs.Common.{turned_cell, mirrored_square, turned_square, Kind, Chick, Elephant, Giraffe, Hen, Lion, Piece, Side, Enemy, Mover, Setup}
 use Rattle.std.proofs.lemmas.List.Edits.{fill_by_more}
-use Rattle.dob_pieces.specs.declared.setup.Setup.{Setup}
-use Rattle.dob_pieces.specs.Squares.{turned_square, mirrored_square}
-use Rattle.dob_pieces.specs.declared.kind.Kind.{Kind}
-use Rattle.dob_pieces.specs.declared.kind.Kind.TheVariants.{Lion, Giraffe, Elephant, Chick, Hen}
 use Rattle.dob_pieces.specs.declared.kind.HandKind.{HandKind}
-use Rattle.dob_pieces.specs.declared.kind.Side.{Side}
-use Rattle.dob_pieces.specs.declared.kind.Side.TheVariants.{Mover, Enemy}
-use Rattle.dob_pieces.specs.declared.kind.Piece.{Piece}
-use Rattle.dob_pieces.specs.Pieces.{other_side, is_side, is_lion, leads}
-use Rattle.dob_pieces.specs.Setups.{Cell, at, holds_lion, holds_kind, total, HasLions, HasFewPieces, HasLionOffFarRow, IsLegal}
-use Rattle.dob_pieces.specs.Setups.{piece_of, board_by, turned_cell, turned, mirrored}
+use Rattle.dob_pieces.specs.Setups.{holds_kind, total, HasFewPieces, HasLionOffFarRow}
 
 -- ---- boards made square by square
 

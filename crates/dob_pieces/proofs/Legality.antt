@@ -1,16 +1,10 @@
 -- What the tests of a position show.
-use Rattle.std.proofs.Common.{◌≡◌, ◌+◌, ◌-◌, ◌<◌, true, false, List, Some, None, length, take, drop, count_by, slice_index_or, refl, sym, ap, ◌∙◌, arith}
-use Rattle.std.specs.List.{list_any, Any}
-use Rattle.std.proofs.lemmas.Bool.{both_ways, false_from_ne_true}
-use Rattle.std.proofs.lemmas.List.{get_or-drop, get_or_default, take_all}
-use Rattle.std.proofs.Common.{length-drop}
+use Rattle.dob_pieces.proofs.Common.{◌+◌, ◌-◌, ◌<◌, ◌∙◌, ◌≡◌, List, None, Some, ap, arith, drop, false, length, refl, slice_index_or, sym, true, both_ways}
+use Rattle.dob_pieces.proofs.Common.{false_from_ne_true, get_or-drop, get_or_default, take_all, Any, list_any, Cell, HasLions, at, holds_lion, piece_of, Kind}
+use Rattle.dob_pieces.proofs.Common.{Chick, Elephant, Giraffe, Hen, Lion, Side, Enemy, Mover, Setup}
+use Rattle.std.proofs.Common.{take, count_by, length-drop}
 use Rattle.std.proofs.lemmas.List.Folds.{Any-from_list_any, list_any_at}
-use Rattle.dob_pieces.specs.declared.kind.Kind.{Kind}
-use Rattle.dob_pieces.specs.declared.kind.Kind.TheVariants.{Lion, Giraffe, Elephant, Chick, Hen}
-use Rattle.dob_pieces.specs.declared.kind.Side.{Side}
-use Rattle.dob_pieces.specs.declared.kind.Side.TheVariants.{Mover, Enemy}
-use Rattle.dob_pieces.specs.declared.setup.Setup.{Setup}
-use Rattle.dob_pieces.specs.Setups.{Cell, at, piece_of, holds_lion, HasLions, HasLionOffFarRow}
+use Rattle.dob_pieces.specs.Setups.{HasLionOffFarRow}
 use Rattle.dob_pieces.proofs.Boards.{within-from_piece}
 
 -- one lion of the mover and one of the enemy

@@ -1,6 +1,8 @@
 -- The lemmas, in the order in which they are read.
+mod Common  -- names of other crates and of this one's definitions, for the proofs
 pub mod Results  -- what std doesn't say of `Result`
 pub mod Lists  -- lists made piece by piece, and their order
+pub mod Zips  -- lists side by side, and one for each number of a range
 pub mod Elements  -- what stands where in a list, also after more things and after one was exchanged
 -- Boards.
 pub mod Boards  -- boards read, turned, mirrored and written
@@ -13,3 +15,4 @@ pub mod MaskWalks  -- walks over the squares of a mask
 pub mod Attacks  -- who attacks a square
 pub mod Targets  -- the tables of steps are the steps of the kinds
 pub mod Planes  -- several masks in one word
+pub mod OwnKinds  -- the mover's piece on a square, by the masks

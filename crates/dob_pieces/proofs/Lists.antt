@@ -1,11 +1,9 @@
 -- Lists made piece by piece: what they contain, their parts, and their order.
-use Rattle.std.proofs.Common.{◌≡◌, ℕ, zero, suc, ◌<◌, ◌≤◌, ◌⊎◌, Bool, true, false, cond, List, [], ◌∷◌, ◌++◌, length, get_or, take, drop, refl, sym}
-use Rattle.std.proofs.Common.{ap, ◌∙◌, subst, inl, inr, arith, All, AllPairs, Contains}
-use Rattle.std.proofs.lemmas.Bool.{cases_lt}
-use Rattle.std.proofs.lemmas.List.{take_at, drop_at}
+use Rattle.dob_pieces.proofs.Common.{◌++◌, ◌<◌, ◌∙◌, ◌∷◌, ◌≡◌, ◌≤◌, ◌⊎◌, Bool, Contains, List, [], ap, arith, cond, drop, false, get_or, inl, inr, length, refl}
+use Rattle.dob_pieces.proofs.Common.{subst, suc, sym, true, zero, ℕ, cases_eq, cases_lt, drop_at, take_at, each_below}
+use Rattle.std.proofs.Common.{take, All, AllPairs}
 use Rattle.std.proofs.lemmas.List.Elements.{Contains-append_left, Contains-append_right, Contains-append_cases, All-nil, All-cons}
 use Rattle.std.proofs.lemmas.List.Kept.{AllPairs-cons}
-use Rattle.dob_pieces.specs.Lists.{each_below}
 
 -- ---- what they contain
 
@@ -22,6 +20,9 @@ module _ {X : Type 0} where
     cases : (k : ℕ) → k < suc (length xs) → get_or (x ∷ xs) k y ≡ y → (x ≡ y) ⊎ Contains xs y
     cases zero lt e = inl e
     cases (suc k) lt e = inr (k, omega arith, e)
+
+  pub rest_in : (x y : X) (xs : List X) → Contains xs y → Contains (x ∷ xs) y
+  rest_in x y xs there = Contains-append_right (x ∷ []) xs y there
 
   pub cond_sound : (b : Bool) (xs : List X) (x : X) → Contains (cond b xs []) x → (b ≡ true) × Contains xs x
   cond_sound true xs x h = (refl, h)
@@ -54,6 +55,17 @@ module _ {X : Type 0} where
     sym (take_at a c (length a) refl) ∙ ap (take (length a)) joined ∙ take_at b d (length a) (sym size),
     sym (drop_at a c (length a) refl) ∙ ap (drop (length a)) joined ∙ drop_at b d (length a) (sym size),
   )
+
+-- a number stands in a list or it doesn't
+pub stands_or : (numbers : List ℕ) (number : ℕ) → Contains numbers number ⊎ (¬ Contains numbers number)
+stands_or [] number = inr (none_in_empty number)
+stands_or (first ∷ rest) number = elim (cases_eq first number) [
+  | inl same ↦ inl (subst (Contains (first ∷ rest)) same (head_in first rest))
+  | inr other ↦ elim (stands_or rest number) [
+    | inl there ↦ inl (rest_in first number rest there)
+    | inr absent ↦ inr (λ there. elim (cons_cases first rest number there) [ inl e ↦ other e | inr later ↦ absent later ])
+  ]
+]
 
 -- ---- their order
 

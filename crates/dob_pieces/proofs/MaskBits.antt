@@ -1,12 +1,11 @@
 -- Sets of squares as masks: what the operations on bits make of them.
-use Rattle.std.proofs.Common.{◌≡◌, ◌≢◌, ℕ, suc, ◌-◌, ◌*◌, ◌/◌, ◌%◌, ◌^◌, ◌<◌, ◌≤◌, min, max, nat_eq, nat_le, bit_and, bit_or}
-use Rattle.std.proofs.Common.{Bool, true, false, true≢false, not, ◌&&◌, ◌||◌, cond, refl, sym, ap, ◌∙◌, arith, inl, inr, w16}
-use Rattle.std.specs.Int.{bit_at, bit_not, trailing_zeros}
-use Rattle.std.proofs.lemmas.Bool.{and_parts, cases_lt, cases_eq, le-leb, lt-leb, leb-true}
+use Rattle.dob_pieces.proofs.Common.{◌%◌, ◌&&◌, ◌-◌, ◌/◌, ◌<◌, ◌^◌, ◌||◌, ◌∙◌, ◌≡◌, ◌≢◌, ◌≤◌, Bool, ap, arith, bit_and, bit_or, cond, false, inl, inr, not}
+use Rattle.dob_pieces.proofs.Common.{refl, suc, sym, true, true≢false, ℕ, and_parts, cases_eq, cases_lt, le-leb, leb-true, lt-leb, bit_at, bit_not}
+use Rattle.dob_pieces.proofs.Common.{trailing_zeros, IsMask}
+use Rattle.std.proofs.Common.{◌*◌, min, max, nat_eq, nat_le, w16}
 use Rattle.std.proofs.lemmas.Nat.{and_le_l, or_lt}
 use Rattle.std.proofs.lemmas.Nat.Bits.{shr_and_one, bit_at_and, bit_at_or, bit_at_not, bit_at-trailing_zeros, bit_at_clear_same, bit_at_clear_other}
 use Rattle.std.proofs.lemmas.Nat.Bits.{bit_at_above, bit_at-zero}
-use Rattle.dob_pieces.specs.Masks.{IsMask}
 
 abbrev pub bit_if : Bool → ℕ
 bit_if b = cond b 1 0

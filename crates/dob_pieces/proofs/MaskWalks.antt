@@ -1,16 +1,9 @@
 -- Walks over the squares of a mask, from the lowest on, and counts of them.
-use Rattle.std.proofs.Common.{◌≡◌, ℕ, zero, suc, ◌^◌, ◌<◌, ◌≤◌, Bool, true, false, cond, List, [], ◌++◌, length, map}
-use Rattle.std.proofs.Common.{count_ones, refl, sym, ap, ◌∙◌, arith, inl, inr, append_assoc, append-nil}
-use Rattle.std.specs.Int.{trailing_zeros, w16}
-use Rattle.std.specs.List.{count_by, range_with_len}
+use Rattle.dob_pieces.proofs.Common.{◌++◌, ◌<◌, ◌^◌, ◌∙◌, ◌≡◌, ◌≤◌, Bool, List, [], ap, append-nil, append_assoc, arith, cond, count_ones, false, inl, inr}
+use Rattle.dob_pieces.proofs.Common.{length, map, refl, suc, sym, true, zero, ℕ, cases_lt, length-append, get_or-map-range_with_len, bit_mask_l, mask_l-lt}
+use Rattle.dob_pieces.proofs.Common.{ones-mask_l, trailing_zeros, w16, count_by, range_with_len, each_below, sum_below, IsMask}
 use Rattle.std.specs.Simd.Lanes.{mask_l}
-use Rattle.std.proofs.lemmas.Bool.{cases_lt}
-use Rattle.std.proofs.lemmas.List.{length-append}
-use Rattle.std.proofs.lemmas.List.FromFn.{get_or-map-range_with_len}
 use Rattle.std.proofs.lemmas.Nat.Bits.{same_from_bits_below}
-use Rattle.std.proofs.lemmas.Simd.{mask_l-lt, bit_mask_l, ones-mask_l}
-use Rattle.dob_pieces.specs.Lists.{each_below, sum_below}
-use Rattle.dob_pieces.specs.Masks.{IsMask}
 use Rattle.dob_pieces.proofs.MaskBits.{bit_if, IsLeft, without, all_left, next_left, none_left}
 
 -- what gives nothing is passed

@@ -1,24 +1,14 @@
 -- Masks made in one pass over the board: several in one word, twelve bits each, which no sum carries over.
-use Rattle.std.proofs.Common.{◌≡◌, ℕ, suc, ◌+◌, ◌-◌, ◌*◌, ◌/◌, ◌%◌, ◌^◌, ◌<◌, ◌≤◌, Bool, true, false, cond, not, nat_eq}
-use Rattle.std.proofs.Common.{◌&&◌, ◌||◌, sym, refl, bit_and, w16, List, [], ◌∷◌, Some, None, map}
-use Rattle.std.proofs.Common.{length, drop, slice_index_or, ap, ◌∙◌, arith}
-use Rattle.std.specs.Int.{bit_not, bit_at}
-use Rattle.std.proofs.lemmas.Bool.{eqb-true}
-use Rattle.dob_pieces.proofs.Boards.{all_below-at}
+use Rattle.dob_pieces.proofs.Common.{◌%◌, ◌&&◌, ◌+◌, ◌-◌, ◌/◌, ◌<◌, ◌^◌, ◌||◌, ◌∙◌, ◌∷◌, ◌≡◌, ◌≤◌, Bool, List, None, Some, [], ap, arith, bit_and, cond, drop}
+use Rattle.dob_pieces.proofs.Common.{false, length, map, not, refl, slice_index_or, suc, sym, true, ℕ, eqb-true, get_or-map, length-drop, length-map}
+use Rattle.dob_pieces.proofs.Common.{bit_mask_l, mask_l-lt, bit_at, bit_not, AreSquares, IsMask, entry_of, is_empty, is_own, is_piece, kind_place, side_place}
+use Rattle.dob_pieces.proofs.Common.{Cell, at, piece_of, Kind, Chick, Elephant, Giraffe, Hen, Lion, Side, Enemy, Mover, ALL_SQUARES, PLANES, Setup}
+use Rattle.std.proofs.Common.{◌*◌, nat_eq, w16}
 use Rattle.std.specs.Simd.Lanes.{mask_l}
 use Rattle.std.proofs.Math.Pow.{pow_mono}
 use Rattle.std.proofs.Math.Seq.{drop-cons}
-use Rattle.std.proofs.lemmas.List.{length-map, length-drop, get_or-map}
-use Rattle.std.proofs.lemmas.Simd.{mask_l-lt, bit_mask_l}
-use Rattle.dob_pieces.specs.declared.kind.Kind.{Kind}
-use Rattle.dob_pieces.specs.declared.kind.Kind.TheVariants.{Lion, Giraffe, Elephant, Chick, Hen}
-use Rattle.dob_pieces.specs.declared.kind.Side.{Side}
-use Rattle.dob_pieces.specs.declared.kind.Side.TheVariants.{Mover, Enemy}
-use Rattle.dob_pieces.specs.declared.setup.Setup.{Setup}
-use Rattle.dob_pieces.specs.Setups.{Cell, piece_of, at}
-use Rattle.dob_pieces.specs.Masks.{AreSquares, is_piece, is_own, is_empty, kind_place, side_place, entry_of}
-use Rattle.dob_pieces.specs.declared.masks.TheConstants.{PLANES}
 use Rattle.dob_pieces.proofs.MaskBits.{IsMask-and, IsMask-without, IsMask-same}
+use Rattle.dob_pieces.proofs.Targets.{is_mask}
 
 -- ---- one mask
 
@@ -193,8 +183,11 @@ same_test f g e cell =
     told_cell f cell ∙ ap (λ (bits : List Bool). slice_index_or bits (place_of cell) false) e ∙ sym (told_cell g cell)
 
 -- every square of the board
-pub all_are : (setup : Setup) → AreSquares setup (λ cell. true) 4095
-all_are setup = record { within = omega arith; bits = λ square lt. eqb-true (bit_at 4095 square) 1 (all_below-at (λ s. nat_eq (bit_at 4095 s) 1) 12 square refl lt) }
+pub everywhere : (test : ℕ → Bool) → ((square : ℕ) → test square ≡ true) → IsMask test ALL_SQUARES
+everywhere test all = IsMask-same (λ square. true) test ALL_SQUARES (λ square lt. sym (all square)) (is_mask (λ square. true) ALL_SQUARES refl)
+
+pub all_are : (setup : Setup) → AreSquares setup (λ cell. true) ALL_SQUARES
+all_are setup = everywhere (λ square. true) (λ square. refl)
 
 -- the masks of two planes
 pub of_both : (setup : Setup) (f g test : Cell → Bool) (a b : ℕ) → map (λ cell. f cell && g cell) all_cells ≡ map test all_cells

@@ -1,18 +1,9 @@
 -- Turning and mirroring, done twice and one after the other.
-use Rattle.std.proofs.Common.{◌≡◌, ℕ, ◌-◌, ◌<◌, Bool, true, false, List, Some, None, length, refl, sym, ap, ◌∙◌, arith, eqb}
-use Rattle.std.proofs.lemmas.Bool.{eqb-true}
-use mathlib.Core.Bool.{beq}
-use Rattle.dob_pieces.specs.declared.kind.Kind.{Kind}
-use Rattle.dob_pieces.specs.declared.kind.Kind.TheVariants.{Lion, Giraffe, Elephant, Chick, Hen}
-use Rattle.dob_pieces.specs.declared.kind.Side.{Side}
-use Rattle.dob_pieces.specs.declared.kind.Side.TheVariants.{Mover, Enemy}
-use Rattle.dob_pieces.specs.declared.hand.Hands.{Hands}
-use Rattle.dob_pieces.specs.declared.setup.Setup.{Setup}
-use Rattle.dob_pieces.specs.Squares.{turned_square, mirrored_square}
-use Rattle.dob_pieces.specs.Pieces.{other_side, leads}
-use Rattle.dob_pieces.specs.Setups.{Cell, at, piece_of, board_by, turned_cell, turned, mirrored, setup_of}
-use Rattle.dob_pieces.proofs.Boards.{at-board_by, board_by-from_cells, at-turned, at-mirrored, all_below, all_below-at, total-turned}
-use Rattle.dob_pieces.proofs.Boards.{total-mirrored, IsLegal-mirrored}
+use Rattle.dob_pieces.proofs.Common.{◌-◌, ◌<◌, ◌∙◌, ◌≡◌, Bool, List, None, Some, ap, arith, eqb, false, length, refl, sym, true, ℕ, eqb-true, beq, leads}
+use Rattle.dob_pieces.proofs.Common.{other_side, Cell, at, board_by, mirrored, piece_of, setup_of, turned, turned_cell, mirrored_square, turned_square, Hands}
+use Rattle.dob_pieces.proofs.Common.{Kind, Chick, Elephant, Giraffe, Hen, Lion, Side, Enemy, Mover, Setup}
+use Rattle.dob_pieces.proofs.Boards.{at-board_by, board_by-from_cells, at-turned, at-mirrored, all_below, all_below-at, total-turned, total-mirrored}
+use Rattle.dob_pieces.proofs.Boards.{IsLegal-mirrored}
 
 -- ---- squares
 

@@ -1,11 +1,6 @@
 -- The masks of the tables are the steps of the kinds: computed for each kind and each two squares.
-use Rattle.std.proofs.Common.{◌≡◌, ℕ, ◌<◌, ltb, eqb, ◌&&◌, Bool, true, cond, List, [], ◌∷◌, get_or, slice_index_or, refl, subst}
-use Rattle.std.specs.Int.{bit_at}
-use Rattle.std.proofs.lemmas.Bool.{and_parts, ltb-true, eqb-true}
-use Rattle.dob_pieces.specs.declared.kind.Kind.{Kind}
-use Rattle.dob_pieces.specs.declared.kind.Kind.TheVariants.{Lion, Giraffe, Elephant, Chick, Hen}
-use Rattle.dob_pieces.specs.Pieces.{leads}
-use Rattle.dob_pieces.specs.Masks.{IsMask, kind_place}
+use Rattle.dob_pieces.proofs.Common.{◌&&◌, ◌<◌, ◌∷◌, ◌≡◌, Bool, List, [], cond, eqb, get_or, ltb, refl, slice_index_or, subst, true, ℕ, and_parts, eqb-true}
+use Rattle.dob_pieces.proofs.Common.{ltb-true, bit_at, IsMask, kind_place, leads, Kind, Chick, Elephant, Giraffe, Hen, Lion}
 use Rattle.dob_pieces.specs.declared.steps.TheConstants.{TARGETS, SOURCES}
 use Rattle.dob_pieces.proofs.Boards.{all_below, all_below-at}
 

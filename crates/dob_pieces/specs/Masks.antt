@@ -1,5 +1,5 @@
 -- Sets of squares as the bits of a number, square 0 as the lowest.
-use Rattle.std.specs.Prelude.{◌≡◌, ℕ, ◌+◌, ◌<◌, ◌&&◌, Bool, true, false, cond, List, [], Some, None, slice_index_or}
+use Rattle.std.specs.Prelude.{◌≡◌, ℕ, ◌+◌, ◌<◌, ◌&&◌, Bool, true, false, cond, List, [], Option, Some, None, slice_index_or}
 use Rattle.std.specs.Int.{bit_at}
 use Rattle.dob_pieces.specs.declared.kind.Kind.{Kind}
 use Rattle.dob_pieces.specs.declared.kind.Kind.TheVariants.{Lion, Giraffe, Elephant, Chick, Hen}
@@ -32,6 +32,15 @@ is_piece side kind (Some piece) = is_side side piece.side && is_kind kind piece.
 abbrev pub is_own : Cell → Bool
 is_own None = false
 is_own (Some piece) = is_side Mover piece.side
+
+-- the kind of the mover's piece that stands there
+abbrev pub own_by_side : Side → Kind → Option Kind
+own_by_side Mover kind = Some kind
+own_by_side Enemy kind = None
+
+abbrev pub own_kind : Cell → Option Kind
+own_kind None = None
+own_kind (Some piece) = own_by_side piece.side piece.kind
 
 -- a step of the mover may end on an enemy piece other than a lion
 abbrev pub is_prey : Side → Kind → Bool

@@ -10,6 +10,11 @@ use Rattle.dob_pieces.specs.declared.setup.Setup.{Setup}
 use Rattle.dob_pieces.specs.Squares.{row}
 use Rattle.dob_pieces.specs.Setups.{Cell}
 
+-- the number of a profile, in files and in other languages
+abbrev pub profile_number : Profile → ℕ
+profile_number A = 0
+profile_number B = 1
+
 -- a chick on a row that is its side's far row
 abbrev pub is_far : Side → Kind → ℕ → Bool
 is_far Mover Chick row = row == 3

@@ -31,7 +31,9 @@ mod steps;
 pub use fault::PositionFault;
 pub use hand::{Hand, Hands};
 pub use kind::{HandKind, Kind, Piece, Side};
-pub use masks::{CellTable, Masks, entry_of, lowest_square, without_square};
+pub use masks::{
+    ALL_SQUARES, CellTable, Masks, entry_of, has_square, lowest_square, plane, without_square,
+};
 pub use memory::Memory;
 pub use piece_set::{PieceSet, SetText};
 pub use position::Position;

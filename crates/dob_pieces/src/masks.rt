@@ -1,13 +1,17 @@
 // What stands where as sets of squares: a mask has a bit for each square, that of square 0 as the lowest. All masks of a
 // setup come from one pass over its board, without a branch on what stands there.
-ghost use Rattle.std.specs.Prelude.{◌≡◌, ◌<◌, ◌*◌, ◌/◌, ◌%◌, ◌^◌, bit_and};
+ghost use Rattle.std.specs.Prelude.{◌≡◌, ◌<◌, ◌*◌, ◌/◌, ◌%◌, ◌^◌, ℕ, Bool, bit_and};
 ghost use Rattle.std.specs.Int.{bit_not, trailing_zeros, w16};
-ghost use Rattle.dob_pieces.specs.Masks.{IsMask, AreMasks, attacks, kind_number, owner_number, entry_of};
+ghost use Rattle.dob_pieces.specs.Masks.{IsMask, AreMasks, attacks, own_kind, kind_number, owner_number, entry_of};
+ghost use Rattle.dob_pieces.specs.Setups.{at};
 ghost use Rattle.dob_pieces.specs.declared.setup.Setup.{Setup};
 
 use crate::kind::{Kind, Piece};
 use crate::setup::Setup;
 use crate::square::Square;
+
+/// All squares of the board. Of the twelve bits the lowest three are row 1, and of the three of a row the lowest is column a.
+pub const ALL_SQUARES: u16 = 0b111_111_111_111;
 
 /// The squares of a setup, by what stands there. Those of a kind are the mover's.
 #[derive(Clone, Copy, Debug, PartialEq, Eq)]
@@ -48,7 +52,7 @@ impl Masks {
             chicks: chicks_or_empty & own,
             hens: straight & aslant,
             own,
-            ends: ALL & !(own | lions),
+            ends: ALL_SQUARES & !(own | lions),
             empty: chicks_or_empty & !own,
             enemy_lion: lions & !own,
         }
@@ -66,6 +70,35 @@ impl Masks {
             | self.chicks & Kind::Chick.sources(target)
             | self.hens & Kind::Hen.sources(target)
     }
+
+    /// The kind of the mover's piece on the square, if one stands there.
+    pub fn own_kind(&self, square: Square) -> Option<Kind>
+        ensures { (setup : Setup) → AreMasks setup self.now → result ≡ own_kind (at setup square) }
+    {
+        if has_square(self.lion, square) {
+            return Some(Kind::Lion);
+        }
+        if has_square(self.giraffes, square) {
+            return Some(Kind::Giraffe);
+        }
+        if has_square(self.elephants, square) {
+            return Some(Kind::Elephant);
+        }
+        if has_square(self.chicks, square) {
+            return Some(Kind::Chick);
+        }
+        if has_square(self.hens, square) {
+            return Some(Kind::Hen);
+        }
+        None
+    }
+}
+
+/// Whether the mask has the square.
+pub fn has_square(mask: u16, square: Square) -> bool
+    ensures { (test : ℕ → Bool) → IsMask test mask → result ≡ test square }
+{
+    mask >> square.index() & 1 == 1
 }
 
 /// The lowest square of a mask that has one.
@@ -112,9 +145,6 @@ const PLANES: CellTable = [
     [0, OWN + STRAIGHT + ASLANT, 0, 0],
 ];
 
-// All squares of the board.
-const ALL: u16 = 4095;
-
 /// What the table has for the cell, found without a branch on what stands there: kind and owner are two choices each of a
 /// number or 0, and one choice of a whole piece would become a jump.
 pub fn entry_of(table: &CellTable, cell: Option<Piece>) -> u64
@@ -145,8 +175,8 @@ fn owner_number(cell: Option<Piece>) -> usize
     }
 }
 
-// The mask whose lowest bit has that value in the word.
-fn plane(planes: u64, unit: u64) -> u16
+/// The mask whose lowest bit has that value in a word of planes.
+pub fn plane(planes: u64, unit: u64) -> u16
     requires { 0 < unit }
     ensures { result ≡ planes / unit % 4096 }
 {

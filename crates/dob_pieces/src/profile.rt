@@ -1,6 +1,6 @@
 // The profiles of the rules, and the families of positions that they make.
-ghost use Rattle.std.specs.Prelude.{◌≡◌, Some};
-ghost use Rattle.dob_pieces.specs.Profiles.{may_stand, is_far_chick};
+ghost use Rattle.std.specs.Prelude.{◌≡◌, ◌≤◌, Some, MatchOption};
+ghost use Rattle.dob_pieces.specs.Profiles.{profile_number, may_stand, is_far_chick};
 
 use crate::kind::{Kind, Piece, Side};
 use crate::piece_set::PieceSet;
@@ -18,6 +18,27 @@ pub enum Profile {
 }
 
 impl Profile {
+    /// The profile's number, by which files and other languages name it.
+    pub fn number(self) -> u8
+        ensures { result ≡ profile_number self }
+    {
+        match self {
+            Profile::A => 0,
+            Profile::B => 1,
+        }
+    }
+
+    /// The profile of that number, if it is one's.
+    pub fn of_number(number: u8) -> Option<Profile>
+        ensures { MatchOption result (2 ≤ number) (λ profile. profile_number profile ≡ number) }
+    {
+        match number {
+            0 => Some(Profile::A),
+            1 => Some(Profile::B),
+            _ => None,
+        }
+    }
+
     /// Whether that may stand on the square: in `B` anything but a chick on its far row, in `A` anything.
     pub fn may_stand(self, square: Square, cell: Option<Piece>) -> bool
         ensures { result ≡ may_stand self square cell }

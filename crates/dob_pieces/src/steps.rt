@@ -28,7 +28,7 @@ const CHICK: [Step; 1] = [(1, 2)];
 
 const HEN: [Step; 6] = [(1, 0), (0, 1), (2, 1), (0, 2), (1, 2), (2, 2)];
 
-/// For each square the squares to which steps lead from there, as bits, square 0 as the lowest.
+// For each square the squares to which steps lead from there, as bits, square 0 as the lowest.
 type Targets = [u16; Square::COUNT];
 
 const LION_TARGETS: Targets = [
@@ -45,12 +45,12 @@ const HEN_TARGETS: Targets = [
     26, 61, 50, 209, 490, 404, 1672, 3920, 3232, 1088, 2688, 1280,
 ];
 
-/// For each square the squares from which steps lead there. The steps of the other kinds lead back again.
+// For each square the squares from which steps lead there. The steps of the other kinds lead back again.
 const CHICK_SOURCES: Targets = [0, 0, 0, 1, 2, 4, 8, 16, 32, 64, 128, 256];
 
 const HEN_SOURCES: Targets = [10, 21, 34, 83, 175, 278, 664, 1400, 2224, 1216, 3008, 1408];
 
-/// The rows of all kinds, in the order of `Kind`: a row found by the kind's number takes no jump.
+// The rows of all kinds, in the order of `Kind`: a row found by the kind's number takes no jump.
 const TARGETS: [Targets; 5] = [
     LION_TARGETS,
     GIRAFFE_TARGETS,

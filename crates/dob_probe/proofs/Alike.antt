@@ -1,18 +1,9 @@
 -- Outlines of positions, and puzzles that are alike.
-use Rattle.std.proofs.Common.{◌≡◌, ◌∙◌, ◌==◌, ◌&&◌, ℕ, Bool, true, false, true≢false, List, [], ◌∷◌, ◌++◌, ap, arith, inl, inr, refl, subst, sym, Contains}
-use Rattle.std.specs.List.{list_any}
-use Rattle.std.proofs.lemmas.Bool.{cases_Bool, eq-eqb, eqb-true}
-use Rattle.std.proofs.lemmas.List.Elements.{Contains-append_right}
-use Rattle.dob_pieces.specs.declared.kind.Side.TheVariants.{Mover, Enemy}
-use Rattle.dob_pieces.specs.declared.setup.Setup.{Setup}
-use Rattle.dob_pieces.specs.Setups.{HasLions}
-use Rattle.dob_pieces.proofs.Boards.{one_lion}
+use Rattle.dob_probe.proofs.Common.{◌&&◌, ◌++◌, ◌==◌, ◌∙◌, ◌∷◌, ◌≡◌, Bool, Contains, List, [], ap, arith, false, inl, inr, refl, subst, sym, true, true≢false}
+use Rattle.dob_probe.proofs.Common.{ℕ, and_from, and_parts, cases_Bool, eq-eqb, eqb-true, Contains-append_right, list_any, one_lion, HasLions, Enemy, Mover}
+use Rattle.dob_probe.proofs.Common.{Setup, class_setup, ClassTable, AreAlike, AreLike, AreOutlines, IsOutline, IsOutlineOf, same_outline, Puzzle}
 use Rattle.dob_pieces.proofs.Lists.{cons_cases}
-use Rattle.dob_rank.specs.Families.{class_setup}
-use Rattle.dob_value.specs.Follows.{ClassTable}
 use Rattle.dob_probe.specs.declared.outlines.Outline.{Outline}
-use Rattle.dob_probe.specs.declared.puzzles.Puzzle.{Puzzle}
-use Rattle.dob_probe.specs.Outlines.{AreAlike, AreLike, AreOutlines, IsOutline, IsOutlineOf, same_outline}
 
 abbrev outline_with : ℕ → ℕ → ℕ → ℕ → ℕ → Outline
 outline_with chicks elephants giraffes lion enemy_lion =
@@ -32,26 +23,18 @@ one_outline p a b lions is_a is_b =
     same_fields a b (is_a.chicks ∙ sym is_b.chicks) (is_a.elephants ∙ sym is_b.elephants) (is_a.giraffes ∙ sym is_b.giraffes)
     (one_lion Mover p a.lion b.lion lions is_a.lion is_b.lion) (one_lion Enemy p a.enemy_lion b.enemy_lion lions is_a.enemy_lion is_b.enemy_lion)
 
-both : (a b : Bool) → (a && b) ≡ true → (a ≡ true) × (b ≡ true)
-both true true e = (refl, refl)
-both true false e = absurd (true≢false (sym e))
-both false b e = absurd (true≢false (sym e))
-
-join : (a b : Bool) → a ≡ true → b ≡ true → (a && b) ≡ true
-join a b x y = rw (x, y) refl
-
 same_itself : (a : Outline) → same_outline a a ≡ true
 same_itself a =
     let is : (n : ℕ) → (n == n) ≡ true = λ n. eq-eqb n n refl in
-    join (a.chicks == a.chicks) _ (is a.chicks) (join (a.elephants == a.elephants) _ (is a.elephants)
-    (join (a.giraffes == a.giraffes) _ (is a.giraffes) (join (a.lion == a.lion) _ (is a.lion) (is a.enemy_lion))))
+    and_from (a.chicks == a.chicks) _ (is a.chicks) (and_from (a.elephants == a.elephants) _ (is a.elephants)
+    (and_from (a.giraffes == a.giraffes) _ (is a.giraffes) (and_from (a.lion == a.lion) _ (is a.lion) (is a.enemy_lion))))
 
 same_is : (a b : Outline) → same_outline a b ≡ true → a ≡ b
 same_is a b e =
-    let chicks = both (a.chicks == b.chicks) _ e in
-    let elephants = both (a.elephants == b.elephants) _ chicks.1 in
-    let giraffes = both (a.giraffes == b.giraffes) _ elephants.1 in
-    let lions = both (a.lion == b.lion) _ giraffes.1 in
+    let chicks = and_parts (a.chicks == b.chicks) _ e in
+    let elephants = and_parts (a.elephants == b.elephants) _ chicks.1 in
+    let giraffes = and_parts (a.giraffes == b.giraffes) _ elephants.1 in
+    let lions = and_parts (a.lion == b.lion) _ giraffes.1 in
     same_fields a b (eqb-true a.chicks b.chicks chicks.0) (eqb-true a.elephants b.elephants elephants.0) (eqb-true a.giraffes b.giraffes giraffes.0)
     (eqb-true a.lion b.lion lions.0) (eqb-true a.enemy_lion b.enemy_lion lions.1)
 
@@ -99,7 +82,7 @@ module _ (table : ClassTable) (puzzles : List Puzzle) (outlines : List Outline) 
   pub passed_one : (is_spread : Bool) → (is_spread && list_any (same_outline outline) outlines) ≡ true → (is_spread ≡ true)
       × ((listed : Puzzle) × Contains puzzles listed × AreLike table listed puzzle)
   passed_one is_spread passed =
-      let parts = both is_spread _ passed in
+      let parts = and_parts is_spread _ passed in
       (parts.0, some_like table (class_setup table.family puzzle.class) outline is.same puzzles outlines are parts.1)
 
   -- it isn't passed, so that none is, where that is asked for

@@ -1,24 +1,10 @@
 -- By the value table lines are the best lines, and none breaks off.
-use Rattle.std.proofs.Common.{◌≡◌, ℕ, zero, suc, ◌-◌, ◌≤◌, inl, inr, refl, sym, subst, ap, ◌∙◌, arith, List, [], ◌∷◌, Some, None, Result, Ok, Err, IfOk, IfErr}
-use Rattle.std.proofs.Common.{MatchResult}
-use Rattle.std.proofs.lemmas.Bool.{cases_lt}
-use Rattle.dob_pieces.specs.declared.setup.Setup.{Setup}
-use Rattle.dob_moves.specs.declared.game_move.Move.{Move}
-use Rattle.dob_moves.specs.declared.position_status.Status.TheVariants.{Open}
-use Rattle.dob_moves.specs.Moves.{Goes}
-use Rattle.dob_moves.specs.Statuses.{CanCatch, HasStatus}
-use Rattle.dob_rank.specs.Families.{IsPositionOf}
-use Rattle.dob_value.specs.declared.value.Value.{Value}
-use Rattle.dob_value.specs.declared.value.Value.TheVariants.{Win, Loss, Draw}
+use Rattle.dob_probe.proofs.Common.{◌-◌, ◌∙◌, ◌∷◌, ◌≡◌, ◌≤◌, Err, IfErr, IfOk, List, MatchResult, None, Ok, Result, Some, [], ap, arith, inl, inr, refl, subst}
+use Rattle.dob_probe.proofs.Common.{suc, sym, zero, ℕ, cases_lt, Setup, Goes, CanCatch, HasStatus, Move, Open, IsPositionOf, consistent_is_right}
+use Rattle.dob_probe.proofs.Common.{moves_keep_the_family, ClassTable, IsConsistent, IsValueTable, Value, Draw, Loss, Win, IsFaultOfLine, Begins, Continues}
+use Rattle.dob_probe.proofs.Common.{GivenBy, GoesOnTo, IsLine, LacksMove, LeadsTo, value_wanted, Fault, FarChick, Inconsistent, Memory, OtherSet}
 use Rattle.dob_value.specs.Values.{Won, Lost, HasValue}
-use Rattle.dob_value.specs.Follows.{ClassTable, IsConsistent, IsValueTable}
-use Rattle.dob_value.proofs.Consistency.{consistent_is_right}
 use Rattle.dob_value.proofs.Depths.{won_stays, won_not_lost, at_most_one_value}
-use Rattle.dob_value.proofs.Successors.{moves_keep_the_family}
-use Rattle.dob_probe.specs.Lines.{GivenBy, value_wanted, LeadsTo, GoesOnTo, Continues, IsLine, Begins, LacksMove}
-use Rattle.dob_probe.specs.declared.fault.Fault.{Fault}
-use Rattle.dob_probe.specs.declared.fault.Fault.TheVariants.{FarChick, OtherSet, Inconsistent, Memory}
-use Rattle.dob_probe.specs.Faults.{IsFaultOfLine}
 use Rattle.dob_probe.specs.Laws.{LinesAreBest, NoneBreaks}
 
 module _ (table : ClassTable) (right : IsValueTable table.family table.values) where

@@ -1,28 +1,14 @@
 -- Moves with their values, best first, as the list grows.
-use Rattle.std.proofs.Common.{◌≡◌, ℕ, ◌+◌, ◌-◌, ◌≤◌, ◌<◌, ◌⊎◌, ◌↔◌, inl, inr, refl, sym, subst, ap, ◌∙◌, arith, List, [], length, get_or}
-use Rattle.std.proofs.Common.{Option, Some, Contains, AllPairs, insert, slice_get}
-use Rattle.std.proofs.lemmas.Bool.{cases_lt, cases_order}
-use Rattle.std.proofs.lemmas.Option.{slice_get-get_or, same_Some}
+use Rattle.dob_probe.proofs.Common.{◌+◌, ◌-◌, ◌<◌, ◌↔◌, ◌∙◌, ◌≡◌, ◌≤◌, ◌⊎◌, AllPairs, Contains, List, Some, [], ap, arith, get_or, inl, inr, insert, length}
+use Rattle.dob_probe.proofs.Common.{refl, slice_get, subst, sym, ℕ, cases_lt, cases_order, Contains-get_or, before_or_here, standing, Family, Profile, Setup}
+use Rattle.dob_probe.proofs.Common.{CanGo, Goes, place, AreMoves, CanCatch, HasStatus, Move, Open, IsPositionOf, moves_keep_the_family, ClassTable}
+use Rattle.dob_probe.proofs.Common.{IsValueTable, Value, Draw, Loss, Win, GivenBy, ComesBefore, IsBetter, ValuedMove}
 use Rattle.std.proofs.lemmas.Grind.{in_insert}
-use Rattle.std.proofs.lemmas.List.Elements.{Contains-get_or}
 use Rattle.std.proofs.lemmas.List.Edits.{length-insert, get_or-insert_below, get_or-insert_at, get_or-insert_above}
-use Rattle.dob_pieces.specs.declared.profile.Family.{Family}
-use Rattle.dob_pieces.specs.declared.profile.Profile.{Profile}
-use Rattle.dob_pieces.specs.declared.setup.Setup.{Setup}
-use Rattle.dob_moves.specs.declared.game_move.Move.{Move}
-use Rattle.dob_moves.specs.declared.position_status.Status.TheVariants.{Open}
-use Rattle.dob_moves.specs.Moves.{Goes, CanGo, place}
-use Rattle.dob_moves.specs.Statuses.{CanCatch, HasStatus, AreMoves}
-use Rattle.dob_rank.specs.Families.{IsPositionOf}
-use Rattle.dob_value.specs.declared.value.Value.{Value}
-use Rattle.dob_value.specs.declared.value.Value.TheVariants.{Win, Loss, Draw}
 use Rattle.dob_value.specs.Values.{HasValue}
-use Rattle.dob_value.specs.Follows.{ClassTable, IsValueTable}
-use Rattle.dob_value.proofs.Successors.{moves_keep_the_family}
-use Rattle.dob_probe.specs.declared.by_value.ValuedMove.{ValuedMove}
-use Rattle.dob_probe.specs.ValuedMoves.{seen_from_before, IsBetter, ComesBefore, HasMoveValue, AreValuedMoves}
-use Rattle.dob_probe.specs.Lines.{GivenBy}
+use Rattle.dob_probe.specs.ValuedMoves.{seen_from_before, HasMoveValue, AreValuedMoves}
 use Rattle.dob_probe.proofs.Best.{to_value, of_value}
+use Rattle.dob_probe.proofs.InOrder.{same_valued}
 
 -- ---- values by preference
 
@@ -191,27 +177,6 @@ listed_none profile Has p the_moves = record {
   ordered = λ i j d lt within. absurd (omega (arith, within));
 }
 
--- each listed move stands before the next of the list of moves
-pub listed_earlier : (profile : Profile) (Has : Setup → Value → Type 0) (p : Setup) (the_moves : List Move) (upto : ℕ) (list : List ValuedMove) (the_move : Move) →
-    AreMoves profile p the_moves → upto < length the_moves → slice_get the_moves upto ≡ Some the_move → AreListed profile Has p the_moves upto list →
-    (valued : ValuedMove) → Contains list valued → place valued.the_move < place the_move
-listed_earlier profile Has p the_moves upto list the_move are within here listed valued there =
-    let earlier = (listed.sound valued there).1 in
-    let index : ℕ = earlier.0 in
-    let below : index < upto = earlier.1 in
-    let first = read index valued.the_move (omega arith) earlier.2 the_move in
-    let last = read upto the_move within here the_move in
-    let rising : place (get_or the_moves index the_move) < place (get_or the_moves upto the_move) = are.ordered index upto the_move below within in
-    let low = ap place first in
-    let high = ap place last in
-    omega (arith, low, high, rising)
-  where
-    read : (k : ℕ) (m : Move) → k < length the_moves → slice_get the_moves k ≡ Some m → (d : Move) → get_or the_moves k d ≡ m
-    read k m below stands d = same_Some (get_or the_moves k d) m (sym (slice_get-get_or the_moves k d below) ∙ stands)
-
-same_valued : (a b : ValuedMove) → a.the_move ≡ b.the_move → a.value ≡ b.value → a ≡ b
-same_valued a b the_move value = λ i. record { the_move = the_move i; value = value i }
-
 -- where a position of the family has one value at most
 module _ (family : Family) (Has : Setup → Value → Type 0) (one : (q : Setup) (v w : Value) → IsPositionOf family q → Has q v → Has q w → v ≡ w)
     (p : Setup) (member : IsPositionOf family p) (the_moves : List Move) where
@@ -237,12 +202,9 @@ module _ (family : Family) (Has : Setup → Value → Type 0) (one : (q : Setup)
           subst (λ x. HasMoveValue family.profile Has p x × ((index : ℕ) × (index < upto + 1) × (slice_get the_moves index ≡ Some x.the_move)))
           (sym same) (this, (upto, omega arith, here))
     ];
-    whole = λ index valued below there known. elim (cases_lt index upto) [
+    whole = λ index valued below there known. elim (before_or_here the_moves upto index more.the_move valued.the_move here there below) [
       | inl earlier ↦ (has valued).1 (inl (before.whole index valued earlier there known))
-      | inr from ↦
-          let same : upto ≡ index = omega arith in
-          let here_too : slice_get the_moves index ≡ Some more.the_move = subst (λ k. slice_get the_moves k ≡ Some more.the_move) same here in
-          let the_move : valued.the_move ≡ more.the_move = same_Some valued.the_move more.the_move (sym there ∙ here_too) in
+      | inr the_move ↦
           let goes : Goes family.profile p more.the_move known.outcome = subst (λ m. Goes family.profile p m known.outcome) the_move known.goes in
           let inside = moves_keep_the_family family p valued.the_move known.outcome member goes_on known.goes in
           let one : known.value ≡ value = one known.outcome known.value value inside known.has (given known.outcome goes) in
@@ -257,11 +219,9 @@ listed_all profile Has p the_moves upto list free are all listed = record {
   sound = λ valued there. inr (listed.sound valued there).0;
   caught = λ catch. absurd (free catch);
   whole = λ valued has.
-      let there = are.whole valued.the_move has.goes_on (has.outcome, has.goes) in
-      let read : slice_get the_moves there.0 ≡ Some valued.the_move = slice_get-get_or the_moves there.0 valued.the_move there.1
-      ∙ ap (λ m. let o : Option Move = Some m in o) there.2 in
+      let there = standing the_moves valued.the_move (are.whole valued.the_move has.goes_on (has.outcome, has.goes)) in
       let within : there.0 < length the_moves = there.1 in
-      listed.whole there.0 valued (omega arith) read has;
+      listed.whole there.0 valued (omega arith) there.2 has;
   ordered = listed.ordered;
 }
 

@@ -1,12 +1,6 @@
 -- Entries of a table: each is one of a position's class, and a position has one.
-use Rattle.std.proofs.Common.{◌≡◌, ℕ, inl, inr, sym, subst, ◌∙◌, List, Some, None, All, slice_get}
-use Rattle.std.proofs.lemmas.Option.{slice_get_cases, same_Some}
-use Rattle.dob_pieces.specs.declared.setup.Setup.{Setup}
-use Rattle.dob_rank.specs.Families.{IsPositionOf}
-use Rattle.dob_value.specs.declared.value.Value.{Value}
-use Rattle.dob_value.specs.Follows.{ClassTable, IsEntry, IsTable}
-use Rattle.dob_value.proofs.ClassNumbers.{one_entry}
-use Rattle.dob_probe.specs.Lines.{GivenBy}
+use Rattle.dob_probe.proofs.Common.{◌∙◌, ◌≡◌, All, List, None, Some, inl, inr, slice_get, subst, sym, ℕ, same_Some, slice_get_cases, Setup, IsPositionOf}
+use Rattle.dob_probe.proofs.Common.{one_entry, ClassTable, IsEntry, IsTable, Value, GivenBy}
 
 -- an entry that was read has the property of all
 pub all_at : {X : Type 0} (P : X → Type 0) (xs : List X) (k : ℕ) (x : X) → All P xs → slice_get xs k ≡ Some x → P x

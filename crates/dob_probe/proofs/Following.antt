@@ -1,25 +1,11 @@
 -- The value that follows from the successors' values, and that no other does.
-use Rattle.std.proofs.Common.{◌≡◌, ℕ, ◌+◌, ◌≤◌, ◌<◌, refl, sym, subst, ap, ◌∙◌, arith, List, Bool, true, false, Option, Some, None, Contains, length}
-use Rattle.std.proofs.lemmas.Option.{same_Some, slice_get_within}
-use Rattle.dob_pieces.specs.declared.setup.Setup.{Setup}
-use Rattle.dob_moves.specs.declared.game_move.Move.{Move}
-use Rattle.dob_moves.specs.declared.position_status.Status.{Status}
-use Rattle.dob_moves.specs.declared.position_status.Status.TheVariants.{Caught, Tried, Stuck, Open}
-use Rattle.dob_moves.specs.Moves.{Goes}
-use Rattle.dob_moves.specs.Statuses.{HasStatus}
+use Rattle.dob_probe.proofs.Common.{◌+◌, ◌<◌, ◌∙◌, ◌≡◌, ◌≤◌, Bool, Contains, List, None, Option, Some, ap, arith, false, length, refl, subst, sym, true, ℕ}
+use Rattle.dob_probe.proofs.Common.{same_Some, slice_get_within, Setup, Goes, HasStatus, Move, Status, Caught, Open, Stuck, Tried, IsPositionOf, one_of_class}
+use Rattle.dob_probe.proofs.Common.{moves_keep_the_family, IsLeastLoss, ClassTable, FollowsFromSuccessors, IsConsistent, IsTable, MAX_DISTANCE, Value, Draw}
+use Rattle.dob_probe.proofs.Common.{Loss, Win, ClassBreaks, ClassFollows, HasEntry, GivenBy, HasNext, IsGreatestWin, TellsDraw, value_after}
 use Rattle.dob_moves.proofs.Cases.{one_status}
-use Rattle.dob_rank.specs.Families.{IsPositionOf}
-use Rattle.dob_value.specs.declared.value.Value.{Value}
-use Rattle.dob_value.specs.declared.value.Value.TheVariants.{Win, Loss, Draw}
-use Rattle.dob_value.specs.declared.sweep.TheConstants.{MAX_DISTANCE}
 use Rattle.dob_value.specs.Graphs.{AreSuccessors}
-use Rattle.dob_value.specs.Follows.{ClassTable, HasSuccessor, SuccessorsAreWins, FollowsFromSuccessors, FollowsAt, Follows, IsTable, IsConsistent}
-use Rattle.dob_value.specs.Distances.{IsLeastLoss}
-use Rattle.dob_value.proofs.ClassNumbers.{one_of_class}
-use Rattle.dob_value.proofs.Successors.{moves_keep_the_family}
-use Rattle.dob_probe.specs.Lines.{GivenBy}
-use Rattle.dob_probe.specs.Sums.{IsGreatestWin, TellsDraw, HasNext, value_after}
-use Rattle.dob_probe.specs.Checks.{HasEntry, ClassFollows, ClassBreaks}
+use Rattle.dob_value.specs.Follows.{HasSuccessor, SuccessorsAreWins, FollowsAt, Follows}
 use Rattle.dob_probe.proofs.Entries.{one_given, given_is_entry}
 
 module _ (table : ClassTable) (p : Setup) (is : IsPositionOf table.family p) where

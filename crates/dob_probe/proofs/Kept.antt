@@ -1,13 +1,8 @@
 -- What is kept of a list of values, as the list grows.
-use Rattle.std.proofs.Common.{◌≡◌, ◌⊎◌, ℕ, ◌≤◌, inl, inr, min, max, subst, sym, arith, List, [], ◌∷◌, ◌++◌, Bool, true, false, Option, Some, None, Contains}
-use Rattle.std.proofs.lemmas.Bool.{cases_lt}
-use Rattle.std.proofs.lemmas.List.Elements.{Contains-push, Contains-push_cases, Contains-append_left}
-use Rattle.dob_value.specs.declared.value.Value.{Value}
-use Rattle.dob_value.specs.declared.value.Value.TheVariants.{Win, Loss, Draw}
-use Rattle.dob_value.specs.Distances.{IsLeastLoss, lesser_of, greater_of}
+use Rattle.dob_probe.proofs.Common.{◌++◌, ◌∷◌, ◌≡◌, ◌≤◌, ◌⊎◌, Bool, Contains, List, None, Option, Some, [], arith, false, inl, inr, max, min, subst, sym, true}
+use Rattle.dob_probe.proofs.Common.{ℕ, cases_lt, Contains-append_left, Contains-push, Contains-push_cases, IsLeastLoss, greater_of, lesser_of, Value, Draw}
+use Rattle.dob_probe.proofs.Common.{Loss, Win, AreSummed, IsGreatestWin, TellsDraw, Successors}
 use Rattle.dob_value.proofs.Distances.{same_win, same_loss}
-use Rattle.dob_probe.specs.declared.successors.Successors.{Successors}
-use Rattle.dob_probe.specs.Sums.{AreSummed, IsGreatestWin, TellsDraw}
 
 -- of the values of one kind, given by their distances, that one is the first in an order, or there is none
 abbrev IsFirst : (ℕ → Value) → (ℕ → ℕ → Type 0) → List Value → Option ℕ → Type 0

@@ -1,4 +1,6 @@
 -- The lemmas, in the order in which they are read. First entries and lines, then the check of a table.
+mod Common  -- names of other crates and of this one's definitions, for the proofs
+pub mod InOrder  -- the moves in their order
 pub mod Entries  -- each entry is that of a class, and a position has one
 pub mod Ways  -- lines as they grow, and where they break off
 pub mod Best  -- by the value table lines are the best lines, and none breaks off

@@ -1,30 +1,16 @@
 -- The only move to a value, and the puzzles of the places so far of a walk over the classes.
-use Rattle.std.proofs.Common.{◌⊎◌, ◌≡◌, ℕ, ◌+◌, ◌-◌, ◌≤◌, ◌<◌, inl, inr, sym, subst, ap, ap₂, ◌∙◌, arith, List, [], ◌∷◌, ◌++◌, length, get_or, Bool, length-append}
-use Rattle.std.proofs.Common.{true, false, true≢false, is_some, Option, Some, None, Contains, AllPairs, slice_get}
-use Rattle.std.proofs.lemmas.Bool.{cases_lt}
-use Rattle.std.proofs.lemmas.Option.{slice_get-get_or, slice_get_within, same_Some}
-use Rattle.std.proofs.lemmas.List.Elements.{Contains-push, Contains-push_cases, Contains-get_or, Contains-append_left}
-use Rattle.std.proofs.lemmas.List.Quantifiers.{all_pairs_push}
-use Rattle.dob_pieces.specs.declared.profile.Profile.{Profile}
-use Rattle.dob_pieces.specs.declared.setup.Setup.{Setup}
-use Rattle.dob_moves.specs.declared.game_move.Move.{Move}
-use Rattle.dob_moves.specs.Moves.{place}
-use Rattle.dob_moves.specs.Statuses.{AreMoves}
+use Rattle.dob_probe.proofs.Common.{◌++◌, ◌+◌, ◌-◌, ◌<◌, ◌∙◌, ◌∷◌, ◌≡◌, ◌≤◌, ◌⊎◌, AllPairs, Bool, Contains, List, None, Option, Some, [], ap, ap₂, arith, false}
+use Rattle.dob_probe.proofs.Common.{get_or, inl, inr, length, slice_get, subst, sym, true, true≢false, ℕ, cases_lt, Contains-append_left, Contains-get_or}
+use Rattle.dob_probe.proofs.Common.{Contains-push, Contains-push_cases, all_pairs_push, same_Some, slice_get_within, before_or_here, standing, Profile, Setup}
+use Rattle.dob_probe.proofs.Common.{place, AreMoves, Move, ClassTable, IsEntry, IsTable, MAX_DISTANCE, Value, Loss, Win, HasEntry, GivenBy, LeadsTo, AreLike}
+use Rattle.dob_probe.proofs.Common.{ArePuzzles, IsListedNext, IsOnlyTo, IsPassed, IsPuzzle, IsSpread, IsWalked, walk_place, IsPuzzleOf, IsSingleMove, begin_at}
+use Rattle.dob_probe.proofs.Common.{class_on, first_class, Puzzle}
+use Rattle.std.proofs.Common.{length-append, is_some}
 use Rattle.dob_classes.proofs.OfFamilies.FamilyRepresentatives.{one_of_class}
-use Rattle.dob_value.specs.declared.value.Value.{Value}
-use Rattle.dob_value.specs.declared.value.Value.TheVariants.{Win, Loss}
-use Rattle.dob_value.specs.declared.sweep.TheConstants.{MAX_DISTANCE}
-use Rattle.dob_value.specs.Follows.{ClassTable, IsEntry, IsTable}
-use Rattle.dob_probe.specs.declared.puzzles.Puzzle.{Puzzle}
-use Rattle.dob_probe.specs.Checks.{HasEntry}
-use Rattle.dob_probe.specs.Lines.{GivenBy, LeadsTo}
-use Rattle.dob_probe.specs.Outlines.{AreLike}
-use Rattle.dob_probe.specs.Puzzles.{ArePuzzles, IsListedNext, IsOnlyTo, IsPassed, IsPuzzle, IsSpread, IsWalked, walk_place}
-use Rattle.dob_probe.specs.Walks.{begin_at, class_on, first_class}
 use Rattle.dob_probe.specs.declared.walks.Walk.{Walk}
-use Rattle.dob_probe.specs.SingleMoves.{IsPuzzleOf, IsSingleMove}
 use Rattle.dob_probe.proofs.Entries.{all_at}
 use Rattle.dob_probe.proofs.Walked.{begin_behind, behind_begin, class_only, first_below, place_below, place_class}
+use Rattle.dob_probe.proofs.InOrder.{in_order}
 use Rattle.dob_probe.proofs.Ways.{NoneBelow, none_below_more, none_leads}
 
 -- ---- the only move to a value
@@ -43,13 +29,6 @@ IsSingleBelow profile Has p wanted the_moves upto None = NoneBelow profile Has p
 IsSingleBelow profile Has p wanted the_moves upto (Some single) = IsOnlyBelow profile Has p wanted the_moves upto single
 
 module _ (profile : Profile) (Has : Setup → Value → Type 0) (p : Setup) (wanted : Value) (the_moves : List Move) where
-  -- which move stands at the index, where it isn't below it
-  here_is : (upto index : ℕ) (the_move move : Move) → slice_get the_moves upto ≡ Some the_move → index < upto + 1 → upto ≤ index →
-      slice_get the_moves index ≡ Some move → move ≡ the_move
-  here_is upto index the_move move here below later there =
-      let same : upto ≡ index = omega (arith, below, later) in
-      same_Some move the_move (sym there ∙ subst (λ k. slice_get the_moves k ≡ Some the_move) same here)
-
   -- a move that leads elsewhere changes nothing
   pub single_skipped : (upto : ℕ) (the_move : Move) (single : Option Move) → slice_get the_moves upto ≡ Some the_move →
       ((q : Setup) → ¬ LeadsTo profile Has p wanted the_move q) → IsSingleBelow profile Has p wanted the_moves upto single →
@@ -62,11 +41,9 @@ module _ (profile : Profile) (Has : Setup → Value → Type 0) (p : Setup) (wan
         there = before.there;
         outcome = before.outcome;
         leads = before.leads;
-        only = λ other move q within there leads. elim (cases_lt other upto) [
+        only = λ other move q within there leads. elim (before_or_here the_moves upto other the_move move here there within) [
           | inl earlier ↦ before.only other move q earlier there leads
-          | inr later ↦
-              let is : move ≡ the_move = here_is upto other the_move move here within later there in
-              absurd (elsewhere q (subst (λ m. LeadsTo profile Has p wanted m q) is leads))
+          | inr same ↦ absurd (elsewhere q (subst (λ m. LeadsTo profile Has p wanted m q) same leads))
         ];
       }
 
@@ -79,14 +56,11 @@ module _ (profile : Profile) (Has : Setup → Value → Type 0) (p : Setup) (wan
     there = here;
     outcome = q;
     leads = leads;
-    only = λ other move r within there leads_too. elim (cases_lt other upto) [
+    only = λ other move r within there leads_too. elim (before_or_here the_moves upto other the_move move here there within) [
       | inl earlier ↦ absurd (none other move r earlier there leads_too)
-      | inr later ↦ sym (here_is upto other the_move move here within later there)
+      | inr same ↦ sym same
     ];
   }
-
-  read : (k : ℕ) (m : Move) → k < length the_moves → slice_get the_moves k ≡ Some m → (d : Move) → get_or the_moves k d ≡ m
-  read k m below there d = same_Some (get_or the_moves k d) m (sym (slice_get-get_or the_moves k d below) ∙ there)
 
   -- where a second one leads there too, none is the only one
   pub single_doubled : (upto : ℕ) (the_move single : Move) (q : Setup) → AreMoves profile p the_moves → upto < length the_moves → slice_get the_moves upto ≡ Some the_move →
@@ -94,12 +68,9 @@ module _ (profile : Profile) (Has : Setup → Value → Type 0) (p : Setup) (wan
   single_doubled upto the_move single q are within here leads before = λ move only.
       let one : move ≡ single = only.only single before.outcome before.leads in
       let other : move ≡ the_move = only.only the_move q leads in
-      let below : before.index < upto = before.below in
-      let rising : place (get_or the_moves before.index single) < place (get_or the_moves upto single) = are.ordered before.index upto single below within in
-      let low = ap place (read before.index single (omega (arith, below, within)) before.there single) in
-      let high = ap place (read upto the_move within here single) in
+      let rising = in_order profile p the_moves before.index upto single the_move are before.below within before.there here in
       let same : place single ≡ place the_move = ap place (sym one ∙ other) in
-      absurd (omega (arith, rising, low, high, same))
+      absurd (omega (arith, rising, same))
 
   pub single_twice : (upto : ℕ) (the_move : Move) (single : Option Move) (q : Setup) → is_some single ≡ true → AreMoves profile p the_moves → upto < length the_moves →
       slice_get the_moves upto ≡ Some the_move → LeadsTo profile Has p wanted the_move q → IsSingleBelow profile Has p wanted the_moves upto single →
@@ -119,10 +90,9 @@ module _ (profile : Profile) (Has : Setup → Value → Type 0) (p : Setup) (wan
     outcome = before.outcome;
     leads = before.leads;
     only = λ other r leads.
-        let there = are.whole other leads.goes_on (r, leads.goes) in
+        let there = standing the_moves other (are.whole other leads.goes_on (r, leads.goes)) in
         let within : there.0 < length the_moves = there.1 in
-        before.only there.0 other r (omega (arith, within, all))
-        (slice_get-get_or the_moves there.0 other there.1 ∙ ap (λ m. let o : Option Move = Some m in o) there.2) leads;
+        before.only there.0 other r (omega (arith, within, all)) there.2 leads;
   }
 
 -- ---- the puzzles of the classes

@@ -1,26 +1,19 @@
 -- What the enemy sees of a move, and the class that sets of squares show.
-use Rattle.std.proofs.Common.{◌≡◌, ◌≢◌, ℕ, ◌-◌, ◌<◌, ◌≤◌, Bool, None, Some, length, refl, sym, ap, ◌∙◌, subst, inl, inr, arith, set}
-use Rattle.std.proofs.lemmas.List.{length-set, get_or-set_same, get_or-set_other}
-use Rattle.std.proofs.lemmas.Bool.{cases_eq, cases_lt}
-use Rattle.dob_pieces.specs.declared.kind.Kind.{Kind}
+use Rattle.dob_probe.proofs.Common.{◌-◌, ◌<◌, ◌∙◌, ◌≡◌, ◌≢◌, ◌≤◌, Bool, None, Some, ap, arith, inl, inr, length, refl, set, subst, sym, ℕ, cases_eq, cases_lt}
+use Rattle.dob_probe.proofs.Common.{get_or-set_other, get_or-set_same, length-set, at-turned, length-turned, IsLegal, at, held, mirrored, piece_of, turned}
+use Rattle.dob_probe.proofs.Common.{turned_cell, with_one_less, Kind, Enemy, Mover, Setup, dropped, stepped, with_cell, HasArrived}
 use Rattle.dob_pieces.specs.declared.kind.HandKind.{HandKind}
-use Rattle.dob_pieces.specs.declared.kind.Side.TheVariants.{Mover, Enemy}
 use Rattle.dob_pieces.specs.declared.hand.Hand.{Hand}
 use Rattle.dob_pieces.specs.declared.piece_set.PieceSet.{PieceSet}
-use Rattle.dob_pieces.specs.declared.setup.Setup.{Setup}
 use Rattle.dob_pieces.specs.Pieces.{kind_on_board}
-use Rattle.dob_pieces.specs.Setups.{at, held, piece_of, turned, turned_cell, mirrored, with_one_less, IsLegal}
-use Rattle.dob_pieces.proofs.Boards.{at-turned, length-turned}
 use Rattle.dob_pieces.proofs.Symmetries.{mirrored-mirrored}
-use Rattle.dob_moves.specs.Outcomes.{arrives_as, with_caught, stepped, dropped}
+use Rattle.dob_moves.specs.Outcomes.{arrives_as, with_caught}
 use Rattle.dob_moves.proofs.Outcomes.{held_few}
 use Rattle.dob_rank.specs.Numbers.{rank_of_set}
 use Rattle.dob_rank.specs.Order.{IsPositionOfSet, IsFirstOfTwo}
 use Rattle.dob_rank.proofs.Marked.Representatives.{first_by_rank}
 use Rattle.dob_rank.proofs.Positions.Found.{IsPositionOfSet-mirrored}
 use Rattle.dob_classes.specs.Changes.{IsWith}
-use Rattle.dob_classes.proofs.SquareSets.BitChanges.{with_cell}
-use Rattle.dob_probe.specs.ShownMoves.{HasArrived}
 
 -- ---- moves
 

@@ -1,21 +1,16 @@
 -- What is counted of each code, as classes are gone over and parts of them are added up.
-use Rattle.std.proofs.Common.{◌≡◌, ◌≢◌, ℕ, zero, suc, ◌+◌, ◌-◌, ◌%◌, ◌≤◌, ◌<◌, drop, take, ap₂, inl, inr, refl, sym, subst, ap, ◌∙◌, arith, List, [], ◌∷◌, ◌++◌}
-use Rattle.std.proofs.Common.{rules, length, get_or, set, All, Bool, true, false, cond, Option, Some, None, Contains, AllPairs, slice_get, count_by, option_to_list, ◌^◌, append-nil}
-use Rattle.std.proofs.lemmas.Bool.{cases_lt, cases_eq}
-use Rattle.std.proofs.lemmas.Option.{get_or_from_slice_get, slice_get-get_or, slice_get_within, same_Some}
-use Rattle.std.proofs.lemmas.List.{drop-take, get_or-drop, get_or-set_same, get_or-set_other, get_or_past, get_or_default, length-append, length-drop, length-take, take-append-drop, take-take, take_more}
-use Rattle.std.proofs.lemmas.List.Elements.{Contains-push, Contains-push_cases, Contains-get_or, Contains-append_left}
+use Rattle.dob_probe.proofs.Common.{◌%◌, ◌++◌, ◌+◌, ◌-◌, ◌<◌, ◌^◌, ◌∙◌, ◌∷◌, ◌≡◌, ◌≢◌, ◌≤◌, All, AllPairs, Bool, Contains, List, None, Option, Some, [], ap}
+use Rattle.dob_probe.proofs.Common.{append-nil, ap₂, arith, cond, count_by, drop, false, get_or, inl, inr, length, option_to_list, refl, rules, set, slice_get}
+use Rattle.dob_probe.proofs.Common.{subst, suc, sym, take, true, zero, ℕ, cases_eq, cases_lt, get_or-set_other, get_or-set_same, get_or_default}
+use Rattle.dob_probe.proofs.Common.{Contains-append_left, Contains-get_or, Contains-push, Contains-push_cases, all_pairs_push, get_or_from_slice_get, same_Some}
+use Rattle.dob_probe.proofs.Common.{slice_get-get_or, slice_get_within, at_end, get_front, middle, IsEntry, Value, Draw, Loss, Win, AreSlots, part_of}
+use Rattle.std.proofs.lemmas.List.{drop-take, get_or-drop, get_or_past, length-append, length-drop, length-take, take-append-drop, take-take, take_more}
 use Rattle.std.proofs.lemmas.List.Sums.{sum_by-append, sum_by-cons, count_by-le-length}
-use Rattle.std.proofs.lemmas.List.Quantifiers.{all_pairs_push}
-use Rattle.dob_pieces.proofs.Elements.{at_end, get_front, middle}
-use Rattle.dob_value.specs.declared.value.Value.{Value}
-use Rattle.dob_value.specs.declared.value.Value.TheVariants.{Win, Loss, Draw}
 use Rattle.dob_value.specs.Codes.{code_of_value}
-use Rattle.dob_value.specs.Follows.{IsEntry}
 use Rattle.dob_probe.specs.declared.groups.Group.{Group}
 use Rattle.dob_probe.specs.Statistics.{has_code, IsGroup, AreGroups}
 use Rattle.dob_probe.proofs.Entries.{all_at}
-use Rattle.dob_probe.specs.Slots.{HasSlot, AreSlots, both_slots, part_of, with_class, HasRoom}
+use Rattle.dob_probe.specs.Slots.{HasSlot, both_slots, with_class, HasRoom}
 
 -- entries of one code are the same
 pub one_of_code : (v w : Value) → IsEntry v → IsEntry w → code_of_value v ≡ code_of_value w → v ≡ w

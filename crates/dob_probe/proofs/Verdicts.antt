@@ -1,11 +1,7 @@
 -- What a verdict of a class says, and the first fault among those of all classes.
-use Rattle.std.proofs.Common.{◌≡◌, ℕ, ◌+◌, ◌≤◌, ◌<◌, ◌⊎◌, inl, inr, refl, sym, subst, arith, length, true, Option, Some}
-use Rattle.std.proofs.Common.{None, Result, Ok, Err, IfErr}
+use Rattle.dob_probe.proofs.Common.{◌+◌, ◌<◌, ◌≡◌, ◌≤◌, ◌⊎◌, Err, IfErr, None, Ok, Option, Result, Some, arith, inl, inr, length, refl, subst, sym, true, ℕ}
+use Rattle.dob_probe.proofs.Common.{ClassTable, IsConsistent, IsTable, ClassBreaks, ClassFollows, Fault, FarChick, Inconsistent, Memory, OtherSet}
 use Rattle.std.specs.Prelude.{is_err}
-use Rattle.dob_value.specs.Follows.{ClassTable, IsTable, IsConsistent}
-use Rattle.dob_probe.specs.declared.fault.Fault.{Fault}
-use Rattle.dob_probe.specs.declared.fault.Fault.TheVariants.{FarChick, OtherSet, Inconsistent, Memory}
-use Rattle.dob_probe.specs.Checks.{ClassFollows, ClassBreaks}
 use Rattle.dob_probe.specs.Faults.{IsVerdict, IsFaultOfCheck}
 use Rattle.dob_probe.proofs.Following.{consistent_has_no_break}
 

@@ -1,7 +1,6 @@
 -- Places in the order of a walk, and their classes.
-use Rattle.std.proofs.Common.{◌≡◌, ◌⊎◌, ℕ, ◌+◌, ◌-◌, ◌≤◌, ◌<◌, inl, inr, arith, sym, ap, subst, Option, Some, None, cond, nat_lt, Bool}
-use Rattle.std.proofs.lemmas.Bool.{cases_lt, le-ltb, lt-ltb}
-use Rattle.dob_probe.specs.Walks.{IsBehind, begin_at, class_on, first_class, place_from}
+use Rattle.dob_probe.proofs.Common.{◌+◌, ◌-◌, ◌<◌, ◌≡◌, ◌≤◌, ◌⊎◌, Bool, None, Option, Some, ap, arith, cond, inl, inr, nat_lt, subst, sym, ℕ, cases_lt, le-ltb}
+use Rattle.dob_probe.proofs.Common.{lt-ltb, IsBehind, begin_at, class_on, first_class, place_from}
 
 -- a the_move by a comparison
 if_less : (a b x y : ℕ) → a < b → cond (nat_lt a b) x y ≡ x

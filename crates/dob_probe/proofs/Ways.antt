@@ -1,27 +1,13 @@
 -- Lines as they grow, and where they break off.
-use Rattle.std.proofs.Common.{◌≡◌, ℕ, zero, suc, ◌+◌, ◌-◌, ◌≤◌, ◌<◌, ◌⊎◌, inl, inr, refl, sym, subst, ap, ◌∙◌, arith, List, [], ◌∷◌, ◌++◌, length, get_or}
-use Rattle.std.proofs.Common.{Option, Some, None, Contains, slice_get, append-nil, ◌%◌, Result, Ok, Err, IfOk, IfErr}
-use Rattle.std.proofs.lemmas.Bool.{cases_lt, cases_order}
-use Rattle.std.proofs.lemmas.Option.{slice_get-get_or, same_Some}
-use Rattle.dob_pieces.specs.declared.profile.Profile.{Profile}
-use Rattle.dob_pieces.specs.declared.setup.Setup.{Setup}
-use Rattle.dob_moves.specs.declared.game_move.Move.{Move}
-use Rattle.dob_moves.specs.Moves.{Goes, place}
-use Rattle.dob_moves.specs.Statuses.{CanCatch, AreMoves, IsFirstCatch}
-use Rattle.dob_moves.proofs.ProfileMoves.{Goes-is}
-use Rattle.dob_rank.specs.Families.{IsPositionOf, IsInClass}
+use Rattle.dob_probe.proofs.Common.{◌%◌, ◌++◌, ◌+◌, ◌-◌, ◌<◌, ◌∙◌, ◌∷◌, ◌≡◌, ◌≤◌, ◌⊎◌, Err, IfErr, IfOk, List, None, Ok, Result, Some, [], ap, append-nil}
+use Rattle.dob_probe.proofs.Common.{arith, inl, inr, length, refl, slice_get, subst, suc, sym, zero, ℕ, cases_order, same_Some, before_or_here, standing}
+use Rattle.dob_probe.proofs.Common.{Profile, Setup, Goes-is, Goes, AreMoves, CanCatch, IsFirstCatch, Move, IsInClass, IsPositionOf, moves_keep_the_family}
+use Rattle.dob_probe.proofs.Common.{ClassTable, IsEntry, MAX_DISTANCE, Value, Draw, Loss, Win, IsFaultOfLine, IsGap, Begins, BreaksAt, Continues, EndsAt}
+use Rattle.dob_probe.proofs.Common.{GivenBy, GoesOnTo, IsFirstTo, IsLine, LacksMove, LeadsTo, value_wanted, Fault, FarChick, Inconsistent, Memory, OtherSet}
 use Rattle.dob_classes.proofs.OfFamilies.FamilyRepresentatives.{one_class}
-use Rattle.dob_value.specs.declared.value.Value.{Value}
-use Rattle.dob_value.specs.declared.value.Value.TheVariants.{Win, Loss, Draw}
-use Rattle.dob_value.specs.Follows.{ClassTable, IsEntry}
-use Rattle.dob_value.proofs.Successors.{moves_keep_the_family}
-use Rattle.dob_value.specs.declared.sweep.TheConstants.{MAX_DISTANCE}
-use Rattle.dob_probe.specs.declared.fault.Fault.{Fault}
-use Rattle.dob_probe.specs.declared.fault.Fault.TheVariants.{FarChick, OtherSet, Inconsistent, Memory}
-use Rattle.dob_probe.specs.Faults.{IsGap, IsFaultOfLine}
-use Rattle.dob_probe.specs.Lines.{GivenBy, value_wanted, LeadsTo, IsFirstTo, EndsAt, GoesOnTo, Continues, IsLine, Begins, LacksMove, BreaksAt}
 use Rattle.dob_probe.specs.Laws.{LinesDontBreak, OneBreak}
 use Rattle.dob_probe.proofs.Entries.{one_given}
+use Rattle.dob_probe.proofs.InOrder.{in_order}
 
 -- ---- one move more, and the rest of the line after a beginning
 
@@ -45,22 +31,10 @@ NoneBelow profile Has p wanted the_moves upto = (index : ℕ) (move : Move) (q :
 module _ (profile : Profile) (Has : Setup → Value → Type 0) (p : Setup) (wanted : Value) (the_moves : List Move) where
   pub none_below_more : (upto : ℕ) (the_move : Move) → slice_get the_moves upto ≡ Some the_move →
       ((q : Setup) → ¬ LeadsTo profile Has p wanted the_move q) → NoneBelow profile Has p wanted the_moves upto → NoneBelow profile Has p wanted the_moves (upto + 1)
-  none_below_more upto the_move here other before = λ index move q below there leads. elim (cases_lt index upto) [
+  none_below_more upto the_move here other before = λ index move q below there leads. elim (before_or_here the_moves upto index the_move move here there below) [
     | inl earlier ↦ before index move q earlier there leads
-    | inr later ↦
-        let same : upto ≡ index = omega arith in
-        let here_too : slice_get the_moves index ≡ Some the_move = subst (λ k. slice_get the_moves k ≡ Some the_move) same here in
-        let is_the_move : move ≡ the_move = same_Some move the_move (sym there ∙ here_too) in
-        other q (subst (λ m. LeadsTo profile Has p wanted m q) is_the_move leads)
+    | inr same ↦ other q (subst (λ m. LeadsTo profile Has p wanted m q) same leads)
   ]
-
-  -- where a move of the list stands
-  found_at : (move : Move) → Contains the_moves move → (index : ℕ) × (index < length the_moves) × (slice_get the_moves index ≡ Some move)
-  found_at move there = (
-    there.0,
-    there.1,
-    slice_get-get_or the_moves there.0 move there.1 ∙ ap (λ m. let o : Option Move = Some m in o) there.2,
-  )
 
   pub first_found : (index : ℕ) (the_move : Move) (q : Setup) → AreMoves profile p the_moves → index < length the_moves →
       slice_get the_moves index ≡ Some the_move → NoneBelow profile Has p wanted the_moves index → LeadsTo profile Has p wanted the_move q →
@@ -68,35 +42,22 @@ module _ (profile : Profile) (Has : Setup → Value → Type 0) (p : Setup) (wan
   first_found index the_move q are within here none leads = record {
     leads = leads;
     first = λ other r leads_too.
-        let there = found_at other (are.whole other leads_too.goes_on (r, leads_too.goes)) in
+        let there = standing the_moves other (are.whole other leads_too.goes_on (r, leads_too.goes)) in
         elim (cases_order there.0 index) [
           | inl same ↦
               let here_too : slice_get the_moves there.0 ≡ Some the_move = subst (λ k. slice_get the_moves k ≡ Some the_move) (sym same) here in
               inl (same_Some the_move other (sym here_too ∙ there.2))
           | inr order ↦ elim order [
             | inl before ↦ absurd (none there.0 other r before there.2 leads_too)
-            | inr after ↦ inr (in_order index there.0 the_move other after there.1 here there.2 are)
+            | inr after ↦ inr (in_order profile p the_moves index there.0 the_move other are after there.1 here there.2)
           ]
         ];
   }
-    where
-      read : (k : ℕ) (m : Move) → k < length the_moves → slice_get the_moves k ≡ Some m → (d : Move) → get_or the_moves k d ≡ m
-      read k m below there d = same_Some (get_or the_moves k d) m (sym (slice_get-get_or the_moves k d below) ∙ there)
-
-      in_order : (i j : ℕ) (a b : Move) → i < j → j < length the_moves → slice_get the_moves i ≡ Some a → slice_get the_moves j ≡ Some b →
-          AreMoves profile p the_moves → place a < place b
-      in_order i j a b below within at_i at_j are =
-          let first = read i a (omega arith) at_i a in
-          let later = read j b within at_j a in
-          let rising : place (get_or the_moves i a) < place (get_or the_moves j a) = are.ordered i j a below within in
-          let low = ap place first in
-          let high = ap place later in
-          omega (arith, low, high, rising)
 
   pub none_leads : (upto : ℕ) → AreMoves profile p the_moves → length the_moves ≤ upto → NoneBelow profile Has p wanted the_moves upto →
       (move : Move) (q : Setup) → ¬ LeadsTo profile Has p wanted move q
   none_leads upto are all none move q leads =
-      let there = found_at move (are.whole move leads.goes_on (q, leads.goes)) in
+      let there = standing the_moves move (are.whole move leads.goes_on (q, leads.goes)) in
       let below : there.0 < length the_moves = there.1 in
       none there.0 move q (omega arith) there.2 leads
 

@@ -30,7 +30,7 @@ pub use by_value::{ValuedMove, insert_by_value, value_seen, valued_moves};
 pub use checks::{check, check_class};
 pub use fault::Fault;
 pub use groups::{Group, add_slots, groups_of, slots_between};
-pub use lines::line;
+pub use lines::{line, push_move, value_wanted};
 pub use members::check_member;
 pub use probes::probe;
 pub use puzzles::{Puzzle, first_puzzles};

@@ -70,15 +70,15 @@ fn line_from(
     }
 }
 
-// Writes the move behind the others.
-fn push_move(line: &mut Vec<Move>, the_move: Move) -> Result<(), Memory>
+/// Writes the move behind the others.
+pub fn push_move(line: &mut Vec<Move>, the_move: Move) -> Result<(), Memory>
     ensures { OnOk result (line.new.items ≡ line.old.items ++ the_move ∷ []) }
 {
     Ok(line.push(the_move)?)
 }
 
-// The value to which the line's next move leads from a position with that value, if there is such a move.
-fn value_wanted(value: Value) -> Option<Value>
+/// The value to which the line's next move leads from a position with that value, if there is such a move.
+pub fn value_wanted(value: Value) -> Option<Value>
     requires { IsEntry value }
     ensures { result ≡ value_wanted value }
 {

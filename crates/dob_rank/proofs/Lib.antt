@@ -1,4 +1,5 @@
 -- The lemmas, in the order in which they are read, a folder for each topic.
+mod Common  -- names of other crates and of this one's definitions, for the proofs
 pub mod Arithmetic  -- arithmetic and lists
 pub mod Boards  -- boards as layers, choices of squares and forms, and masks of layers
 pub mod Positions  -- ranks of the positions of a set

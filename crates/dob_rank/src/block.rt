@@ -234,7 +234,7 @@ pub(crate) fn spot_at(set: PieceSet, on_board: &EachKind, choices: &EachKind, pl
     }
 }
 
-/// How many positions each run of those numbers on the board and choices of squares has.
+// How many positions each run of those numbers on the board and choices of squares has.
 fn size_of_runs(on_board: &EachKind, choices: &EachKind) -> u64
     requires few { AreFewOnBoard on_board.now }
     requires choices { choices.now ≡ square_bases on_board.now }
@@ -244,7 +244,7 @@ fn size_of_runs(on_board: &EachKind, choices: &EachKind) -> u64
     choices[0] * (choices[1] * (choices[2] * forms_in(on_board)))
 }
 
-/// How many forms the pieces of those numbers on the board have.
+// How many forms the pieces of those numbers on the board have.
 fn forms_in(on_board: &EachKind) -> u64
     requires { AreFewOnBoard on_board.now }
     ensures { result ≡ product (form_bases on_board.now) }
@@ -252,7 +252,7 @@ fn forms_in(on_board: &EachKind) -> u64
     1 << form_bits(on_board)
 }
 
-/// How many bits hold the forms of the pieces of those numbers on the board.
+// How many bits hold the forms of the pieces of those numbers on the board.
 fn form_bits(on_board: &EachKind) -> u64
     requires { AreFewOnBoard on_board.now }
     ensures value { 2 ^ result ≡ product (form_bases on_board.now) }
@@ -261,7 +261,7 @@ fn form_bits(on_board: &EachKind) -> u64
     2 * on_board[0] + on_board[1] + on_board[2]
 }
 
-/// The digits of the forms for those numbers on the board.
+// The digits of the forms for those numbers on the board.
 fn form_digits(on_board: &EachKind, number: u64) -> EachKind
     requires few { AreFewOnBoard on_board.now }
     requires number { number < product (form_bases on_board.now) }
@@ -272,7 +272,7 @@ fn form_digits(on_board: &EachKind, number: u64) -> EachKind
     [chicks, elephants, giraffes]
 }
 
-/// The number whose digits are those forms.
+// The number whose digits are those forms.
 fn form_number(on_board: &EachKind, forms: &EachKind) -> u64
     requires few { AreFewOnBoard on_board.now }
     requires forms { HasDigits (form_bases on_board.now) forms.now }

@@ -32,7 +32,7 @@ pub fn chick_squares(chicks: u64, lions: u64, choice: u64) -> (u64, u64)
     )
 }
 
-/// Whether a chick or hen of that form may stand on the square.
+// Whether a chick or hen of that form may stand on the square.
 fn may_have(square: u64, form: u64) -> bool
     requires { form < 4 }
     ensures { result ≡ may_have B square form }
@@ -62,7 +62,7 @@ pub fn may_have_forms(chicks: u64, squares: (u64, u64), forms: u64) -> bool
     }
 }
 
-/// The number of the forms with `number` before them that chicks on those squares may have.
+// The number of the forms with `number` before them that chicks on those squares may have.
 fn forms_at(chicks: u64, squares: (u64, u64), number: u64) -> u64
     requires chicks { chicks ≤ 2 }
     requires number { number < marks_below (forms_stand chicks squares.0 squares.1) (4 ^ chicks) }
@@ -82,7 +82,7 @@ fn forms_at(chicks: u64, squares: (u64, u64), number: u64) -> u64
     0
 }
 
-/// The choice of the chicks' squares in whose forms the one of that number is, where those lions stand.
+// The choice of the chicks' squares in whose forms the one of that number is, where those lions stand.
 fn choice_at(chicks: u64, lions: u64, number: u64) -> u64
     requires chicks { chicks ≤ 2 }
     requires lions { lions < LIONS }
@@ -125,20 +125,33 @@ pub(crate) fn lions_at(chicks: u64, number: u64) -> u64
     low
 }
 
-/// The choice of the chicks' squares, that of the others' squares, one of `others`, and the number of the chicks' forms, before which
-/// `number` places stand where those lions do.
-fn parts_at(chicks: u64, lions: u64, others: u64, number: u64) -> (u64, u64, u64)
+// What a place in a run says of its chicks, and of the others' squares.
+#[derive(Clone, Copy)]
+struct ChickParts {
+    // The choice of the chicks' squares, and that of the others'.
+    choice: u64,
+    squares: u64,
+    // The number of the chicks' forms.
+    forms: u64,
+}
+
+// The parts before which `number` places stand where those lions do, if the others' squares are chosen in `others` ways.
+fn parts_at(chicks: u64, lions: u64, others: u64, number: u64) -> ChickParts
     requires chicks { chicks ≤ 2 }
     requires lions { lions < LIONS }
     requires others { others ≤ 2025 }
     requires number { number < forms_in B chicks lions * others }
-    ensures { AreChickParts chicks lions others number result.0 result.1 result.2 }
+    ensures { AreChickParts chicks lions others number result.choice result.squares result.forms }
 {
     let choice = choice_at(chicks, lions, number / others);
     let left = number - before_choice(chicks, lions, choice) * others;
     let weight = weight_of(chicks, lions, choice);
     let forms = forms_at(chicks, chick_squares(chicks, lions, choice), left % weight);
-    (choice, left / weight, forms)
+    ChickParts {
+        choice,
+        squares: left / weight,
+        forms,
+    }
 }
 
 /// The place in a run of those lions of the position with `number` of profile B before it in the run.
@@ -153,7 +166,7 @@ pub fn local_at(on_board: &EachKind, lions: u64, number: u64) -> u64
     let choices = block::choices_in(on_board);
     let others = choices[1] * choices[2];
     let forms = block::power(2, on_board[1]) * block::power(2, on_board[2]);
-    let (choice, squares, chick_forms) = parts_at(chicks, lions, others, number / forms);
+    let parts = parts_at(chicks, lions, others, number / forms);
     let all_forms = block::power(4, chicks) * forms;
-    (choice * others + squares) * all_forms + (chick_forms * forms + number % forms)
+    (parts.choice * others + parts.squares) * all_forms + (parts.forms * forms + number % forms)
 }

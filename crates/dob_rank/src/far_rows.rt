@@ -9,13 +9,13 @@ ghost use Rattle.dob_rank.specs.Weights.{may_have, forms_before, lions_before, h
 use crate::runs::{FREE_SQUARES, LIONS};
 use dob_pieces::Square;
 
-/// How many numbers of chicks there are on a board: none, one and two.
+// How many numbers of chicks there are on a board: none, one and two.
 const CHICKS: usize = 3;
 
-/// How many shapes there are of the squares that two lions leave, by how many of them are on row 1 and on row 4.
+// How many shapes there are of the squares that two lions leave, by how many of them are on row 1 and on row 4.
 const SHAPES: usize = 5;
 
-/// By the lions' squares the shape of what they leave.
+// By the lions' squares the shape of what they leave.
 const SHAPE: [u8; LIONS as usize] = [
     2, 2, 1, 1, 1, 1, 1, 1, 4, 4, 4, 2, 2, 1, 1, 1, 1, 1, 1, 4, 4, 4, 2, 2, 1, 1, 1, 1, 1, 1, 4, 4,
     4, 1, 1, 1, 0, 0, 0, 0, 0, 3, 3, 3, 1, 1, 1, 0, 0, 0, 0, 0, 3, 3, 3, 1, 1, 1, 0, 0, 0, 0, 0, 3,
@@ -23,7 +23,7 @@ const SHAPE: [u8; LIONS as usize] = [
     3, 3, 3,
 ];
 
-/// By the number of chicks and the shape how many forms stand before each choice of their squares, and in all.
+// By the number of chicks and the shape how many forms stand before each choice of their squares, and in all.
 const BEFORE: [[[u16; 46]; SHAPES]; CHICKS] = [
     [
         [
@@ -103,7 +103,7 @@ const BEFORE: [[[u16; 46]; SHAPES]; CHICKS] = [
     ],
 ];
 
-/// By the number of chicks how many choices of their squares with forms stand in the runs of one hand before that of each two lions, and in all.
+// By the number of chicks how many choices of their squares with forms stand in the runs of one hand before that of each two lions, and in all.
 const LIONS_BEFORE: [[u16; LIONS as usize + 1]; CHICKS] = [
     [
         0, 1, 2, 3, 4, 5, 6, 7, 8, 9, 10, 11, 12, 13, 14, 15, 16, 17, 18, 19, 20, 21, 22, 23, 24,
@@ -133,7 +133,7 @@ const LIONS_BEFORE: [[u16; LIONS as usize + 1]; CHICKS] = [
     ],
 ];
 
-/// By a square how many of the forms before each one a chick or hen may have there, and of all four.
+// By a square how many of the forms before each one a chick or hen may have there, and of all four.
 const FORMS_BELOW: [[u8; 5]; Square::COUNT] = [
     [0, 1, 2, 2, 3],
     [0, 1, 2, 2, 3],

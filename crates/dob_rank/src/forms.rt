@@ -19,7 +19,7 @@ pub fn base_of(layer: Layer) -> u64
     }
 }
 
-/// By a cell's kind and owner the form of its piece.
+// By a cell's kind and owner the form of its piece.
 const FORMS: CellTable = [
     [0, 0, 0, 0],
     [0, 0, 1, 0],

@@ -6,12 +6,12 @@ ghost use Rattle.dob_rank.specs.Masks.{layer_mask, from_mask, plane};
 
 use crate::forms::{base_of, form_of};
 use crate::layers::Layer;
-use dob_pieces::{CellTable, Piece, Square, entry_of};
+use dob_pieces::{ALL_SQUARES, CellTable, Piece, Square, entry_of, plane};
 
-/// How many bits a plane has: one for each square. A word of planes has a plane for each layer of pieces.
+// How many bits a plane has: one for each square. A word of planes has a plane for each layer of pieces.
 const PLANE: u64 = 12;
 
-/// The first bit of each layer's plane; empty squares have none.
+// The first bit of each layer's plane; empty squares have none.
 const OWN_LION_PLANE: u64 = 1;
 
 const ENEMY_LION_PLANE: u64 = 1 << PLANE;
@@ -24,7 +24,7 @@ const GIRAFFES_PLANE: u64 = 1 << (4 * PLANE);
 
 const NO_PLANE: u64 = 0;
 
-/// By a cell's kind and owner the first bit of its layer's plane.
+// By a cell's kind and owner the first bit of its layer's plane.
 const PLANES: CellTable = [
     [NO_PLANE, OWN_LION_PLANE, ENEMY_LION_PLANE, NO_PLANE],
     [NO_PLANE, GIRAFFES_PLANE, GIRAFFES_PLANE, NO_PLANE],
@@ -34,7 +34,7 @@ const PLANES: CellTable = [
 ];
 
 /// All squares of the board: each bit of a plane.
-pub(crate) const ALL: u64 = (1 << PLANE) - 1;
+pub(crate) const ALL: u64 = ALL_SQUARES as u64;
 
 /// The squares of the board that each layer has.
 #[derive(Clone, Copy)]
@@ -46,7 +46,7 @@ pub struct Masks {
     pub giraffes: u64,
 }
 
-/// The squares of each column: of the three bits of a row the lowest is that of column a.
+// The squares of each column: of the three bits of a row the lowest is that of column a.
 const COLUMN_A: u64 = 0b001_001_001_001;
 
 const COLUMN_B: u64 = COLUMN_A << 1;
@@ -86,15 +86,15 @@ pub fn masks_of(board: &[Option<Piece>; Square::COUNT]) -> Masks
     }
 }
 
-/// The plane that begins at that bit of a word of planes.
+// The plane that begins at that bit of a word of planes.
 fn plane_at(planes: u64, first: u64) -> u64
     requires { 0 < first }
     ensures { result ≡ planes / first % 2 ^ PLANE }
 {
-    planes / first % (ALL + 1)
+    u64::from(plane(planes, first))
 }
 
-/// The first bit of the plane of a cell's layer.
+// The first bit of the plane of a cell's layer.
 fn plane_of(cell: Option<Piece>) -> u64
     ensures value { result ≡ plane (layer cell) }
     ensures bound { result ≤ GIRAFFES_PLANE }

@@ -9,13 +9,13 @@ use crate::layers::Layer;
 use crate::runs::FREE_SQUARES;
 use dob_pieces::{Piece, Square};
 
-/// The place of a piece that isn't there, beyond all squares.
+// The place of a piece that isn't there, beyond all squares.
 const NOWHERE: u64 = 12;
 
-/// How many choices there are of two of the squares that the lions leave.
+// How many choices there are of two of the squares that the lions leave.
 const PAIRS: usize = 45;
 
-/// The two numbers of each choice of two, counted from the end, as distances from the last number.
+// The two numbers of each choice of two, counted from the end, as distances from the last number.
 const FIRST_FROM_END: [u8; PAIRS] = [
     1, 2, 2, 3, 3, 3, 4, 4, 4, 4, 5, 5, 5, 5, 5, 6, 6, 6, 6, 6, 6, 7, 7, 7, 7, 7, 7, 7, 8, 8, 8, 8,
     8, 8, 8, 8, 9, 9, 9, 9, 9, 9, 9, 9, 9,
@@ -78,7 +78,7 @@ pub fn places_by(on_board: &EachKind, choices: &EachKind) -> Places
     }
 }
 
-/// Two places as they are kept, and as numbers again.
+// Two places as they are kept, and as numbers again.
 fn narrow(places: (u64, u64)) -> (u8, u8)
     requires first { places.0 ≤ 255 }
     requires second { places.1 ≤ 255 }
@@ -156,7 +156,7 @@ pub(crate) fn places_of(squares: u64, pieces: u64, number: u64) -> (u64, u64)
     }
 }
 
-/// The places among `squares` squares that a choice of two takes, the lower first.
+// The places among `squares` squares that a choice of two takes, the lower first.
 fn pair_of(squares: u64, number: u64) -> (u64, u64)
     requires squares { squares ≤ FREE_SQUARES }
     requires number { number < choose squares 2 }

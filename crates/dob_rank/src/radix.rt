@@ -36,8 +36,8 @@ pub fn three_digits(bases: &[u64; 3], number: u64) -> [u64; 3]
     [first, second, third]
 }
 
-/// The quotient and the remainder by a base. The bases of sets of up to three pieces are listed, so that there is no
-/// division by a variable, which takes longer than the rest of a rank.
+// The quotient and the remainder by a base. The bases of sets of up to three pieces are listed, so that there is no
+// division by a variable, which takes longer than the rest of a rank.
 #[inline(always)]
 fn split(number: u64, base: u64) -> (u64, u64)
     requires { 0 < base }

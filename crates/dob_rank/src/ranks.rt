@@ -65,7 +65,7 @@ pub fn unrank(family: Family, rank: u64) -> Position
     }
 }
 
-/// The position of profile B of that rank.
+// The position of profile B of that rank.
 fn far_unrank(set: PieceSet, rank: u64) -> Position
     requires { rank < size_of (family_of set B) }
     ensures { IsRanked (family_of set B) result.setup rank }
@@ -78,7 +78,7 @@ fn far_unrank(set: PieceSet, rank: u64) -> Position
     position_by(set, &on_board, &choices, spot)
 }
 
-/// The spot of a block of those numbers on the board with `number` positions of profile B before it in the block.
+// The spot of a block of those numbers on the board with `number` positions of profile B before it in the block.
 fn far_spot_at(on_board: &EachKind, choices: &EachKind, number: u64) -> Spot
     requires few { AreFewOnBoard on_board.now }
     requires choices { choices.now ≡ square_bases on_board.now }
@@ -101,7 +101,7 @@ fn far_spot_at(on_board: &EachKind, choices: &EachKind, number: u64) -> Spot
     }
 }
 
-/// The rank of a position of profile B.
+// The rank of a position of profile B.
 fn far_rank(position: &Position) -> u64
     requires { IsAllowed B position.now.setup }
     ensures { (set : PieceSet) → IsPositionOfSet set position.now.setup → result ≡ rank_of (family_of set B) position.now.setup }
@@ -114,7 +114,7 @@ fn far_rank(position: &Position) -> u64
     block_start(Family { set, profile }, block) + far_place(set, position, masks, &on_board)
 }
 
-/// How many positions of profile B stand before one of the set in its block.
+// How many positions of profile B stand before one of the set in its block.
 fn far_place(set: PieceSet, position: &Position, masks: Masks, on_board: &EachKind) -> u64
     requires allowed { IsAllowed B position.now.setup }
     requires position { IsPositionOfSet set position.now.setup }
@@ -164,7 +164,7 @@ pub fn place_behind(
     )
 }
 
-/// A product of numbers that are small enough, and a third.
+// A product of numbers that are small enough, and a third.
 fn add_product(a: u64, b: u64, c: u64) -> u64
     requires a { a ≤ 2 ^ 34 }
     requires b { b ≤ 2 ^ 11 }
@@ -174,7 +174,7 @@ fn add_product(a: u64, b: u64, c: u64) -> u64
     a * b + c
 }
 
-/// How many choices of the chicks' squares with forms stand before one, in the runs before and in its own.
+// How many choices of the chicks' squares with forms stand before one, in the runs before and in its own.
 fn chosen_before(chicks: u64, hands: u64, lions: u64, choice: u64) -> u64
     requires chicks { chicks ≤ 2 }
     requires hands { hands ≤ 41 }

@@ -65,7 +65,7 @@ pub fn spot_by(set: PieceSet, position: &Position, masks: Masks) -> (u64, Spot)
     spot_with(set, position, masks, &numbers_on_board(position, masks))
 }
 
-/// Block and spot by the masks of the position and the numbers on its board.
+// Block and spot by the masks of the position and the numbers on its board.
 fn spot_with(set: PieceSet, position: &Position, masks: Masks, on_board: &EachKind) -> (u64, Spot)
     requires position { IsPositionOfSet set position.now.setup }
     requires masks { AreMasksOfBoard position.now.setup.board masks }
@@ -104,7 +104,7 @@ pub(crate) fn piece_set_of(position: &Position, on_board: &EachKind) -> PieceSet
     }
 }
 
-/// How many pieces of a kind there are, on the board and in the hands.
+// How many pieces of a kind there are, on the board and in the hands.
 fn in_all(on_board: u64, mover: u8, enemy: u8) -> u8
     requires { on_board + mover + enemy ≤ 2 }
     ensures value { result ≡ on_board + mover + enemy }

@@ -1,40 +1,15 @@
 -- Counts of numbers with a property: put together, of a list's items, and below a bound.
-use Rattle.std.proofs.Common.{◌≡◌, ℕ, zero, suc, ◌+◌, ◌<◌, ◌≤◌, ◌⊎◌, inl, inr, refl, sym, ◌∙◌, subst, arith, List, [], ◌∷◌, ◌++◌, length, get_or, AllPairs, Contains, length-append}
-use Rattle.std.specs.List.{range_with_len}
-use Rattle.std.proofs.lemmas.Bool.{cases_eq, cases_lt}
-use Rattle.std.proofs.lemmas.List.{get_or_default}
+use Rattle.dob_reach.proofs.Common.{◌++◌, ◌+◌, ◌<◌, ◌∙◌, ◌∷◌, ◌≡◌, ◌≤◌, ◌⊎◌, AllPairs, Contains, List, [], arith, get_or, inl, inr, length, length-append, refl}
+use Rattle.dob_reach.proofs.Common.{subst, suc, sym, zero, ℕ, cases_eq, cases_lt, get_or_default, Contains-append_cases, Contains-append_left}
+use Rattle.dob_reach.proofs.Common.{Contains-append_right, range_with_len, cons_cases, head_in, none_in_empty, rest_in, Among, HasJust}
 use Rattle.std.proofs.lemmas.List.FromFn.{length-range_with_len}
-use Rattle.std.proofs.lemmas.List.Elements.{Contains-append_left, Contains-append_right, Contains-append_cases}
 use Rattle.std.proofs.lemmas.List.Kept.{AllPairs-cons}
-use Rattle.dob_pieces.proofs.Lists.{cons_cases}
 use Rattle.dob_classes.proofs.OfFamilies.Counted.{pairs-head, pairs-tail, no_longer}
-use Rattle.dob_reach.specs.Counts.{Among, HasJust}
 
 -- ---- lists
 
 abbrev pub Apart : ℕ → ℕ → Type 0
 Apart a b = ¬ (a ≡ b)
-
--- nothing stands in an empty list
-pub none_in : (number : ℕ) → ¬ Contains [] number
-none_in number there = absurd (omega (arith, there.1))
-
-pub first_in : (number : ℕ) (numbers : List ℕ) → Contains (number ∷ numbers) number
-first_in number numbers = (0, omega arith, refl)
-
-pub rest_in : (first number : ℕ) (numbers : List ℕ) → Contains numbers number → Contains (first ∷ numbers) number
-rest_in first number numbers there = Contains-append_right (first ∷ []) numbers number there
-
--- a number stands in a list or it doesn't
-pub stands_or : (numbers : List ℕ) (number : ℕ) → Contains numbers number ⊎ (¬ Contains numbers number)
-stands_or [] number = inr (none_in number)
-stands_or (first ∷ rest) number = elim (cases_eq first number) [
-  | inl same ↦ inl (subst (Contains (first ∷ rest)) same (first_in first rest))
-  | inr other ↦ elim (stands_or rest number) [
-    | inl there ↦ inl (rest_in first number rest there)
-    | inr absent ↦ inr (λ there. elim (cons_cases first rest number there) [ inl e ↦ other e | inr later ↦ absent later ])
-  ]
-]
 
 -- a number that isn't the first stands behind it, each time
 pub apart_first : (first : ℕ) (rest : List ℕ) → ((number : ℕ) → Contains rest number → ¬ (first ≡ number)) → AllPairs Apart rest → AllPairs Apart (first ∷ rest)
@@ -48,7 +23,7 @@ apart_both (x ∷ xs) ys p q across =
     apart_first x (xs ++ ys)
     (λ number there same. elim (Contains-append_cases xs ys number there) [
       | inl left ↦ first_apart x xs p number left same
-      | inr right ↦ across x (first_in x xs) (subst (Contains ys) (sym same) right)
+      | inr right ↦ across x (head_in x xs) (subst (Contains ys) (sym same) right)
     ])
     (apart_both xs ys (pairs-tail Apart x xs p) q (λ number left. across number (rest_in x number xs left)))
   where
@@ -62,10 +37,10 @@ behind_first x xs p number left same = pairs-head Apart x xs p left.0 number lef
 -- one more at the end
 pub apart_more : (xs : List ℕ) (x : ℕ) → AllPairs Apart xs → (¬ Contains xs x) → AllPairs Apart (xs ++ x ∷ [])
 apart_more xs x once absent =
-    apart_both xs (x ∷ []) once (apart_first x [] (λ number there. absurd (none_in number there)) (λ i j d lt within. absurd (omega (arith, within))))
+    apart_both xs (x ∷ []) once (apart_first x [] (λ number there. absurd (none_in_empty number there)) (λ i j d lt within. absurd (omega (arith, within))))
     (λ number left right. elim (cons_cases x [] number right) [
       | inl same ↦ absent (subst (Contains xs) (sym same) left)
-      | inr no_more ↦ none_in number no_more
+      | inr no_more ↦ none_in_empty number no_more
     ])
 
 -- ---- just so many
@@ -83,7 +58,7 @@ just_same P Q count onward back has = record {
 pub just_none : (P : ℕ → Type 0) → ((k : ℕ) → ¬ P k) → HasJust P 0
 just_none P none = record {
   list = [];
-  sound = λ number there. absurd (none_in number there);
+  sound = λ number there. absurd (none_in_empty number there);
   whole = λ number is. absurd (none number is);
   once = λ i j d lt within. absurd (omega (arith, within));
   counted = refl;
@@ -119,7 +94,7 @@ just_list numbers once = record {
 range_has : (count from number : ℕ) → from ≤ number → number < from + count → Contains (range_with_len from count) number
 range_has zero from number low high = absurd (omega arith)
 range_has (suc count) from number low high = elim (cases_eq from number) [
-  | inl same ↦ subst (Contains (from ∷ range_with_len (from + 1) count)) same (first_in from (range_with_len (from + 1) count))
+  | inl same ↦ subst (Contains (from ∷ range_with_len (from + 1) count)) same (head_in from (range_with_len (from + 1) count))
   | inr other ↦ rest_in from number (range_with_len (from + 1) count) (range_has count (from + 1) number (omega arith) (omega arith))
 ]
 
@@ -134,9 +109,9 @@ just_few P count bound low has =
 pub just_one : (number : ℕ) → HasJust (λ k. k ≡ number) 1
 just_one number = record {
   list = number ∷ [];
-  sound = λ k there. elim (cons_cases number [] k there) [ inl same ↦ sym same | inr more ↦ absurd (none_in k more) ];
-  whole = λ k is. subst (Contains (number ∷ [])) (sym is) (first_in number []);
-  once = apart_first number [] (λ k there. absurd (none_in k there)) (λ i j d lt within. absurd (omega (arith, within)));
+  sound = λ k there. elim (cons_cases number [] k there) [ inl same ↦ sym same | inr more ↦ absurd (none_in_empty k more) ];
+  whole = λ k is. subst (Contains (number ∷ [])) (sym is) (head_in number []);
+  once = apart_first number [] (λ k there. absurd (none_in_empty k there)) (λ i j d lt within. absurd (omega (arith, within)));
   counted = refl;
 }
 
@@ -193,7 +168,7 @@ among_none P x not_is = inr (not_is, refl)
 -- so many numbers of a list without repeats have the property
 pub among_just : (P : ℕ → Type 0) (numbers : List ℕ) (count : ℕ) → Among P numbers count → AllPairs Apart numbers → HasJust (λ k. Contains numbers k × P k) count
 among_just P [] count none once =
-    subst (HasJust (λ k. Contains [] k × P k)) (sym none) (just_none (λ k. Contains [] k × P k) (λ k is. none_in k is.0))
+    subst (HasJust (λ k. Contains [] k × P k)) (sym none) (just_none (λ k. Contains [] k × P k) (λ k is. none_in_empty k is.0))
 among_just P (x ∷ xs) count some once = elim some [
   | inl one ↦
       let rest = among_just P xs one.1 one.3 (pairs-tail Apart x xs once) in
@@ -201,7 +176,7 @@ among_just P (x ∷ xs) count some once = elim some [
       (just_same (λ k. (Contains xs k × P k) ⊎ (k ≡ x)) (λ k. Contains (x ∷ xs) k × P k) (one.1 + 1)
       (λ k which. elim which [
         | inl later ↦ (rest_in x k xs later.0, later.1)
-        | inr same ↦ (subst (Contains (x ∷ xs)) (sym same) (first_in x xs), subst P (sym same) one.0)
+        | inr same ↦ (subst (Contains (x ∷ xs)) (sym same) (head_in x xs), subst P (sym same) one.0)
       ])
       (λ k is. elim (cons_cases x xs k is.0) [ inl same ↦ inr (sym same) | inr later ↦ inl (later, is.1) ])
       (just_both (λ k. Contains xs k × P k) (λ k. k ≡ x) one.1 1 (λ k later same. behind_first x xs once k later.0 (sym same)) rest (just_one x)))

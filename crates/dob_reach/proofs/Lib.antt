@@ -1,4 +1,5 @@
 -- The lemmas, in the order in which they are read.
+mod Common  -- names of other crates and of this one's definitions, for the proofs
 pub mod Counts  -- counts of numbers with a property: put together, of a list's items, and below a bound
 pub mod Rounds  -- what a round makes of what was marked, of any steps among numbers
 pub mod Stepping  -- what a class's moves lead to

@@ -1,11 +1,10 @@
 -- Numbers marked one after the other.
-use Rattle.std.proofs.Common.{◌≡◌, ◌≢◌, ℕ, ◌+◌, ◌*◌, ◌/◌, ◌%◌, ◌<◌, ◌≤◌, ◌^◌, inl, inr, sym, ap, ◌∙◌, subst, arith, List, [], ◌∷◌, ◌++◌, length, get_or, set, bit_or, Contains, w64}
-use Rattle.std.proofs.lemmas.Bool.{cases_eq}
-use Rattle.std.proofs.lemmas.List.Elements.{Contains-append_left, Contains-push, Contains-push_cases}
+use Rattle.dob_reach.proofs.Common.{◌%◌, ◌*◌, ◌++◌, ◌+◌, ◌/◌, ◌<◌, ◌^◌, ◌∙◌, ◌∷◌, ◌≡◌, ◌≢◌, ◌≤◌, Contains, List, [], ap, arith, bit_or, get_or, inl, inr}
+use Rattle.dob_reach.proofs.Common.{length, set, subst, sym, w64, ℕ, cases_eq, Contains-append_left, AreMarked, IsMarked, KeepsMarks, mark_of}
+use Rattle.std.proofs.lemmas.List.Elements.{Contains-push, Contains-push_cases}
 use Rattle.std.specs.Int.{bit_at}
 use Rattle.std.proofs.lemmas.List.{get_or-set_other, get_or-set_same}
 use Rattle.std.proofs.lemmas.Nat.Bits.{bit_at_set_other, bit_at_set_same}
-use Rattle.dob_reach.specs.Marks.{AreMarked, IsMarked, KeepsMarks, mark_of}
 use Rattle.dob_reach.proofs.Counts.{apart_more}
 
 -- ---- a bit

@@ -1,37 +1,12 @@
 -- What is found of parts of the classes, one after the other.
-use Rattle.std.proofs.Common.{◌≡◌, ℕ, zero, suc, ◌+◌, ◌-◌, ◌*◌, ◌<◌, ◌≤◌, ◌++◌, inl, inr, sym, ap, ◌∙◌, subst, arith, List, [], ◌∷◌, length, take, drop, get_or, Contains, append-nil, append_assoc, map, min, Ok, Err, IfOk}
-use Rattle.std.specs.Prelude.{MatchResult, Result, Vec}
-use Rattle.std.specs.List.{AllZip, range_with_len}
-use Rattle.std.proofs.Math.Seq.{take-add}
-use Rattle.std.proofs.lemmas.List.{length-drop, length-take, take-append-drop, take_all, take_min, take_more}
+use Rattle.dob_reach.proofs.Common.{◌*◌, ◌++◌, ◌+◌, ◌-◌, ◌<◌, ◌∙◌, ◌∷◌, ◌≡◌, ◌≤◌, Contains, List, [], ap, append-nil, append_assoc, arith, drop, get_or, inl}
+use Rattle.dob_reach.proofs.Common.{inr, length, min, subst, suc, sym, take, zero, ℕ, take-add, length-drop, length-take, take-append-drop, take_all, take_min}
+use Rattle.dob_reach.proofs.Common.{take_more, Contains-append_left, Contains-append_right, AllZip, range_with_len, Family, classes_of, AreExpanded, IsPartAt}
+use Rattle.dob_reach.proofs.Common.{opens_of, outcomes_of, part_at, part_count, parts_before, IsOpen, Leads, AreMarked, HasBits, HaveBits, AreMet, Part}
 use Rattle.std.proofs.lemmas.List.Concat.{flat_map-append}
 use Rattle.std.proofs.lemmas.List.Sums.{sum_by-cons}
-use Rattle.std.proofs.lemmas.List.Elements.{Contains-append_left, Contains-append_right}
-use Rattle.dob_pieces.specs.declared.profile.Family.{Family}
-use Rattle.dob_rank.specs.Families.{classes_of}
-use Rattle.dob_reach.specs.declared.parts.Part.{Part}
-use Rattle.dob_reach.specs.Fronts.{AreExpanded, IsPartAt, opens_of, outcomes_of, part_at, part_count, parts_before}
-use Rattle.dob_reach.specs.Leads.{IsOpen, Leads}
-use Rattle.dob_reach.specs.Marks.{AreMarked, HasBits, HaveBits}
-use Rattle.dob_reach.specs.Rounds.{AreMet}
 use Rattle.dob_reach.proofs.Counts.{among_few}
 use Rattle.dob_reach.proofs.Stepping.{class_low, expanded_both}
-
--- answers that are all Ok, in order
-all_ok : {X Y : Type 0} → (E : Type 0) (R : X → Y → Type 0) (xs : List X) (ys : List Y) → AllZip (λ (x : X) (r : Result Y E). IfOk r (R x)) xs (map Ok ys) → AllZip R xs ys
-all_ok E R [] [] are = tt
-all_ok E R [] (y ∷ ys) are = absurd are
-all_ok E R (x ∷ xs) [] are = absurd are
-all_ok E R (x ∷ xs) (y ∷ ys) are = (are.0, all_ok E R xs ys are.1)
-
--- things that were made side by side, all of them or none
-pub made_all : {X Y E Z : Type 0} → (R : X → Y → Type 0) (xs : List X) (given : List (Result Y E)) (result : Result (Vec Y Z) E)
-    → AllZip (λ (x : X) (r : Result Y E). IfOk r (R x)) xs given
-    → MatchResult result (λ made. (ys : List Y) × (given ≡ map Ok ys) × (made.items ≡ ys)) (λ why. Contains given (Err why))
-    → IfOk result (λ made. AllZip R xs made.items)
-made_all {X} {Y} {E} R xs given (Ok made) are is = subst (AllZip R xs) (sym is.2)
-    (all_ok E R xs is.0 (subst (λ (l : List (Result Y E)). AllZip (λ (x : X) (r : Result Y E). IfOk r (R x)) xs l) is.1 are))
-made_all R xs given (Err why) are is = tt
 
 -- a part begins at or before the end
 pub place_begins : (front : List ℕ) (place : ℕ) → place < part_count front → place * 4096 ≤ length front

@@ -1,23 +1,13 @@
 -- Plays of moves and the classes that they come to.
-use Rattle.std.proofs.Common.{◌≡◌, ℕ, zero, suc, inl, inr, refl, sym, ◌∙◌, subst, Bool, true}
-use Rattle.dob_pieces.specs.declared.profile.Family.{Family}
-use Rattle.dob_pieces.specs.declared.setup.Setup.{Setup}
+use Rattle.dob_reach.proofs.Common.{◌≡◌, Bool, inl, inr, refl, subst, suc, sym, true, zero, ℕ, Family, Setup, Goes-mirrored, HasStatus-mirrored, Goes}
+use Rattle.dob_reach.proofs.Common.{HasStatus, Open, IsInClass, IsPositionOf, class_number, IsInClass-class_number, moves_keep_the_family, Met, Leads}
 use Rattle.dob_pieces.specs.Setups.{mirrored}
 use Rattle.dob_pieces.proofs.Boards.{IsLegal-mirrored}
 use Rattle.dob_pieces.proofs.Symmetries.{mirrored-mirrored}
 use Rattle.dob_moves.specs.declared.game_move.Move.{Move}
-use Rattle.dob_moves.specs.declared.position_status.Status.TheVariants.{Open}
-use Rattle.dob_moves.specs.Moves.{Goes}
 use Rattle.dob_moves.specs.Mirrors.{mirrored_move}
-use Rattle.dob_moves.specs.Statuses.{HasStatus}
-use Rattle.dob_moves.proofs.ProfileMoves.{Goes-mirrored, HasStatus-mirrored}
 use Rattle.dob_rank.specs.Order.{IsEither}
-use Rattle.dob_rank.specs.Families.{IsInClass, IsPositionOf, RepresentsClass, class_number}
-use Rattle.dob_classes.proofs.OfFamilies.FamilyNumbers.{IsInClass-class_number, IsPositionOf-mirrored, class_number-mirrored}
-use Rattle.dob_classes.proofs.OfFamilies.FamilyRepresentatives.{one_class, one_representative, representative_is}
-use Rattle.dob_value.proofs.Successors.{moves_keep_the_family}
-use Rattle.dob_reach.specs.Distances.{Met}
-use Rattle.dob_reach.specs.Leads.{Leads}
+use Rattle.dob_classes.proofs.OfFamilies.FamilyRepresentatives.{class_representative, in_mirror, one_representative}
 use Rattle.dob_reach.specs.Plays.{ClassesAreMet, PlaysMeetClasses, ReachedIsClosed, ReachedIsLeast}
 
 pub closed : ReachedIsClosed
@@ -31,23 +21,12 @@ has_met family from has first onward (suc n) class met = onward met.0 class (has
 pub least : ReachedIsLeast
 least family from has first onward class reached = has_met family from has first onward reached.0 class reached.1
 
--- a class's representative
-represents : (family : Family) (s : Setup) (class : ℕ) (is : IsInClass family s class) → RepresentsClass family is.representative class
-represents family s class is = (representative_is family s is.representative is.position is.stands, is.before)
-
--- a position and its mirror image are in one class
-in_mirror : (family : Family) (s : Setup) (class : ℕ) → IsInClass family s class → IsInClass family (mirrored s) class
-in_mirror family s class is =
-    let image = IsPositionOf-mirrored family s is.position in
-    let own = one_class family s class (class_number family s) is (IsInClass-class_number family s is.position) in
-    subst (IsInClass family (mirrored s)) (class_number-mirrored family s is.position ∙ sym own) (IsInClass-class_number family (mirrored s) image)
-
 -- a move of a position is one of its class, in the mirror where that is its representative
 step_leads : (family : Family) (r q : Setup) (class : ℕ) (move : Move) (is : IsInClass family r class) → IsEither r is.representative
     → HasStatus family.profile r Open → Goes family.profile r move q → IsPositionOf family q → Leads family class (class_number family q)
 step_leads family r q class move is (inl same) is_open goes member = record {
   representative = is.representative;
-  represents = represents family r class is;
+  represents = class_representative family r class is;
   is_open = subst (λ s. HasStatus family.profile s Open) (sym same) is_open;
   move = move;
   outcome = q;
@@ -56,7 +35,7 @@ step_leads family r q class move is (inl same) is_open goes member = record {
 }
 step_leads family r q class move is (inr image) is_open goes member = record {
   representative = is.representative;
-  represents = represents family r class is;
+  represents = class_representative family r class is;
   is_open = subst (λ s. HasStatus family.profile s Open) (sym image) (HasStatus-mirrored family.profile r Open is.position.of_set.legal is_open);
   move = mirrored_move move;
   outcome = mirrored q;
@@ -103,7 +82,7 @@ pub are_met : ClassesAreMet
 are_met family zero p from class is met = (p, refl, subst (IsInClass family p) met is)
 are_met family (suc n) p from class is met =
     let before = are_met family n p from met.0 is met.1 in
-    let own = represents family before.0 met.0 before.2 in
+    let own = class_representative family before.0 met.0 before.2 in
     let same = one_representative family before.2.representative met.2.representative met.0 own met.2.represents in
     let step = leads_step family before.0 met.0 class before.2.position met.2 (subst (IsEither before.0) same before.2.stands.0) in
     (step.1, (before.0, before.1, step.0, step.2, step.3), step.4)

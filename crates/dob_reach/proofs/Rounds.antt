@@ -1,11 +1,7 @@
 -- What a round makes of what was marked, of any steps among numbers; and what is marked where nothing is left to go on from.
-use Rattle.std.proofs.Common.{◌≡◌, ℕ, zero, suc, ◌+◌, ◌≤◌, inl, inr, refl, sym, subst, arith, List, [], ◌∷◌, Contains}
-use Rattle.std.proofs.lemmas.Bool.{cases_lt}
-use Rattle.dob_pieces.proofs.Lists.{cons_cases}
-use Rattle.dob_reach.specs.Distances.{HasDistance, IsReached, Met}
-use Rattle.dob_reach.specs.Marks.{IsMarked}
-use Rattle.dob_reach.specs.Rounds.{AreMet, IsMarkedWithin, IsNearer}
-use Rattle.dob_reach.proofs.Counts.{apart_first, first_in, none_in, stands_or}
+use Rattle.dob_reach.proofs.Common.{◌+◌, ◌∷◌, ◌≡◌, ◌≤◌, Contains, List, [], arith, inl, inr, refl, subst, suc, sym, zero, ℕ, cases_lt, cons_cases, head_in}
+use Rattle.dob_reach.proofs.Common.{none_in_empty, stands_or, HasDistance, IsReached, Met, IsMarked, AreMet, IsMarkedWithin, IsNearer}
+use Rattle.dob_reach.proofs.Counts.{apart_first}
 
 -- a number has one distance
 pub one_distance : (Steps : ℕ → ℕ → Type 0) (from m n number : ℕ) → HasDistance Steps from m number → HasDistance Steps from n number → m ≡ n
@@ -26,11 +22,11 @@ module _ (Steps : ℕ → ℕ → Type 0) (from : ℕ) where
     whole = λ n number low met. subst (IsMarked words) (met_at_once n number low met) marked;
     front_sound = λ number there. elim (cons_cases from [] number there) [
       | inl same ↦ subst (HasDistance Steps from 0) same itself
-      | inr more ↦ absurd (none_in number more)
+      | inr more ↦ absurd (none_in_empty number more)
     ];
-    front_whole = λ number has. subst (Contains (from ∷ [])) has.0 (first_in from []);
-    front_once = apart_first from [] (λ number there. absurd (none_in number there)) (λ i j d lt within. absurd (omega (arith, within)));
-    closed = λ number other is absent step. absurd (absent (subst (Contains (from ∷ [])) (sym (alone number is)) (first_in from [])));
+    front_whole = λ number has. subst (Contains (from ∷ [])) has.0 (head_in from []);
+    front_once = apart_first from [] (λ number there. absurd (none_in_empty number there)) (λ i j d lt within. absurd (omega (arith, within)));
+    closed = λ number other is absent step. absurd (absent (subst (Contains (from ∷ [])) (sym (alone number is)) (head_in from [])));
   }
 
 -- a round
@@ -99,7 +95,7 @@ module _ (Steps : ℕ → ℕ → Type 0) (from d : ℕ) (before words front nex
 module _ (Steps : ℕ → ℕ → Type 0) (from d : ℕ) (words : List ℕ) (known : IsMarkedWithin Steps from d words []) where
   all_marked : (n number : ℕ) → Met Steps n from number → IsMarked words number
   all_marked zero number met = known.whole 0 number (omega arith) met
-  all_marked (suc n) number met = known.closed met.0 number (all_marked n met.0 met.1) (none_in met.0) met.2
+  all_marked (suc n) number met = known.closed met.0 number (all_marked n met.0 met.1) (none_in_empty met.0) met.2
 
   pub reached_marked : (number : ℕ) → IsReached Steps from number → IsMarked words number
   reached_marked number reached = all_marked reached.0 number reached.1
@@ -111,7 +107,7 @@ module _ (Steps : ℕ → ℕ → Type 0) (from d : ℕ) (words : List ℕ) (kno
         | inl less ↦ (near.0, less, near.2)
         | inr last ↦
             let same : near.0 ≡ d = omega (arith, near.1, last) in
-            absurd (none_in number (known.front_whole number (subst (λ k. HasDistance Steps from k number) same near.2)))
+            absurd (none_in_empty number (known.front_whole number (subst (λ k. HasDistance Steps from k number) same near.2)))
       ]
 
   pub reached_nearer : (number : ℕ) → IsReached Steps from number → IsNearer Steps from d number

@@ -1,18 +1,8 @@
 -- The search of a family's classes: before its first round, after a round, and at its end.
-use Rattle.std.proofs.Common.{◌≡◌, ℕ, zero, suc, ◌+◌, ◌<◌, ◌≤◌, ◌⊎◌, inl, inr, sym, ap, ◌∙◌, subst, arith, List, [], ◌∷◌, ◌++◌, ◌^◌, length, get_or, Contains, Bool, true, false, ◌==◌}
-use Rattle.std.proofs.lemmas.Bool.{cases_lt, eqb-true, true≢false}
-use Rattle.std.proofs.lemmas.List.{get_or_append_left, get_or_past, length_push}
-use Rattle.std.proofs.Math.Seq.{get_or-append_seam}
-use Rattle.dob_pieces.specs.declared.profile.Family.{Family}
-use Rattle.dob_rank.specs.Families.{classes_of}
-use Rattle.dob_reach.specs.declared.search.Reached.{Reached}
-use Rattle.dob_reach.specs.Counts.{Among, HasJust}
-use Rattle.dob_reach.specs.Distances.{HasDistance, IsReached, Met}
-use Rattle.dob_reach.specs.Leads.{IsOpen, Leads}
-use Rattle.dob_reach.specs.Marks.{HasBits, IsMarked}
-use Rattle.dob_reach.specs.Reached.{AreReachedFrom}
-use Rattle.dob_reach.specs.Rounds.{AreMet, IsMarkedWithin, IsNearer}
-use Rattle.dob_reach.specs.Searches.{IsSearched}
+use Rattle.dob_reach.proofs.Common.{◌++◌, ◌+◌, ◌<◌, ◌==◌, ◌^◌, ◌∙◌, ◌∷◌, ◌≡◌, ◌≤◌, ◌⊎◌, Bool, Contains, List, [], ap, arith, false, get_or, inl, inr, length}
+use Rattle.dob_reach.proofs.Common.{subst, suc, sym, true, zero, ℕ, get_or-append_seam, cases_lt, eqb-true, true≢false, get_or_append_left, get_or_past}
+use Rattle.dob_reach.proofs.Common.{length_push, Family, classes_of, Among, HasJust, HasDistance, IsReached, Met, IsOpen, Leads, HasBits, IsMarked}
+use Rattle.dob_reach.proofs.Common.{AreReachedFrom, AreMet, IsMarkedWithin, IsNearer, IsSearched, Reached}
 use Rattle.dob_reach.proofs.Counts.{among_just, just_both, just_few, just_list, just_none, just_same}
 use Rattle.dob_reach.proofs.Rounds.{begun, nearer_reached, one_distance, one_round, reached_marked, reached_nearer}
 use Rattle.dob_reach.proofs.Stepping.{class_low}

@@ -1,21 +1,11 @@
 -- What a class's moves lead to: a list that leaves out what is marked.
-use Rattle.std.proofs.Common.{◌≡◌, ℕ, ◌+◌, ◌<◌, ◌≤◌, inl, inr, refl, sym, subst, arith, Bool, true, false, List, [], ◌∷◌, ◌++◌, Contains}
-use Rattle.std.proofs.lemmas.List.Elements.{Contains-append_left, Contains-append_right, Contains-append_cases}
-use Rattle.dob_pieces.specs.declared.profile.Family.{Family}
-use Rattle.dob_pieces.specs.declared.setup.Setup.{Setup}
-use Rattle.dob_moves.specs.declared.position_status.Status.TheVariants.{Open}
-use Rattle.dob_moves.specs.Moves.{Goes}
-use Rattle.dob_moves.specs.Statuses.{HasStatus}
-use Rattle.dob_rank.specs.Families.{IsInClass, RepresentsClass, classes_of}
-use Rattle.dob_classes.proofs.OfFamilies.FamilyNumbers.{IsInClass-class_number, class_number-below}
+use Rattle.dob_reach.proofs.Common.{◌++◌, ◌+◌, ◌<◌, ◌∷◌, ◌≡◌, ◌≤◌, Bool, Contains, List, [], arith, false, inl, inr, refl, subst, sym, true, ℕ}
+use Rattle.dob_reach.proofs.Common.{Contains-append_cases, Contains-append_left, Contains-append_right, cons_cases, head_in, none_in_empty, Family, Setup, Goes}
+use Rattle.dob_reach.proofs.Common.{HasStatus, Open, IsInClass, RepresentsClass, classes_of, IsInClass-class_number, class_number-below, Among, AreExpanded}
+use Rattle.dob_reach.proofs.Common.{IsExpanded, IsSifted, one_if, IsOpen, Leads, IsMarked, KeepsMarks}
 use Rattle.dob_classes.proofs.OfFamilies.FamilyRepresentatives.{one_class, one_representative}
 use Rattle.dob_value.specs.Graphs.{AreSuccessors}
-use Rattle.dob_reach.specs.Counts.{Among}
-use Rattle.dob_reach.specs.Fronts.{AreExpanded, IsExpanded, IsSifted, one_if}
-use Rattle.dob_reach.specs.Leads.{IsOpen, Leads}
-use Rattle.dob_reach.specs.Marks.{IsMarked, KeepsMarks}
-use Rattle.dob_reach.proofs.Counts.{among_both, among_none, among_one, first_in, none_in}
-use Rattle.dob_pieces.proofs.Lists.{cons_cases}
+use Rattle.dob_reach.proofs.Counts.{among_both, among_none, among_one}
 
 -- ---- classes
 
@@ -47,10 +37,10 @@ sifted_none words = record { sound = λ number there. there; whole = λ number t
 
 pub sifted_out : (words : List ℕ) (number : ℕ) → IsMarked words number → IsSifted words (number ∷ []) []
 sifted_out words number is = record {
-  sound = λ other there. absurd (none_in other there);
+  sound = λ other there. absurd (none_in_empty other there);
   whole = λ other there. elim (cons_cases number [] other there) [
     | inl same ↦ inr (subst (IsMarked words) same is)
-    | inr more ↦ absurd (none_in other more)
+    | inr more ↦ absurd (none_in_empty other more)
   ];
 }
 
@@ -92,8 +82,8 @@ expanded_class family words p class all numbers is_open represents successors si
 
 pub expanded_none : (family : Family) (words : List ℕ) → AreExpanded family words [] [] 0
 expanded_none family words = record {
-  sound = λ other there. absurd (none_in other there);
-  whole = λ other step. absurd (none_in step.0 step.1);
+  sound = λ other there. absurd (none_in_empty other there);
+  whole = λ other step. absurd (none_in_empty step.0 step.1);
   open_are = refl;
 }
 
@@ -123,10 +113,10 @@ among_bool family class false opened closed = among_none (IsOpen family) class (
 expanded_one : (family : Family) (words : List ℕ) (class : ℕ) (numbers : List ℕ) (is_open : Bool) → IsExpanded family words class numbers is_open
     → AreExpanded family words (class ∷ []) numbers (one_if is_open)
 expanded_one family words class numbers is_open is = record {
-  sound = λ other there. (class, first_in class [], is.sound other there);
+  sound = λ other there. (class, head_in class [], is.sound other there);
   whole = λ other step. elim (cons_cases class [] step.0 step.1) [
     | inl same ↦ is.whole other (subst (λ k. Leads family k other) (sym same) step.2)
-    | inr more ↦ absurd (none_in step.0 more)
+    | inr more ↦ absurd (none_in_empty step.0 more)
   ];
   open_are = among_bool family class is_open is.opened is.closed;
 }

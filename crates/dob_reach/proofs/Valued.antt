@@ -1,12 +1,8 @@
 -- The classes that are reached by their values, one class more each time.
-use Rattle.std.proofs.Common.{◌≡◌, ℕ, ◌+◌, ◌<◌, ◌≤◌, ◌↔◌, sym, ◌∙◌, arith, List, Some, length}
-use Rattle.std.specs.Prelude.{slice_get}
-use Rattle.std.proofs.lemmas.Option.{slice_get_within}
+use Rattle.dob_reach.proofs.Common.{◌+◌, ◌<◌, ◌↔◌, ◌∙◌, ◌≡◌, ◌≤◌, List, Some, arith, length, sym, ℕ, slice_get_within, slice_get, HasJust, IsMarked}
 use Rattle.dob_value.specs.declared.value.Value.{Value}
 use Rattle.dob_value.specs.declared.value.Value.TheVariants.{Win, Loss, Draw}
 use Rattle.dob_reach.specs.declared.values.ByValue.{ByValue}
-use Rattle.dob_reach.specs.Counts.{HasJust}
-use Rattle.dob_reach.specs.Marks.{IsMarked}
 use Rattle.dob_reach.specs.Values.{AreCounted, IsDrawn, IsLost, IsWon, with_value}
 use Rattle.dob_reach.proofs.Counts.{Below, below_more, below_same, just_few, just_none, just_same}
 

@@ -17,7 +17,7 @@ use rayon::prelude::*;
 use std::alloc::Global;
 use std::thread::Threads;
 
-/// How many classes a thread expands at a time.
+// How many classes a thread expands at a time.
 const PART: usize = 4096;
 
 /// What is found of a part of the classes.

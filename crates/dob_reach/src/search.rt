@@ -16,7 +16,7 @@ use dob_pieces::{Memory, Position};
 use std::alloc::Global;
 use std::thread::Threads;
 
-/// How many parts are expanded before what they lead to is marked.
+// How many parts are expanded before what they lead to is marked.
 const WINDOW: usize = 64;
 
 /// What can be reached from a class by moves, going on from open classes alone.

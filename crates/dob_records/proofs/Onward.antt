@@ -1,22 +1,11 @@
 -- The line as far as it has come, and where it breaks off.
-use Rattle.std.proofs.Common.{◌≡◌, inl, inr, refl, subst, List, [], ◌∷◌, ◌++◌, Some, None, append-nil}
-use Rattle.dob_pieces.specs.declared.profile.Family.{Family}
-use Rattle.dob_pieces.specs.declared.setup.Setup.{Setup}
-use Rattle.dob_moves.specs.declared.game_move.Move.{Move}
-use Rattle.dob_moves.specs.Moves.{Goes}
-use Rattle.dob_moves.specs.Statuses.{CanCatch, IsFirstCatch}
-use Rattle.dob_rank.specs.Families.{IsPositionOf}
-use Rattle.dob_value.specs.declared.value.Value.{Value}
-use Rattle.dob_value.proofs.Successors.{moves_keep_the_family}
-use Rattle.dob_dbfile.specs.declared.header.Format.{Format}
-use Rattle.dob_dbfile.specs.Devices.{Stream}
+use Rattle.dob_records.proofs.Common.{◌++◌, ◌∷◌, ◌≡◌, List, None, Some, [], append-nil, inl, inr, refl, subst, Family, Setup, Goes, CanCatch, IsFirstCatch}
+use Rattle.dob_records.proofs.Common.{Move, IsPositionOf, moves_keep_the_family, Value, Stream, Format, begins_more, line_after, Begins, GoesOnTo, IsFirstTo}
+use Rattle.dob_records.proofs.Common.{IsLine, LeadsTo, value_wanted, IsRecorded, LacksRecord}
 use Rattle.dob_dbfile.specs.declared.fault.Fault as file
-use Rattle.dob_probe.specs.Lines.{Begins, GoesOnTo, IsFirstTo, IsLine, LeadsTo, value_wanted}
-use Rattle.dob_probe.proofs.Ways.{begins_more, line_after}
 use Rattle.dob_records.specs.declared.fault.Fault.{Fault}
 use Rattle.dob_records.specs.declared.fault.Fault.TheVariants.{File, Inconsistent, Memory}
 use Rattle.dob_records.specs.Faults.{IsFaultOfLine, IsGap}
-use Rattle.dob_records.specs.Records.{IsRecorded, LacksRecord}
 use Rattle.dob_records.proofs.Recorded.{one_recorded}
 
 -- the moves are a beginning of the line of p, and lead to a position with that value

@@ -1,22 +1,11 @@
 -- In the file of a table the records say what it gives: so moves and lines by the ones are those by the other.
-use Rattle.std.proofs.Common.{◌<◌, ℕ, inl, inr, subst, List, [], ◌∷◌}
-use Rattle.std.proofs.lemmas.Option.{slice_get_within}
+use Rattle.dob_records.proofs.Common.{◌<◌, ◌∷◌, List, [], inl, inr, subst, ℕ, slice_get_within, Setup, Move, ClassTable, IsTable, Value, table_has_record}
+use Rattle.dob_records.proofs.Common.{table_record, whole, Format, moves_by, valued_by, Continues, GivenBy, IsLine, LeadsTo, ValuedMove, IsRecorded}
 use Rattle.dob_pieces.specs.declared.profile.Profile.{Profile}
-use Rattle.dob_pieces.specs.declared.setup.Setup.{Setup}
-use Rattle.dob_moves.specs.declared.game_move.Move.{Move}
-use Rattle.dob_value.specs.declared.value.Value.{Value}
-use Rattle.dob_value.specs.Follows.{ClassTable, IsTable}
-use Rattle.dob_dbfile.specs.declared.header.Format.{Format}
-use Rattle.dob_dbfile.specs.Devices.{whole}
 use Rattle.dob_dbfile.specs.Faults.{CountsClasses}
 use Rattle.dob_dbfile.specs.Format.{IsFile}
-use Rattle.dob_dbfile.proofs.Looked.{table_has_record, table_record}
 use Rattle.dob_dbfile.proofs.Written.{table_classes}
-use Rattle.dob_probe.specs.declared.by_value.ValuedMove.{ValuedMove}
-use Rattle.dob_probe.specs.Lines.{Continues, GivenBy, IsLine, LeadsTo}
 use Rattle.dob_probe.specs.ValuedMoves.{AreValuedMoves}
-use Rattle.dob_probe.proofs.ByValue.{moves_by, valued_by}
-use Rattle.dob_records.specs.Records.{IsRecorded}
 
 -- where each position has the same values by two relations, lines by the one are lines by the other
 module _ (profile : Profile) (By Other : Setup → Value → Type 0) (there : (p : Setup) (v : Value) → By p v → Other p v)

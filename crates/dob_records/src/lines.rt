@@ -1,10 +1,10 @@
 // The line of a position by the records of the positions on it and of those that their moves lead to.
-ghost use Rattle.std.specs.Prelude.{◌≡◌, ◌||◌, ◌++◌, ◌∷◌, [], IfErr, IfOk, OnOk};
+ghost use Rattle.std.specs.Prelude.{◌≡◌, ◌||◌, IfErr, IfOk, OnOk};
 ghost use Rattle.dob_rank.specs.Families.{IsPositionOf};
 ghost use Rattle.dob_value.specs.Follows.{IsEntry};
 ghost use Rattle.dob_dbfile.specs.Devices.{Stream};
 ghost use Rattle.dob_moves.specs.Statuses.{CanCatch};
-ghost use Rattle.dob_probe.specs.Lines.{IsFirstTo, IsLine, value_wanted};
+ghost use Rattle.dob_probe.specs.Lines.{IsFirstTo, IsLine};
 ghost use Rattle.dob_records.specs.Faults.{IsFaultOfLine, IsGap, is_io_error};
 ghost use Rattle.dob_records.specs.Records.{IsRecorded};
 
@@ -13,7 +13,8 @@ use crate::values::{value_after, value_at};
 use dob_classes::Classes;
 use dob_dbfile::{Format, PlacedSource};
 use dob_moves::{Move, apply, first_catch, moves};
-use dob_pieces::{Memory, Position};
+use dob_pieces::Position;
+use dob_probe::{push_move, value_wanted};
 use dob_value::Value;
 use std::alloc::Global;
 
@@ -78,25 +79,6 @@ fn line_from<R: PlacedSource>(
         push_move(&mut line, the_move)?;
         position = next;
         value = wanted;
-    }
-}
-
-// Writes the move behind the others.
-fn push_move(line: &mut Vec<Move>, the_move: Move) -> Result<(), Memory>
-    ensures { OnOk result (line.new.items ≡ line.old.items ++ the_move ∷ []) }
-{
-    Ok(line.push(the_move)?)
-}
-
-// The value to which the line's next move leads from a position with that value, if there is such a move.
-fn value_wanted(value: Value) -> Option<Value>
-    requires { IsEntry value }
-    ensures { result ≡ value_wanted value }
-{
-    match value {
-        Value::Win(plies) => Some(Value::Loss(plies - 1)),
-        Value::Loss(0) | Value::Draw => None,
-        Value::Loss(plies) => Some(Value::Win(plies - 1)),
     }
 }
 

@@ -1,6 +1,5 @@
 -- The events keep lawful states lawful.
-use Rattle.std.proofs.Common.{◌≡◌, ℕ, zero, suc, ◌+◌, ◌-◌, ◌*◌, ◌^◌, ◌<◌, ◌≤◌, Bool, true, false, cond, eqb, refl, ap, sym, ◌∙◌, arith, inl, inr}
-use Rattle.std.proofs.Common.{⊎_elim, subst}
+use Rattle.std.proofs.Common.{◌≡◌, ℕ, zero, suc, ◌+◌, ◌-◌, ◌*◌, ◌^◌, ◌<◌, ◌≤◌, Bool, true, false, cond, eqb, refl, ap, sym, ◌∙◌, arith, inl, inr, ⊎_elim, subst}
 use Rattle.std.proofs.Math.IntN.{ℤ, pos, ◌+ℤ◌, neg_ℤ}
 use Rattle.std.specs.Prelude.{◌≤ℤ◌}
 use Rattle.std.proofs.lemmas.Int.{ints}
@@ -10,8 +9,8 @@ use Rattle.dob_safra.specs.declared.token.Token.{Token}
 use Rattle.dob_safra.specs.declared.event.RingEvent.{RingEvent}
 use Rattle.dob_safra.specs.declared.event.RingEvent.TheVariants.{Post, Take, Pass, Announce}
 use Rattle.dob_safra.specs.Tokens.{passed_on, new_probe}
-use Rattle.dob_safra.specs.Rings.{Ring, sum_below, counter, counters_below, in_flight, Reason, counted, positive, black_node, black_token, IsLawfulRing, AllWhite}
-use Rattle.dob_safra.specs.Rings.{Raises, CountsStay, ColoursStay, Colours, Posts, Takes, Passes, Announces, Moved}
+use Rattle.dob_safra.specs.Rings.{Ring, sum_below, counter, counters_below, in_flight, Reason, counted, positive, black_node, black_token, IsLawfulRing}
+use Rattle.dob_safra.specs.Rings.{AllWhite, Raises, CountsStay, ColoursStay, Colours, Posts, Takes, Passes, Announces, Moved}
 use Rattle.dob_safra.specs.Laws.{IsSize, HasFew, IsRingQuiet, Fits}
 use Rattle.dob_safra.proofs.Counts.{flipped, posted_below, taken_below, counters_are, rows_stay, flipped_stay, rows_before, rows_raised, flipped_raises}
 use Rattle.dob_safra.proofs.Counts.{flight_is, flight_at_least, posted_bound, taken_bound}

@@ -1,16 +1,10 @@
 -- The letters of a hand: three runs, one after another.
-use Rattle.std.proofs.Common.{◌≡◌, ◌≢◌, ◌==◌, ◌<◌, ◌≤◌, ◌+◌, ◌-◌, ℕ, suc, zero, true, List, [], ◌∷◌, ◌++◌, length, get_or, take, drop}
-use Rattle.std.proofs.Common.{replicate, refl, sym, ap, ◌∙◌, inl, inr, ◌⊎◌, subst, arith, append_assoc, length-append}
-use Rattle.std.specs.List.{prefix_len}
-use Rattle.std.proofs.lemmas.List.{drop_at, get_or-take, get_or-replicate, length-replicate, length-take-le, get_or_append_left}
-use Rattle.std.proofs.lemmas.List.{get_or-append_right, ext_get_or, take-append-drop, append-nil, take_all}
+use Rattle.dob_text.proofs.Common.{◌++◌, ◌+◌, ◌-◌, ◌<◌, ◌==◌, ◌∙◌, ◌∷◌, ◌≡◌, ◌≢◌, ◌≤◌, ◌⊎◌, List, [], ap, append_assoc, arith, drop, get_or, inl, inr, length}
+use Rattle.dob_text.proofs.Common.{length-append, refl, replicate, subst, suc, sym, take, true, zero, ℕ, append-nil, get_or_append_left, take-append-drop}
+use Rattle.dob_text.proofs.Common.{prefix_len, Hand, Side, Enemy, Mover, cased, hand_letters, hand_text, or_dash}
+use Rattle.std.proofs.lemmas.List.{drop_at, get_or-take, get_or-replicate, length-replicate, length-take-le, get_or-append_right, ext_get_or, take_all}
 use Rattle.std.proofs.lemmas.List.Sums.{prefix_len_is, prefix_len_passes, prefix_len-le-length}
 use Rattle.std.proofs.lemmas.Bool.Decides.{nat_tests}
-use Rattle.dob_pieces.specs.declared.hand.Hand.{Hand}
-use Rattle.dob_pieces.specs.declared.kind.Side.{Side}
-use Rattle.dob_pieces.specs.declared.kind.Side.TheVariants.{Mover, Enemy}
-use Rattle.dob_text.specs.Letters.{cased}
-use Rattle.dob_text.specs.PositionText.{hand_letters, or_dash, hand_text}
 
 -- how many times a list begins with a letter
 abbrev pub front : ℕ → List ℕ → ℕ

@@ -1,15 +1,8 @@
 -- The text of a board stands for one board.
-use Rattle.std.proofs.Common.{if◌then◌else◌, nat_lt, ◌==◌, ◌≡◌, ◌≢◌, ◌<◌, ◌%◌, ◌↔◌, ◌-◌, ℕ, suc, zero, List, [], ◌∷◌, length, get_or, All}
-use Rattle.std.proofs.Common.{Some, None, refl, sym, ap, ◌∙◌, arith}
-use Rattle.std.proofs.lemmas.List.Elements.{All-from_get_or}
+use Rattle.dob_text.proofs.Common.{if◌then◌else◌, ◌%◌, ◌-◌, ◌<◌, ◌==◌, ◌↔◌, ◌∙◌, ◌∷◌, ◌≡◌, ◌≢◌, All, List, None, Some, [], ap, arith, get_or, length, nat_lt}
+use Rattle.dob_text.proofs.Common.{refl, suc, sym, zero, ℕ, All-from_get_or, Cell, Chick, Elephant, Giraffe, Hen, Lion, Side, Enemy, Mover, cased, letter_of}
+use Rattle.dob_text.proofs.Common.{letter_of_kind, HasLetters, IsBoardLetter, IsGrid, board_text, letter_place}
 use Rattle.dob_pieces.specs.declared.kind.Kind.{Kind}
-use Rattle.dob_pieces.specs.declared.kind.Kind.TheVariants.{Lion, Giraffe, Elephant, Chick, Hen}
-use Rattle.dob_pieces.specs.declared.kind.Side.{Side}
-use Rattle.dob_pieces.specs.declared.kind.Side.TheVariants.{Mover, Enemy}
-use Rattle.dob_pieces.specs.Setups.{Cell}
-use Rattle.dob_text.specs.Letters.{letter_of_kind, cased, letter_of}
-use Rattle.dob_text.specs.PositionText.{board_text, IsGrid, IsBoardLetter, HasLetters}
-use Rattle.dob_text.specs.Readings.{letter_place}
 use Rattle.dob_text.proofs.Plain.{IsPlain, letter_plain, letter_known}
 
 -- a fact of each number below 15

@@ -1,4 +1,5 @@
 -- The lemmas, in the order in which they are read.
+mod Common  -- names of other crates and of this one's definitions, for the proofs
 pub mod Splits  -- a text is joined from its parts in one way
 pub mod Plain  -- letters are neither slash nor space
 pub mod Grids  -- the text of a board stands for one board

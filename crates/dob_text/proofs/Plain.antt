@@ -1,14 +1,7 @@
 -- The letters of boards and hands are ASCII, and neither slash nor space.
-use Rattle.std.proofs.Common.{◌≢◌, ◌<◌, ℕ, List, [], ◌∷◌, length, All, Some, None, refl, arith}
-use Rattle.std.proofs.lemmas.List.Elements.{All-append, All-replicate}
+use Rattle.dob_text.proofs.Common.{◌<◌, ◌∷◌, ◌≢◌, All, List, None, Some, [], arith, length, refl, ℕ, All-append, All-replicate, Cell, Hand, Chick, Elephant}
+use Rattle.dob_text.proofs.Common.{Giraffe, Hen, Lion, Side, Enemy, Mover, cased, letter_of, letter_of_kind, IsBoardLetter, hand_letters, hand_text, or_dash}
 use Rattle.dob_pieces.specs.declared.kind.Kind.{Kind}
-use Rattle.dob_pieces.specs.declared.kind.Kind.TheVariants.{Lion, Giraffe, Elephant, Chick, Hen}
-use Rattle.dob_pieces.specs.declared.kind.Side.{Side}
-use Rattle.dob_pieces.specs.declared.kind.Side.TheVariants.{Mover, Enemy}
-use Rattle.dob_pieces.specs.declared.hand.Hand.{Hand}
-use Rattle.dob_pieces.specs.Setups.{Cell}
-use Rattle.dob_text.specs.Letters.{letter_of_kind, cased, letter_of}
-use Rattle.dob_text.specs.PositionText.{hand_letters, or_dash, hand_text, IsBoardLetter}
 
 -- a byte below 128 that is neither slash nor space
 pub record IsPlain (byte : ℕ) : Type 0 where

@@ -1,13 +1,12 @@
 -- A text is joined from its parts in one way.
-use Rattle.std.proofs.Common.{◌≡◌, ◌≢◌, ◌<◌, ◌≤◌, ◌+◌, ℕ, List, [], ◌∷◌, ◌++◌, length, get_or, take, drop, All, Some, None, true, false}
-use Rattle.std.proofs.Common.{refl, sym, subst, ap, ◌∙◌, arith, append_assoc, length-append}
-use Rattle.std.specs.List.{position, position_or_len, before_first, after_first}
-use Rattle.std.proofs.lemmas.List.{take_at, drop_at, get_or_at, get_or_append_left, take-append-drop, drop_more}
+use Rattle.dob_text.proofs.Common.{◌++◌, ◌+◌, ◌<◌, ◌∙◌, ◌∷◌, ◌≡◌, ◌≢◌, ◌≤◌, All, List, None, Some, [], ap, append_assoc, arith, drop, false, get_or, length}
+use Rattle.dob_text.proofs.Common.{length-append, refl, subst, sym, take, true, ℕ, get_or_append_left, take-append-drop, after_first, before_first, position}
+use Rattle.dob_text.proofs.Common.{position_or_len, AreParts, AreTwoWords, HasShape, IsWord, is_space}
+use Rattle.std.proofs.lemmas.List.{take_at, drop_at, get_or_at, drop_more}
 use Rattle.std.proofs.lemmas.List.Quantifiers.{position-Some}
 use Rattle.std.proofs.lemmas.List.Sums.{position_or_len_is}
 use Rattle.std.proofs.lemmas.Bool.Decides.{nat_tests}
 use Rattle.dob_pieces.proofs.Lists.{append-same}
-use Rattle.dob_text.specs.PositionText.{is_space, IsWord, AreTwoWords, AreParts, HasShape}
 
 -- the first space stands behind a front that has none
 pub space_at : (a x : List ℕ) → All (λ byte. byte ≢ 32) a → position_or_len is_space (a ++ 32 ∷ x) ≡ length a

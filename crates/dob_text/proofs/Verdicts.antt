@@ -1,17 +1,13 @@
 -- A text has one fault at most, and none where a position's text is.
-use Rattle.std.proofs.Common.{◌≡◌, ◌<◌, ◌≤◌, ◌↔◌, ℕ, List, Result, Ok, Err, refl, sym, subst, ap, ◌∙◌, arith, inl, inr}
+use Rattle.dob_text.proofs.Common.{◌<◌, ◌↔◌, ◌∙◌, ◌≡◌, ◌≤◌, Err, List, Ok, Result, ap, arith, inl, inr, refl, subst, sym, ℕ, cases_lt, IsAllowed, Setup, Spells}
+use Rattle.dob_text.proofs.Common.{text_of, capped_setup}
 use Rattle.std.specs.Result.{MatchResult, IsErrOf, IfOk, IsOkAnd}
-use Rattle.std.proofs.lemmas.Bool.{cases_lt}
 use Rattle.dob_pieces.specs.declared.kind.HandKind.TheVariants as kind
 use Rattle.dob_pieces.specs.declared.profile.Profile.{Profile}
-use Rattle.dob_pieces.specs.declared.setup.Setup.{Setup}
 use Rattle.dob_pieces.specs.declared.position.Position.{Position}
-use Rattle.dob_pieces.specs.Profiles.{IsAllowed}
 use Rattle.dob_pieces.specs.Setups.{total, HasLions, HasFewPieces, HasLionOffFarRow, IsLegal}
 use Rattle.dob_text.specs.declared.fault.TextFault.{TextFault}
 use Rattle.dob_text.specs.declared.fault.TextFault.TheVariants as fault
-use Rattle.dob_text.specs.PositionText.{Spells, text_of}
-use Rattle.dob_text.specs.Readings.{capped_setup}
 use Rattle.dob_text.specs.Faults.{HasTextFault, HasSetupFault}
 use Rattle.dob_text.proofs.Fronts.{same_hand}
 use Rattle.dob_text.proofs.Whole.{spelled_shape, spelled_letters, spelled_hands, same_spelled, same_setup}

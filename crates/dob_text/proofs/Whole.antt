@@ -1,15 +1,9 @@
 -- What a text spells: it has the form, and is the text of one setup.
-use Rattle.std.proofs.Common.{◌≡◌, ◌≢◌, ◌<◌, ℕ, List, ◌∷◌, ◌++◌, length, get_or, All, refl, sym, subst, ap, ◌∙◌, arith, append_assoc}
+use Rattle.dob_text.proofs.Common.{◌++◌, ◌<◌, ◌∙◌, ◌∷◌, ◌≡◌, ◌≢◌, All, List, ap, append_assoc, arith, get_or, length, refl, subst, sym, ℕ, get_or_append_left}
+use Rattle.dob_text.proofs.Common.{All-append, All-cons, All-weaker, Cell, Hand, Side, Enemy, Mover, Setup, AreParts, HasHands, HasLetters, HasShape}
+use Rattle.dob_text.proofs.Common.{IsBoardLetter, IsWord, Spells, board_text, hand_text, text_of}
 use Rattle.std.specs.Str.{IsAscii}
 use Rattle.std.proofs.lemmas.Str.Ascii.{IsAscii-from_all}
-use Rattle.std.proofs.lemmas.List.{get_or_append_left}
-use Rattle.std.proofs.lemmas.List.Elements.{All-append, All-cons, All-weaker}
-use Rattle.dob_pieces.specs.declared.hand.Hand.{Hand}
-use Rattle.dob_pieces.specs.declared.kind.Side.{Side}
-use Rattle.dob_pieces.specs.declared.kind.Side.TheVariants.{Mover, Enemy}
-use Rattle.dob_pieces.specs.declared.setup.Setup.{Setup}
-use Rattle.dob_pieces.specs.Setups.{Cell}
-use Rattle.dob_text.specs.PositionText.{board_text, hand_text, text_of, IsWord, IsBoardLetter, AreParts, HasShape, HasLetters, HasHands, Spells}
 use Rattle.dob_text.proofs.Plain.{IsPlain, hand_plain, hand_filled}
 use Rattle.dob_text.proofs.Grids.{same_board, board_grid, board_ascii, board_letters}
 use Rattle.dob_text.proofs.Fronts.{same_hand_text}

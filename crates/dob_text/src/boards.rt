@@ -6,7 +6,7 @@ ghost use Rattle.dob_text.specs.Readings.{letter_place};
 
 use dob_pieces::{Kind, Piece, Side, Square};
 
-/// What a letter of the board stands for.
+// What a letter of the board stands for.
 fn cell_of(letter: u8) -> Option<Option<Piece>>
     ensures { MatchOption result (¬ IsBoardLetter letter) (λ cell. letter ≡ letter_of cell) }
 {
@@ -27,7 +27,7 @@ fn cell_of(letter: u8) -> Option<Option<Piece>>
     Some(Some(Piece { side, kind }))
 }
 
-/// Where the square's letter stands in the text.
+// Where the square's letter stands in the text.
 fn place_of(square: usize) -> usize
     requires { square < 12 }
     ensures value { result ≡ letter_place square }

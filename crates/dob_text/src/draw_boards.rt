@@ -10,13 +10,13 @@ use crate::write_positions::push_letters;
 use dob_pieces::{Hand, Memory, Piece, Position, Side, Square};
 use std::alloc::{AllocError, Global};
 
-/// The line above each row, and below the last one.
+// The line above each row, and below the last one.
 const BORDER: &str = "   +---+---+---+\n";
 
-/// The names of the columns, each in the middle of its cells.
+// The names of the columns, each in the middle of its cells.
 const COLUMNS: &str = "     a   b   c\n";
 
-/// What the letters are.
+// What the letters are.
 const LETTERS: &str = "L lion, G giraffe, E elephant, C chick, H hen\n";
 
 // The letter of what stands on a square, a space if nothing does.

@@ -8,7 +8,7 @@ ghost use Rattle.dob_text.specs.Readings.{capped};
 use crate::letters::piece_letter;
 use dob_pieces::{Hand, Kind, Side};
 
-/// How many times the bytes begin with the letter.
+// How many times the bytes begin with the letter.
 fn front_len(bytes: &[u8], letter: u8) -> usize
     ensures value { result ≡ prefix_len (λ byte. byte == letter) bytes.now }
     ensures bound { result ≤ length bytes.now }
@@ -21,7 +21,7 @@ fn front_len(bytes: &[u8], letter: u8) -> usize
     bytes.len()
 }
 
-/// The count, or 255 if it is more.
+// The count, or 255 if it is more.
 fn capped_count(count: usize) -> u8
     ensures { result ≡ min count 255 }
 {

@@ -2,7 +2,7 @@
 ghost use Rattle.std.specs.Prelude.{◌≡◌, ◌↔◌, ℕ, List, length, position, MatchOption, IsTrue, IsAscii};
 ghost use Rattle.dob_text.specs.PositionText.{is_space, IsWord, IsGrid, AreTwoWords, AreParts, HasShape};
 
-/// How many bytes the board takes.
+// How many bytes the board takes.
 const GRID_LEN: usize = 15;
 
 /// The parts of a text, none with a space.
@@ -13,7 +13,7 @@ pub(crate) struct Parts<'a> {
     pub(crate) enemy: &'a [u8],
 }
 
-/// Whether these fifteen bytes have slashes at 3, 7 and 11, no other slash, and no space.
+// Whether these fifteen bytes have slashes at 3, 7 and 11, no other slash, and no space.
 fn is_grid(grid: &[u8]) -> bool
     requires { length grid.now ≡ 15 }
     ensures { IsTrue result ↔ IsGrid grid.now }
@@ -21,21 +21,21 @@ fn is_grid(grid: &[u8]) -> bool
     grid.iter().enumerate().all(|(i, byte)| *byte != b' ' && (*byte == b'/') == (i % 4 == 3))
 }
 
-/// Whether there are bytes, and none is a space.
+// Whether there are bytes, and none is a space.
 fn is_word(word: &[u8]) -> bool
     ensures { IsTrue result ↔ IsWord word.now }
 {
     !word.is_empty() && word.iter().all(|byte| *byte != b' ')
 }
 
-/// The place of the first space.
+// The place of the first space.
 fn first_space(text: &[u8]) -> Option<usize>
     ensures { result ≡ position is_space text.now }
 {
     text.iter().position(|byte| *byte == b' ')
 }
 
-/// The two words of a text that is two words with a space between them.
+// The two words of a text that is two words with a space between them.
 fn words_of(text: &[u8]) -> Option<(&[u8], &[u8])>
     ensures { MatchOption result
         ((mover enemy : List ℕ) → ¬ AreTwoWords text.now mover enemy)

@@ -8,8 +8,8 @@ ghost use Rattle.dob_text.specs.Pictures.{turn_text, use_line};
 use dob_pieces::{Hand, Kind, Memory, Piece, Position, Side, Square};
 use std::alloc::{AllocError, Global};
 
-/// The pieces, each round its own centre and seen from its own side, with a red dot for each step and its letter; below the
-/// pieces the board with the names of its rows and columns, and whose hand is which.
+// The pieces, each round its own centre and seen from its own side, with a red dot for each step and its letter; below the
+// pieces the board with the names of its rows and columns, and whose hand is which.
 const BACKGROUND: &str =
     "<svg xmlns='http://www.w3.org/2000/svg' viewBox='0 0 760 480' font-family='sans-serif' font-size='20' text-anchor='middle'>
 <defs>

@@ -11,7 +11,7 @@ use crate::fault::TextFault;
 use crate::setups::read_setup;
 use dob_pieces::{Position, PositionFault, Profile, Setup};
 
-/// The position of a setup, one of that profile.
+// The position of a setup, one of that profile.
 fn position_of(profile: Profile, setup: Setup) -> Result<Position, TextFault>
     ensures { MatchResult result
         (λ position. IsLegal setup × IsAllowed profile setup × (position.setup ≡ setup))

@@ -9,21 +9,21 @@ use dob_moves::Move;
 use dob_pieces::{Memory, Side, Square};
 use std::alloc::{AllocError, Global};
 
-/// Whose move it is, seen from the side to move in the first position.
+// Whose move it is, seen from the side to move in the first position.
 fn mover_side(second: bool) -> Side
     ensures { result ≡ side_of second }
 {
     if second { Side::Enemy } else { Side::Mover }
 }
 
-/// The square as the side to move in the first position sees it.
+// The square as the side to move in the first position sees it.
 fn seen_square(second: bool, square: Square) -> Square
     ensures { result ≡ seen second square }
 {
     if second { square.turned() } else { square }
 }
 
-/// Writes the square's name at the end.
+// Writes the square's name at the end.
 fn push_square(text: &mut String, square: Square) -> Result<(), AllocError>
     ensures { OnOk result (string_bytes text.new ≡ string_bytes text.old ++ square_text square) }
 {
@@ -31,7 +31,7 @@ fn push_square(text: &mut String, square: Square) -> Result<(), AllocError>
     push_byte(text, b'1' + square.row() as u8)
 }
 
-/// Writes the move at the end.
+// Writes the move at the end.
 fn push_move(text: &mut String, the_move: Move, second: bool) -> Result<(), AllocError>
     ensures { OnOk result (string_bytes text.new ≡ string_bytes text.old ++ move_text the_move second) }
 {

@@ -8,7 +8,7 @@ use crate::pushes::{push_byte, push_times};
 use dob_pieces::{Hand, Kind, Memory, Piece, Position, Side, Square};
 use std::alloc::{AllocError, Global};
 
-/// Writes the letters of a row at the end, from its first square on.
+// Writes the letters of a row at the end, from its first square on.
 fn push_row(
     text: &mut String,
     board: &[Option<Piece>; Square::COUNT],
@@ -22,7 +22,7 @@ fn push_row(
     push_byte(text, cell_letter(board[square + 2]))
 }
 
-/// Writes the rows at the end, row 4 first.
+// Writes the rows at the end, row 4 first.
 fn push_board(text: &mut String, board: &[Option<Piece>; Square::COUNT]) -> Result<(), AllocError>
     ensures { OnOk result (string_bytes text.new ≡ string_bytes text.old ++ board_text board.now) }
 {
@@ -44,7 +44,7 @@ pub(crate) fn push_letters(text: &mut String, side: Side, hand: Hand) -> Result<
     push_times(text, piece_letter(side, Kind::Giraffe), hand.giraffes)
 }
 
-/// Writes a hand at the end, a dash for an empty one.
+// Writes a hand at the end, a dash for an empty one.
 fn push_hand(text: &mut String, side: Side, hand: Hand) -> Result<(), AllocError>
     ensures { OnOk result (string_bytes text.new ≡ string_bytes text.old ++ hand_text side hand) }
 {

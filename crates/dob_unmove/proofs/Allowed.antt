@@ -1,22 +1,9 @@
 -- Taking a move back leads to a setup that the profile allows just where the piece that was caught may stand again.
-use Rattle.std.proofs.Common.{◌≡◌, ℕ, ◌<◌, Bool, true, not, if◌then◌else◌, Some, None, length, set, refl, sym, ap, ◌∙◌, arith}
-use Rattle.std.proofs.lemmas.List.{length-set}
-use Rattle.dob_pieces.specs.declared.kind.Kind.{Kind}
-use Rattle.dob_pieces.specs.declared.kind.Kind.TheVariants.{Lion, Giraffe, Elephant, Chick, Hen}
-use Rattle.dob_pieces.specs.declared.kind.Side.TheVariants.{Mover}
-use Rattle.dob_pieces.specs.declared.profile.Profile.{Profile}
-use Rattle.dob_pieces.specs.declared.profile.Profile.TheVariants.{A, B}
-use Rattle.dob_pieces.specs.declared.setup.Setup.{Setup}
-use Rattle.dob_pieces.specs.Pieces.{leads, kind_on_board}
-use Rattle.dob_pieces.specs.Profiles.{may_stand, is_far, IsAllowed}
-use Rattle.dob_pieces.specs.Setups.{piece_of, turned}
+use Rattle.dob_unmove.proofs.Common.{if◌then◌else◌, ◌<◌, ◌∙◌, ◌≡◌, Bool, None, Some, ap, arith, length, not, refl, set, sym, true, ℕ, length-set, all_below}
+use Rattle.dob_unmove.proofs.Common.{all_below-at, leads-to_board, length-turned, within-from_piece, kind_on_board, leads, IsAllowed, is_far, may_stand}
+use Rattle.dob_unmove.proofs.Common.{piece_of, turned, row, Kind, Chick, Elephant, Giraffe, Hen, Lion, Mover, Profile, A, B, Setup, Stand, none_stands}
+use Rattle.dob_unmove.proofs.Common.{stand-set, CanUndo, earlier, enemy_cell, may_give_back, Undo, Unput, Unstep}
 use Rattle.dob_pieces.proofs.Allowed.{stands-from_allowed, allowed-from_stands, IsAllowed-turned}
-use Rattle.dob_pieces.proofs.Boards.{all_below, all_below-at, length-turned, leads-to_board, within-from_piece}
-use Rattle.dob_pieces.specs.Squares.{row}
-use Rattle.dob_moves.proofs.Kept.{Stand, stand-set, none_stands}
-use Rattle.dob_unmove.specs.declared.undo.Undo.{Undo}
-use Rattle.dob_unmove.specs.declared.undo.Undo.TheVariants.{Unstep, Unput}
-use Rattle.dob_unmove.specs.Undoes.{enemy_cell, may_give_back, earlier, CanUndo}
 use Rattle.dob_unmove.proofs.Undone.{at_to}
 
 -- a chick that steps comes from below its far row

@@ -1,13 +1,9 @@
 -- Ascending lists of numbers: they are distinguished by how often each number stands in them.
-use Rattle.std.proofs.Common.{◌≡◌, ℕ, zero, suc, ◌+◌, ◌*◌, ◌<◌, ◌≤◌, ◌==◌, Bool, cond, List, [], ◌∷◌, refl, sym, ap, ◌∙◌, subst, inl, inr, arith, All, AllPairs}
+use Rattle.dob_unmove.proofs.Common.{◌*◌, ◌+◌, ◌<◌, ◌==◌, ◌∙◌, ◌∷◌, ◌≡◌, ◌≤◌, All, AllPairs, Bool, List, [], ap, arith, cond, inl, inr, refl, subst, suc, sym}
+use Rattle.dob_unmove.proofs.Common.{zero, ℕ, cases_eq, cases_order, eq-eqb, ne_eqb, All-append, All-cons, All-contains, All-head, All-nil, All-replicate}
+use Rattle.dob_unmove.proofs.Common.{All-tail, All-weaker, sum_by-append, sum_by-cons, count_by, each_below, pairs-head, pairs-tail}
 use Rattle.std.specs.Prelude.{replicate}
-use Rattle.std.specs.List.{count_by}
-use Rattle.std.proofs.lemmas.Bool.{cases_eq, cases_order, eq-eqb, ne_eqb}
-use Rattle.std.proofs.lemmas.List.Elements.{All-nil, All-cons, All-head, All-tail, All-append, All-contains, All-replicate, All-weaker}
-use Rattle.std.proofs.lemmas.List.Sums.{sum_by-cons, sum_by-append}
 use Rattle.std.proofs.lemmas.List.Folds.{sum_by-replicate}
-use Rattle.dob_pieces.specs.Lists.{each_below}
-use Rattle.dob_classes.proofs.OfFamilies.Counted.{pairs-head, pairs-tail}
 use Rattle.dob_unmove.proofs.Counting.{pairs-append}
 
 -- how often the number stands in the list

@@ -1,21 +1,8 @@
 -- Sets of squares when a move is taken back.
-use Rattle.std.proofs.Common.{◌≡◌, ◌≢◌, ℕ, ◌<◌, Option, None, Some, length, sym, ap, ◌∙◌, arith}
-use Rattle.std.proofs.lemmas.List.{length-set, get_or-set_same, get_or-set_other}
-use Rattle.dob_pieces.specs.declared.hand.Hand.{Hand}
-use Rattle.dob_pieces.specs.declared.hand.Hands.{Hands}
-use Rattle.dob_pieces.specs.declared.kind.Kind.{Kind}
-use Rattle.dob_pieces.specs.declared.kind.HandKind.{HandKind}
-use Rattle.dob_pieces.specs.declared.kind.Side.TheVariants.{Mover}
-use Rattle.dob_pieces.specs.declared.setup.Setup.{Setup}
-use Rattle.dob_pieces.specs.Setups.{Cell, at, piece_of, with_one_more}
-use Rattle.dob_pieces.specs.Pieces.{kind_on_board}
-use Rattle.dob_pieces.proofs.Boards.{within-from_piece}
-use Rattle.dob_classes.specs.declared.bits.bitboards.Bitboards.{Bitboards}
-use Rattle.dob_classes.specs.Bitboards.{AreBitboards}
-use Rattle.dob_unmove.specs.declared.undo.Undo.TheVariants.{Unstep, Unput}
-use Rattle.dob_classes.specs.Changes.{IsWith}
-use Rattle.dob_unmove.specs.Undoes.{CanUnstep, CanUndo, earlier, enemy_cell, without_caught}
-use Rattle.dob_classes.proofs.SquareSets.BitChanges.{with_cell, with_cells, with_one, with_hands}
+use Rattle.dob_unmove.proofs.Common.{◌<◌, ◌∙◌, ◌≡◌, ◌≢◌, None, Option, Some, ap, arith, length, sym, ℕ, get_or-set_other, get_or-set_same, length-set}
+use Rattle.dob_unmove.proofs.Common.{within-from_piece, kind_on_board, Cell, at, piece_of, with_one_more, Hand, Hands, HandKind, Kind, Mover, Setup, with_cell}
+use Rattle.dob_unmove.proofs.Common.{with_cells, with_hands, with_one, AreBitboards, IsWith, Bitboards, CanUndo, CanUnstep, earlier, enemy_cell, without_caught}
+use Rattle.dob_unmove.proofs.Common.{Unput, Unstep}
 
 -- a square on which nothing stands isn't one with a piece
 apart : (s : Setup) (from to : ℕ) (kind : Kind) → at s from ≡ None → at s to ≡ Some (piece_of Mover kind) → from ≢ to

@@ -1,12 +1,7 @@
 -- The classes of a family have one number each.
-use Rattle.std.proofs.Common.{ℕ, Option, Some, None}
-use Rattle.std.specs.Option.{MatchOption}
-use Rattle.dob_pieces.specs.declared.profile.Family.{Family}
-use Rattle.dob_pieces.specs.declared.setup.Setup.{Setup}
-use Rattle.dob_rank.specs.Order.{IsFirstOfTwo}
-use Rattle.dob_rank.specs.Families.{IsPositionOf, HasClass, RepresentsClass}
+use Rattle.dob_unmove.proofs.Common.{None, Option, Some, ℕ, MatchOption, Family, Setup, IsPositionOf, IsFirstOfTwo, IsNumbering}
+use Rattle.dob_rank.specs.Families.{HasClass, RepresentsClass}
 use Rattle.dob_classes.proofs.OfFamilies.FamilyRepresentatives.{one_of_either, one_number, one_representative}
-use Rattle.dob_unmove.specs.Unmoves.{IsNumbering}
 
 pub IsNumbering-classes : (family : Family) → IsNumbering (RepresentsClass family)
 IsNumbering-classes family = record {

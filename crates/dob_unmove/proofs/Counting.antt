@@ -1,29 +1,12 @@
 -- The numbers gathered from all ways count the moves that lead into a class.
-use Rattle.std.proofs.Common.{◌≡◌, ◌≢◌, ℕ, ◌+◌, ◌-◌, ◌<◌, ◌≤◌, ◌==◌, Bool, cond, List, [], ◌∷◌, ◌++◌, Option, Some, None, length, get_or, refl, sym, ap, ◌∙◌}
-use Rattle.std.proofs.Common.{subst, inl, inr, arith, All, AllPairs, Contains, option_to_list, length-append}
-use Rattle.std.specs.List.{count_by}
-use Rattle.std.proofs.lemmas.Bool.{cases_lt, cases_eq, eq-eqb, ne_eqb}
+use Rattle.dob_unmove.proofs.Common.{◌++◌, ◌+◌, ◌-◌, ◌<◌, ◌==◌, ◌∙◌, ◌∷◌, ◌≡◌, ◌≢◌, ◌≤◌, All, AllPairs, Bool, Contains, List, None, Option, Some, [], ap, arith}
+use Rattle.dob_unmove.proofs.Common.{cond, get_or, inl, inr, length, length-append, option_to_list, refl, subst, sym, ℕ, cases_eq, cases_lt, eq-eqb, ne_eqb}
+use Rattle.dob_unmove.proofs.Common.{All-contains, All-head, All-nil, All-push, All-tail, Contains-append_cases, Contains-append_left, Contains-append_right}
+use Rattle.dob_unmove.proofs.Common.{AllPairs-cons, sum_by_push, count_by, length-mirrored, length-turned, cons_cases, mirrored, turned, A, Setup}
+use Rattle.dob_unmove.proofs.Common.{HasOutcome-is, HasOutcome, HasStatus, Move, Open, Adds, Finds, Gathers, IsOpenRepresentative, CanUndo, choice, earlier}
+use Rattle.dob_unmove.proofs.Common.{CountEdges, HasEdges, IsNumbering, TakesAll, undoes, Undo}
 use Rattle.std.proofs.lemmas.List.{append-nil, get_or_append_left, get_or-append_right, get_or_default}
-use Rattle.std.proofs.lemmas.List.Elements.{Contains-append_left, Contains-append_right, Contains-append_cases, All-contains, All-push, All-tail, All-head}
-use Rattle.std.proofs.lemmas.List.Elements.{All-nil}
-use Rattle.std.proofs.lemmas.List.Kept.{AllPairs-cons}
-use Rattle.std.proofs.lemmas.List.Sums.{sum_by_push}
-use Rattle.dob_pieces.specs.declared.profile.Profile.TheVariants.{A}
-use Rattle.dob_pieces.specs.declared.setup.Setup.{Setup}
-use Rattle.dob_pieces.specs.Setups.{turned, mirrored}
-use Rattle.dob_pieces.proofs.Lists.{cons_cases}
 pub use Rattle.dob_classes.proofs.OfFamilies.Counted.{pairs-head, pairs-tail}
-use Rattle.dob_pieces.proofs.Boards.{length-turned, length-mirrored}
-use Rattle.dob_moves.specs.declared.game_move.Move.{Move}
-use Rattle.dob_moves.specs.declared.position_status.Status.TheVariants.{Open}
-use Rattle.dob_moves.specs.Moves.{HasOutcome}
-use Rattle.dob_moves.specs.Statuses.{HasStatus}
-use Rattle.dob_moves.proofs.Outcomes.{HasOutcome-is}
-use Rattle.dob_unmove.specs.declared.undo.Undo.{Undo}
-use Rattle.dob_unmove.specs.Undoes.{choice, earlier, CanUndo}
-use Rattle.dob_unmove.specs.Walks.{TakesAll, undoes}
-use Rattle.dob_unmove.specs.Unmoves.{HasEdges, CountEdges, IsNumbering}
-use Rattle.dob_unmove.specs.Gathers.{IsOpenRepresentative, Finds, Adds, Gathers}
 use Rattle.dob_unmove.proofs.Undone.{HasOutcome-from_undo, undo_from_HasOutcome, same_undo}
 use Rattle.dob_unmove.proofs.Listed.{undoes_sound, undoes_whole}
 use Rattle.dob_unmove.proofs.Once.{undoes_once}

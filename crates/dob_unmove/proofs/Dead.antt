@@ -1,38 +1,18 @@
 -- Ways that lead back to no open representative: where a piece attacked the enemy lion before, or the mover's lion wasn't at home.
-use Rattle.std.proofs.Common.{◌≡◌, ◌≢◌, ℕ, ◌<◌, ◌&&◌, ◌||◌, ◌⊎◌, if◌then◌else◌, not, Bool, true, false, true≢false, cond, List, [], ◌∷◌, Option, Some, None}
-use Rattle.std.proofs.Common.{refl, sym, ap, ◌∙◌, subst, inl, inr, arith}
-use Rattle.std.specs.Int.{trailing_zeros, w16}
-use Rattle.std.specs.Option.{is_some}
-use Rattle.std.proofs.lemmas.Bool.{and_parts, cases_Bool, not-true}
-use Rattle.dob_pieces.specs.declared.profile.Family.{Family}
-use Rattle.dob_pieces.specs.declared.kind.Kind.{Kind}
-use Rattle.dob_pieces.specs.declared.kind.Kind.TheVariants.{Lion, Giraffe, Elephant, Chick, Hen}
-use Rattle.dob_pieces.specs.declared.kind.Side.TheVariants.{Mover, Enemy}
-use Rattle.dob_pieces.specs.declared.setup.Setup.{Setup}
-use Rattle.dob_pieces.specs.Pieces.{leads}
-use Rattle.dob_pieces.specs.Setups.{Cell, at, piece_of, IsLegal}
-use Rattle.dob_pieces.specs.Masks.{is_own, is_empty, is_piece}
-use Rattle.dob_pieces.proofs.Attacks.{lion_at}
-use Rattle.dob_pieces.proofs.Boards.{within-from_piece}
+use Rattle.dob_unmove.proofs.Common.{if◌then◌else◌, ◌&&◌, ◌<◌, ◌||◌, ◌∙◌, ◌∷◌, ◌≡◌, ◌≢◌, ◌⊎◌, Bool, List, None, Option, Some, [], ap, arith, cond, false, inl}
+use Rattle.dob_unmove.proofs.Common.{inr, not, refl, subst, sym, true, true≢false, ℕ, and_parts, cases_Bool, not-true, trailing_zeros, w16, is_some, lion_at}
+use Rattle.dob_unmove.proofs.Common.{within-from_piece, each_below, is_empty, is_own, is_piece, leads, Cell, IsLegal, at, piece_of, Kind, Chick, Elephant}
+use Rattle.dob_unmove.proofs.Common.{Giraffe, Hen, Lion, Enemy, Mover, Family, Setup, IsSeenTurned, CanWalk, Gathers, elsewhere, stood_before, CanUndo}
+use Rattle.dob_unmove.proofs.Common.{CanUnstep, arrives_at, earlier, stands, uncatch, undoes_at, unsteps, unsteps_between, unsteps_from, comes_home, is_home}
+use Rattle.dob_unmove.proofs.Common.{may_come, may_have_ended, Threat, Undo, Unput, Unstep}
 use Rattle.dob_rank.specs.Families.{RepresentsClass}
-use Rattle.dob_unmove.specs.declared.attackers.Threat.{Threat}
 use Rattle.dob_unmove.specs.declared.predecessors.Walk.{Walk}
-use Rattle.dob_unmove.specs.declared.undo.Undo.{Undo}
-use Rattle.dob_unmove.specs.declared.undo.Undo.TheVariants.{Unstep, Unput}
 use Rattle.dob_unmove.specs.declared.ways.Ways.{Ways}
-use Rattle.dob_unmove.specs.Classes.{IsSeenTurned}
-use Rattle.dob_unmove.specs.Undoes.{arrives_at, earlier, CanUndo, CanUnstep}
-use Rattle.dob_unmove.specs.Threats.{elsewhere, stood_before}
-use Rattle.dob_unmove.specs.Walks.{stands, uncatch, unsteps_between, unsteps_from, unsteps, undoes_at}
-use Rattle.dob_unmove.specs.Ends.{CanWalk}
-use Rattle.dob_unmove.specs.Ways.{is_home, may_have_ended, comes_home, may_come}
 use Rattle.dob_unmove.proofs.Kept.{legal_turned}
 use Rattle.dob_unmove.proofs.Homes.{representative_home}
 use Rattle.dob_unmove.proofs.Listed.{at_sound, from_sound, stands-true, free_step}
 use Rattle.dob_unmove.proofs.Shapes.{ends_on, undoes_end, from_step}
 use Rattle.dob_unmove.proofs.Threats.{turned_squares, turned_lions, was_not_open, at_from, at_others, here, at_rest, lion_not_beyond, lion_not_dropped}
-use Rattle.dob_unmove.specs.Gathers.{Gathers}
-use Rattle.dob_pieces.specs.Lists.{each_below}
 use Rattle.dob_unmove.proofs.Gathered.{IsDead, AreDead, gathers_cons, gathers_append}
 
 abbrev own_lion : Cell

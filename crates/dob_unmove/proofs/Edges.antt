@@ -1,38 +1,19 @@
 -- The predecessors of a class are the one ascending list that counts the moves into it.
-use Rattle.std.proofs.Common.{◌≡◌, ℕ, ◌<◌, ◌≤◌, ◌⊎◌, Bool, true, false, cond, List, [], ◌∷◌, refl, sym, ap, ◌∙◌, subst, inl, inr, arith, All, AllPairs}
-use Rattle.std.proofs.Common.{Contains}
-use Rattle.std.specs.List.{count_by, filter}
+use Rattle.dob_unmove.proofs.Common.{◌<◌, ◌∙◌, ◌∷◌, ◌≡◌, ◌≤◌, ◌⊎◌, All, AllPairs, Bool, Contains, List, [], ap, arith, cond, false, inl, inr, refl, subst, sym}
+use Rattle.dob_unmove.proofs.Common.{true, ℕ, cases_lt, eq-eqb, eqb-true, All-contains, All-contains_itself, All-filter, All-weaker, Contains-append_right}
+use Rattle.dob_unmove.proofs.Common.{filter_passes, AllPairs-filter, length-filter, count_by, filter, cons_cases, head_in, none_in_empty, turned, Family}
+use Rattle.dob_unmove.proofs.Common.{Profile, A, Setup, IsAllowed-Goes, Goes, place, AreMoves, HasStatus, Move, Open, HasClass-marked, HasClasses-classes_of}
+use Rattle.dob_unmove.proofs.Common.{IsPositionOf, classes_of, IsEither, no_longer, IsPositionOf-mirrored, ArePredecessors, CountEdges, HasEdges, LeadsInto}
 use Rattle.std.specs.List.Sorted.{IsPermutation, IsNonDecreasingBy}
-use Rattle.std.proofs.lemmas.Bool.{cases_lt, eqb-true, eq-eqb}
-use Rattle.std.proofs.lemmas.List.Elements.{All-contains, All-weaker, All-filter, All-contains_itself, Contains-append_right, filter_passes}
-use Rattle.std.proofs.lemmas.List.Kept.{AllPairs-filter}
-use Rattle.std.proofs.lemmas.List.Sums.{length-filter}
-use Rattle.dob_pieces.specs.declared.profile.Family.{Family}
-use Rattle.dob_pieces.specs.declared.profile.Profile.{Profile}
-use Rattle.dob_pieces.specs.declared.profile.Profile.TheVariants.{A}
-use Rattle.dob_pieces.specs.declared.setup.Setup.{Setup}
-use Rattle.dob_pieces.specs.Setups.{turned}
-use Rattle.dob_pieces.proofs.Lists.{none_in_empty, head_in, cons_cases}
-use Rattle.dob_moves.specs.declared.game_move.Move.{Move}
-use Rattle.dob_moves.specs.Moves.{Goes, place}
 use Rattle.dob_moves.specs.MoveLists.{moves_of}
 use Rattle.dob_moves.specs.Outcomes.{moved}
-use Rattle.dob_moves.specs.declared.position_status.Status.TheVariants.{Open}
-use Rattle.dob_moves.specs.Statuses.{HasStatus, AreMoves}
 use Rattle.dob_moves.proofs.MoveLists.{AreMoves-moves_of}
 use Rattle.dob_moves.proofs.ByProfile.{goes}
-use Rattle.dob_moves.proofs.Kept.{IsAllowed-Goes}
 use Rattle.dob_moves.proofs.Shared.{share_status}
 use Rattle.dob_moves.proofs.ProfileMoves.{goes_to_allowed, Goes-is, Goes-moved, IsLegal-Goes, total-Goes}
-use Rattle.dob_rank.specs.Order.{IsEither}
-use Rattle.dob_rank.specs.Families.{IsPositionOf, RepresentsClass}
-use Rattle.dob_rank.specs.Families.{class_setup}
-use Rattle.dob_rank.specs.Families.{classes_of, class_number}
-use Rattle.dob_classes.proofs.OfFamilies.Counted.{no_longer}
-use Rattle.dob_rank.proofs.OfFamilies.Present.{HasClass-marked, HasClasses-classes_of}
-use Rattle.dob_classes.proofs.OfFamilies.FamilyNumbers.{IsPositionOf-mirrored, class_number-below, class_number-representative, class_number-mirrored, class_once}
+use Rattle.dob_rank.specs.Families.{RepresentsClass, class_setup, class_number}
+use Rattle.dob_classes.proofs.OfFamilies.FamilyNumbers.{class_number-below, class_number-representative, class_number-mirrored, class_once}
 use Rattle.dob_classes.proofs.OfFamilies.FamilyRepresentatives.{class_setup_is, class_setup_only, one_number}
-use Rattle.dob_unmove.specs.Unmoves.{LeadsInto, HasEdges, CountEdges, ArePredecessors}
 use Rattle.dob_unmove.specs.Edges.{leads_into, edges, predecessors}
 use Rattle.dob_unmove.proofs.Classes.{IsNumbering-classes}
 use Rattle.dob_unmove.proofs.Gathering.{sorted_counts}

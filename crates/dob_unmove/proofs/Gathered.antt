@@ -1,17 +1,7 @@
 -- What the ways add, one list after the other: nothing where none can lead to an open representative.
-use Rattle.std.proofs.Common.{◌≡◌, ℕ, zero, suc, ◌<◌, ◌≤◌, Bool, true, false, List, [], ◌∷◌, ◌++◌, None, refl, sym, subst, arith, Contains}
-use Rattle.std.proofs.Common.{option_to_list, append-nil, inl, inr}
-use Rattle.std.specs.Int.{trailing_zeros, w16}
-use Rattle.std.proofs.lemmas.Bool.{cases_lt}
-use Rattle.std.proofs.lemmas.List.Elements.{Contains-append_right}
-use Rattle.dob_pieces.specs.declared.setup.Setup.{Setup}
-use Rattle.dob_pieces.specs.Lists.{each_below}
-use Rattle.dob_pieces.specs.Masks.{IsMask}
-use Rattle.dob_pieces.proofs.Lists.{head_in}
-use Rattle.dob_pieces.proofs.MaskBits.{IsLeft, without, all_left, next_left, none_left}
-use Rattle.dob_unmove.specs.declared.undo.Undo.{Undo}
-use Rattle.dob_unmove.specs.Undoes.{earlier}
-use Rattle.dob_unmove.specs.Gathers.{IsOpenRepresentative, Gathers}
+use Rattle.dob_unmove.proofs.Common.{◌++◌, ◌<◌, ◌∷◌, ◌≡◌, ◌≤◌, Bool, Contains, List, None, [], append-nil, arith, false, inl, inr, option_to_list, refl, subst}
+use Rattle.dob_unmove.proofs.Common.{suc, sym, true, zero, ℕ, cases_lt, Contains-append_right, trailing_zeros, w16, head_in, IsLeft, all_left, next_left}
+use Rattle.dob_unmove.proofs.Common.{none_left, without, each_below, IsMask, Setup, Gathers, IsOpenRepresentative, earlier, Undo}
 
 pub gathers_none : (Represents : Setup → ℕ → Type 0) (after : Setup) (xs : List ℕ) → Gathers Represents after [] xs xs
 gathers_none Represents after xs = refl

@@ -1,20 +1,10 @@
 -- What the functions that gather classes need, over plain values.
-use Rattle.std.proofs.Common.{◌≡◌, ◌≢◌, ℕ, true, false, List, [], Option, Some, None, sym, ap, ◌∙◌, subst, inr, arith}
-use Rattle.std.specs.Option.{MatchOption, is_some}
+use Rattle.dob_unmove.proofs.Common.{◌∙◌, ◌≡◌, ◌≢◌, List, None, Option, Some, [], ap, arith, false, inr, subst, sym, true, ℕ, MatchOption, is_some}
+use Rattle.dob_unmove.proofs.Common.{turned-mirrored, IsLegal, mirrored, turned, A, Setup, HasStatus, Open, Classes, Adds, Finds, Gathers, ArePredecessors}
+use Rattle.dob_unmove.proofs.Common.{CountEdges, HasEdges, IsNumbering, IsOpenPosition, TakesAll, undoes, Undo}
 use Rattle.std.specs.List.Sorted.{IsPermutation, IsNonDecreasingBy}
 use Rattle.std.proofs.lemmas.List.Sorted.{sum_by-IsPermutation, All-permutation}
-use Rattle.dob_pieces.specs.declared.profile.Profile.TheVariants.{A}
-use Rattle.dob_pieces.specs.declared.setup.Setup.{Setup}
-use Rattle.dob_pieces.specs.Setups.{IsLegal, turned, mirrored}
-use Rattle.dob_moves.specs.declared.position_status.Status.TheVariants.{Open}
-use Rattle.dob_moves.specs.Statuses.{HasStatus}
-use Rattle.dob_classes.specs.declared.classes.Classes.{Classes}
-use Rattle.dob_unmove.specs.Unmoves.{IsNumbering, HasEdges, CountEdges, ArePredecessors, IsOpenPosition}
-use Rattle.dob_unmove.specs.Gathers.{Finds, Adds, Gathers}
-use Rattle.dob_unmove.specs.declared.undo.Undo.{Undo}
 use Rattle.dob_unmove.specs.declared.plain.Gathered.{Gathered}
-use Rattle.dob_unmove.specs.Walks.{TakesAll, undoes}
-use Rattle.dob_pieces.proofs.Symmetries.{turned-mirrored}
 use Rattle.dob_unmove.proofs.Counting.{all_gathered, counts_alone, counts_both}
 
 -- the answer of the numbering, at the position before the move

@@ -1,8 +1,5 @@
 -- What the hands hold.
-use Rattle.std.proofs.Common.{◌<◌, arith}
-use Rattle.dob_pieces.specs.declared.kind.HandKind.{HandKind}
-use Rattle.dob_pieces.specs.declared.setup.Setup.{Setup}
-use Rattle.dob_pieces.specs.Setups.{held, total, HasFewPieces}
+use Rattle.dob_unmove.proofs.Common.{◌<◌, arith, HasFewPieces, held, total, HandKind, Setup}
 
 -- a hand has few pieces
 pub few_held : (s : Setup) (kind : HandKind) → HasFewPieces s → held s.hands.mover kind < 255

@@ -1,25 +1,11 @@
 -- Where the mover's lion of a representative stands.
-use Rattle.std.proofs.Common.{◌≡◌, ℕ, zero, suc, ◌+◌, ◌<◌, ◌==◌, nat_lt, ◌&&◌, ◌||◌, ◌⊎◌, Bool, true, false, cond, List, [], ◌∷◌, ◌++◌, Some, None, length}
-use Rattle.std.proofs.Common.{get_or, refl, sym, ap, ◌∙◌, subst, arith, inl, inr}
-use Rattle.std.specs.List.{count_by}
-use Rattle.std.proofs.lemmas.Bool.{cases_Bool, and_parts, ltb-true, eqb-true}
-use Rattle.std.proofs.lemmas.List.Sums.{sum_by-cons}
-use Rattle.dob_pieces.specs.declared.profile.Family.{Family}
-use Rattle.dob_pieces.specs.declared.kind.HandKind.{HandKind}
+use Rattle.dob_unmove.proofs.Common.{◌&&◌, ◌++◌, ◌+◌, ◌<◌, ◌==◌, ◌||◌, ◌∙◌, ◌∷◌, ◌≡◌, ◌⊎◌, Bool, List, None, Some, [], ap, arith, cond, false, get_or, inl, inr}
+use Rattle.dob_unmove.proofs.Common.{length, nat_lt, refl, subst, suc, sym, true, zero, ℕ, and_parts, cases_Bool, eqb-true, ltb-true, sum_by-cons, count_by}
+use Rattle.dob_unmove.proofs.Common.{all_below, all_below-at, own_lion, total-mirrored, within-from_piece, at-image, Cell, at, held, holds_kind, holds_lion}
+use Rattle.dob_unmove.proofs.Common.{mirrored, piece_of, total, mirrored_square, Hands, HandKind, Lion, Side, Enemy, Mover, Family, Setup, IsPositionOf, Before}
+use Rattle.dob_unmove.proofs.Common.{Precedes, each_kind, forms, key, squares, squares_from, IsPositionOf-mirrored, is_home}
 use Rattle.dob_pieces.specs.declared.kind.HandKind.TheVariants as hand
-use Rattle.dob_pieces.specs.declared.kind.Kind.TheVariants.{Lion}
-use Rattle.dob_pieces.specs.declared.kind.Side.{Side}
-use Rattle.dob_pieces.specs.declared.kind.Side.TheVariants.{Mover, Enemy}
-use Rattle.dob_pieces.specs.declared.hand.Hands.{Hands}
-use Rattle.dob_pieces.specs.declared.setup.Setup.{Setup}
-use Rattle.dob_pieces.specs.Squares.{mirrored_square}
-use Rattle.dob_pieces.specs.Setups.{Cell, at, held, piece_of, holds_lion, holds_kind, total, mirrored}
-use Rattle.dob_pieces.proofs.Boards.{all_below, all_below-at, within-from_piece, total-mirrored, own_lion}
-use Rattle.dob_pieces.proofs.Symmetries.{at-image}
-use Rattle.dob_rank.specs.Order.{squares_from, squares, forms, each_kind, key, Precedes, Before}
-use Rattle.dob_rank.specs.Families.{IsPositionOf, RepresentsClass}
-use Rattle.dob_classes.proofs.OfFamilies.FamilyNumbers.{IsPositionOf-mirrored}
-use Rattle.dob_unmove.specs.Ways.{is_home}
+use Rattle.dob_rank.specs.Families.{RepresentsClass}
 
 -- ---- the list of one square
 

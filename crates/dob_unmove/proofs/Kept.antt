@@ -1,26 +1,9 @@
 -- Taking a move back keeps the lions and the other pieces.
-use Rattle.std.proofs.Common.{◌≡◌, true, false, true≢false, length, refl, sym, ap, ◌∙◌, subst, arith}
-use Rattle.std.specs.List.{count_by}
-use Rattle.std.proofs.lemmas.List.{length-set}
-use Rattle.dob_pieces.specs.declared.profile.Family.{Family}
-use Rattle.dob_pieces.specs.declared.kind.HandKind.{HandKind}
-use Rattle.dob_pieces.specs.declared.kind.Side.{Side}
-use Rattle.dob_pieces.specs.declared.kind.Side.TheVariants.{Mover, Enemy}
-use Rattle.dob_pieces.specs.declared.setup.Setup.{Setup}
-use Rattle.dob_pieces.specs.Pieces.{other_side}
-use Rattle.dob_pieces.specs.Profiles.{IsAllowed}
-use Rattle.dob_pieces.specs.Setups.{holds_lion, HasLions, HasFewPieces, HasLionOffFarRow, IsLegal, total, turned, mirrored}
-use Rattle.dob_pieces.proofs.Boards.{length-turned, HasFewPieces-turned, IsLegal-mirrored}
-use Rattle.dob_pieces.proofs.Symmetries.{turned-turned, turned-mirrored}
-use Rattle.dob_moves.proofs.Outcomes.{total-HasOutcome, lions-HasOutcome}
-use Rattle.dob_classes.specs.declared.bits.bitboards.Bitboards.{Bitboards}
-use Rattle.dob_classes.specs.Bitboards.{AreBitboards, IsShown}
-use Rattle.dob_rank.specs.Families.{IsPositionOf}
-use Rattle.dob_classes.proofs.OfFamilies.FamilyNumbers.{IsPositionOf-mirrored}
-use Rattle.dob_unmove.specs.declared.undo.Undo.{Undo}
-use Rattle.dob_unmove.specs.declared.undo.Undo.TheVariants.{Unstep, Unput}
-use Rattle.dob_unmove.specs.Undoes.{choice, earlier, may_give_back, CanUndo}
-use Rattle.dob_unmove.specs.Classes.{IsSeenTurned}
+use Rattle.dob_unmove.proofs.Common.{◌∙◌, ◌≡◌, ap, arith, false, length, refl, subst, sym, true, true≢false, length-set, count_by, HasFewPieces-turned}
+use Rattle.dob_unmove.proofs.Common.{IsLegal-mirrored, length-turned, turned-mirrored, turned-turned, other_side, IsAllowed, HasFewPieces, HasLionOffFarRow}
+use Rattle.dob_unmove.proofs.Common.{HasLions, IsLegal, holds_lion, mirrored, total, turned, HandKind, Side, Enemy, Mover, Family, Setup, lions-HasOutcome}
+use Rattle.dob_unmove.proofs.Common.{total-HasOutcome, IsPositionOf, IsPositionOf-mirrored, AreBitboards, IsShown, Bitboards, IsSeenTurned, CanUndo, choice}
+use Rattle.dob_unmove.proofs.Common.{earlier, may_give_back, Undo, Unput, Unstep}
 use Rattle.dob_unmove.proofs.Allowed.{IsAllowed-earlier, gives_back}
 use Rattle.dob_unmove.proofs.Undone.{HasOutcome-from_undo}
 

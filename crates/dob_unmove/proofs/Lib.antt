@@ -1,4 +1,5 @@
 -- The lemmas, in the order in which they are read.
+mod Common  -- names of other crates and of this one's definitions, for the proofs
 -- The walk over the ways to take the last move back.
 pub mod Runs  -- ways taken in turn
 pub mod Undone  -- the ways are those of the moves that lead there

@@ -1,24 +1,9 @@
 -- Before each way that is gone through the mover's lion stood off row 4: it moved from a home, or it stands on one.
-use Rattle.std.proofs.Common.{◌≡◌, ◌≢◌, ℕ, ◌≤◌, nat_lt, ◌&&◌, ◌||◌, Bool, true, Option, Some, None, refl, sym, ap, ◌∙◌, inl, inr, arith}
-use Rattle.std.proofs.lemmas.Bool.{and_parts, ltb-true, cases_eq}
-use Rattle.std.proofs.lemmas.List.{get_or-set_other}
-use Rattle.dob_pieces.specs.declared.kind.Kind.{Kind}
-use Rattle.dob_pieces.specs.declared.kind.Kind.TheVariants.{Lion, Giraffe, Elephant, Chick, Hen}
-use Rattle.dob_pieces.specs.declared.kind.HandKind.{HandKind}
-use Rattle.dob_pieces.specs.declared.kind.Side.{Side}
-use Rattle.dob_pieces.specs.declared.kind.Side.TheVariants.{Mover, Enemy}
-use Rattle.dob_pieces.specs.declared.setup.Setup.{Setup}
-use Rattle.dob_pieces.specs.Masks.{is_kind, is_piece}
-use Rattle.dob_pieces.specs.Pieces.{is_side}
-use Rattle.dob_pieces.specs.Setups.{Cell, at, piece_of, HasLions, HasLionOffFarRow, IsLegal}
-use Rattle.dob_pieces.proofs.Boards.{one_lion}
-use Rattle.dob_moves.proofs.Turns.{side_of, kind_of}
-use Rattle.dob_unmove.specs.declared.attackers.Threat.{Threat}
-use Rattle.dob_unmove.specs.declared.undo.Undo.TheVariants.{Unstep, Unput}
-use Rattle.dob_unmove.specs.Classes.{IsSeenTurned}
-use Rattle.dob_unmove.specs.Threats.{IsThreat}
-use Rattle.dob_unmove.specs.Undoes.{enemy_cell, earlier, CanUndo, CanUnstep}
-use Rattle.dob_unmove.specs.Ways.{is_home, comes_home, may_have_ended, may_come, TellsHome, HasLionHome}
+use Rattle.dob_unmove.proofs.Common.{◌&&◌, ◌||◌, ◌∙◌, ◌≡◌, ◌≢◌, ◌≤◌, Bool, None, Option, Some, ap, arith, inl, inr, nat_lt, refl, sym, true, ℕ, and_parts}
+use Rattle.dob_unmove.proofs.Common.{cases_eq, ltb-true, get_or-set_other, one_lion, is_kind, is_piece, is_side, Cell, HasLionOffFarRow, HasLions, IsLegal, at}
+use Rattle.dob_unmove.proofs.Common.{piece_of, HandKind, Kind, Chick, Elephant, Giraffe, Hen, Lion, Side, Enemy, Mover, Setup, kind_of, side_of, IsSeenTurned}
+use Rattle.dob_unmove.proofs.Common.{IsThreat, CanUndo, CanUnstep, earlier, enemy_cell, HasLionHome, TellsHome, comes_home, is_home, may_come, may_have_ended}
+use Rattle.dob_unmove.proofs.Common.{Threat, Unput, Unstep}
 use Rattle.dob_unmove.proofs.Homes.{either_true}
 use Rattle.dob_unmove.proofs.Threats.{at_from, at_to, at_others, at_drop}
 

@@ -1,27 +1,12 @@
 -- The list of the ways has each way that can undo the last move, once, and no other.
-use Rattle.std.proofs.Common.{◌≡◌, ℕ, ◌<◌, ◌&&◌, Bool, true, false, not, List, [], ◌∷◌, ◌++◌, Option, Some}
-use Rattle.std.proofs.Common.{None, length, refl, ap, ◌∙◌, subst, inl, inr, Contains}
-use Rattle.std.specs.Option.{is_some}
-use Rattle.std.proofs.lemmas.Bool.{and_parts, ltb-true, lt-ltb}
-use Rattle.std.proofs.lemmas.List.Elements.{Contains-append_left, Contains-append_right, Contains-append_cases}
-use Rattle.dob_pieces.specs.declared.kind.Kind.{Kind}
-use Rattle.dob_pieces.specs.declared.kind.Kind.TheVariants.{Lion, Giraffe, Elephant, Chick, Hen}
-use Rattle.dob_pieces.specs.declared.kind.HandKind.{HandKind}
+use Rattle.dob_unmove.proofs.Common.{◌&&◌, ◌++◌, ◌<◌, ◌∙◌, ◌∷◌, ◌≡◌, Bool, Contains, List, None, Option, Some, [], ap, false, inl, inr, length, not, refl}
+use Rattle.dob_unmove.proofs.Common.{subst, true, ℕ, and_parts, lt-ltb, ltb-true, Contains-append_cases, Contains-append_left, Contains-append_right, is_some}
+use Rattle.dob_unmove.proofs.Common.{leads-to_board, within-from_piece, cond_sound, cons_cases, each_sound, head_in, none_in_empty, is_kind, kind_in_hand}
+use Rattle.dob_unmove.proofs.Common.{kind_on_board, leads, Cell, at, held, piece_of, Hand, HandKind, Kind, Chick, Elephant, Giraffe, Hen, Lion, Side, Enemy}
+use Rattle.dob_unmove.proofs.Common.{Mover, Setup, CanGiveBack, CanUndo, CanUnstep, arrives_at, holds_any, holds_caught, if_so, is_movers, stands, uncatch}
+use Rattle.dob_unmove.proofs.Common.{undoes, undoes_at, unputs, unsteps, unsteps_between, unsteps_from, Undo, Unput, Unstep}
 use Rattle.dob_pieces.specs.declared.kind.HandKind.TheVariants as hand
-use Rattle.dob_pieces.specs.declared.kind.Side.{Side}
-use Rattle.dob_pieces.specs.declared.kind.Side.TheVariants.{Mover, Enemy}
-use Rattle.dob_pieces.specs.declared.hand.Hand.{Hand}
-use Rattle.dob_pieces.specs.declared.setup.Setup.{Setup}
-use Rattle.dob_pieces.specs.Masks.{is_kind}
-use Rattle.dob_pieces.specs.Pieces.{leads, kind_in_hand, kind_on_board}
-use Rattle.dob_pieces.specs.Setups.{Cell, at, held, piece_of}
-use Rattle.dob_pieces.proofs.Lists.{none_in_empty, head_in, cons_cases, cond_sound, cond_whole, each_sound, each_whole}
-use Rattle.dob_pieces.proofs.Boards.{within-from_piece, leads-to_board}
-use Rattle.dob_unmove.specs.declared.undo.Undo.{Undo}
-use Rattle.dob_unmove.specs.declared.undo.Undo.TheVariants.{Unstep, Unput}
-use Rattle.dob_unmove.specs.Undoes.{arrives_at, CanGiveBack, CanUnstep, CanUndo}
-use Rattle.dob_unmove.specs.Walks.{if_so, is_movers, stands, holds_any, holds_caught, uncatch, unsteps_between, unsteps_from, unsteps, unputs}
-use Rattle.dob_unmove.specs.Walks.{undoes_at, undoes}
+use Rattle.dob_pieces.proofs.Lists.{cond_whole, each_whole}
 
 -- ---- the tests
 

@@ -1,16 +1,9 @@
 -- The list of the ways has no way twice: their places in the walk ascend.
-use Rattle.std.proofs.Common.{◌≡◌, ◌≢◌, ℕ, suc, ◌+◌, ◌*◌, ◌<◌, ◌≤◌, List, [], ◌∷◌, ◌++◌, Option, Some, None, sym, ap, arith, AllPairs}
-use Rattle.dob_pieces.specs.declared.kind.Kind.{Kind}
-use Rattle.dob_pieces.specs.declared.kind.Kind.TheVariants.{Lion, Giraffe, Elephant, Chick, Hen}
-use Rattle.dob_pieces.specs.declared.kind.HandKind.{HandKind}
+use Rattle.dob_unmove.proofs.Common.{◌*◌, ◌++◌, ◌+◌, ◌<◌, ◌∷◌, ◌≡◌, ◌≢◌, ◌≤◌, AllPairs, List, None, Option, Some, [], ap, arith, suc, sym, ℕ, each_below}
+use Rattle.dob_unmove.proofs.Common.{kind_place, HandKind, Kind, Chick, Elephant, Giraffe, Hen, Lion, Setup, uncatch, undoes, undoes_at, unputs, unsteps}
+use Rattle.dob_unmove.proofs.Common.{unsteps_between, unsteps_from, Undo, Unput, Unstep}
 use Rattle.dob_pieces.specs.declared.kind.HandKind.TheVariants as hand
-use Rattle.dob_pieces.specs.declared.setup.Setup.{Setup}
-use Rattle.dob_pieces.specs.Lists.{each_below}
-use Rattle.dob_pieces.specs.Masks.{kind_place}
 use Rattle.dob_pieces.proofs.Lists.{Rising, rising-lower, rising-append, rising-cond, rising-each, rising-pairs}
-use Rattle.dob_unmove.specs.declared.undo.Undo.{Undo}
-use Rattle.dob_unmove.specs.declared.undo.Undo.TheVariants.{Unstep, Unput}
-use Rattle.dob_unmove.specs.Walks.{uncatch, unsteps_between, unsteps_from, unsteps, unputs, undoes_at, undoes}
 
 -- ---- the place of a way in the walk
 

@@ -1,19 +1,8 @@
 -- Positions that are their own mirror images: their lions stand on column b.
-use Rattle.std.proofs.Common.{◌≡◌, ℕ, ◌<◌, ◌==◌, ◌&&◌, ◌||◌, not, Bool, true, false, Some, refl, sym, ap, ◌∙◌, bit_and, bit_or}
-use Rattle.std.proofs.lemmas.Bool.{eq-eqb}
-use Rattle.dob_pieces.specs.declared.kind.Kind.TheVariants.{Lion}
-use Rattle.dob_pieces.specs.declared.kind.Side.{Side}
-use Rattle.dob_pieces.specs.declared.kind.Side.TheVariants.{Mover, Enemy}
+use Rattle.dob_unmove.proofs.Common.{◌&&◌, ◌<◌, ◌==◌, ◌||◌, ◌∙◌, ◌≡◌, Bool, Some, ap, bit_and, bit_or, false, not, refl, sym, true, ℕ, eq-eqb, all_below}
+use Rattle.dob_unmove.proofs.Common.{all_below-at, at-mirrored, one_lion, IsMask-and, IsMask-or, is_mask, AreMasks, is_piece, IsLegal, at, mirrored, piece_of}
+use Rattle.dob_unmove.proofs.Common.{column, mirrored_square, Lion, Side, Enemy, Mover, Setup, IsSeenTurned, BESIDE_B}
 use Rattle.dob_pieces.specs.declared.masks.Masks.{Masks}
-use Rattle.dob_pieces.specs.declared.setup.Setup.{Setup}
-use Rattle.dob_pieces.specs.Masks.{AreMasks, is_piece}
-use Rattle.dob_pieces.specs.Squares.{column, mirrored_square}
-use Rattle.dob_pieces.specs.Setups.{at, piece_of, IsLegal, mirrored}
-use Rattle.dob_pieces.proofs.Boards.{all_below, all_below-at, at-mirrored, one_lion}
-use Rattle.dob_pieces.proofs.Targets.{is_mask}
-use Rattle.dob_pieces.proofs.MaskBits.{IsMask-and, IsMask-or}
-use Rattle.dob_unmove.specs.declared.ways.TheConstants.{BESIDE_B}
-use Rattle.dob_unmove.specs.Classes.{IsSeenTurned}
 use Rattle.dob_unmove.proofs.Threats.{turned_lions}
 use Rattle.dob_unmove.proofs.WayMasks.{empty_mask, lion_passes}
 

@@ -1,8 +1,5 @@
 -- Ways taken in turn: nothing, one, and one list after the other.
-use Rattle.std.proofs.Common.{ℕ, ◌+◌, List, [], ◌∷◌, ◌++◌, refl, sym, subst, add-one}
-use Rattle.dob_pieces.specs.Lists.{each_below}
-use Rattle.dob_unmove.specs.declared.undo.Undo.{Undo}
-use Rattle.dob_unmove.specs.Walks.{TakesAll}
+use Rattle.dob_unmove.proofs.Common.{◌++◌, ◌+◌, ◌∷◌, List, [], add-one, refl, subst, sym, ℕ, each_below, TakesAll, Undo}
 
 pub takes_none : {S : Type 0} (R : S → Undo → S → Type 0) (a : S) → TakesAll R a [] a
 takes_none R a = refl

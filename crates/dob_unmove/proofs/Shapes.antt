@@ -1,18 +1,8 @@
 -- Where the ways of a list end, and from where they come.
-use Rattle.std.proofs.Common.{◌≡◌, ℕ, ◌&&◌, true, not, List, ◌++◌, Option, Some, None, sym, ap, inl, inr, Contains}
-use Rattle.std.specs.Option.{is_some}
-use Rattle.std.proofs.lemmas.List.Elements.{Contains-append_cases}
-use Rattle.dob_pieces.specs.declared.kind.Kind.{Kind}
-use Rattle.dob_pieces.specs.declared.kind.Kind.TheVariants.{Lion, Giraffe, Elephant, Chick, Hen}
-use Rattle.dob_pieces.specs.declared.kind.HandKind.{HandKind}
+use Rattle.dob_unmove.proofs.Common.{◌&&◌, ◌++◌, ◌≡◌, Contains, List, None, Option, Some, ap, inl, inr, not, sym, true, ℕ, Contains-append_cases, is_some}
+use Rattle.dob_unmove.proofs.Common.{cond_sound, cons_cases, each_sound, kind_on_board, leads, at, HandKind, Kind, Chick, Elephant, Giraffe, Hen, Lion, Setup}
+use Rattle.dob_unmove.proofs.Common.{holds_caught, stands, uncatch, undoes_at, unputs, unsteps, unsteps_between, unsteps_from, Undo, Unput, Unstep}
 use Rattle.dob_pieces.specs.declared.kind.HandKind.TheVariants as hand
-use Rattle.dob_pieces.specs.declared.setup.Setup.{Setup}
-use Rattle.dob_pieces.specs.Pieces.{leads, kind_on_board}
-use Rattle.dob_pieces.specs.Setups.{at}
-use Rattle.dob_pieces.proofs.Lists.{cons_cases, cond_sound, each_sound}
-use Rattle.dob_unmove.specs.declared.undo.Undo.{Undo}
-use Rattle.dob_unmove.specs.declared.undo.Undo.TheVariants.{Unstep, Unput}
-use Rattle.dob_unmove.specs.Walks.{stands, holds_caught, uncatch, unsteps_between, unsteps_from, unsteps, unputs, undoes_at}
 use Rattle.dob_unmove.proofs.Listed.{if_so_sound}
 
 -- the square on which the move ended

@@ -1,21 +1,8 @@
 -- What the piece that stands on a square says of the ways that end there: only lists of its own kind have some.
-use Rattle.std.proofs.Common.{◌≡◌, ℕ, ◌==◌, Bool, true, false, cond, List, [], ◌∷◌, ◌++◌, Some, refl, sym, ap, ◌∙◌, subst, append-nil}
-use Rattle.dob_pieces.specs.declared.kind.Kind.{Kind}
-use Rattle.dob_pieces.specs.declared.kind.Kind.TheVariants.{Lion, Giraffe, Elephant, Chick, Hen}
-use Rattle.dob_pieces.specs.declared.kind.HandKind.{HandKind}
+use Rattle.dob_unmove.proofs.Common.{◌++◌, ◌==◌, ◌∙◌, ◌∷◌, ◌≡◌, Bool, List, Some, [], ap, append-nil, cond, false, refl, subst, sym, true, ℕ, each_below}
+use Rattle.dob_unmove.proofs.Common.{is_kind, kind_on_board, Cell, at, piece_of, row, HandKind, Kind, Chick, Elephant, Giraffe, Hen, Lion, Mover, Setup}
+use Rattle.dob_unmove.proofs.Common.{Gathers, arrives_at, if_so, stands, undoes_at, unputs, unsteps, unsteps_from, Undo, Unput}
 use Rattle.dob_pieces.specs.declared.kind.HandKind.TheVariants as hand
-use Rattle.dob_pieces.specs.declared.kind.Side.TheVariants.{Mover}
-use Rattle.dob_pieces.specs.declared.setup.Setup.{Setup}
-use Rattle.dob_pieces.specs.Lists.{each_below}
-use Rattle.dob_pieces.specs.Masks.{is_kind}
-use Rattle.dob_pieces.specs.Pieces.{kind_on_board}
-use Rattle.dob_pieces.specs.Setups.{Cell, at, piece_of}
-use Rattle.dob_pieces.specs.Squares.{row}
-use Rattle.dob_unmove.specs.declared.undo.Undo.{Undo}
-use Rattle.dob_unmove.specs.declared.undo.Undo.TheVariants.{Unput}
-use Rattle.dob_unmove.specs.Gathers.{Gathers}
-use Rattle.dob_unmove.specs.Undoes.{arrives_at}
-use Rattle.dob_unmove.specs.Walks.{stands, if_so, unsteps_from, unsteps, unputs, undoes_at}
 use Rattle.dob_unmove.proofs.Gathered.{gathers_append}
 use Rattle.dob_unmove.proofs.Listed.{stands-from}
 

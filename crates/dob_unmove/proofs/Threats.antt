@@ -1,38 +1,15 @@
 -- Before a move some piece could catch the enemy lion exactly where one that didn't move attacks it, or the one that moved
 -- did from where it stood.
-use Rattle.std.proofs.Common.{◌≡◌, ◌≢◌, ℕ, suc, ◌-◌, ◌<◌, ◌==◌, if◌then◌else◌, not, Bool, true, false, true≢false, Option, Some, None, length, set, refl, sym}
-use Rattle.dob_pieces.specs.declared.profile.Profile.TheVariants.{A}
-use Rattle.std.proofs.Common.{ap, ◌∙◌, subst, inl, inr, arith}
-use Rattle.std.proofs.lemmas.Bool.{cases_Bool, cases_lt, cases_eq, eq-eqb, ne_eqb}
-use Rattle.std.proofs.lemmas.List.{length-set, get_or_past, get_or-set_same, get_or-set_other}
-use Rattle.std.specs.Int.{trailing_zeros, w16}
-use Rattle.dob_pieces.specs.Masks.{IsMask}
-use Rattle.dob_pieces.proofs.MaskBits.{without, all_left, next_left, none_left, none_passes}
-use Rattle.dob_pieces.proofs.Attacks.{attacks_piece, own_attacks}
-use Rattle.dob_pieces.specs.declared.kind.Kind.{Kind}
-use Rattle.dob_pieces.specs.declared.kind.Kind.TheVariants.{Lion, Giraffe, Elephant, Chick, Hen}
-use Rattle.dob_pieces.specs.declared.kind.HandKind.{HandKind}
-use Rattle.dob_pieces.specs.declared.kind.Side.TheVariants.{Mover, Enemy}
-use Rattle.dob_pieces.specs.declared.setup.Setup.{Setup}
-use Rattle.dob_pieces.specs.Pieces.{leads, kind_on_board}
-use Rattle.dob_pieces.specs.Setups.{Cell, at, piece_of, HasLions, IsLegal, turned_cell}
-use Rattle.dob_pieces.proofs.Boards.{length-turned, at-turned, HasLions-turned, one_lion, within-from_piece, leads-to_board, leads-apart}
-use Rattle.dob_moves.specs.declared.game_move.Move.TheVariants.{Step, Put}
-use Rattle.dob_moves.specs.Moves.{HasOutcome, CanGo}
-use Rattle.dob_moves.specs.declared.position_status.Status.TheVariants.{Open}
-use Rattle.dob_moves.specs.Statuses.{CanCatch, HasTried, HasStatus}
-use Rattle.dob_moves.proofs.Turns.{kind_of, sides_apart, turned_lion}
+use Rattle.dob_unmove.proofs.Common.{if◌then◌else◌, ◌-◌, ◌<◌, ◌==◌, ◌∙◌, ◌≡◌, ◌≢◌, Bool, None, Option, Some, ap, arith, false, inl, inr, length, not, refl, set}
+use Rattle.dob_unmove.proofs.Common.{subst, suc, sym, true, true≢false, ℕ, cases_Bool, cases_eq, cases_lt, eq-eqb, ne_eqb, get_or-set_other, get_or-set_same}
+use Rattle.dob_unmove.proofs.Common.{get_or_past, length-set, trailing_zeros, w16, attacks_piece, own_attacks, HasLions-turned, at-turned, leads-apart}
+use Rattle.dob_unmove.proofs.Common.{leads-to_board, length-turned, one_lion, within-from_piece, all_left, next_left, none_left, none_passes, without, IsMask}
+use Rattle.dob_unmove.proofs.Common.{attacks, attacks_by, kind_on_board, leads, Cell, HasLions, IsLegal, at, piece_of, turned_cell, HandKind, Kind, Chick}
+use Rattle.dob_unmove.proofs.Common.{Elephant, Giraffe, Hen, Lion, Enemy, Mover, A, Setup, kind_of, sides_apart, turned_lion, CanGo, HasOutcome, CanCatch}
+use Rattle.dob_unmove.proofs.Common.{HasStatus, HasTried, Put, Step, Open, IsSeenTurned, AreAttackers, IsThreat, elsewhere, stood_before, CanGiveBack, CanUndo}
+use Rattle.dob_unmove.proofs.Common.{CanUnstep, arrives_at, choice, earlier, enemy_cell, Attackers, Nobody, One, Several, Threat, Undo, Unput, Unstep}
 use Rattle.dob_moves.proofs.Masked.{catch_by}
-use Rattle.dob_unmove.specs.declared.attackers.Attackers.{Attackers}
-use Rattle.dob_unmove.specs.declared.attackers.Attackers.TheVariants.{Nobody, One, Several}
-use Rattle.dob_unmove.specs.declared.attackers.Threat.{Threat}
-use Rattle.dob_unmove.specs.declared.undo.Undo.{Undo}
-use Rattle.dob_unmove.specs.declared.undo.Undo.TheVariants.{Unstep, Unput}
-use Rattle.dob_unmove.specs.Classes.{IsSeenTurned}
-use Rattle.dob_unmove.specs.Undoes.{choice, arrives_at, enemy_cell, earlier, CanGiveBack, CanUnstep, CanUndo}
 use Rattle.dob_unmove.proofs.Undone.{HasOutcome-from_undo}
-use Rattle.dob_pieces.specs.Masks.{attacks_by, attacks}
-use Rattle.dob_unmove.specs.Threats.{elsewhere, stood_before, AreAttackers, IsThreat}
 
 -- ---- attackers by their mask
 

@@ -1,26 +1,11 @@
 -- The ways that can undo the last move are those of the moves that lead there.
-use Rattle.std.proofs.Common.{◌≡◌, ◌≢◌, ℕ, ◌+◌, ◌-◌, ◌<◌, Bool, true, false, cond, List, Option, Some, None, length, get_or, set, refl, sym, ap, ◌∙◌, subst}
-use Rattle.std.proofs.Common.{arith}
-use Rattle.std.specs.Option.{is_some}
-use Rattle.std.proofs.lemmas.List.{length-set, get_or-set_same, get_or-set_other, set-set, set_comm, set-get_or}
-use Rattle.dob_pieces.specs.declared.kind.Kind.{Kind}
-use Rattle.dob_pieces.specs.declared.kind.Kind.TheVariants.{Hen}
-use Rattle.dob_pieces.specs.declared.kind.HandKind.{HandKind}
+use Rattle.dob_unmove.proofs.Common.{◌+◌, ◌-◌, ◌<◌, ◌∙◌, ◌≡◌, ◌≢◌, Bool, List, None, Option, Some, ap, arith, cond, false, get_or, length, refl, set, subst}
+use Rattle.dob_unmove.proofs.Common.{sym, true, ℕ, get_or-set_other, get_or-set_same, length-set, set-get_or, set-set, set_comm, is_some, leads-apart}
+use Rattle.dob_unmove.proofs.Common.{leads-to_board, length-turned, within-from_piece, turned-turned, kind_in_hand, kind_on_board, leads, Cell, at, held}
+use Rattle.dob_unmove.proofs.Common.{piece_of, turned, with_one_less, with_one_more, Hand, Hands, HandKind, Kind, Hen, Mover, Setup, CanTake, Drops, HasOutcome}
+use Rattle.dob_unmove.proofs.Common.{Steps, grows_at, hands_after_catch, Move, Put, Step, CanGiveBack, CanUndo, CanUnstep, arrives_at, choice, earlier}
+use Rattle.dob_unmove.proofs.Common.{enemy_cell, without_caught, Undo, Unput, Unstep}
 use Rattle.dob_pieces.specs.declared.kind.HandKind.TheVariants as hand
-use Rattle.dob_pieces.specs.declared.kind.Side.TheVariants.{Mover}
-use Rattle.dob_pieces.specs.declared.hand.Hand.{Hand}
-use Rattle.dob_pieces.specs.declared.hand.Hands.{Hands}
-use Rattle.dob_pieces.specs.declared.setup.Setup.{Setup}
-use Rattle.dob_pieces.specs.Pieces.{leads, kind_in_hand, kind_on_board}
-use Rattle.dob_pieces.specs.Setups.{Cell, at, held, piece_of, turned, with_one_more, with_one_less}
-use Rattle.dob_pieces.proofs.Boards.{length-turned, within-from_piece, leads-to_board, leads-apart}
-use Rattle.dob_pieces.proofs.Symmetries.{turned-turned}
-use Rattle.dob_moves.specs.declared.game_move.Move.{Move}
-use Rattle.dob_moves.specs.declared.game_move.Move.TheVariants.{Step, Put}
-use Rattle.dob_moves.specs.Moves.{HasOutcome, Steps, Drops, CanTake, hands_after_catch, grows_at}
-use Rattle.dob_unmove.specs.declared.undo.Undo.{Undo}
-use Rattle.dob_unmove.specs.declared.undo.Undo.TheVariants.{Unstep, Unput}
-use Rattle.dob_unmove.specs.Undoes.{choice, arrives_at, enemy_cell, without_caught, earlier, CanGiveBack, CanUnstep, CanUndo}
 
 -- ---- hands and boards written and written back
 

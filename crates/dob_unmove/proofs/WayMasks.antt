@@ -1,25 +1,10 @@
 -- The masks of the ways: where the lion may stand, where a move may have ended, from where a piece may have come.
-use Rattle.std.proofs.Common.{◌≡◌, ◌≢◌, ℕ, ◌*◌, ◌%◌, ◌^◌, ◌<◌, ◌==◌, nat_lt, ◌&&◌, ◌||◌, not, Bool, true, false, cond, bit_and, refl, sym, ap}
-use Rattle.std.proofs.Common.{◌∙◌, arith, Some, inl, inr}
-use Rattle.std.proofs.lemmas.Bool.{cases_Bool, eq-eqb, ne_eqb}
+use Rattle.dob_unmove.proofs.Common.{◌%◌, ◌&&◌, ◌*◌, ◌<◌, ◌==◌, ◌^◌, ◌||◌, ◌∙◌, ◌≡◌, ◌≢◌, Bool, Some, ap, arith, bit_and, cond, false, inl, inr, nat_lt, not}
+use Rattle.dob_unmove.proofs.Common.{refl, sym, true, ℕ, cases_Bool, eq-eqb, ne_eqb, cell_lion, is_that_lion, all_below, all_below-at, one_lion, IsMask-and}
+use Rattle.dob_unmove.proofs.Common.{IsMask-same, none_passes, everywhere, has_bits, is_mask, IsMask, is_own, is_piece, Cell, HasLions, at, piece_of, column}
+use Rattle.dob_unmove.proofs.Common.{Kind, Chick, Elephant, Giraffe, Hen, Lion, Side, Mover, ALL_SQUARES, Setup, elsewhere, TellsHome, comes_home, is_home}
+use Rattle.dob_unmove.proofs.Common.{may_have_ended, One, Threat, HOMES_ON_A, HOMES_ON_A_AND_B}
 use Rattle.std.proofs.lemmas.Nat.Bits.{same_from_bits_below, bit_at-zero}
-use Rattle.dob_pieces.specs.declared.kind.Kind.{Kind}
-use Rattle.dob_pieces.specs.declared.kind.Kind.TheVariants.{Lion, Giraffe, Elephant, Chick, Hen}
-use Rattle.dob_pieces.specs.declared.kind.Side.{Side}
-use Rattle.dob_pieces.specs.declared.kind.Side.TheVariants.{Mover}
-use Rattle.dob_pieces.specs.declared.setup.Setup.{Setup}
-use Rattle.dob_pieces.specs.Squares.{column}
-use Rattle.dob_pieces.specs.Setups.{Cell, at, piece_of, HasLions}
-use Rattle.dob_pieces.specs.Masks.{IsMask, is_own, is_piece}
-use Rattle.dob_pieces.proofs.Boards.{all_below, all_below-at, one_lion}
-use Rattle.dob_pieces.proofs.Attacks.{cell_lion, is_that_lion}
-use Rattle.dob_pieces.proofs.Targets.{has_bits, is_mask}
-use Rattle.dob_pieces.proofs.MaskBits.{IsMask-and, IsMask-same, none_passes}
-use Rattle.dob_unmove.specs.declared.attackers.Attackers.TheVariants.{One}
-use Rattle.dob_unmove.specs.declared.attackers.Threat.{Threat}
-use Rattle.dob_unmove.specs.declared.ways.TheConstants.{ALL, HOMES_ON_A, HOMES_ON_A_AND_B}
-use Rattle.dob_unmove.specs.Threats.{elsewhere}
-use Rattle.dob_unmove.specs.Ways.{is_home, TellsHome, may_have_ended, comes_home}
 
 -- ---- masks of constants
 
@@ -33,9 +18,6 @@ pub homes_on_both : (lion : ℕ) → (column lion == 2) ≡ false → IsMask (is
 homes_on_both lion e =
     IsMask-same (home_by false) (is_home lion) HOMES_ON_A_AND_B (λ s lt. ap (λ b. home_by b s) (sym e)) (is_mask (home_by false) HOMES_ON_A_AND_B refl)
 
-pub everywhere : (test : ℕ → Bool) → ((s : ℕ) → test s ≡ true) → IsMask test ALL
-everywhere test all = IsMask-same (λ s. true) test ALL (λ s lt. sym (all s)) (is_mask (λ s. true) ALL refl)
-
 pub nowhere : (test : ℕ → Bool) → ((s : ℕ) → test s ≡ false) → IsMask test 0
 nowhere test none = IsMask-same (λ s. false) test 0 (λ s lt. sym (none s)) (is_mask (λ s. false) 0 refl)
 
@@ -48,7 +30,7 @@ all_alone = refl
 pub alone : (a : ℕ) → a < 12 → IsMask (λ s. not (elsewhere (One a) s)) (1 * 2 ^ a % 2 ^ 16)
 alone a lt = is_mask (λ s. not (not (a == s))) (1 * 2 ^ a % 2 ^ 16) (all_below-at alone_test 12 a all_alone lt)
 
-pub comes_anywhere : (kind : Kind) (lion : ℕ) → kind ≢ Lion → IsMask (comes_home kind lion) ALL
+pub comes_anywhere : (kind : Kind) (lion : ℕ) → kind ≢ Lion → IsMask (comes_home kind lion) ALL_SQUARES
 comes_anywhere Lion lion other = absurd (other refl)
 comes_anywhere Giraffe lion other = everywhere (comes_home Giraffe lion) (λ s. refl)
 comes_anywhere Elephant lion other = everywhere (comes_home Elephant lion) (λ s. refl)

@@ -1,12 +1,12 @@
 -- Which ways to take a move back can lead to an open representative, as sets of squares.
-use Rattle.std.specs.Prelude.{◌≡◌, ℕ, ◌⊎◌, ◌==◌, ◌&&◌, ◌||◌, nat_lt, not, Bool, true, false, Option, None, Some}
+use Rattle.std.specs.Prelude.{◌≡◌, ℕ, ◌⊎◌, ◌==◌, ◌&&◌, ◌||◌, nat_lt, not, Bool, true, Some}
 use Rattle.dob_pieces.specs.declared.kind.Kind.{Kind}
 use Rattle.dob_pieces.specs.declared.kind.Kind.TheVariants.{Lion}
 use Rattle.dob_pieces.specs.declared.kind.Side.TheVariants.{Mover}
 use Rattle.dob_pieces.specs.declared.setup.Setup.{Setup}
 use Rattle.dob_pieces.specs.Pieces.{leads}
 use Rattle.dob_pieces.specs.Squares.{column}
-use Rattle.dob_pieces.specs.Setups.{Cell, at, piece_of}
+use Rattle.dob_pieces.specs.Setups.{at, piece_of}
 use Rattle.dob_pieces.specs.Masks.{IsMask, AreMasks, is_own, is_empty, is_piece}
 use Rattle.dob_unmove.specs.declared.attackers.Threat.{Threat}
 use Rattle.dob_unmove.specs.declared.ways.Ways.{Ways}
@@ -52,8 +52,3 @@ pub record AreWays (after : Setup) (ways : Ways) : Type 0 where
   pub stays : Bool
   pub home_is : TellsHome after ways.threat.lion stays
   pub ends_are : IsMask (may_have_ended after ways.threat stays) ways.ends
-
--- the mover's piece that stands there is of that kind, or none of the mover's does
-abbrev pub IsOwnKind : Cell → Option Kind → Type 0
-IsOwnKind cell None = (kind : Kind) → is_piece Mover kind cell ≡ false
-IsOwnKind cell (Some kind) = cell ≡ Some (piece_of Mover kind)

@@ -24,14 +24,12 @@ use crate::earlier::may_give_back;
 use crate::undo::Undo;
 use crate::ways::Ways;
 use dob_classes::{Bitboards, Classes, Shown, mirrored_bits};
-use dob_pieces::{
-    HandKind, Kind, Memory, Position, Setup, Side, Square, lowest_square, without_square,
-};
+use dob_pieces::{HandKind, Kind, Memory, Setup, Side, Square, lowest_square, without_square};
 use std::alloc::Global;
 use std::snapshot::Snapshot;
 
-/// A walk over the ways to take the move back that left a setup, in which the side that made it is the mover. The sets of
-/// squares show all that a walk asks of the setup, which is known of and not made.
+// A walk over the ways to take the move back that left a setup, in which the side that made it is the mover. The sets of
+// squares show all that a walk asks of the setup, which is known of and not made.
 #[derive(Drop)]
 struct Walk<'a> {
     classes: &'a Classes,
@@ -39,7 +37,7 @@ struct Walk<'a> {
     ways: &'a Ways,
 }
 
-/// A square on which the move may have ended.
+// A square on which the move may have ended.
 #[derive(Clone, Copy)]
 struct End<'a> {
     walk: &'a Walk<'a>,
@@ -47,7 +45,7 @@ struct End<'a> {
 }
 
 impl Walk<'_> {
-    /// Appends the classes of the open representatives that stood before the setup.
+    // Appends the classes of the open representatives that stood before the setup.
     fn gather_all(&self, found: &mut Vec<u64>) -> Result<(), Memory>
         requires { CanWalk self.now }
         ensures { OnOk result (Collects self.now (undoes self.now.after.value) found.old.items found.new.items) }
@@ -62,7 +60,7 @@ impl Walk<'_> {
         Ok(())
     }
 
-    /// The one from which the move was made in that way, if it was the earlier one of its class.
+    // The one from which the move was made in that way, if it was the earlier one of its class.
     fn gather_one(&self, undo: Undo, found: &mut Vec<u64>) -> Result<(), Memory>
         requires walk { CanWalk self.now }
         requires can { CanUndo self.now.after.value undo }
@@ -76,8 +74,8 @@ impl Walk<'_> {
         Ok(())
     }
 
-    /// The class whose representative stood there before a move that left an open position, if a representative did. In
-    /// profile B no chick is given back on row 1, where none stood.
+    // The class whose representative stood there before a move that left an open position, if a representative did. In
+    // profile B no chick is given back on row 1, where none stood.
     fn class_before(&self, undo: Undo) -> Option<u64>
         requires walk { CanWalk self.now }
         requires can { CanUndo self.now.after.value undo }
@@ -94,18 +92,18 @@ impl Walk<'_> {
 }
 
 impl End<'_> {
-    /// Appends the classes of those from which the move ended on the square.
+    // Appends the classes of those from which the move ended on the square.
     fn gather_all(&self, found: &mut Vec<u64>) -> Result<(), Memory>
         requires { CanEnd self.now }
         ensures { OnOk result (Collects self.now.walk.now (undoes_at self.now.walk.now.after.value self.now.to) found.old.items found.new.items) }
     {
-        match self.walk.ways.own_kind(self.to) {
+        match self.walk.ways.masks.own_kind(self.to) {
             Some(kind) => self.gather_kind(kind, found),
             None => Ok(()),
         }
     }
 
-    /// Those from which the mover's piece of that kind came to the square, on which it stands.
+    // Those from which the mover's piece of that kind came to the square, on which it stands.
     fn gather_kind(&self, kind: Kind, found: &mut Vec<u64>) -> Result<(), Memory>
         requires end { CanEnd self.now }
         requires stands { at self.now.walk.now.after.value self.now.to ≡ Some (piece_of Mover kind) }
@@ -126,8 +124,8 @@ impl End<'_> {
         }
     }
 
-    /// Those from which the chick came that stands on the square. On its far row it was dropped there, since a step would
-    /// have made it a hen.
+    // Those from which the chick came that stands on the square. On its far row it was dropped there, since a step would
+    // have made it a hen.
     fn gather_chick(&self, found: &mut Vec<u64>) -> Result<(), Memory>
         requires end { CanEnd self.now }
         requires stands { at self.now.walk.now.after.value self.now.to ≡ Some (piece_of Mover Kind.Chick) }
@@ -139,7 +137,7 @@ impl End<'_> {
         self.gather_put(HandKind::Chick, found)
     }
 
-    /// Those from which the hen came that stands on the square: on its far row as a chick too.
+    // Those from which the hen came that stands on the square: on its far row as a chick too.
     fn gather_hen(&self, found: &mut Vec<u64>) -> Result<(), Memory>
         requires end { CanEnd self.now }
         requires stands { at self.now.walk.now.after.value self.now.to ≡ Some (piece_of Mover Kind.Hen) }
@@ -151,7 +149,7 @@ impl End<'_> {
         self.gather_steps(Kind::Hen, found)
     }
 
-    /// Those from which a piece of that kind stepped to the square, on which it stands as what it became.
+    // Those from which a piece of that kind stepped to the square, on which it stands as what it became.
     fn gather_steps(&self, kind: Kind, found: &mut Vec<u64>) -> Result<(), Memory>
         requires end { CanEnd self.now }
         requires stands { stands (at self.now.walk.now.after.value self.now.to) (arrival kind self.now.to) ≡ true }
@@ -166,7 +164,7 @@ impl End<'_> {
         Ok(())
     }
 
-    /// Those from which a piece of that kind stepped from the one square to the other.
+    // Those from which a piece of that kind stepped from the one square to the other.
     #[tactic(auto, using(crate::proofs::Gathered::gathers))]
     fn gather_steps_from(
         &self,
@@ -192,7 +190,7 @@ impl End<'_> {
         self.gather_catch(kind, from, Kind::Hen, found)
     }
 
-    /// Those from which that step caught a piece of that kind, if the hand has it.
+    // Those from which that step caught a piece of that kind, if the hand has it.
     #[tactic(auto, using(crate::proofs::Gathered::gathers))]
     fn gather_catch(
         &self,
@@ -206,7 +204,7 @@ impl End<'_> {
         requires comes { may_come self.now.walk.now.after.value self.now.walk.now.ways.now.threat.lion kind self.now.to from ≡ true }
         ensures { OnOk result (Collects self.now.walk.now (uncatch self.now.walk.now.after.value kind from self.now.to caught) found.old.items found.new.items) }
     {
-        if !self.walk.ways.holds_caught(&self.walk.after, caught) {
+        if !self.walk.ways.holds_caught(caught) {
             return Ok(());
         }
         let undo = Undo::Unstep {
@@ -218,7 +216,7 @@ impl End<'_> {
         self.walk.gather_one(undo, found)
     }
 
-    /// The one from which the piece of that kind that stands on the square was dropped there.
+    // The one from which the piece of that kind that stands on the square was dropped there.
     fn gather_put(&self, kind: HandKind, found: &mut Vec<u64>) -> Result<(), Memory>
         requires end { CanEnd self.now }
         requires stands { at self.now.walk.now.after.value self.now.to ≡ Some (piece_of Mover (kind_on_board kind)) }
@@ -229,7 +227,7 @@ impl End<'_> {
     }
 }
 
-/// The class whose representative is the position of the family that the sets show; `None` if it is none.
+// The class whose representative is the position of the family that the sets show; `None` if it is none.
 fn class_if_shown(classes: &Classes, bits: &Bitboards) -> Option<u64>
     requires { (setup : Setup) × IsShown classes.now.family setup bits.now }
     ensures { (setup : Setup) → IsShown classes.now.family setup bits.now
@@ -238,15 +236,12 @@ fn class_if_shown(classes: &Classes, bits: &Bitboards) -> Option<u64>
     classes.class_of_shown(bits)
 }
 
-/// Whether the representative of the class is its own mirror image. What is known of the turned setup says mostly that it isn't. The
-/// representative only says of what is asked.
-fn is_own_image(classes: &Classes, class: u64, representative: &Position, ways: &Ways) -> bool
-    requires class { class < classes_of classes.now.family }
-    requires representative { RepresentsClass classes.now.family representative.now.setup class }
-    requires ways { AreWays (turned representative.now.setup) ways.now }
-    ensures { IsTrue result ↔ (mirrored representative.now.setup ≡ representative.now.setup) }
+// Whether the representative of the class is its own mirror image. What is known of the turned setup says mostly that it isn't.
+fn is_own_image(classes: &Classes, class: u64, ways: &Ways) -> bool
+    requires { class < classes_of classes.now.family }
+    ensures { (setup : Setup) → RepresentsClass classes.now.family setup class → AreWays (turned setup) ways.now
+        → (IsTrue result ↔ (mirrored setup ≡ setup)) }
 {
-    let _ = representative;
     if ways.has_lions_on_b() {
         let shown = classes.shown_at(class, Side::Mover);
         return class_if_shown(classes, &mirrored_bits(&shown.bits)).is_some();
@@ -254,9 +249,9 @@ fn is_own_image(classes: &Classes, class: u64, representative: &Position, ways: 
     false
 }
 
-/// The classes from which moves lead to the representative of the class or to its mirror image, in the order of the walk, in
-/// the room of that list. What the walks need of the setups are the sets of squares that the enemy sees of the representative; its
-/// board, and those of the turned setup and of its image, only say of what the sets are, and are not made when the program runs.
+// The classes from which moves lead to the representative of the class or to its mirror image, in the order of the walk, in
+// the room of that list. What the walks need of the setups are the sets of squares that the enemy sees of the representative; its
+// board, and those of the turned setup and of its image, only say of what the sets are, and are not made when the program runs.
 #[inline(always)]
 fn gather(room: Vec<u64>, classes: &Classes, class: u64, shown: &Shown) -> Result<Vec<u64>, Memory>
     requires class { class < classes_of classes.now.family }
@@ -274,7 +269,7 @@ fn gather(room: Vec<u64>, classes: &Classes, class: u64, shown: &Shown) -> Resul
         ways: &ways,
     };
     walk.gather_all(&mut found)?;
-    if is_own_image(classes, class, &shown.position, &ways) {
+    if is_own_image(classes, class, &ways) {
         return Ok(found);
     }
     let image = after.mirrored();

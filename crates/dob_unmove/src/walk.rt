@@ -20,7 +20,7 @@ pub(crate) trait Taker {
     /// By `takes after old undo new` taking that way back leads from the one state to the other.
     ghost takes: { Setup → Self → Undo → Self → Type 0 };
 
-    /// Takes one way to take the last move back from `after`, in which the side that made it is the mover.
+    // Takes one way to take the last move back from `after`, in which the side that made it is the mover.
     fn take(&mut self, after: &Setup, undo: Undo) -> Result<(), Memory>
         requires can { CanUndo after.now undo }
         requires suited { suits after.now self.old }

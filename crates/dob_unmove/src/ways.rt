@@ -1,30 +1,26 @@
 // What masks show of the ways to take a move back: where it may have ended, and from where a piece may have come, so that what
 // stood before was open and the earlier one of its class. All other ways are skipped.
-ghost use Rattle.std.specs.Prelude.{◌≡◌, ℕ, Bool, not, IsTrue};
+ghost use Rattle.std.specs.Prelude.{◌≡◌, not, IsTrue};
 ghost use Rattle.dob_pieces.specs.Masks.{IsMask};
-ghost use Rattle.dob_pieces.specs.Setups.{at, mirrored, IsLegal};
+ghost use Rattle.dob_pieces.specs.Setups.{mirrored, IsLegal};
 ghost use Rattle.dob_pieces.specs.declared.setup.Setup.{Setup};
 ghost use Rattle.dob_classes.specs.Bitboards.{AreBitboards};
 ghost use Rattle.dob_unmove.specs.Classes.{IsSeenTurned};
 ghost use Rattle.dob_unmove.specs.Threats.{elsewhere};
-ghost use Rattle.dob_unmove.specs.Ways.{is_home, comes_home, may_come, AreWays, IsOwnKind};
+ghost use Rattle.dob_unmove.specs.Ways.{is_home, comes_home, may_come, AreWays};
 ghost use Rattle.dob_unmove.specs.Walks.{holds_caught};
 
 use crate::attackers::{Attackers, Threat};
 use crate::walk::holds_caught;
 use dob_classes::Bitboards;
-use dob_pieces::{Kind, Masks, Setup, Square};
-use std::snapshot::Snapshot;
+use dob_pieces::{ALL_SQUARES, Kind, Masks, Setup, Square};
 
-/// All squares. Of the twelve bits of a mask the lowest three are row 1, and of the three of a row the lowest is column a.
-pub(crate) const ALL: u16 = 0b111_111_111_111;
-
-/// The squares of rows 1 to 3 on column a, and those on columns a and b.
+// The squares of rows 1 to 3 on column a, and those on columns a and b.
 const HOMES_ON_A: u16 = 0b000_001_001_001;
 
 const HOMES_ON_A_AND_B: u16 = 0b000_011_011_011;
 
-/// The squares of columns a and c.
+// The squares of columns a and c.
 const BESIDE_B: u16 = 0b101_101_101_101;
 
 /// What the masks of a setup after a move show, in which the side that made it is the mover.
@@ -39,7 +35,7 @@ pub(crate) struct Ways {
     pub(crate) ends: u16,
 }
 
-/// Where the mover's lion of a representative may stand, by the square of the enemy's.
+// Where the mover's lion of a representative may stand, by the square of the enemy's.
 fn homes_of(lion: Square) -> u16
     ensures { IsMask (is_home lion) result }
 {
@@ -50,22 +46,15 @@ fn homes_of(lion: Square) -> u16
     }
 }
 
-/// Where a move may have ended if no piece that didn't move attacks the enemy lion.
+// Where a move may have ended if no piece that didn't move attacks the enemy lion.
 fn calm_ends(attackers: Attackers) -> u16
     ensures { IsMask (λ square. not (elsewhere attackers square)) result }
 {
     match attackers {
-        Attackers::Nobody => ALL,
+        Attackers::Nobody => ALL_SQUARES,
         Attackers::One(attacker) => 1 << attacker.index(),
         Attackers::Several => 0,
     }
-}
-
-/// Whether the mask has the square.
-fn has(mask: u16, square: Square) -> bool
-    ensures { (test : ℕ → Bool) → IsMask test mask → result ≡ test square }
-{
-    mask >> square.index() & 1 == 1
 }
 
 impl Ways {
@@ -106,38 +95,14 @@ impl Ways {
     {
         match kind {
             Kind::Lion => self.homes,
-            _ => ALL,
+            _ => ALL_SQUARES,
         }
     }
 
-    /// The kind of the mover's piece on the square, if one stands there.
-    pub(crate) fn own_kind(&self, square: Square) -> Option<Kind>
-        ensures { (after : Setup) → AreWays after self.now → IsOwnKind (at after square) result }
+    /// Whether the mover holds what a caught piece of that kind became.
+    pub(crate) fn holds_caught(&self, caught: Kind) -> bool
+        ensures { (after : Setup) → AreWays after self.now → result ≡ holds_caught after.hands.mover caught }
     {
-        if has(self.masks.lion, square) {
-            return Some(Kind::Lion);
-        }
-        if has(self.masks.giraffes, square) {
-            return Some(Kind::Giraffe);
-        }
-        if has(self.masks.elephants, square) {
-            return Some(Kind::Elephant);
-        }
-        if has(self.masks.chicks, square) {
-            return Some(Kind::Chick);
-        }
-        if has(self.masks.hens, square) {
-            return Some(Kind::Hen);
-        }
-        None
-    }
-
-    /// Whether the mover holds what a caught piece of that kind became. The setup only says of what the answer is so.
-    pub(crate) fn holds_caught(&self, after: &Snapshot<Setup>, caught: Kind) -> bool
-        requires { AreWays after.now.value self.now }
-        ensures { result ≡ holds_caught after.now.value.hands.mover caught }
-    {
-        let _ = after;
         holds_caught(&self.bits.hands.mover, caught)
     }
 

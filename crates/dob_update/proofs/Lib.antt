@@ -1,6 +1,8 @@
 -- The lemmas, in the order in which they are read. First lists.
+mod Common  -- names of other crates and of this one's definitions, for the proofs
 pub mod PartLists  -- what is taken from the front of parts, and what is left
 pub mod Runs  -- runs of items, and the parts that they belong to
 pub mod PartItems  -- items of parts, of which only the classes are listed
+pub mod Cuts  -- what is cut from an outbox
 pub mod TakenBack  -- an outbox without the settlement that was added last
 pub mod BatchItems  -- the items of batches, and of one more

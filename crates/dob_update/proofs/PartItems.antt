@@ -1,22 +1,12 @@
 -- The items of parts, of which only the classes are listed that they are for.
-use Rattle.std.proofs.Common.{◌≡◌, ℕ, ◌+◌, ◌-◌, ◌<◌, ◌≤◌, min, List, [], ◌∷◌, ◌++◌, length, take, drop, get_or, refl, sym, ap}
-use Rattle.std.proofs.Common.{◌∙◌, subst, inl, inr, arith, length-append, length-drop, length-take-le}
-use Rattle.std.specs.Prelude.{◌==◌, ◌^◌, map}
-use Rattle.std.specs.List.{filter}
-use Rattle.std.proofs.lemmas.Bool.{cases_lt, cases_eq}
-use Rattle.std.proofs.lemmas.List.{append_assoc, append-nil, length-map, map-append, take-append-le, drop-append-le, take_all, take-take, take-append-drop}
-use Rattle.std.proofs.lemmas.List.{drop-take, drop-drop, take_at, drop_at, drop_more, map_more, get_or-drop, nil_from_length}
-use Rattle.dob_share.specs.declared.news.Settlement.{Settlement}
-use Rattle.dob_share.specs.declared.news.Item.{Item}
+use Rattle.dob_update.proofs.Common.{◌++◌, ◌+◌, ◌-◌, ◌<◌, ◌∙◌, ◌∷◌, ◌≡◌, ◌≤◌, List, [], ap, arith, drop, get_or, inl, inr, length, length-append, length-drop}
+use Rattle.dob_update.proofs.Common.{length-take-le, min, refl, subst, sym, take, ℕ, cases_eq, cases_lt, append-nil, append_assoc, drop-append-le, drop-drop}
+use Rattle.dob_update.proofs.Common.{drop_at, drop_more, length-map, map-append, take-append-le, take-take, take_all, filter, map, Family, predecessors}
+use Rattle.dob_update.proofs.Common.{owner_of, Item, Settlement, OutboxView, added, with_items, item_for, items_of, behind, front, items_in_all, items_of_parts}
+use Rattle.dob_update.proofs.Common.{settlement_of, settlements_of, skip_behind, target_of, AreListed, IsRest, Part}
+use Rattle.std.specs.Prelude.{◌==◌, ◌^◌}
+use Rattle.std.proofs.lemmas.List.{take-append-drop, drop-take, take_at, map_more, get_or-drop, nil_from_length}
 use Rattle.dob_value.specs.declared.value.Value.TheVariants.{Win}
-use Rattle.dob_update.specs.declared.part.Part.{Part}
-use Rattle.dob_pieces.specs.declared.profile.Family.{Family}
-use Rattle.dob_share.specs.Owners.{owner_of}
-use Rattle.dob_unmove.specs.Edges.{predecessors}
-use Rattle.dob_update.specs.Items.{item_for, items_of}
-use Rattle.dob_update.specs.Parts.{items_in_all, front, behind, skip_behind, items_of_parts, target_of, settlement_of, settlements_of}
-use Rattle.dob_update.specs.Batches.{OutboxView, added}
-use Rattle.dob_update.specs.Runs.{IsRest, AreListed}
 use Rattle.dob_update.proofs.PartLists.{front-zero, front-cons, behind-within, behind-past}
 use Rattle.dob_update.proofs.Runs.{total-front, rest_many, rest_added, rest_cut}
 
@@ -190,42 +180,32 @@ making_more parts classes index next list more part there read l is = record {
       omega (arith, many, within);
 }
 
--- there is no item just where there is no class
-pub no_items_of_parts : (parts : List Part) (classes : List ℕ) → items_in_all parts ≡ length classes → (items_of_parts parts classes ≡ [] → length classes ≡ 0) × (length classes ≡ 0 → items_of_parts parts classes ≡ [])
-no_items_of_parts parts classes all =
-    let many = items_of_parts-length parts classes (omega (arith, all)) in (
-      (λ none. let empty : length (items_of_parts parts classes) ≡ 0 = ap length none in omega (arith, empty, many, all)),
-      (λ none. nil_from_length (items_of_parts parts classes) (omega (arith, none, many, all))),
-    )
-
 -- ---- what an outbox lists
+
+-- there is an item for each class that is listed
+pub many_listed : {family : Family} {n to : ℕ} {parts : List Part} {skip : ℕ} {classes : List ℕ} → AreListed family n to parts skip classes →
+    length (items_of_parts parts classes) ≡ length classes
+many_listed {parts = parts} {classes = classes} listed =
+    let counted = listed.counted in items_of_parts-length parts classes (omega (arith, counted)) ∙ counted
+
+-- so that there is none just where no class is
+pub none_listed : {family : Family} {n to : ℕ} {parts : List Part} {skip : ℕ} {classes : List ℕ} → AreListed family n to parts skip classes →
+    (items_of_parts parts classes ≡ [] → length classes ≡ 0) × (length classes ≡ 0 → items_of_parts parts classes ≡ [])
+none_listed {parts = parts} {classes = classes} listed =
+    let many = many_listed listed in
+    (λ none. sym many ∙ ap length none, λ none. nil_from_length (items_of_parts parts classes) (many ∙ none))
 
 pub total-push : (parts : List Part) (part : Part) → items_in_all (parts ++ part ∷ []) ≡ items_in_all parts + part.items
 total-push [] part = omega arith
 total-push (first ∷ parts) part = let later = total-push parts part in omega (arith, later)
 
 -- one settlement more adds its items after the others
-pub items_added : (family : Family) (n to : ℕ) (parts : List Part) (classes : List ℕ) (s : Settlement) (more : List Item) → items_in_all parts ≡ length classes
+items_added : (family : Family) (n to : ℕ) (parts : List Part) (classes : List ℕ) (s : Settlement) (more : List Item) → items_in_all parts ≡ length classes
     → more ≡ items_of (predecessors family) n to s
     → items_of_parts (parts ++ (record { settlement = s; items = length more }) ∷ []) (classes ++ map target_of more) ≡ items_of_parts parts classes ++ more
 items_added family n to parts classes s more all is =
     items_of_parts-push parts (record { settlement = s; items = length more }) classes (map target_of more) all (sym (length-map more target_of))
     ∙ ap (λ (xs : List Item). items_of_parts parts classes ++ xs) (items_again s more (filter (λ class. owner_of n class == to) (predecessors family s.class)) is)
-
-pub listed_more : (family : Family) (n to : ℕ) (parts : List Part) (skip : ℕ) (classes : List ℕ) (s : Settlement) (more : List Item)
-    → AreListed family n to parts skip classes → 0 < length more → length more < 2 ^ 64 → more ≡ items_of (predecessors family) n to s
-    → AreListed family n to (parts ++ (record { settlement = s; items = length more }) ∷ []) skip (classes ++ map target_of more)
-listed_more family n to parts skip classes s more r some low is =
-    let part : Part = record { settlement = s; items = length more } in
-    let before = r.counted in
-    let sum = total-push parts part in
-    let both = length-append classes (map target_of more) in
-    let own = length-map more target_of in
-    record {
-      counted = omega (arith, before, sum, both, own);
-      rest = subst (λ (xs : List Item). IsRest family n to (parts ++ part ∷ []) skip xs) (sym (items_added family n to parts classes s more r.counted is))
-          (rest_added family n to parts skip (items_of_parts parts classes) more s r.rest some low is);
-    }
 
 -- what is left without the first k
 pub listed_behind : (family : Family) (n to : ℕ) (parts : List Part) (skip k : ℕ) (classes : List ℕ) → AreListed family n to parts skip classes → k ≤ length classes
@@ -244,34 +224,45 @@ listed_behind family n to parts skip k classes r within =
           (sym (items_of_parts-behind k parts classes (omega (arith, before)) (omega (arith, before, within)))) rest;
     }
 
--- an outbox with a settlement more, which has items
-pub added_is : (view : OutboxView) (settlements : List Settlement) (items more : List Item) (s : Settlement) → 0 < length more
-    → settlements ≡ view.settlements ++ s ∷ [] → items ≡ view.items ++ more
-    → (record view { settlements = settlements; items = items }) ≡ added view s more
-added_is view settlements items [] s some ss is = absurd (omega (arith, some))
-added_is view settlements items (item ∷ more) s some ss is =
-    subst (λ (xs : List Item). (record view { settlements = settlements; items = xs }) ≡ added view s (item ∷ more)) (sym is)
-    (subst (λ (ts : List Settlement). (record view { settlements = ts; items = view.items ++ item ∷ more }) ≡ added view s (item ∷ more)) (sym ss) refl)
+pub with_some : (s : Settlement) (items : List Item) → 0 < length items → with_items s items ≡ s ∷ []
+with_some s [] some = absurd (omega (arith, some))
+with_some s (item ∷ items) some = refl
 
--- ---- an outbox that lists a settlement more, with the classes of its items
+-- An outbox lists a settlement more, with the classes of its items.
+pub record IsGrown (family : Family) (n to skip : ℕ) (parts grown : List Part) (classes longer : List ℕ) (s : Settlement) (more : List Item) : Type 0 where
+  pub listed : AreListed family n to grown skip longer
+  pub is_added : (from next : ℕ) → (let old : OutboxView = record {
+    family = family;
+    n = n;
+    from = from;
+    to = to;
+    settlements = settlements_of parts;
+    skip = skip;
+    items = items_of_parts parts classes;
+    next = next;
+  } in (record old { settlements = settlements_of grown; items = items_of_parts grown longer }) ≡ added old s more)
 
-module _ (family : Family) (n to skip : ℕ) (parts grown : List Part) (classes longer : List ℕ) (s : Settlement) (more : List Item)
-    (listed : AreListed family n to parts skip classes) (some : 0 < length more) (low : length more < 2 ^ 64)
-    (of_settlement : more ≡ items_of (predecessors family) n to s) (parts_are : grown ≡ parts ++ (record { settlement = s; items = length more }) ∷ [])
-    (classes_are : longer ≡ classes ++ map target_of more) where
-  pub listed_grown : AreListed family n to grown skip longer
-  listed_grown =
-      subst (λ (ps : List Part). AreListed family n to ps skip longer) (sym parts_are)
-      (subst (λ (cs : List ℕ). AreListed family n to (parts ++ (record { settlement = s; items = length more }) ∷ []) skip cs) (sym classes_are)
-      (listed_more family n to parts skip classes s more listed some low of_settlement))
-
-  pub view_grown : (view : OutboxView) → view.settlements ≡ settlements_of parts → view.items ≡ items_of_parts parts classes →
-      (record view { settlements = settlements_of grown; items = items_of_parts grown longer }) ≡ added view s more
-  view_grown view before items =
-      added_is view (settlements_of grown) (items_of_parts grown longer) more s some
-      (ap settlements_of parts_are ∙ map-append settlement_of parts ((record { settlement = s; items = length more }) ∷ [])
-      ∙ ap (λ (ss : List Settlement). ss ++ s ∷ []) (sym before))
-      (ap (λ (ps : List Part). items_of_parts ps longer) parts_are
-      ∙ ap (λ (cs : List ℕ). items_of_parts (parts ++ (record { settlement = s; items = length more }) ∷ []) cs) classes_are
-      ∙ items_added family n to parts classes s more listed.counted of_settlement
-      ∙ ap (λ (xs : List Item). xs ++ more) (sym items))
+pub is_grown : (family : Family) (n to skip : ℕ) (parts grown : List Part) (classes longer : List ℕ) (s : Settlement) (more : List Item)
+    → AreListed family n to parts skip classes → 0 < length more → length more < 2 ^ 64 → more ≡ items_of (predecessors family) n to s
+    → grown ≡ parts ++ (record { settlement = s; items = length more }) ∷ [] → longer ≡ classes ++ map target_of more
+    → IsGrown family n to skip parts grown classes longer s more
+is_grown family n to skip parts grown classes longer s more listed some low of_settlement parts_are classes_are =
+    let part : Part = record { settlement = s; items = length more } in
+    let before = listed.counted in
+    let sum = total-push parts part in
+    let both = length-append classes (map target_of more) in
+    let own = length-map more target_of in
+    let items_are = items_added family n to parts classes s more listed.counted of_settlement in
+    subst (λ (ps : List Part). IsGrown family n to skip parts ps classes longer s more) (sym parts_are)
+    (subst (λ (cs : List ℕ). IsGrown family n to skip parts (parts ++ part ∷ []) classes cs s more) (sym classes_are) (record {
+      listed = record {
+        counted = omega (arith, before, sum, both, own);
+        rest = subst (λ (xs : List Item). IsRest family n to (parts ++ part ∷ []) skip xs) (sym items_are)
+            (rest_added family n to parts skip (items_of_parts parts classes) more s listed.rest some low of_settlement);
+      };
+      is_added = λ from next.
+          let old : OutboxView = record { family = family; n = n; from = from; to = to; settlements = settlements_of parts; skip = skip; items = items_of_parts parts classes; next = next } in
+          ap (λ (ss : List Settlement). record old { settlements = ss; items = items_of_parts (parts ++ part ∷ []) (classes ++ map target_of more) })
+          (map-append settlement_of parts (part ∷ []) ∙ ap (λ (ss : List Settlement). settlements_of parts ++ ss) (sym (with_some s more some)))
+          ∙ ap (λ (xs : List Item). record old { settlements = settlements_of parts ++ with_items s more; items = xs }) items_are;
+    }))

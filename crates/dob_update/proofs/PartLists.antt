@@ -1,11 +1,7 @@
 -- Lists of parts: what is taken from their front, and what is left behind it.
-use Rattle.std.proofs.Common.{◌≡◌, ℕ, ◌+◌, ◌-◌, ◌^◌, ◌<◌, ◌≤◌, min, Bool, cond, List, [], ◌∷◌, ◌++◌, length, take}
-use Rattle.std.proofs.Common.{drop, get_or, refl, sym, ap, ◌∙◌, subst, arith}
-use Rattle.std.proofs.lemmas.Bool.{lt-ltb, le-ltb, ne_eqb}
-use Rattle.std.proofs.lemmas.List.{append_assoc, append-nil, drop_more, drop_all}
-use Rattle.dob_share.specs.declared.news.Settlement.{Settlement}
-use Rattle.dob_update.specs.declared.part.Part.{Part}
-use Rattle.dob_update.specs.Parts.{with_number, items_in_all, front, behind, skip_behind, AreWhole}
+use Rattle.dob_update.proofs.Common.{◌++◌, ◌+◌, ◌-◌, ◌<◌, ◌^◌, ◌∙◌, ◌∷◌, ◌≡◌, ◌≤◌, Bool, List, [], ap, arith, cond, drop, get_or, length, min, refl, subst, sym}
+use Rattle.dob_update.proofs.Common.{take, ℕ, le-ltb, lt-ltb, ne_eqb, append-nil, append_assoc, drop_all, drop_more, Settlement, AreWhole, behind, front}
+use Rattle.dob_update.proofs.Common.{items_in_all, skip_behind, with_number, Part}
 
 -- ---- what stands in front
 

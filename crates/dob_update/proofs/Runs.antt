@@ -1,18 +1,10 @@
 -- Runs of items, and the parts that they belong to.
-use Rattle.std.proofs.Common.{◌≡◌, ℕ, ◌+◌, ◌-◌, ◌^◌, ◌<◌, ◌≤◌, ◌==◌, min, Bool, true, false, cond, List, [], ◌∷◌, ◌++◌, length, take, drop}
-use Rattle.std.proofs.Common.{refl, sym, ap, ◌∙◌, subst, inl, inr, arith, length-append, length-drop, length-take-le}
-use Rattle.std.proofs.lemmas.Bool.{cases_lt, cases_eq, eqb-true, eq-eqb}
-use Rattle.std.proofs.lemmas.List.{append_assoc, append-nil, length-map, map-append, take-append-le}
-use Rattle.std.proofs.lemmas.List.{drop-append-le, take_min, drop_min, take-take, drop-drop, drop_at}
-use Rattle.dob_pieces.specs.declared.profile.Family.{Family}
-use Rattle.dob_share.specs.declared.news.Settlement.{Settlement}
-use Rattle.dob_share.specs.declared.news.Item.{Item}
-use Rattle.dob_unmove.specs.Edges.{predecessors}
-use Rattle.dob_update.specs.declared.part.Part.{Part}
-use Rattle.dob_update.specs.Items.{items_of}
-use Rattle.dob_update.specs.Parts.{settlement_of, settlements_of, with_number, items_in_all, front, behind, skip_behind, AreParts, AreWhole}
-use Rattle.dob_update.specs.Batches.{BatchView, OutboxView, HasItemIn, items_for, IsBatch, IsOutbox, IsFront, IsCut}
-use Rattle.dob_update.specs.Runs.{count_for, IsItemRun, IsRest}
+use Rattle.dob_update.proofs.Common.{◌++◌, ◌+◌, ◌-◌, ◌<◌, ◌==◌, ◌^◌, ◌∙◌, ◌∷◌, ◌≡◌, ◌≤◌, Bool, List, [], ap, arith, cond, drop, false, inl, inr, length}
+use Rattle.dob_update.proofs.Common.{length-append, length-drop, length-take-le, min, refl, subst, sym, take, true, ℕ, cases_eq, cases_lt, eq-eqb, eqb-true}
+use Rattle.dob_update.proofs.Common.{append-nil, append_assoc, drop-append-le, drop-drop, drop_at, length-map, map-append, take-append-le, take-take, Family}
+use Rattle.dob_update.proofs.Common.{predecessors, Item, Settlement, BatchView, IsBatch, IsFront, IsOutbox, OutboxView, items_for, items_of, AreParts, AreWhole}
+use Rattle.dob_update.proofs.Common.{behind, front, items_in_all, settlement_of, settlements_of, skip_behind, with_number, IsItemRun, IsRest, count_for, Part}
+use Rattle.dob_update.specs.Batches.{HasItemIn}
 use Rattle.dob_update.proofs.PartLists.{behind-within, behind-past, skip-within, skip-past}
 
 -- ---- parts and their numbers of items
@@ -285,34 +277,4 @@ IsFront-from_parts old parts new k items e f g =
       items = g;
       listed = (listed.0, e ∙ listed.1 ∙ ap (λ ps. settlements_of ps ++ listed.0) (sym f));
       same = refl;
-    }
-
--- what is cut from an outbox by its parts
-pub IsCut-from_parts : (old : OutboxView) (parts taken left : List Part) (skip size k : ℕ) (items rest : List Item)
-    → old.settlements ≡ settlements_of parts → IsRest old.family old.n old.to parts old.skip old.items
-    → k ≡ min size (length old.items) → taken ≡ front k parts → items ≡ take k old.items
-    → left ≡ behind k parts → skip ≡ skip_behind old.skip k parts → rest ≡ drop k old.items
-    → IsCut old size
-    (record { family = old.family; n = old.n; from = old.from; to = old.to; number = old.next; settlements = settlements_of taken; skip = old.skip; items = items })
-    (record old { settlements = settlements_of left; skip = skip; items = rest; next = old.next + 1 })
-IsCut-from_parts old parts taken left skip size k items rest e r least front_is items_are left_is skip_is rest_is =
-    let within : k ≤ length old.items = omega (arith, least) in
-    let listed = front_settlements parts k in
-    let g = gone_behind old.family old.n old.to parts old.skip k r.parts_fit (cut_within old.family old.n old.to parts old.skip k old.items r within) in
-    let many = g.many in
-    let long : length items ≡ k = ap length items_are ∙ length-take-le k old.items within in
-    record {
-      items = items_are ∙ ap (λ m. take m old.items) least ∙ take_min size old.items;
-      left = rest_is ∙ ap (λ m. drop m old.items) least ∙ drop_min size old.items;
-      skip = refl;
-      number = refl;
-      next = refl;
-      listed = (listed.0, e ∙ listed.1 ∙ ap (λ ps. settlements_of ps ++ listed.0) (sym front_is));
-      kept = (
-        g.gone,
-        e ∙ g.apart ∙ ap (λ ps. g.gone ++ settlements_of ps) (sym left_is),
-        omega (arith, many, skip_is, long),
-      );
-      of_link = (refl, refl, refl, refl);
-      same_link = (refl, refl, refl, refl);
     }

@@ -1,18 +1,11 @@
 -- An outbox without the settlement that was added last.
-use Rattle.std.proofs.Common.{◌≡◌, ℕ, ◌+◌, ◌-◌, ◌<◌, ◌≤◌, List, [], ◌∷◌, ◌++◌, length, take, drop, get_or, refl, sym}
-use Rattle.std.proofs.Common.{ap, ◌∙◌, subst, arith, length-append, length-drop, length-take-le}
-use Rattle.std.specs.Prelude.{map}
-use Rattle.std.proofs.lemmas.List.{append-nil, length-map, map-append, drop-append-le, take_all, take_at}
-use Rattle.std.proofs.lemmas.List.{take_more, take-append-drop, nil_from_length, same_from_push}
-use Rattle.dob_share.specs.declared.news.Settlement.{Settlement}
-use Rattle.dob_share.specs.declared.news.Item.{Item}
-use Rattle.dob_update.specs.declared.part.Part.{Part}
-use Rattle.dob_update.specs.Items.{item_for}
-use Rattle.dob_update.specs.Parts.{settlement_of, settlements_of, items_in_all, items_of_parts, AreWhole}
-use Rattle.dob_update.specs.Batches.{OutboxView, items_for, with_items, added, HasOneMore}
-use Rattle.dob_update.specs.Runs.{count_for, AreListed}
+use Rattle.dob_update.proofs.Common.{◌++◌, ◌+◌, ◌-◌, ◌<◌, ◌∙◌, ◌∷◌, ◌≡◌, ◌≤◌, List, [], ap, arith, drop, get_or, length, length-append, length-drop}
+use Rattle.dob_update.proofs.Common.{length-take-le, refl, subst, sym, take, ℕ, append-nil, drop-append-le, length-map, map-append, take_all, map, Item}
+use Rattle.dob_update.proofs.Common.{Settlement, HasOneMore, OutboxView, added, items_for, with_items, item_for, AreWhole, items_in_all, items_of_parts}
+use Rattle.dob_update.proofs.Common.{settlement_of, settlements_of, AreListed, count_for, Part}
+use Rattle.std.proofs.lemmas.List.{take_at, take_more, take-append-drop, nil_from_length, same_from_push}
 use Rattle.dob_update.proofs.Runs.{items-append, whole_is}
-use Rattle.dob_update.proofs.PartItems.{items_of_parts-length, items_of_parts-push, total-push}
+use Rattle.dob_update.proofs.PartItems.{items_of_parts-length, items_of_parts-push, total-push, with_some}
 
 -- ---- the last part
 
@@ -33,10 +26,6 @@ module _ (count : Settlement → ℕ) where
   AreWhole-left (first ∷ left) skip part w all = (w.0, w.1, w.2, AreWhole-left left 0 part w.3 all)
 
 -- ---- the outbox before
-
-with_some : (s : Settlement) (items : List Item) → 0 < length items → with_items s items ≡ s ∷ []
-with_some s [] some = absurd (omega (arith, some))
-with_some s (item ∷ items) some = refl
 
 -- where the settlement has no items, nothing was added
 pub nothing_back : (before outbox : OutboxView) (count : ℕ) → count ≡ 0 → HasOneMore before count outbox → outbox ≡ before

@@ -1,27 +1,11 @@
 -- Of a table that is right, at least up to a depth, no distance up to it is above the number of classes.
-use Rattle.std.proofs.Common.{◌≡◌, ◌≢◌, ℕ, suc, ◌≤◌, ◌<◌, ◌⊎◌, inl, inr, subst, ◌∙◌, arith, List, [], ◌∷◌, length, map, get_or}
-use Rattle.std.proofs.Common.{slice_index_or, Contains, AllPairs}
-use Rattle.std.specs.List.{range_with_len}
-use Rattle.std.proofs.lemmas.Bool.{cases_eq}
-use Rattle.std.proofs.lemmas.Option.{slice_get-get_or}
-use Rattle.std.proofs.lemmas.List.{length-map, get_or-map}
+use Rattle.dob_value.proofs.Common.{◌<◌, ◌∙◌, ◌∷◌, ◌≡◌, ◌≢◌, ◌≤◌, ◌⊎◌, AllPairs, Contains, List, [], arith, get_or, inl, inr, length, map, slice_index_or}
+use Rattle.dob_value.proofs.Common.{subst, suc, ℕ, cases_eq, get_or-map, length-map, Contains-append_right, slice_get-get_or, range_with_len, Family, Profile}
+use Rattle.dob_value.proofs.Common.{Setup, HasClass-marked, HasClasses-classes_of, IsPositionOf, IsRepresentative, classes_of, marks_below, rank_of_set}
+use Rattle.dob_value.proofs.Common.{HasDistance, IsCutOff, AreCutOff, HasEntries, SomeHasDistance, HasValue, Lost, Won, Value, Draw, Loss, Win}
 use Rattle.std.proofs.lemmas.List.FromFn.{length-range_with_len, get_or-range_with_len}
-use Rattle.std.proofs.lemmas.List.Elements.{Contains-append_right}
-use Rattle.dob_pieces.specs.declared.profile.Family.{Family}
-use Rattle.dob_pieces.specs.declared.profile.Profile.{Profile}
-use Rattle.dob_pieces.specs.declared.setup.Setup.{Setup}
-use Rattle.dob_pieces.proofs.Lists.{none_in_empty, head_in, cons_cases}
-use Rattle.dob_rank.specs.Families.{IsPositionOf, IsRepresentative}
-use Rattle.dob_rank.specs.Numbers.{rank_of_set}
-use Rattle.dob_rank.specs.Marks.{marks_below}
-use Rattle.dob_rank.specs.Families.{classes_of, is_marked}
-use Rattle.dob_rank.specs.Families.{class_setup}
-use Rattle.dob_rank.proofs.OfFamilies.Present.{HasClass-marked, HasClasses-classes_of}
-use Rattle.dob_value.specs.declared.value.Value.{Value}
-use Rattle.dob_value.specs.declared.value.Value.TheVariants.{Win, Loss, Draw}
-use Rattle.dob_value.specs.Values.{Won, Lost, HasValue}
-use Rattle.dob_value.specs.Entries.{HasDistance, IsCutOff}
-use Rattle.dob_value.specs.Graphs.{HasEntries, AreCutOff, SomeHasDistance}
+use Rattle.dob_pieces.proofs.Lists.{none_in_empty, head_in, cons_cases, stands_or}
+use Rattle.dob_rank.specs.Families.{is_marked, class_setup}
 use Rattle.dob_value.specs.Bounds.{plies_of, DistancesAreFew}
 use Rattle.dob_value.proofs.Depths.{won_stays, lost_stays, won_not_lost}
 use Rattle.dob_value.proofs.Tables.{LeadsToClasses, NothingNew, nothing_later}
@@ -86,16 +70,6 @@ no_new profile n k p Draw low right other = (
 
 -- ---- each lesser distance is some entry's
 
-there_or_not : (xs : List ℕ) (x : ℕ) → Contains xs x ⊎ (¬ Contains xs x)
-there_or_not [] x = inr (none_in_empty x)
-there_or_not (y ∷ xs) x = elim (cases_eq y x) [
-  | inl same ↦ inl (subst (λ z. Contains (y ∷ xs) z) same (head_in y xs))
-  | inr other ↦ elim (there_or_not xs x) [
-    | inl there ↦ inl (Contains-append_right (y ∷ []) xs x there)
-    | inr absent ↦ inr (λ there. elim (cons_cases y xs x there) [ inl same ↦ other same | inr later ↦ absent later ])
-  ]
-]
-
 module _ (family : Family) (n : ℕ) (entries : List Value) (right : AreRightUpTo n family entries) where
   abbrev told : List ℕ
   told = map plies_of entries
@@ -108,7 +82,7 @@ module _ (family : Family) (n : ℕ) (entries : List Value) (right : AreRightUpT
       (number, omega (arith, same, within), get_or-map plies_of entries number Draw k within ∙ is)
 
   lesser_told : (number d k : ℕ) → number < classes_of family → HasDistance family.profile (class_setup family number) d → d ≤ n → suc k ≤ d → Contains told (suc k)
-  lesser_told number d k low has upto less = elim (there_or_not told (suc k)) [
+  lesser_told number d k low has upto less = elim (stands_or told (suc k)) [
     | inl there ↦ there
     | inr absent ↦
         let nothing : NothingNew k family = λ other there. no_new family.profile n k (class_setup family other) (slice_index_or entries other Draw) (omega (arith, upto, less))

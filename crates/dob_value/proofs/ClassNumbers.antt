@@ -1,22 +1,12 @@
 -- Each position of a family has one entry in a table of the family, and the outlook of its representative.
-use Rattle.std.proofs.Common.{◌≡◌, ℕ, ◌<◌, inl, inr, sym, subst, ◌∙◌, arith, List, [], ◌∷◌, length, get_or, Some, slice_get}
-use Rattle.std.proofs.lemmas.Option.{slice_get-get_or, same_Some}
-use Rattle.dob_pieces.specs.declared.profile.Family.{Family}
-use Rattle.dob_pieces.specs.declared.profile.Profile.{Profile}
-use Rattle.dob_pieces.specs.declared.setup.Setup.{Setup}
+use Rattle.dob_value.proofs.Common.{◌<◌, ◌∙◌, ◌∷◌, ◌≡◌, List, Some, [], arith, get_or, inl, inr, length, slice_get, subst, sym, ℕ, same_Some, slice_get-get_or}
+use Rattle.dob_value.proofs.Common.{Family, Profile, Setup, HasClass-marked, HasClasses, IsPositionOf, marks_below, rank_of_set, SameOutlook, HasInTable, Value}
 use Rattle.dob_rank.specs.Order.{RepresentativeOf}
-use Rattle.dob_rank.specs.Families.{IsPositionOf, HasClasses}
-use Rattle.dob_rank.specs.Numbers.{rank_of_set}
-use Rattle.dob_rank.specs.Marks.{marks_below}
 use Rattle.dob_rank.specs.Families.{is_marked}
-use Rattle.dob_rank.proofs.OfFamilies.Present.{HasClass-marked}
 pub use Rattle.dob_classes.proofs.OfFamilies.Counted.{no_longer, one_count}
 pub use Rattle.dob_rank.proofs.Marked.Representatives.{not_before_itself}
 pub use Rattle.dob_classes.proofs.OfFamilies.FamilyRepresentatives.{class_within, one_of_class, has_representative}
 pub use Rattle.dob_classes.proofs.OfFamilies.FamilyRepresentatives.{representative_is, same_representative, represents_itself, one_class}
-use Rattle.dob_value.specs.declared.value.Value.{Value}
-use Rattle.dob_value.specs.Depths.{SameOutlook}
-use Rattle.dob_value.specs.Follows.{HasInTable}
 use Rattle.dob_value.proofs.Images.{one_outlook}
 
 same_outlook : (profile : Profile) (p : Setup) → SameOutlook profile p p

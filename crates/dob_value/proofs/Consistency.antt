@@ -1,21 +1,10 @@
 -- A consistent table is the value table.
-use Rattle.std.proofs.Common.{◌≡◌, ℕ, zero, suc, ◌+◌, ◌≤◌, inl, inr, refl, sym, subst, ◌∙◌, arith, List}
-use Rattle.dob_pieces.specs.declared.profile.Family.{Family}
-use Rattle.dob_pieces.specs.declared.profile.Profile.{Profile}
-use Rattle.dob_pieces.specs.declared.setup.Setup.{Setup}
-use Rattle.dob_moves.specs.declared.game_move.Move.{Move}
-use Rattle.dob_moves.specs.declared.position_status.Status.{Status}
-use Rattle.dob_moves.specs.declared.position_status.Status.TheVariants.{Caught, Tried, Stuck, Open}
-use Rattle.dob_moves.specs.Moves.{Goes}
-use Rattle.dob_moves.specs.Statuses.{HasStatus}
+use Rattle.dob_value.proofs.Common.{◌+◌, ◌∙◌, ◌≡◌, ◌≤◌, List, arith, inl, inr, refl, subst, suc, sym, zero, ℕ, Family, Profile, Setup, Goes, HasStatus, Move}
+use Rattle.dob_value.proofs.Common.{Status, Caught, Open, Stuck, Tried, IsPositionOf, SameOutlook, HasInTable, HasLost, HasValue, Lost, Won, Value, Draw, Loss}
+use Rattle.dob_value.proofs.Common.{Win}
 use Rattle.dob_moves.proofs.Cases.{one_status}
-use Rattle.dob_rank.specs.Families.{IsPositionOf}
-use Rattle.dob_value.specs.declared.value.Value.{Value}
-use Rattle.dob_value.specs.declared.value.Value.TheVariants.{Win, Loss, Draw}
-use Rattle.dob_value.specs.Values.{HasLost, Won, Lost, HasValue}
-use Rattle.dob_value.specs.Depths.{SameOutlook}
 use Rattle.dob_value.proofs.Successors.{moves_keep_the_family}
-use Rattle.dob_value.specs.Follows.{HasInTable, FollowsFromSuccessors, FollowsAt, Follows, IsConsistent, ConsistentIsRight}
+use Rattle.dob_value.specs.Follows.{FollowsFromSuccessors, FollowsAt, Follows, IsConsistent, ConsistentIsRight}
 use Rattle.dob_value.proofs.Distances.{same_win, same_loss}
 use Rattle.dob_value.proofs.Depths.{won_stays}
 use Rattle.dob_value.proofs.ClassNumbers.{has_entry, one_entry, representative_is, representative_outlook}

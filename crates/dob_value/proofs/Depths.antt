@@ -1,12 +1,6 @@
 -- Won and lost positions at different depths.
-use Rattle.std.proofs.Common.{◌≡◌, ℕ, zero, suc, ◌+◌, ◌-◌, ◌≤◌, inl, inr, refl, subst, ap, arith}
-use Rattle.dob_pieces.specs.declared.profile.Profile.{Profile}
-use Rattle.dob_pieces.specs.declared.setup.Setup.{Setup}
-use Rattle.dob_moves.specs.declared.position_status.Status.TheVariants.{Caught, Open}
-use Rattle.dob_moves.specs.Statuses.{HasStatus}
-use Rattle.dob_value.specs.declared.value.Value.TheVariants.{Win, Loss, Draw}
-use Rattle.dob_value.specs.Values.{HasLost, Won, Lost}
-use Rattle.dob_value.specs.Depths.{WonStaysWon, LostStaysLost, OneValue}
+use Rattle.dob_value.proofs.Common.{◌+◌, ◌-◌, ◌≡◌, ◌≤◌, ap, arith, inl, inr, refl, subst, suc, zero, ℕ, Profile, Setup, HasStatus, Caught, Open, LostStaysLost}
+use Rattle.dob_value.proofs.Common.{OneValue, WonStaysWon, HasLost, Lost, Won, Draw, Loss, Win}
 
 -- one ply more changes nothing
 mutual

@@ -1,6 +1,5 @@
 -- A win, or a loss, has one distance.
-use Rattle.std.proofs.Common.{◌≡◌, ℕ}
-use Rattle.dob_value.specs.declared.value.Value.TheVariants.{Win, Loss}
+use Rattle.dob_value.proofs.Common.{◌≡◌, ℕ, Loss, Win}
 
 pub same_win : (a b : ℕ) → Win a ≡ Win b → a ≡ b
 same_win a b e = cc

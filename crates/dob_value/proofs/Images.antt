@@ -1,18 +1,10 @@
 -- Mirror images are won and lost at the same depths.
-use Rattle.std.proofs.Common.{ℕ, zero, suc, inl, inr, subst}
-use Rattle.dob_pieces.specs.declared.profile.Profile.{Profile}
-use Rattle.dob_pieces.specs.declared.setup.Setup.{Setup}
+use Rattle.dob_value.proofs.Common.{inl, inr, subst, suc, zero, ℕ, Profile, Setup, Goes-mirrored, HasStatus-mirrored, IsLegal-Goes, Goes, Move, Caught, Open}
+use Rattle.dob_value.proofs.Common.{Stuck, Tried, MirrorsHaveOneOutlook, MirrorsHaveOneValue, SameOutlook, HasLost, Lost, Won}
 use Rattle.dob_pieces.specs.Setups.{IsLegal, mirrored}
 use Rattle.dob_pieces.proofs.Boards.{IsLegal-mirrored}
 use Rattle.dob_pieces.proofs.Symmetries.{mirrored-mirrored}
-use Rattle.dob_moves.specs.declared.game_move.Move.{Move}
-use Rattle.dob_moves.specs.declared.position_status.Status.TheVariants.{Caught, Tried, Stuck, Open}
-use Rattle.dob_moves.specs.Moves.{Goes}
 use Rattle.dob_moves.specs.Mirrors.{mirrored_move}
-use Rattle.dob_moves.proofs.ProfileMoves.{Goes-mirrored, HasStatus-mirrored}
-use Rattle.dob_moves.proofs.ProfileMoves.{IsLegal-Goes}
-use Rattle.dob_value.specs.Values.{HasLost, Won, Lost}
-use Rattle.dob_value.specs.Depths.{SameOutlook, MirrorsHaveOneOutlook, MirrorsHaveOneValue}
 use Rattle.dob_value.proofs.Tables.{value_same}
 
 -- what has lost has lost in the mirror

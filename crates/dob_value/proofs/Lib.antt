@@ -1,4 +1,5 @@
 -- The lemmas, in the order in which they are read.
+mod Common  -- names of other crates and of this one's definitions, for the proofs
 -- Values.
 pub mod Distances  -- a win, or a loss, has one distance
 pub mod Depths  -- won and lost at different depths

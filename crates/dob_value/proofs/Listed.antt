@@ -1,10 +1,6 @@
 -- A list of values that are given for each class, with one more.
-use Rattle.std.proofs.Common.{◌≡◌, ℕ, ◌+◌, inl, inr, List, [], ◌∷◌, ◌++◌, sym, ap, ◌∙◌, subst}
+use Rattle.dob_value.proofs.Common.{◌++◌, ◌+◌, ◌∙◌, ◌∷◌, ◌≡◌, List, [], ap, inl, inr, subst, sym, ℕ, at_end, value_of_code, values_of_codes, AreGiven, Value}
 use Rattle.std.proofs.lemmas.List.{length-append, map-append}
-use Rattle.dob_pieces.proofs.Elements.{at_end}
-use Rattle.dob_value.specs.declared.value.Value.{Value}
-use Rattle.dob_value.specs.Codes.{value_of_code, values_of_codes}
-use Rattle.dob_value.specs.Follows.{AreGiven}
 
 -- one value more
 pub given_more : (Gives : ℕ → Value → Type 0) (class : ℕ) (codes new : List ℕ) (code : ℕ) (value : Value) → AreGiven Gives class (values_of_codes codes) →

@@ -1,20 +1,11 @@
 -- The value at one depth more: what the entries of the successors give.
-use Rattle.std.proofs.Common.{◌≡◌, ℕ, suc, ◌+◌, ◌≤◌, ◌<◌, ◌⊎◌, inl, inr, sym, subst, arith, ◌∙◌, List, length, get_or, slice_index_or, Bool, true, false, All}
-use Rattle.std.specs.List.{list_any, list_all}
-use Rattle.std.proofs.lemmas.Bool.{cases_lt}
+use Rattle.dob_value.proofs.Common.{◌+◌, ◌<◌, ◌∙◌, ◌≡◌, ◌≤◌, ◌⊎◌, List, arith, false, get_or, inl, inr, length, slice_index_or, subst, suc, sym, true, ℕ}
+use Rattle.dob_value.proofs.Common.{cases_lt, Contains-get_or, list_all, list_any, Profile, Setup, HasStatus, Status, Caught, Open, Stuck, Tried, TellsAt}
+use Rattle.dob_value.proofs.Common.{is_loss_within, is_win_within, IsNode, HasLost, HasValue, Lost, Won, Value, Draw, Loss, Win}
+use Rattle.std.proofs.Common.{Bool, All}
 use Rattle.std.proofs.lemmas.List.Folds.{Any-from_list_any, list_any_at}
 use Rattle.std.proofs.lemmas.List.Sums.{AllPass-from_list_all, list_all-from_AllPass}
-use Rattle.std.proofs.lemmas.List.Elements.{All-contains, Contains-get_or}
-use Rattle.dob_pieces.specs.declared.profile.Profile.{Profile}
-use Rattle.dob_pieces.specs.declared.setup.Setup.{Setup}
-use Rattle.dob_moves.specs.declared.position_status.Status.{Status}
-use Rattle.dob_moves.specs.declared.position_status.Status.TheVariants.{Caught, Tried, Stuck, Open}
-use Rattle.dob_moves.specs.Statuses.{HasStatus}
-use Rattle.dob_value.specs.declared.value.Value.{Value}
-use Rattle.dob_value.specs.declared.value.Value.TheVariants.{Win, Loss, Draw}
-use Rattle.dob_value.specs.Values.{HasLost, Won, Lost, HasValue}
-use Rattle.dob_value.specs.Entries.{is_win_within, is_loss_within, TellsAt}
-use Rattle.dob_value.specs.Graphs.{IsNode}
+use Rattle.std.proofs.lemmas.List.Elements.{All-contains}
 use Rattle.dob_value.proofs.Depths.{won_stays, lost_stays, lost_not_open}
 
 -- what is won first at depth n + 1 has that distance, and likewise what is lost
@@ -106,38 +97,34 @@ module _ (profile : Profile) (n : ℕ) (entries : List Value) (p : Setup) (statu
     | inr stuck ↦ inr (subst (λ s. HasStatus profile p s) (sym same ∙ stuck) known.status)
   ])
 
-  pub value_of_win : ¬ Won profile n p → status ≡ Open → (successors : List ℕ) → successors ≡ numbers →
-      (found : Bool) → found ≡ list_any (λ number. is_loss_within n (slice_index_or entries number Draw)) successors → found ≡ true →
-      HasValue profile p (Win (n + 1))
-  value_of_win not_won is_open successors same found is was =
-      let goes_on = subst (λ s. HasStatus profile p s) is_open known.status in
-      first_won profile n p not_won (some_lost goes_on
-      (subst (λ xs. list_any (λ number. is_loss_within n (slice_index_or entries number Draw)) xs ≡ true) same (sym is ∙ was)))
+  -- where it is open, by what was found among its successors
+  module _ (is_open : status ≡ Open) (successors : List ℕ) (same : successors ≡ numbers) where
+    goes_on : HasStatus profile p Open
+    goes_on = subst (λ s. HasStatus profile p s) is_open known.status
 
-  pub value_of_loss : ¬ Lost profile n p → status ≡ Open → (successors : List ℕ) → successors ≡ numbers →
-      (all : Bool) → all ≡ list_all (λ number. is_win_within n (slice_index_or entries number Draw)) successors → all ≡ true →
-      HasValue profile p (Loss (n + 1))
-  value_of_loss not_lost is_open successors same all is was =
-      let goes_on = subst (λ s. HasStatus profile p s) is_open known.status in
-      first_lost profile n p not_lost (all_won goes_on
-      (subst (λ xs. list_all (λ number. is_win_within n (slice_index_or entries number Draw)) xs ≡ true) same (sym is ∙ was)))
+    found_among : (found : Bool) → found ≡ list_any (λ number. is_loss_within n (slice_index_or entries number Draw)) successors → (b : Bool) → found ≡ b →
+        list_any (λ number. is_loss_within n (slice_index_or entries number Draw)) numbers ≡ b
+    found_among found is b was = subst (λ xs. list_any (λ number. is_loss_within n (slice_index_or entries number Draw)) xs ≡ b) same (sym is ∙ was)
 
-  pub still_not_won : status ≡ Open → (successors : List ℕ) → successors ≡ numbers →
-      (found : Bool) → found ≡ list_any (λ number. is_loss_within n (slice_index_or entries number Draw)) successors → found ≡ false →
-      ¬ Won profile (n + 1) p
-  still_not_won is_open successors same found is no_loss won =
-      let goes_on = subst (λ s. HasStatus profile p s) is_open known.status in
-      let e : n + 1 ≡ suc n = omega arith in
-      none_lost goes_on
-      (subst (λ xs. list_any (λ number. is_loss_within n (slice_index_or entries number Draw)) xs ≡ false) same (sym is ∙ no_loss))
-      (subst (λ k. Won profile k p) e won)
+    all_among : (all : Bool) → all ≡ list_all (λ number. is_win_within n (slice_index_or entries number Draw)) successors → (b : Bool) → all ≡ b →
+        list_all (λ number. is_win_within n (slice_index_or entries number Draw)) numbers ≡ b
+    all_among all is b was = subst (λ xs. list_all (λ number. is_win_within n (slice_index_or entries number Draw)) xs ≡ b) same (sym is ∙ was)
 
-  pub still_not_lost : status ≡ Open → (successors : List ℕ) → successors ≡ numbers →
-      (all : Bool) → all ≡ list_all (λ number. is_win_within n (slice_index_or entries number Draw)) successors → all ≡ false →
-      ¬ Lost profile (n + 1) p
-  still_not_lost is_open successors same all is not_all lost =
-      let goes_on = subst (λ s. HasStatus profile p s) is_open known.status in
-      let e : n + 1 ≡ suc n = omega arith in
-      not_all_won goes_on
-      (subst (λ xs. list_all (λ number. is_win_within n (slice_index_or entries number Draw)) xs ≡ false) same (sym is ∙ not_all))
-      (subst (λ k. Lost profile k p) e lost)
+    one_deeper : n + 1 ≡ suc n
+    one_deeper = omega arith
+
+    pub value_of_win : ¬ Won profile n p → (found : Bool) → found ≡ list_any (λ number. is_loss_within n (slice_index_or entries number Draw)) successors →
+        found ≡ true → HasValue profile p (Win (n + 1))
+    value_of_win not_won found is was = first_won profile n p not_won (some_lost goes_on (found_among found is true was))
+
+    pub value_of_loss : ¬ Lost profile n p → (all : Bool) → all ≡ list_all (λ number. is_win_within n (slice_index_or entries number Draw)) successors →
+        all ≡ true → HasValue profile p (Loss (n + 1))
+    value_of_loss not_lost all is was = first_lost profile n p not_lost (all_won goes_on (all_among all is true was))
+
+    pub still_not_won : (found : Bool) → found ≡ list_any (λ number. is_loss_within n (slice_index_or entries number Draw)) successors → found ≡ false →
+        ¬ Won profile (n + 1) p
+    still_not_won found is no_loss won = none_lost goes_on (found_among found is false no_loss) (subst (λ k. Won profile k p) one_deeper won)
+
+    pub still_not_lost : (all : Bool) → all ≡ list_all (λ number. is_win_within n (slice_index_or entries number Draw)) successors → all ≡ false →
+        ¬ Lost profile (n + 1) p
+    still_not_lost all is not_all lost = not_all_won goes_on (all_among all is false not_all) (subst (λ k. Lost profile k p) one_deeper lost)

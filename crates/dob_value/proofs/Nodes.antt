@@ -1,19 +1,10 @@
 -- The lists of a graph as they grow.
-use Rattle.std.proofs.Common.{◌≡◌, ℕ, ◌+◌, ◌-◌, ◌<◌, ◌≤◌, inl, inr, sym, subst, ap, ◌∙◌, arith, List, [], ◌∷◌, ◌++◌, length, take}
-use Rattle.std.proofs.Common.{drop, slice_index_or, length-append}
+use Rattle.dob_value.proofs.Common.{◌++◌, ◌+◌, ◌-◌, ◌<◌, ◌∙◌, ◌∷◌, ◌≡◌, ◌≤◌, List, [], ap, arith, drop, inl, inr, length, slice_index_or, subst, sym, take, ℕ}
+use Rattle.dob_value.proofs.Common.{cases_lt, Family, Status, Open, HasClasses-classes_of, IsPositionOf, classes_of, class_setup, AreNodes, ClassStandsFor}
+use Rattle.dob_value.proofs.Common.{IsNode, SomeHasDistance, run_at, SomeTooDeep, MAX_DISTANCE}
+use Rattle.std.proofs.Common.{length-append}
 use Rattle.std.proofs.Math.Seq.{drop-append_seam, take-length}
 use Rattle.std.proofs.lemmas.List.{take-append-le, drop-append-le, length-drop, get_or_append_left, get_or_push}
-use Rattle.std.proofs.lemmas.Bool.{cases_lt}
-use Rattle.dob_pieces.specs.declared.profile.Family.{Family}
-use Rattle.dob_moves.specs.declared.position_status.Status.{Status}
-use Rattle.dob_moves.specs.declared.position_status.Status.TheVariants.{Open}
-use Rattle.dob_rank.specs.Families.{IsPositionOf}
-use Rattle.dob_rank.specs.Families.{classes_of}
-use Rattle.dob_rank.proofs.OfFamilies.Present.{HasClasses-classes_of}
-use Rattle.dob_value.specs.declared.sweep.TheConstants.{MAX_DISTANCE}
-use Rattle.dob_value.specs.ClassRows.{class_setup}
-use Rattle.dob_value.specs.Graphs.{IsNode, ClassStandsFor, run_at, AreNodes, SomeHasDistance}
-use Rattle.dob_value.specs.Rosters.{SomeTooDeep}
 use Rattle.dob_value.proofs.Rows.{class_setup_is}
 
 -- a run stays where the list grows, and what is appended is the run from the old end to the new one

@@ -1,24 +1,10 @@
 -- Wins come at odd and losses at even distances, and so a number says the value.
-use Rattle.std.proofs.Common.{◌≡◌, ℕ, zero, suc, ◌%◌, ◌<◌, ◌≤◌, inl, inr, refl, sym, subst, ap, ◌∙◌, arith, List, length, get_or, Some}
-use Rattle.std.proofs.Common.{slice_get, option_map, Result, Ok, Err}
+use Rattle.dob_value.proofs.Common.{◌%◌, ◌<◌, ◌∙◌, ◌≡◌, ◌≤◌, Err, List, Ok, Result, Some, ap, arith, get_or, inl, inr, length, option_map, refl, slice_get}
+use Rattle.dob_value.proofs.Common.{subst, suc, sym, zero, ℕ, cases_eq, get_or-map, length-map, slice_get-map, All, Family, Profile, Setup, classes_of}
+use Rattle.dob_value.proofs.Common.{class_setup, IsShort, ValuesHaveParity, value_at_distance, value_of_code, values_of_codes, IsCutOff, IsEntry, AreCutOff}
+use Rattle.dob_value.proofs.Common.{AreValues, HasValue, Lost, Won, MAX_DISTANCE, Value, Draw, Loss, Win}
 use Rattle.std.specs.Result.{IfOk}
-use Rattle.std.specs.List.{All}
-use Rattle.std.proofs.lemmas.Bool.{cases_eq}
-use Rattle.std.proofs.lemmas.List.{get_or_default, get_or-map, length-map}
-use Rattle.std.proofs.lemmas.Option.{slice_get-map}
-use Rattle.dob_pieces.specs.declared.profile.Family.{Family}
-use Rattle.dob_pieces.specs.declared.profile.Profile.{Profile}
-use Rattle.dob_pieces.specs.declared.setup.Setup.{Setup}
-use Rattle.dob_rank.specs.Families.{classes_of}
-use Rattle.dob_value.specs.declared.value.Value.{Value}
-use Rattle.dob_value.specs.declared.value.Value.TheVariants.{Win, Loss, Draw}
-use Rattle.dob_value.specs.declared.sweep.TheConstants.{MAX_DISTANCE}
-use Rattle.dob_value.specs.Values.{Won, Lost, HasValue}
-use Rattle.dob_value.specs.Entries.{IsCutOff}
-use Rattle.dob_value.specs.Graphs.{AreCutOff, AreValues}
-use Rattle.dob_value.specs.ClassRows.{class_setup}
-use Rattle.dob_value.specs.Codes.{value_at_distance, value_of_code, values_of_codes, IsShort, ValuesHaveParity}
-use Rattle.dob_value.specs.Follows.{IsEntry}
+use Rattle.std.proofs.lemmas.List.{get_or_default}
 
 -- an even depth wins nothing that the depth before doesn't, and an odd one loses nothing
 mutual

@@ -1,26 +1,13 @@
 -- Tables in the order of the row of classes.
-use Rattle.std.proofs.Common.{◌≡◌, ℕ, ◌<◌, sym, subst, ◌∙◌, List, length, Some, get_or}
+use Rattle.dob_value.proofs.Common.{◌<◌, ◌∙◌, ◌≡◌, List, Some, get_or, length, subst, sym, ℕ, length-map, get_or_from_slice_get, slice_get-get_or}
+use Rattle.dob_value.proofs.Common.{slice_get_within, All, Family, Setup, HasClasses-classes_of, HasClasses, IsPositionOf, IsRepresentative, classes_of}
+use Rattle.dob_value.proofs.Common.{value_of_code, values_of_codes, SameOutlook, AreGiven, IsEntry, IsValueTable, AreValues, HasValue, Value, Draw}
 use Rattle.std.specs.Prelude.{slice_get}
-use Rattle.std.specs.List.{All}
-use Rattle.std.proofs.lemmas.List.{length-map}
-use Rattle.std.proofs.lemmas.Option.{slice_get_within, slice_get-get_or, get_or_from_slice_get}
-use Rattle.dob_pieces.specs.declared.profile.Family.{Family}
-use Rattle.dob_pieces.specs.declared.setup.Setup.{Setup}
 use Rattle.dob_rank.specs.Order.{RepresentativeOf}
-use Rattle.dob_rank.specs.Families.{IsPositionOf, IsRepresentative, HasClass, HasClasses}
-use Rattle.dob_rank.specs.Families.{classes_of}
-use Rattle.dob_rank.specs.Families.{class_setup}
-use Rattle.dob_rank.proofs.OfFamilies.Present.{HasClasses-classes_of}
+use Rattle.dob_rank.specs.Families.{HasClass, class_setup}
 use Rattle.dob_classes.proofs.OfFamilies.Counted.{one_count}
 pub use Rattle.dob_rank.proofs.Marked.Representatives.{IsPlaceOf, place_found}
 pub use Rattle.dob_classes.proofs.OfFamilies.FamilyRepresentatives.{class_setup_is, class_setup_only}
-use Rattle.dob_value.specs.declared.value.Value.{Value}
-use Rattle.dob_value.specs.declared.value.Value.TheVariants.{Draw}
-use Rattle.dob_value.specs.Values.{HasValue}
-use Rattle.dob_value.specs.Depths.{SameOutlook}
-use Rattle.dob_value.specs.Graphs.{AreValues}
-use Rattle.dob_value.specs.Codes.{value_of_code, values_of_codes}
-use Rattle.dob_value.specs.Follows.{AreGiven, IsEntry, IsValueTable}
 use Rattle.dob_value.proofs.Tables.{value_same}
 use Rattle.dob_value.proofs.ClassNumbers.{representative_is, representative_outlook, has_entry}
 

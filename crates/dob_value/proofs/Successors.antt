@@ -1,20 +1,8 @@
 -- A list of successors' numbers as it grows.
-use Rattle.std.proofs.Common.{◌≡◌, ℕ, ◌+◌, ◌<◌, ◌≤◌, inl, inr, sym, subst, ap, ◌∙◌, arith, List, [], ◌∷◌, ◌++◌, length, get_or, Option}
-use Rattle.std.proofs.Common.{Some, Contains, slice_get}
-use Rattle.std.proofs.lemmas.Bool.{cases_lt}
-use Rattle.std.proofs.lemmas.Option.{slice_get-get_or, same_Some}
-use Rattle.std.proofs.lemmas.List.Elements.{Contains-push, Contains-push_cases, Contains-get_or, Contains-append_left}
-use Rattle.dob_pieces.specs.declared.profile.Profile.{Profile}
-use Rattle.dob_pieces.specs.declared.setup.Setup.{Setup}
-use Rattle.dob_moves.specs.declared.game_move.Move.{Move}
-use Rattle.dob_moves.specs.Moves.{Goes, CanGo}
-use Rattle.dob_moves.specs.declared.position_status.Status.TheVariants.{Open}
-use Rattle.dob_moves.specs.Statuses.{HasStatus, AreMoves}
+use Rattle.dob_value.proofs.Common.{◌++◌, ◌+◌, ◌<◌, ◌∙◌, ◌∷◌, ◌≡◌, ◌≤◌, Contains, List, Option, Some, [], ap, arith, get_or, inl, inr, length, slice_get, subst}
+use Rattle.dob_value.proofs.Common.{sym, ℕ, Contains-append_left, Contains-get_or, Contains-push, Contains-push_cases, before_or_here, standing, Family}
+use Rattle.dob_value.proofs.Common.{Profile, Setup, IsLegal-Goes, total-Goes, CanGo, Goes, AreMoves, HasStatus, Move, Open, IsPositionOf, AreSuccessors}
 use Rattle.dob_moves.proofs.Kept.{IsAllowed-Goes}
-use Rattle.dob_moves.proofs.ProfileMoves.{IsLegal-Goes, total-Goes}
-use Rattle.dob_pieces.specs.declared.profile.Family.{Family}
-use Rattle.dob_rank.specs.Families.{IsPositionOf}
-use Rattle.dob_value.specs.Graphs.{AreSuccessors}
 
 -- moves lead from positions of a family to such positions
 pub moves_keep_the_family : (family : Family) (p : Setup) (move : Move) (q : Setup) → IsPositionOf family p → HasStatus family.profile p Open →
@@ -55,15 +43,11 @@ module _ (profile : Profile) {X : Type 0} (StandsFor : X → Setup → Type 0) (
       | inl earlier ↦ before.sound other earlier
       | inr same ↦ (the_move, can_go.0, can_go.1, subst (λ k. StandsFor k can_go.0) same (stands can_go.0 can_go.1))
     ];
-    whole = λ index move q below there goes. elim (cases_lt index upto) [
+    whole = λ index move q below there goes. elim (before_or_here the_moves upto index the_move move here there below) [
       | inl earlier ↦
           let step = before.whole index move q earlier there goes in
           (step.0, Contains-append_left numbers (number ∷ []) step.0 step.1, step.2)
-      | inr later ↦
-          let same : upto ≡ index = omega arith in
-          let here_too : slice_get the_moves index ≡ Some the_move = subst (λ k. slice_get the_moves k ≡ Some the_move) same here in
-          let is_the_move : move ≡ the_move = same_Some move the_move (sym there ∙ here_too) in
-          (number, Contains-push numbers number, stands q (subst (λ m. Goes profile p m q) is_the_move goes))
+      | inr same ↦ (number, Contains-push numbers number, stands q (subst (λ m. Goes profile p m q) same goes))
     ];
   }
 
@@ -72,9 +56,7 @@ module _ (profile : Profile) {X : Type 0} (StandsFor : X → Setup → Type 0) (
   successors_all upto numbers all are_moves below = record {
     sound = below.sound;
     whole = λ goes_on move q goes.
-        let there = are_moves.whole move goes_on (q, goes) in
-        let read : slice_get the_moves there.0 ≡ Some move = slice_get-get_or the_moves there.0 move there.1
-        ∙ ap (λ m. let o : Option Move = Some m in o) there.2 in
+        let there = standing the_moves move (are_moves.whole move goes_on (q, goes)) in
         let within : there.0 < length the_moves = there.1 in
-        below.whole there.0 move q (omega arith) read goes;
+        below.whole there.0 move q (omega arith) there.2 goes;
   }

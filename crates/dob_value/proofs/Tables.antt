@@ -1,26 +1,10 @@
 -- Tables during the sweeps.
-use Rattle.std.proofs.Common.{◌≡◌, ℕ, zero, suc, ◌+◌, ◌≤◌, ◌<◌, inl, inr, refl, sym, subst, arith, ◌∙◌, List, length, slice_index_or, true}
-use Rattle.std.proofs.Common.{slice_set, map, get_or-set_other, get_or-set_same, length-set, take, drop, ◌++◌}
-use Rattle.std.proofs.lemmas.Grind.{common_steps}
-use Rattle.std.proofs.lemmas.List.{length-map, get_or-map}
-use Rattle.std.proofs.lemmas.Bool.{cases_lt, cases_eq, cases_order, leb-true, le-leb}
-use Rattle.dob_pieces.specs.declared.profile.Family.{Family}
-use Rattle.dob_pieces.specs.declared.profile.Profile.{Profile}
-use Rattle.dob_pieces.specs.declared.setup.Setup.{Setup}
-use Rattle.dob_rank.specs.Families.{classes_of}
-use Rattle.dob_moves.specs.declared.game_move.Move.{Move}
-use Rattle.dob_moves.specs.declared.position_status.Status.{Status}
-use Rattle.dob_moves.specs.declared.position_status.Status.TheVariants.{Caught, Tried, Stuck, Open}
-use Rattle.dob_moves.specs.Moves.{Goes}
-use Rattle.dob_moves.specs.Statuses.{HasStatus}
-use Rattle.dob_value.specs.declared.value.Value.{Value}
-use Rattle.dob_value.specs.declared.value.Value.TheVariants.{Win, Loss, Draw}
+use Rattle.dob_value.proofs.Common.{◌++◌, ◌+◌, ◌<◌, ◌∙◌, ◌≡◌, ◌≤◌, List, arith, drop, get_or-set_other, get_or-set_same, inl, inr, length, length-set, map}
+use Rattle.dob_value.proofs.Common.{refl, slice_index_or, slice_set, subst, suc, sym, take, true, zero, ℕ, cases_eq, cases_lt, le-leb, leb-true, common_steps}
+use Rattle.dob_value.proofs.Common.{get_or-map, length-map, Family, Profile, Setup, Goes, HasStatus, Move, Status, Caught, Open, Stuck, Tried, classes_of}
+use Rattle.dob_value.proofs.Common.{class_setup, SameOutlook, IsCutOff, Tells, TellsAt, is_draw, AreCutOff, AreSwept, AreValues, ClassStandsFor, IsGraph}
+use Rattle.dob_value.proofs.Common.{IsNode, status_at, value_at_start, HasValue, Lost, Won, Value, Draw, Loss, Win}
 use Rattle.dob_value.specs.declared.graph.Graph.{Graph}
-use Rattle.dob_value.specs.Values.{Won, Lost, HasValue}
-use Rattle.dob_value.specs.Depths.{SameOutlook}
-use Rattle.dob_value.specs.Entries.{is_draw, IsCutOff, Tells, TellsAt}
-use Rattle.dob_value.specs.Graphs.{IsNode, IsGraph, ClassStandsFor, AreCutOff, AreSwept, AreValues, value_at_start, status_at}
-use Rattle.dob_value.specs.ClassRows.{class_setup}
 use Rattle.dob_value.proofs.Depths.{won_stays, lost_stays, lost_not_caught, lost_not_open, won_not_lost}
 
 -- an entry that is cut off at a depth speaks of each depth up to it
@@ -106,12 +90,7 @@ swept_written n upto family entries v within swept cut =
         )
         | inr apart ↦
             let kept = get_or-set_other entries upto number v Draw apart in (
-              λ below.
-                  let earlier : number < upto = elim (cases_order number upto) [
-                    | inl same ↦ absurd (apart same)
-                    | inr order ↦ elim order [ inl first ↦ first | inr last ↦ absurd (omega arith) ]
-                  ] in
-                  subst (λ x. IsCutOff family.profile (n + 1) (class_setup family number) x) (sym kept) ((swept.fits number there).0 earlier),
+              λ below. subst (λ x. IsCutOff family.profile (n + 1) (class_setup family number) x) (sym kept) ((swept.fits number there).0 (omega arith)),
               λ above. subst (λ x. IsCutOff family.profile n (class_setup family number) x) (sym kept) ((swept.fits number there).1 (omega arith)),
             )
       ];

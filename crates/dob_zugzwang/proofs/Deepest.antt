@@ -1,8 +1,7 @@
 -- The deepest pair, one pair more each time.
-use Rattle.std.proofs.Common.{◌≡◌, inl, inr, refl, sym, ◌∙◌, subst, arith, true, false, true≢false, List, [], ◌∷◌, ◌++◌, Option, Some, None}
+use Rattle.dob_zugzwang.proofs.Common.{◌++◌, ◌∙◌, ◌∷◌, ◌≡◌, List, None, Option, Some, [], arith, false, inl, inr, refl, subst, sym, true, true≢false, IsDeeper}
+use Rattle.dob_zugzwang.proofs.Common.{IsDeepest, is_lost_by_both, Zugzwang}
 use Rattle.std.proofs.lemmas.List.Elements.{Contains-append_left, Contains-push, Contains-push_cases}
-use Rattle.dob_zugzwang.specs.declared.pairs.Zugzwang.{Zugzwang}
-use Rattle.dob_zugzwang.specs.Counts.{IsDeeper, IsDeepest, is_lost_by_both}
 
 -- no pair is deeper than itself
 pub not_itself : (pair : Zugzwang) → ¬ IsDeeper pair pair

@@ -1,4 +1,5 @@
 -- The lemmas, in the order in which they are read.
+mod Common  -- names of other crates and of this one's definitions, for the proofs
 pub mod Turned  -- turns of positions
 pub mod Worth  -- values that are worth less than nothing together
 pub mod Pairing  -- the pair of a class by its representative

@@ -1,26 +1,14 @@
 -- Pairs that are found class by class, as a list.
-use Rattle.std.proofs.Common.{◌≡◌, ℕ, zero, suc, ◌+◌, ◌≤◌, ◌<◌, inl, inr, refl, sym, ◌∙◌, subst, arith, List, [], ◌∷◌, length, get_or, Option, Some, None, AllPairs, Contains}
+use Rattle.dob_zugzwang.proofs.Common.{◌<◌, ◌∙◌, ◌∷◌, ◌≡◌, ◌≤◌, List, None, Option, Some, [], arith, inl, inr, length, subst, sym, ℕ, cases_eq, get_or_default}
+use Rattle.dob_zugzwang.proofs.Common.{slice_get_within, one_class, ClassTable, ArePairs, IsPair, IsPairAt, Zugzwang}
+use Rattle.std.proofs.Common.{zero, suc, ◌+◌, get_or, AllPairs, Contains}
 use Rattle.std.specs.List.{AllZip, filter_map, range_with_len}
-use Rattle.std.proofs.lemmas.Bool.{cases_eq}
-use Rattle.std.proofs.lemmas.Option.{slice_get_within}
-use Rattle.std.proofs.lemmas.List.{get_or_default}
-use Rattle.std.proofs.lemmas.List.Elements.{Contains-append_right}
 use Rattle.std.proofs.lemmas.List.Kept.{AllPairs-cons}
-use Rattle.dob_pieces.proofs.Lists.{cons_cases}
-use Rattle.dob_classes.proofs.OfFamilies.FamilyRepresentatives.{one_class}
-use Rattle.dob_value.specs.Follows.{ClassTable}
-use Rattle.dob_zugzwang.specs.declared.pairs.Zugzwang.{Zugzwang}
-use Rattle.dob_zugzwang.specs.Pairs.{ArePairs, IsPair, IsPairAt}
+use Rattle.dob_pieces.proofs.Lists.{cons_cases, head_in, none_in_empty, rest_in}
 use Rattle.dob_zugzwang.proofs.Pairing.{pairs_agree}
 
 abbrev Found : List (Option Zugzwang) → List Zugzwang
 Found found = filter_map (λ (o : Option Zugzwang). o) found
-
-none_in : (pair : Zugzwang) → ¬ Contains [] pair
-none_in pair there = absurd (omega (arith, there.1))
-
-first_in : (pair : Zugzwang) (pairs : List Zugzwang) → Contains (pair ∷ pairs) pair
-first_in pair pairs = (0, omega arith, refl)
 
 -- what is found of so many classes from one on is pairs of these classes, all of them, in their order
 record AreFound (table : ClassTable) (from count : ℕ) (pairs : List Zugzwang) : Type 0 where
@@ -48,8 +36,8 @@ module _ (table : ClassTable) where
       | inr later ↦ let had = are.sound pair later in (had.0, omega (arith, had.1))
     ];
     whole = λ pair low high is. elim (cases_eq pair.class from) [
-      | inl same ↦ subst (Contains (first ∷ pairs)) (pairs_agree table first pair (here ∙ sym same) is_first is) (first_in first pairs)
-      | inr other ↦ Contains-append_right (first ∷ []) pairs pair (are.whole pair (omega (arith, low, other)) (omega (arith, high)) is)
+      | inl same ↦ subst (Contains (first ∷ pairs)) (pairs_agree table first pair (here ∙ sym same) is_first is) (head_in first pairs)
+      | inr other ↦ rest_in first pair pairs (are.whole pair (omega (arith, low, other)) (omega (arith, high)) is)
     ];
     ascending = AllPairs-cons (λ (a b : Zugzwang). a.class < b.class) first pairs
         (λ k d lt. let had = are.sound (get_or pairs k d) (k, lt, get_or_default pairs k (get_or pairs k d) d lt) in omega (arith, here, had.1)) are.ascending;
@@ -57,7 +45,7 @@ module _ (table : ClassTable) where
 
   found_from : (from count : ℕ) (found : List (Option Zugzwang)) → AllZip (IsPairAt table) (range_with_len from count) found → AreFound table from count (Found found)
   found_from from zero [] at = record {
-    sound = λ pair there. absurd (none_in pair there);
+    sound = λ pair there. absurd (none_in_empty pair there);
     whole = λ pair low high is. absurd (omega (arith, low, high));
     ascending = λ i j d lt within. absurd (omega (arith, within));
   }

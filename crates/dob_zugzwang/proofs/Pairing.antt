@@ -1,37 +1,16 @@
 -- The pair of a class by its representative.
-use Rattle.std.proofs.Common.{◌≡◌, ℕ, ◌<◌, ◌≤◌, inl, inr, refl, sym, ap, ◌∙◌, subst, arith, List, Some}
+use Rattle.dob_zugzwang.proofs.Common.{◌<◌, ◌∙◌, ◌≡◌, ◌≤◌, List, Some, ap, arith, inl, inr, refl, subst, sym, ℕ, same_Some, turned-mirrored, mirrored, turned}
+use Rattle.dob_zugzwang.proofs.Common.{Family, Setup, HasStatus, Open, IsInClass, RepresentsClass, class_representative, in_mirror, one_class}
+use Rattle.dob_zugzwang.proofs.Common.{one_representative, ClassTable, HasInTable, Value, Win, IsPair, IsPairOf, AreBothOpen, IsWorse, Zugzwang}
 use Rattle.std.specs.Prelude.{slice_get}
-use Rattle.std.proofs.lemmas.Option.{same_Some}
-use Rattle.dob_pieces.specs.declared.profile.Family.{Family}
-use Rattle.dob_pieces.specs.declared.setup.Setup.{Setup}
-use Rattle.dob_pieces.specs.Setups.{mirrored, turned}
-use Rattle.dob_pieces.proofs.Symmetries.{turned-mirrored}
-use Rattle.dob_moves.specs.declared.position_status.Status.TheVariants.{Open}
-use Rattle.dob_moves.specs.Statuses.{HasStatus}
 use Rattle.dob_moves.proofs.ProfileMoves.{HasStatus-mirrored}
 use Rattle.dob_rank.specs.Order.{IsEither}
-use Rattle.dob_rank.specs.Families.{IsInClass, RepresentsClass, class_number}
-use Rattle.dob_classes.proofs.OfFamilies.FamilyNumbers.{IsInClass-class_number, IsPositionOf-mirrored, class_number-mirrored}
-use Rattle.dob_classes.proofs.OfFamilies.FamilyRepresentatives.{one_class, one_representative, representative_is}
-use Rattle.dob_value.specs.declared.value.Value.{Value}
-use Rattle.dob_value.specs.declared.value.Value.TheVariants.{Win}
-use Rattle.dob_value.specs.Follows.{ClassTable, HasInTable}
-use Rattle.dob_zugzwang.specs.declared.pairs.Zugzwang.{Zugzwang}
-use Rattle.dob_zugzwang.specs.Pairs.{IsPair, IsPairOf}
-use Rattle.dob_zugzwang.specs.Zugzwangs.{AreBothOpen, IsWorse}
 use Rattle.dob_zugzwang.proofs.Turned.{turn_legal}
 use Rattle.dob_zugzwang.proofs.Worth.{win_not_worse}
 
 -- ---- mirror images
 
--- a position and its mirror image are in one class
-pub in_mirror : (family : Family) (s : Setup) (class : ℕ) → IsInClass family s class → IsInClass family (mirrored s) class
-in_mirror family s class is =
-    let image = IsPositionOf-mirrored family s is.position in
-    let own = one_class family s class (class_number family s) is (IsInClass-class_number family s is.position) in
-    subst (IsInClass family (mirrored s)) (class_number-mirrored family s is.position ∙ sym own) (IsInClass-class_number family (mirrored s) image)
-
--- and have one value in a table
+-- a position and its mirror image have one value in a table
 in_table_mirrored : (family : Family) (values : List Value) (s : Setup) (v : Value) → HasInTable family values s v → HasInTable family values (mirrored s) v
 in_table_mirrored family values s v has = record { class = has.class; number = in_mirror family s has.class has.number; entry = has.entry }
 
@@ -62,15 +41,11 @@ pair_mirrored table p pair is =
 
 -- ---- representatives
 
--- a class's representative
-represents : (family : Family) (s : Setup) (class : ℕ) (is : IsInClass family s class) → RepresentsClass family is.representative class
-represents family s class is = (representative_is family s is.representative is.position is.stands, is.before)
-
 -- a pair is that of the representative of its lower class
 pub by_representative : (table : ClassTable) (p representative : Setup) (pair : Zugzwang) → RepresentsClass table.family representative pair.class → IsPairOf table p pair
     → IsPairOf table representative pair
 by_representative table p representative pair is_it is =
-    let same = one_representative table.family is.in_class.representative representative pair.class (represents table.family p pair.class is.in_class) is_it in
+    let same = one_representative table.family is.in_class.representative representative pair.class (class_representative table.family p pair.class is.in_class) is_it in
     either (subst (IsEither p) same is.in_class.stands.0)
   where
     either : IsEither p representative → IsPairOf table representative pair
@@ -106,7 +81,7 @@ pub pairs_agree : (table : ClassTable) (a b : Zugzwang) → a.class ≡ b.class 
 pairs_agree table a b same at_a at_b =
     let family = table.family in
     let representative = at_a.1.in_class.representative in
-    let is_it = represents family at_a.0 a.class at_a.1.in_class in
+    let is_it = class_representative family at_a.0 a.class at_a.1.in_class in
     one_pair table representative a b (by_representative table at_a.0 representative a is_it at_a.1)
     (by_representative table at_b.0 representative b (subst (RepresentsClass family representative) same is_it) at_b.1)
 

@@ -1,22 +1,9 @@
 -- The laws.
-use Rattle.std.proofs.Common.{inl, inr, refl, sym, subst, arith}
-use Rattle.std.proofs.lemmas.Bool.{cases_lt}
-use Rattle.dob_pieces.specs.declared.profile.Profile.{Profile}
-use Rattle.dob_pieces.specs.declared.setup.Setup.{Setup}
-use Rattle.dob_pieces.specs.Setups.{IsLegal, turned}
-use Rattle.dob_pieces.proofs.Symmetries.{turned-turned}
-use Rattle.dob_moves.specs.declared.position_status.Status.TheVariants.{Open}
-use Rattle.dob_moves.specs.Statuses.{HasStatus}
-use Rattle.dob_rank.specs.Families.{IsInClass, class_number}
+use Rattle.dob_zugzwang.proofs.Common.{arith, inl, inr, refl, subst, sym, cases_lt, turned-turned, IsLegal, turned, Profile, Setup, HasStatus, Open, IsInClass}
+use Rattle.dob_zugzwang.proofs.Common.{class_number, HasInTable, Value, EachIsListed, IsMutual, IsRightByValues, TurnedTwice, IsPair, IsZugzwang, Zugzwang}
 use Rattle.dob_classes.proofs.OfFamilies.FamilyNumbers.{IsInClass-class_number}
-use Rattle.dob_value.specs.declared.value.Value.{Value}
 use Rattle.dob_value.proofs.Depths.{at_most_one_value}
-use Rattle.dob_value.specs.Follows.{HasInTable}
-use Rattle.dob_zugzwang.specs.Zugzwangs.{IsZugzwang}
 use Rattle.dob_value.specs.Values.{HasValue}
-use Rattle.dob_zugzwang.specs.declared.pairs.Zugzwang.{Zugzwang}
-use Rattle.dob_zugzwang.specs.Pairs.{IsPair}
-use Rattle.dob_zugzwang.specs.Laws.{EachIsListed, IsMutual, IsRightByValues, TurnedTwice}
 use Rattle.dob_zugzwang.proofs.Pairing.{pair_of}
 use Rattle.dob_zugzwang.proofs.Turned.{turn_is_position}
 use Rattle.dob_zugzwang.proofs.Worth.{worse_exchanged}

@@ -1,14 +1,8 @@
 -- Turns of positions.
-use Rattle.std.proofs.Common.{◌∙◌}
-use Rattle.dob_pieces.specs.declared.profile.Profile.{Profile}
-use Rattle.dob_pieces.specs.declared.setup.Setup.{Setup}
-use Rattle.dob_pieces.specs.Setups.{IsLegal, turned}
+use Rattle.dob_zugzwang.proofs.Common.{◌∙◌, IsLegal, turned, Profile, Setup, HasStatus, Open, TurnsArePositions}
 use Rattle.dob_pieces.proofs.Allowed.{IsAllowed-turned}
 use Rattle.dob_pieces.proofs.Boards.{total-turned}
-use Rattle.dob_moves.specs.declared.position_status.Status.TheVariants.{Open}
-use Rattle.dob_moves.specs.Statuses.{HasStatus}
 use Rattle.dob_moves.proofs.Turns.{IsLegal-turned}
-use Rattle.dob_zugzwang.specs.Laws.{TurnsArePositions}
 
 -- in an open position the enemy lion isn't on row 1, so the turn's own isn't on row 4
 pub turn_legal : (profile : Profile) (p : Setup) → IsLegal p → HasStatus profile p Open → IsLegal (turned p)

@@ -1,9 +1,6 @@
 -- Values that are worth less than nothing together.
-use Rattle.std.proofs.Common.{◌≡◌, ℕ, arith, refl}
+use Rattle.dob_zugzwang.proofs.Common.{◌≡◌, arith, refl, ℕ, Value, Draw, Loss, Win, IsWorse}
 use Rattle.std.proofs.lemmas.Int.{ints}
-use Rattle.dob_value.specs.declared.value.Value.{Value}
-use Rattle.dob_value.specs.declared.value.Value.TheVariants.{Win, Loss, Draw}
-use Rattle.dob_zugzwang.specs.Zugzwangs.{IsWorse}
 
 -- with a win they aren't
 pub win_not_worse : (plies : ℕ) (other : Value) → ¬ IsWorse (Win plies) other

@@ -1,27 +1,13 @@
 -- How many classes of a family stand before a run of a block and before a place of a run, as sums over the runs of one hand.
-use Rattle.std.proofs.Common.{◌≡◌, ℕ, ◌+◌, ◌*◌, ◌/◌, ◌%◌, ◌^◌, ◌<◌, ◌≤◌, min, Bool, refl, sym, ap, ◌∙◌, inl, inr, arith}
-use Rattle.std.proofs.lemmas.Bool.{cases_lt}
-use Rattle.std.proofs.lemmas.Nat.{mod-mul-add}
-use Rattle.std.proofs.Math.Nat.{min-eq_left, min-eq_right, min-le_left, min-le_right}
-use Rattle.dob_pieces.specs.declared.profile.Family.{Family}
-use Rattle.dob_pieces.specs.declared.setup.Setup.{Setup}
-use Rattle.dob_rank.specs.declared.runs.RunKind.TheVariants.{First, Later}
-use Rattle.dob_rank.specs.Numbers.{product, sum_below, block_bases, block_size, start_of, block_of, rank_of_set}
-use Rattle.dob_rank.specs.Marks.{marks_below}
-use Rattle.dob_rank.specs.Order.{RepresentativeOf}
-use Rattle.dob_rank.specs.Families.{IsPositionOf, is_marked, class_number}
-use Rattle.dob_rank.specs.Runs.{runs_in, run_size, run_start, run_kind, run_of, local_of, lion_pairs, IsInRun}
-use Rattle.dob_classes.specs.FamilyRuns.{is_there, local_marks_in}
-use Rattle.dob_classes.specs.Stretches.{local_marks}
+use Rattle.dob_classes.proofs.Common.{◌%◌, ◌*◌, ◌+◌, ◌/◌, ◌<◌, ◌^◌, ◌∙◌, ◌≡◌, ◌≤◌, Bool, ap, arith, inl, inr, min, refl, sym, ℕ, min-eq_left, min-eq_right}
+use Rattle.dob_classes.proofs.Common.{min-le_left, min-le_right, cases_lt, mod-mul-add, Family, Setup, run_start_end, run_start_first, run_start_next}
+use Rattle.dob_classes.proofs.Common.{spot_there, marks_below-upto, sum_below_more, IsPositionOf, class_number, is_marked, marks_below, block_bases, block_of}
+use Rattle.dob_classes.proofs.Common.{block_size, product, rank_of_set, start_of, sum_below, RepresentativeOf, IsInRun, lion_pairs, local_of, run_kind, run_of}
+use Rattle.dob_classes.proofs.Common.{run_size, run_start, runs_in, First, Later, is_there, local_marks_in, local_marks, IsStretchIn}
 use Rattle.dob_lists.proofs.Sums.{sum_same, sum_blocks, sum_alike}
 use Rattle.dob_rank.proofs.Arithmetic.MixedRadix.{digit_below}
-use Rattle.dob_rank.proofs.Positions.Blocks.{sum_below_more}
-use Rattle.dob_rank.proofs.InRuns.RunPlaces.{spot_there}
-use Rattle.dob_rank.proofs.InRuns.RunMarks.{run_start_first, run_start_next, run_start_end}
 use Rattle.dob_rank.proofs.InRuns.RunSums.{lions_there}
-use Rattle.dob_classes.specs.Walks.{IsStretchIn}
 use Rattle.dob_classes.proofs.MarksOfRuns.FamilyMarks.{stretch_in, first_marks, later_marks, classes_before_place}
-use Rattle.dob_rank.proofs.Marked.Words.{marks_below-upto}
 use Rattle.dob_classes.proofs.Tables.RunTables.{marks_small}
 use Rattle.dob_classes.proofs.Counting.FamilySums.{run_marks, marks_of_lions, marks_of_runs}
 use Rattle.dob_classes.proofs.OfFamilies.FamilyNumbers.{earlier_in}
@@ -128,14 +114,19 @@ by_hands family block run hands lions whole part within upto hands_are lions_are
     sum = ap (λ n. marks_below (is_marked family) (start_of family.set block) + n) parts ∙ marks_of_runs family block run within upto
 
 -- all runs of a block
+pub block_end : (family : Family) (block runs : ℕ) → runs ≡ runs_in family.set block
+    → marks_below (is_marked family) (run_start family.set block runs) ≡ marks_below (is_marked family) (start_of family.set (block + 1))
+block_end family block runs runs_are =
+    ap (λ n. marks_below (is_marked family) (run_start family.set block n)) runs_are
+    ∙ ap (marks_below (is_marked family)) (run_start_end family.set block)
+    ∙ ap (marks_below (is_marked family)) (sym (sum_below_more (block_size family.set) block))
+
 pub one_block_more : (family : Family) (block runs count marks : ℕ) → runs ≡ runs_in family.set block
     → count ≡ marks_below (is_marked family) (start_of family.set block)
     → marks_below (is_marked family) (start_of family.set block) + marks ≡ marks_below (is_marked family) (run_start family.set block runs)
     → count + marks ≡ marks_below (is_marked family) (start_of family.set (block + 1))
 one_block_more family block runs count marks runs_are counted more =
-    ap (λ n. n + marks) counted ∙ more ∙ ap (λ n. marks_below (is_marked family) (run_start family.set block n)) runs_are
-    ∙ ap (marks_below (is_marked family)) (run_start_end family.set block)
-    ∙ ap (marks_below (is_marked family)) (sym (sum_below_more (block_size family.set) block))
+    ap (λ n. n + marks) counted ∙ more ∙ block_end family block runs runs_are
 
 -- ---- the places before one
 
@@ -192,17 +183,16 @@ added family block run from end place upto start next on within below whole low 
 
 -- ---- a position's block, run and place
 
-pub record AreBefore (family : Family) (s : Setup) (blocks runs places : ℕ) : Type 0 where
-  pub sum_is : blocks + runs + places ≡ marks_below (is_marked family) (rank_of_set family.set s)
-  pub few : blocks + runs + places ≤ 2 ^ 42
+pub record AreBefore (family : Family) (s : Setup) (runs places : ℕ) : Type 0 where
+  pub sum_is : runs + places ≡ marks_below (is_marked family) (rank_of_set family.set s)
+  pub few : runs + places ≤ 2 ^ 42
 
-pub are_before : (family : Family) (s : Setup) (block run local blocks runs places : ℕ) → IsAt family s block run local
-    → blocks ≡ marks_below (is_marked family) (start_of family.set block)
-    → marks_below (is_marked family) (start_of family.set block) + runs ≡ marks_below (is_marked family) (run_start family.set block run)
+pub are_before : (family : Family) (s : Setup) (block run local runs places : ℕ) → IsAt family s block run local
+    → runs ≡ marks_below (is_marked family) (run_start family.set block run)
     → marks_below (is_marked family) (run_start family.set block run) + places ≡ marks_below (is_marked family) (run_start family.set block run + local)
-    → AreBefore family s blocks runs places
-are_before family s block run local blocks runs places at blocks_are runs_are places_are =
-    let sum : blocks + runs + places ≡ marks_below (is_marked family) (run_start family.set block run + local) = omega (arith, blocks_are, runs_are, places_are) in
+    → AreBefore family s runs places
+are_before family s block run local runs places at runs_are places_are =
+    let sum : runs + places ≡ marks_below (is_marked family) (run_start family.set block run + local) = omega (arith, runs_are, places_are) in
     let next = run_start_next family.set block run in
     let low = at.in_run.local_below in
     let run_low = at.in_run.run_below in

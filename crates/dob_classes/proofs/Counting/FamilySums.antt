@@ -1,14 +1,7 @@
 -- The classes of a block of a family as a sum over the runs of one hand.
-use Rattle.std.proofs.Common.{◌≡◌, ℕ, zero, suc, ◌+◌, ◌%◌, ◌<◌, ◌≤◌, refl, sym, ap, ◌∙◌, arith}
-use Rattle.dob_pieces.specs.declared.profile.Family.{Family}
-use Rattle.dob_rank.specs.declared.runs.RunKind.{RunKind}
-use Rattle.dob_rank.specs.declared.runs.RunKind.TheVariants.{First, Later, Mixed}
-use Rattle.dob_rank.specs.Numbers.{product, sum_below, block_bases, start_of}
-use Rattle.dob_rank.specs.Marks.{marks_below}
-use Rattle.dob_rank.specs.Families.{is_marked}
-use Rattle.dob_rank.specs.Runs.{runs_in, run_size, run_start, run_kind, lion_pairs}
-use Rattle.dob_classes.specs.FamilyRuns.{is_there, run_size_in, local_marks_in}
-use Rattle.dob_rank.proofs.InRuns.RunMarks.{run_start_first, lions_run, marks_agree}
+use Rattle.dob_classes.proofs.Common.{◌%◌, ◌+◌, ◌<◌, ◌∙◌, ◌≡◌, ◌≤◌, ap, arith, refl, suc, sym, zero, ℕ, Family, lions_run, marks_agree, run_start_first}
+use Rattle.dob_classes.proofs.Common.{is_marked, marks_below, block_bases, product, start_of, sum_below, lion_pairs, run_kind, run_size, run_start, runs_in}
+use Rattle.dob_classes.proofs.Common.{RunKind, First, Later, Mixed, is_there, local_marks_in, run_size_in}
 use Rattle.dob_classes.proofs.MarksOfRuns.FamilyMarks.{first_marks, later_marks, classes_before_next, there_by_lions, alike_by_lions}
 use Rattle.dob_classes.proofs.Tables.RunTables.{same_upto}
 

@@ -1,34 +1,20 @@
 -- How many positions of profile B a run has up to a place, and before a position: by its choice of the chicks' squares, the others' squares and forms.
-use Rattle.std.proofs.Common.{◌≡◌, ℕ, ◌+◌, ◌-◌, ◌*◌, ◌/◌, ◌%◌, ◌^◌, ◌<◌, ◌≤◌, Bool, true, false, List, [], get_or, slice_index, sym, ap, ◌∙◌, subst, arith}
-use Rattle.std.proofs.lemmas.Nat.{div-mul-add, div_below, mod_below, div-add-mod'}
-use Rattle.std.proofs.Math.Nat.{mul_assoc, add-mul, mul-pos, mul-le-mul, mul-le-mul_right}
-use Rattle.dob_pieces.specs.declared.piece_set.PieceSet.{PieceSet}
-use Rattle.dob_pieces.specs.declared.profile.Family.{Family}
-use Rattle.dob_pieces.specs.declared.profile.Profile.TheVariants.{A, B}
-use Rattle.dob_pieces.specs.declared.setup.Setup.{Setup}
-use Rattle.dob_rank.specs.declared.layers.Layer.TheVariants.{Chicks}
-use Rattle.dob_rank.specs.Numbers.{product, digits_of, sum_below, choose, settle, order, block_bases, block_of, free_squares, on_board, digits, forms_number}
-use Rattle.dob_rank.specs.Marks.{one_if, marks_below}
-use Rattle.dob_rank.specs.Runs.{AreFewOnBoard, square_bases, runs_in, run_size, run_start, run_of, local_of, lion_pairs}
-use Rattle.dob_rank.specs.Families.{family_of, IsPositionOf, is_present}
-use Rattle.dob_classes.specs.FamilyRuns.{is_there}
-use Rattle.dob_rank.specs.Weights.{local_in, weight, forms_on, may_have, are_allowed, forms_stand, lions_in, choice_weight, forms_before, allowed_number}
-use Rattle.dob_rank.specs.Weights.{others_squares, others_forms}
-use Rattle.dob_rank.proofs.Positions.Blocks.{four_small, few_in_block, HasDigits-numbers}
-use Rattle.dob_rank.proofs.InRuns.DigitParts.{AreFewOnBoard-digits}
+use Rattle.dob_classes.proofs.Common.{◌%◌, ◌*◌, ◌+◌, ◌-◌, ◌/◌, ◌<◌, ◌^◌, ◌∙◌, ◌≡◌, ◌≤◌, Bool, List, [], ap, arith, false, get_or, slice_index, subst, sym, true}
+use Rattle.dob_classes.proofs.Common.{ℕ, add-mul, mul-le-mul, mul-le-mul_right, mul-pos, mul_assoc, div-add-mod', div-mul-add, div_below, mod_below, PieceSet}
+use Rattle.dob_classes.proofs.Common.{Family, A, B, Setup, AreFewOnBoard-digits, marks_agree, marks_from, there, HasDigits-numbers, few_in_block, four_small}
+use Rattle.dob_classes.proofs.Common.{on_board-block, forms_small, IsPositionOf, family_of, is_present, marks_below, one_if, block_bases, block_of, choose}
+use Rattle.dob_classes.proofs.Common.{digits, digits_of, forms_number, free_squares, on_board, order, product, settle, sum_below, AreFewOnBoard, lion_pairs}
+use Rattle.dob_classes.proofs.Common.{local_of, run_of, run_size, run_start, runs_in, square_bases, are_allowed, forms_stand, may_have, Chicks, is_there}
+use Rattle.dob_rank.specs.Weights.{local_in, weight, forms_on, lions_in, choice_weight, forms_before, allowed_number, others_squares, others_forms}
 use Rattle.dob_rank.proofs.InRuns.Lions.{lions_layers}
 use Rattle.dob_rank.proofs.ProfileB.LionBoards.{chicks_settled}
 use Rattle.dob_rank.proofs.Boards.FormDigits.{power_positive}
-use Rattle.dob_rank.proofs.Positions.Numbering.{on_board-block}
 use Rattle.dob_rank.proofs.ProfileB.RunWeights.{low_alike}
-use Rattle.dob_rank.proofs.InRuns.RunMarks.{marks_agree, marks_from}
 use Rattle.dob_rank.proofs.OfFamilies.RunCounts.{IsSpotIn, is_form, present_before}
 use Rattle.dob_rank.proofs.OfFamilies.FamilyRuns.{factor_out, others_forms-some, others_squares-some, run_size-parts}
 use Rattle.dob_rank.proofs.OfFamilies.FamilyRanks.{before_place, present_at, own_place, local_parts, squares_number, others_number}
 use Rattle.dob_rank.proofs.ProfileB.PlaceParts.{others_squares_are, others_forms_are}
-use Rattle.dob_rank.proofs.ProfileB.FarSpots.{forms_small}
 use Rattle.dob_classes.proofs.MarksOfRuns.FamilyMarks.{all_marked}
-use Rattle.dob_rank.proofs.OfFamilies.Present.{there}
 
 -- ---- the forms up to one
 

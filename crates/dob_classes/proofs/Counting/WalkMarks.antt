@@ -1,14 +1,8 @@
 -- What a step of a walk passes, and that a walk counts few.
-use Rattle.std.proofs.Common.{◌≡◌, ℕ, ◌≤◌, ◌<◌, ◌^◌, min, Bool, ap, ◌∙◌, arith}
+use Rattle.dob_classes.proofs.Common.{◌<◌, ◌^◌, ◌∙◌, ◌≡◌, ◌≤◌, Bool, ap, arith, min, ℕ, run_size-small, marks_below-le, marks_below_none, marks_below, run_size}
+use Rattle.dob_classes.proofs.Common.{is_there, local_marks_in, local_marks, IsWalk, marks_before}
 use Rattle.dob_classes.specs.declared.class_walks.MixedRun.{MixedRun}
 use Rattle.dob_classes.specs.declared.class_walks.Walk.{Walk}
-use Rattle.dob_classes.specs.FamilyRuns.{is_there, local_marks_in}
-use Rattle.dob_rank.specs.Marks.{marks_below}
-use Rattle.dob_rank.specs.Runs.{run_size}
-use Rattle.dob_classes.specs.Stretches.{local_marks}
-use Rattle.dob_classes.specs.Walks.{IsWalk, marks_before}
-use Rattle.dob_rank.proofs.Marked.Words.{marks_below-le, marks_below_none}
-use Rattle.dob_rank.proofs.InRuns.RunPlaces.{run_size-small}
 use Rattle.dob_classes.proofs.Counting.ClassesBefore.{IsAdded, added}
 
 pub passed : (run : MixedRun) (walk : Walk) (place end upto next : ℕ) (on : Bool) → IsWalk run walk → walk.place < place

@@ -1,29 +1,16 @@
 -- The marks of a run's positions of a family, numbered among themselves, say which of them are representatives and how many stand before.
-use Rattle.std.proofs.Common.{◌≡◌, ℕ, zero, suc, ◌+◌, ◌-◌, ◌%◌, ◌/◌, ◌^◌, ◌<◌, ◌≤◌, ◌==◌, ◌&&◌, if◌then◌else◌, Bool, true, false, [], ◌∷◌, slice_index}
-use Rattle.std.proofs.Common.{refl, sym, ap, ◌∙◌, subst, inl, inr, arith}
-use Rattle.std.proofs.lemmas.Bool.{cases_Bool, cases_lt}
-use Rattle.dob_pieces.specs.declared.profile.Family.{Family}
-use Rattle.dob_pieces.specs.declared.setup.Setup.{Setup}
-use Rattle.dob_rank.specs.declared.runs.RunKind.TheVariants.{First, Later, Mixed}
-use Rattle.dob_rank.specs.declared.layers.Layer.TheVariants.{OwnLion, EnemyLion, Chicks}
-use Rattle.dob_rank.specs.Numbers.{product, digits_of, block_bases, block_of, choose, settle, order, empty_layers, enemy_squares, free_squares}
-use Rattle.dob_rank.specs.Marks.{one_if, marks_below}
-use Rattle.dob_rank.specs.ClassRows.{marked_place}
-use Rattle.dob_rank.specs.Families.{IsPositionOf, is_present, is_marked}
-use Rattle.dob_rank.specs.Runs.{runs_in, run_size, run_start, run_kind, run_of, local_of, lion_pairs, form_bases, IsInRun}
-use Rattle.dob_classes.specs.Stretches.{local_marks}
-use Rattle.dob_rank.specs.Weights.{may_have, are_allowed}
-use Rattle.dob_classes.specs.Walks.{IsStretchIn}
-use Rattle.dob_classes.specs.FamilyRuns.{is_there, run_size_in, place_of_number, local_marks_in, classes_before, IsInRunOf, IsNumbered}
-use Rattle.dob_rank.proofs.Marked.Marks.{marked-first_of}
-use Rattle.dob_rank.proofs.Marked.Words.{marks_below_more, marks_below_none, marks_below-le, marks_below-upto}
+use Rattle.dob_classes.proofs.Common.{if◌then◌else◌, ◌%◌, ◌&&◌, ◌+◌, ◌-◌, ◌/◌, ◌<◌, ◌==◌, ◌^◌, ◌∙◌, ◌∷◌, ◌≡◌, ◌≤◌, Bool, [], ap, arith, false, inl, inr, refl}
+use Rattle.dob_classes.proofs.Common.{slice_index, subst, suc, sym, true, zero, ℕ, cases_Bool, cases_lt, Family, Setup, lions_run, marks_agree, marks_from}
+use Rattle.dob_classes.proofs.Common.{run_start_next, run_size-small, spot_there, marked-first_of, place_found, marks_below-le, marks_below-upto}
+use Rattle.dob_classes.proofs.Common.{marks_below_more, marks_below_none, present, marked_place, IsPositionOf, is_marked, is_present, marks_below, one_if}
+use Rattle.dob_classes.proofs.Common.{block_bases, block_of, choose, digits_of, empty_layers, enemy_squares, free_squares, order, product, settle, IsInRun}
+use Rattle.dob_classes.proofs.Common.{form_bases, lion_pairs, local_of, run_kind, run_of, run_size, run_start, runs_in, are_allowed, may_have, Chicks}
+use Rattle.dob_classes.proofs.Common.{EnemyLion, OwnLion, First, Later, Mixed, IsInRunOf, IsNumbered, classes_before, is_there, local_marks_in, place_of_number}
+use Rattle.dob_classes.proofs.Common.{run_size_in, local_marks, IsStretchIn}
 use Rattle.dob_classes.proofs.OfFamilies.ClassNumbers.{marks_below-rises, marks_below-same}
-use Rattle.dob_rank.proofs.Marked.Representatives.{place_found}
-use Rattle.dob_rank.proofs.InRuns.RunPlaces.{in_set, marked_first, marked_later, spot_there, run_size-small}
+use Rattle.dob_rank.proofs.InRuns.RunPlaces.{in_set, marked_first, marked_later}
 use Rattle.dob_classes.proofs.MarksOfRuns.MixedRuns.{marks_by_lions}
-use Rattle.dob_rank.proofs.InRuns.RunMarks.{marks_agree, marks_from, lions_run, run_start_next}
 use Rattle.dob_rank.proofs.OfFamilies.RunPresent.{allowed_in_run}
-use Rattle.dob_rank.proofs.OfFamilies.Present.{present}
 
 -- ---- the marked ones of some places, numbered among themselves
 

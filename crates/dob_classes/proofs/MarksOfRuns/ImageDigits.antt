@@ -1,23 +1,11 @@
 -- The digits of a mirror image up to one of them follow from the position's own digits up to there.
-use Rattle.std.proofs.Common.{◌≡◌, ℕ, zero, suc, ◌+◌, ◌*◌, ◌^◌, ◌<◌, cond, eqb, List, [], ◌∷◌, None, length, map, take, drop, refl, sym, ap, ◌∙◌, subst}
-use Rattle.std.proofs.Common.{slice_index_or, inl, inr, arith}
-use Rattle.std.proofs.lemmas.Bool.{cases_eq, eq-eqb, ne_eqb}
-use Rattle.std.proofs.lemmas.List.{length-map}
-use Rattle.std.proofs.lemmas.Nat.{same_from_place}
-use Rattle.dob_pieces.specs.declared.piece_set.PieceSet.{PieceSet}
-use Rattle.dob_pieces.specs.declared.setup.Setup.{Setup}
-use Rattle.dob_pieces.specs.Squares.{mirrored_square}
-use Rattle.dob_pieces.specs.Setups.{Cell, board_by, mirrored}
-use Rattle.dob_rank.specs.declared.layers.Layer.TheVariants.{Chicks, Elephants, Giraffes, Empty}
-use Rattle.dob_rank.specs.Order.{IsPositionOfSet, form}
-use Rattle.dob_rank.specs.Numbers.{order, layer, count, choice, settle, base_of, cell_of, forms_number, on_board}
-use Rattle.dob_rank.specs.Runs.{lions_of}
-use Rattle.dob_rank.proofs.Boards.Choices.{count_other}
+use Rattle.dob_classes.proofs.Common.{◌*◌, ◌+◌, ◌<◌, ◌^◌, ◌∙◌, ◌∷◌, ◌≡◌, List, None, [], ap, arith, cond, drop, eqb, inl, inr, length, map, refl}
+use Rattle.dob_classes.proofs.Common.{slice_index_or, subst, suc, sym, take, zero, ℕ, cases_eq, eq-eqb, ne_eqb, length-map, same_from_place, Cell, board_by}
+use Rattle.dob_classes.proofs.Common.{mirrored, mirrored_square, PieceSet, Setup, count_other, local_digits, hide_all, base_of, cell_of, choice, count}
+use Rattle.dob_classes.proofs.Common.{forms_number, layer, on_board, order, settle, IsPositionOfSet, form, lions_of, Chicks, Elephants, Empty, Giraffes}
 use Rattle.dob_rank.proofs.Boards.Settled.{hide, settle-choice, choice_hide_next}
 use Rattle.dob_rank.proofs.Boards.FormDigits.{AreLayers-map, cell_of-cell, forms_number_same, forms_number_other, forms_number-below}
-use Rattle.dob_rank.proofs.Positions.Digits.{hide_all}
 use Rattle.dob_rank.proofs.InRuns.Lions.{mirror_layers, layers-mirrored, hide-mirror, lions_layers, lions_layers-of, HasPair-from_position}
-use Rattle.dob_rank.proofs.InRuns.RunPlaces.{local_digits}
 
 -- ---- squares
 

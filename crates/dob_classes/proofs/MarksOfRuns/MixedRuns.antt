@@ -1,31 +1,16 @@
 -- In a run whose lions stand on column b: the first digit that differs from its mirror image's decides for all places that
 -- have the same digits up to there.
-use Rattle.std.proofs.Common.{◌≡◌, ℕ, zero, suc, ◌+◌, ◌-◌, ◌*◌, ◌/◌, ◌%◌, ◌<◌, ◌≤◌, leb, Bool, true, false, List, [], ◌∷◌, ◌++◌, length, take, drop, min}
-use Rattle.std.proofs.Common.{refl, sym, ap, ◌∙◌, subst, inl, inr, arith}
-use Rattle.std.specs.List.{All}
-use Rattle.std.proofs.lemmas.Bool.{cases_lt, le-leb, lt-leb}
-use Rattle.std.proofs.lemmas.List.{length-take, take-append-drop}
-use Rattle.std.proofs.lemmas.Nat.{div-mul-add, same_from_place, le-div, div-add-mod', mod_below, div_below}
-use Rattle.std.proofs.Math.Nat.{div-mul-le_self, add-mul, mul-le-mul_right}
-use Rattle.dob_pieces.specs.declared.piece_set.PieceSet.{PieceSet}
-use Rattle.dob_pieces.specs.declared.setup.Setup.{Setup}
-use Rattle.dob_pieces.specs.Setups.{mirrored}
-use Rattle.dob_rank.specs.declared.runs.RunKind.TheVariants.{Mixed}
-use Rattle.dob_rank.specs.Order.{IsPositionOfSet}
-use Rattle.dob_rank.specs.Numbers.{product, number_of, digits_of, HasDigits, block_bases, on_board, HasBlock, place_of, setup_in, bases_by}
-use Rattle.dob_rank.specs.Marks.{marked}
-use Rattle.dob_classes.specs.Stretches.{IsWidth, local_marks}
-use Rattle.dob_rank.specs.Runs.{local_bases, run_size, run_start, run_of, local_of, IsInRun, lions_of, run_kind, lion_pairs}
+use Rattle.dob_classes.proofs.Common.{◌%◌, ◌*◌, ◌++◌, ◌+◌, ◌-◌, ◌/◌, ◌<◌, ◌∙◌, ◌∷◌, ◌≡◌, ◌≤◌, Bool, List, [], ap, arith, drop, false, inl, inr, leb, length}
+use Rattle.dob_classes.proofs.Common.{min, refl, subst, suc, sym, take, true, zero, ℕ, add-mul, div-mul-le_self, mul-le-mul_right, cases_lt, le-leb, lt-leb}
+use Rattle.dob_classes.proofs.Common.{length-take, take-append-drop, div-add-mod', div-mul-add, div_below, le-div, mod_below, same_from_place, All, mirrored}
+use Rattle.dob_classes.proofs.Common.{PieceSet, Setup, local_digits, AreBases-by, few_in_block, HasDigits-digits, HasParts-from_position}
+use Rattle.dob_classes.proofs.Common.{IsPositionOfSet-mirrored, HasDigits-drop, HasDigits-length, HasBlock-setup_in, on_board-block, marked, HasBlock}
+use Rattle.dob_classes.proofs.Common.{HasDigits, bases_by, block_bases, digits_of, number_of, on_board, place_of, product, setup_in, IsPositionOfSet, IsInRun}
+use Rattle.dob_classes.proofs.Common.{lion_pairs, lions_of, local_bases, local_of, run_kind, run_of, run_size, run_start, Mixed, IsWidth, local_marks}
 use Rattle.dob_rank.proofs.Arithmetic.MixedRadix.{number_of-below, number_of-append, digits_of-number_of, product-append}
-use Rattle.dob_rank.proofs.Positions.Loops.{HasDigits-drop, HasDigits-length}
-use Rattle.dob_rank.proofs.Positions.Digits.{HasParts-from_position, HasDigits-digits}
-use Rattle.dob_rank.proofs.Positions.Numbering.{on_board-block, HasBlock-setup_in}
-use Rattle.dob_rank.proofs.Positions.Found.{IsPositionOfSet-mirrored}
 use Rattle.dob_rank.proofs.InRuns.Lions.{image_lions, lions_of-below, mixed_lions}
-use Rattle.dob_rank.proofs.InRuns.RunPlaces.{local_digits, local_size, local_size-block, local_of-below, place_of-run, run_of-lions, hand_of}
-use Rattle.dob_rank.proofs.InRuns.RunPlaces.{on_board-mirrored, place-parts, image-parts, place_in_run, marked_by_place, unmarked_by_place, mark_of_spot}
-use Rattle.dob_rank.proofs.InRuns.RunPlaces.{positive_locals}
-use Rattle.dob_rank.proofs.Positions.Blocks.{AreBases-by, few_in_block}
+use Rattle.dob_rank.proofs.InRuns.RunPlaces.{local_size, local_size-block, local_of-below, place_of-run, run_of-lions, hand_of, on_board-mirrored, place-parts}
+use Rattle.dob_rank.proofs.InRuns.RunPlaces.{image-parts, place_in_run, marked_by_place, unmarked_by_place, mark_of_spot, positive_locals}
 use Rattle.dob_classes.proofs.MarksOfRuns.ImageDigits.{ArePair, image_digits}
 
 -- ---- the first digits of a number

@@ -1,16 +1,10 @@
 -- Stretches of marks: what they say of a place, and how their list grows.
-use Rattle.std.proofs.Common.{◌≡◌, ℕ, zero, suc, ◌+◌, ◌-◌, ◌*◌, ◌/◌, ◌<◌, ◌≤◌, Bool, true, false, List, [], ◌∷◌, ◌++◌, length, slice_index_or, get_or, drop}
-use Rattle.std.proofs.Common.{refl, sym, ap, ◌∙◌, subst, inl, inr, arith}
-use Rattle.std.specs.List.{All}
-use Rattle.std.proofs.lemmas.Bool.{cases_lt, cases_eq}
-use Rattle.std.proofs.Math.Nat.{mul_comm}
-use Rattle.std.proofs.lemmas.List.{length_push, get_or_append_left, get_or_push}
+use Rattle.dob_classes.proofs.Common.{◌*◌, ◌++◌, ◌+◌, ◌-◌, ◌/◌, ◌<◌, ◌∙◌, ◌∷◌, ◌≡◌, ◌≤◌, Bool, List, [], ap, arith, drop, false, get_or, inl, inr, length, refl}
+use Rattle.dob_classes.proofs.Common.{slice_index_or, subst, suc, sym, true, zero, ℕ, mul_comm, cases_eq, cases_lt, get_or_append_left, get_or_push}
+use Rattle.dob_classes.proofs.Common.{length_push, All, marks_below-le, marks_below_none, drop_back, product-positive, marks_below, product, AreStretches}
+use Rattle.dob_classes.proofs.Common.{EndsWith, IsGrowing, IsStretch, IsWidth}
 use Rattle.dob_classes.specs.declared.stretches.Stretch.{Stretch}
-use Rattle.dob_rank.specs.Numbers.{product}
-use Rattle.dob_rank.specs.Marks.{marks_below}
-use Rattle.dob_classes.specs.Stretches.{IsStretch, AreStretches, IsGrowing, EndsWith, IsWidth}
-use Rattle.dob_rank.proofs.Positions.Loops.{drop_back, product-positive}
-use Rattle.dob_rank.proofs.Marked.Words.{marks_below-all, marks_below-le, marks_below-unmarked, marks_below-up, marks_below_none}
+use Rattle.dob_rank.proofs.Marked.Words.{marks_below-all, marks_below-unmarked, marks_below-up}
 
 -- ---- reading
 

@@ -1,17 +1,7 @@
 -- Class numbers: a position's class is found by the lower of two ranks, and classes and their numbers answer each other.
-use Rattle.std.proofs.Common.{◌≡◌, ℕ, zero, suc, ◌+◌, ◌<◌, ◌≤◌, min, Bool, true, refl, sym, ap, subst, inl, inr, arith}
-use Rattle.std.proofs.lemmas.Bool.{cases_lt, cases_order}
-use Rattle.std.proofs.Math.Nat.{min-eq_left, min-eq_right}
-use Rattle.dob_pieces.specs.declared.piece_set.PieceSet.{PieceSet}
-use Rattle.dob_pieces.specs.declared.setup.Setup.{Setup}
-use Rattle.dob_pieces.specs.Setups.{mirrored}
-use Rattle.dob_pieces.proofs.Symmetries.{mirrored-mirrored}
-use Rattle.dob_rank.specs.Order.{IsPositionOfSet, IsFirstOfTwo, RepresentativeOf}
-use Rattle.dob_rank.specs.Numbers.{rank_of_set}
-use Rattle.dob_rank.specs.Marks.{one_if, marks_below}
-use Rattle.dob_rank.proofs.Positions.Numbering.{rank_of_set-rises}
-use Rattle.dob_rank.proofs.Positions.Found.{IsPositionOfSet-mirrored}
-use Rattle.dob_rank.proofs.Marked.Words.{marks_below_more}
+use Rattle.dob_classes.proofs.Common.{◌+◌, ◌<◌, ◌≡◌, ◌≤◌, Bool, ap, arith, inl, inr, min, refl, subst, suc, sym, true, zero, ℕ, min-eq_left, min-eq_right}
+use Rattle.dob_classes.proofs.Common.{cases_lt, cases_order, mirrored-mirrored, mirrored, PieceSet, Setup, marks_below_more, IsPositionOfSet-mirrored}
+use Rattle.dob_classes.proofs.Common.{rank_of_set-rises, marks_below, one_if, rank_of_set, IsFirstOfTwo, IsPositionOfSet, RepresentativeOf}
 
 -- ---- marks below a place rise with the place
 

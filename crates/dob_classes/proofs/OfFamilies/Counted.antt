@@ -1,14 +1,12 @@
 -- Lists without repeats, and what two counts have to do with each other: a count is one number, and what has more has a
 -- greater one.
-use Rattle.std.proofs.Common.{◌≡◌, ◌≢◌, ℕ, suc, ◌<◌, ◌≤◌, List, [], ◌∷◌, length, refl, sym, ◌∙◌, subst, inl, inr, arith, All, AllPairs, Contains}
-use Rattle.std.specs.List.{remove}
+use Rattle.dob_classes.proofs.Common.{◌<◌, ◌∙◌, ◌∷◌, ◌≡◌, ◌≢◌, ◌≤◌, List, [], arith, inl, inr, length, refl, subst, suc, sym, ℕ, remove, Setup, HasCount}
+use Rattle.std.proofs.Common.{All, AllPairs, Contains}
 use Rattle.std.proofs.lemmas.List.{get_or_default}
 use Rattle.std.proofs.lemmas.List.Elements.{All-contains, Contains-append_right}
 use Rattle.std.proofs.lemmas.List.Kept.{AllPairs-cons}
 use Rattle.std.proofs.lemmas.List.Sorted.{IsPermutation-remove, Contains-permutation, length_permutation}
-use Rattle.dob_pieces.specs.declared.setup.Setup.{Setup}
 use Rattle.dob_pieces.proofs.Lists.{cons_cases}
-use Rattle.dob_rank.specs.Order.{HasCount}
 
 -- ---- lists without repeats
 

@@ -1,20 +1,10 @@
 -- Class numbers of a family: a position is in the class of its class number, and classes and their numbers answer each other.
-use Rattle.std.proofs.Common.{◌≡◌, ℕ, ◌<◌, ◌≤◌, ◌⊎◌, min, true, false, refl, ap, sym, ◌∙◌, subst, inl, inr, arith}
-use Rattle.std.proofs.lemmas.Bool.{cases_lt, both_ways}
-use Rattle.std.proofs.Math.Nat.{min-eq_left, min-eq_right, min_comm}
-use Rattle.dob_pieces.specs.declared.profile.Family.{Family}
-use Rattle.dob_pieces.specs.declared.setup.Setup.{Setup}
-use Rattle.dob_pieces.specs.Profiles.{IsAllowed}
-use Rattle.dob_pieces.specs.Setups.{mirrored}
-use Rattle.dob_pieces.proofs.Allowed.{IsAllowed-mirrored}
-use Rattle.dob_pieces.proofs.Symmetries.{mirrored-mirrored}
-use Rattle.dob_rank.specs.Order.{IsEither, IsFirstOfTwo, RepresentativeOf}
-use Rattle.dob_rank.specs.Numbers.{size_of_set, rank_of_set}
-use Rattle.dob_rank.specs.Marks.{marks_below}
-use Rattle.dob_rank.specs.Families.{IsPositionOf, IsRepresentative, HasClass, IsInClass, is_marked, classes_of, class_number}
-use Rattle.dob_rank.proofs.Positions.Numbering.{rank_of_set-below, rank_of_set-same}
-use Rattle.dob_rank.proofs.Positions.Found.{IsPositionOfSet-mirrored}
-use Rattle.dob_rank.proofs.OfFamilies.Present.{HasClass-marked, marked, represents}
+use Rattle.dob_classes.proofs.Common.{◌<◌, ◌∙◌, ◌≡◌, ◌≤◌, ◌⊎◌, ap, arith, false, inl, inr, min, refl, subst, sym, true, ℕ, min-eq_left, min-eq_right, min_comm}
+use Rattle.dob_classes.proofs.Common.{both_ways, cases_lt, IsAllowed-mirrored, mirrored-mirrored, IsAllowed, mirrored, Family, Setup, HasClass-marked}
+use Rattle.dob_classes.proofs.Common.{represents, IsPositionOfSet-mirrored, rank_of_set-same, HasClass, IsInClass, IsPositionOf, IsRepresentative, class_number}
+use Rattle.dob_classes.proofs.Common.{classes_of, is_marked, marks_below, rank_of_set, size_of_set, IsEither, IsFirstOfTwo, RepresentativeOf}
+use Rattle.dob_rank.proofs.Positions.Numbering.{rank_of_set-below}
+use Rattle.dob_rank.proofs.OfFamilies.Present.{marked}
 use Rattle.dob_classes.proofs.OfFamilies.ClassNumbers.{earlier, marks_below-rises, marks_below-same}
 use Rattle.dob_rank.proofs.Marked.Representatives.{first_by_rank, rank_of_first}
 

@@ -1,31 +1,17 @@
 -- Each position of a family has one representative and one class number, and numbers stand in the order of the representatives: as those of a set
 -- (proofs/Representatives).
-use Rattle.std.proofs.Common.{◌≡◌, ℕ, ◌<◌, ◌≤◌, ◌↔◌, inl, inr, refl, sym, ap, ◌∙◌, subst, arith}
-use Rattle.std.proofs.lemmas.Bool.{cases_lt, cases_order}
-use Rattle.dob_pieces.specs.declared.profile.Family.{Family}
-use Rattle.dob_pieces.specs.declared.piece_set.PieceSet.{PieceSet}
-use Rattle.dob_pieces.specs.declared.profile.Profile.{Profile}
-use Rattle.dob_pieces.specs.declared.setup.Setup.{Setup}
-use Rattle.dob_pieces.specs.Profiles.{IsAllowed}
-use Rattle.dob_pieces.specs.Setups.{IsLegal, mirrored}
-use Rattle.dob_pieces.proofs.Symmetries.{mirrored-mirrored}
+use Rattle.dob_classes.proofs.Common.{◌<◌, ◌↔◌, ◌∙◌, ◌≡◌, ◌≤◌, ap, arith, inl, inr, refl, subst, sym, ℕ, cases_lt, cases_order, mirrored-mirrored, IsAllowed}
+use Rattle.dob_classes.proofs.Common.{IsLegal, mirrored, PieceSet, Family, Profile, Setup, numbering, place_found, marks_below-upto, HasClass-marked}
+use Rattle.dob_classes.proofs.Common.{HasClasses-classes_of, HasRank-rank_of, present, represents, IsPositionOfSet-mirrored, Before-from_rank}
+use Rattle.dob_classes.proofs.Common.{rank_of_set-rises, rank_of_set-same, marked_place, HasClass, HasClasses, HasRank, IsInClass, IsPositionOf}
+use Rattle.dob_classes.proofs.Common.{IsRepresentative, RepresentsClass, class_number, class_setup, classes_of, family_of, is_marked, is_present, rank_of}
+use Rattle.dob_classes.proofs.Common.{marks_below, nth, rank_of_set, size_of_set, Before, IsEither, IsPositionOfSet, RepresentativeOf}
 use Rattle.dob_rank.proofs.OfFamilies.FamilyOrder.{rank_of-rises}
-use Rattle.dob_rank.proofs.Positions.Found.{IsPositionOfSet-mirrored}
 use Rattle.dob_rank.proofs.Positions.Sets.{set_of, IsPositionOfSet-set_of}
-use Rattle.dob_rank.specs.Order.{IsPositionOfSet, Before, IsEither, RepresentativeOf}
-use Rattle.dob_rank.specs.Numbers.{size_of_set, rank_of_set, nth}
-use Rattle.dob_rank.specs.Marks.{marks_below}
-use Rattle.dob_rank.specs.ClassRows.{marked_place}
-use Rattle.dob_rank.specs.Families.{IsPositionOf, IsRepresentative, HasRank, HasClasses, HasClass, IsInClass, RepresentsClass}
-use Rattle.dob_rank.specs.Families.{family_of, is_present, is_marked, rank_of, classes_of, class_setup}
-use Rattle.dob_rank.proofs.Positions.Numbering.{rank_of_set-rises, rank_of_set-same, Before-from_rank}
 use Rattle.dob_classes.proofs.OfFamilies.Counted.{fewer, one_count}
-use Rattle.dob_rank.proofs.Marked.Marks.{numbering}
-use Rattle.dob_rank.proofs.Marked.Representatives.{not_before_itself, has_representative_of_set, one_of_either_of_set, same_representative_of_set, IsPlaceOf, place_found}
-use Rattle.dob_rank.proofs.OfFamilies.Present.{present, HasRank-rank_of, HasClasses-classes_of, HasClass-marked, represents}
+use Rattle.dob_rank.proofs.Marked.Representatives.{not_before_itself, has_representative_of_set, one_of_either_of_set, same_representative_of_set, IsPlaceOf}
 use Rattle.dob_classes.proofs.OfFamilies.ClassNumbers.{marks_below-rises}
-use Rattle.dob_rank.proofs.Marked.Words.{marks_below-upto}
-use Rattle.dob_classes.proofs.OfFamilies.FamilyNumbers.{IsPositionOf-mirrored}
+use Rattle.dob_classes.proofs.OfFamilies.FamilyNumbers.{IsInClass-class_number, IsPositionOf-mirrored, class_number-mirrored}
 
 -- ---- a position and its mirror image
 
@@ -159,6 +145,19 @@ pub class_setup_only : (family : Family) (representative : Setup) (class classes
 class_setup_only family representative class classes all below is number =
     let there = class_setup_is family class classes all below in
     one_of_class family representative (class_setup family class) class is there.0 number there.1
+
+-- ---- the class that a position is in
+
+-- a class's representative
+pub class_representative : (family : Family) (s : Setup) (class : ℕ) (is : IsInClass family s class) → RepresentsClass family is.representative class
+class_representative family s class is = (representative_is family s is.representative is.position is.stands, is.before)
+
+-- a position and its mirror image are in one class
+pub in_mirror : (family : Family) (s : Setup) (class : ℕ) → IsInClass family s class → IsInClass family (mirrored s) class
+in_mirror family s class is =
+    let image = IsPositionOf-mirrored family s is.position in
+    let own = one_class family s class (class_number family s) is (IsInClass-class_number family s is.position) in
+    subst (IsInClass family (mirrored s)) (class_number-mirrored family s is.position ∙ sym own) (IsInClass-class_number family (mirrored s) image)
 
 -- ---- the earlier of a position and its mirror image, by their ranks
 

@@ -1,24 +1,10 @@
 -- Sets of squares when one square of the setup changes.
-use Rattle.std.proofs.Common.{◌≡◌, ℕ, ◌*◌, ◌%◌, ◌^◌, ◌<◌, ◌≤◌, Bool, true, false, bit_and, bit_or, w16, length, set}
-use Rattle.std.proofs.Common.{None, Some, refl, sym, ap, ◌∙◌, subst, inl, inr, arith}
-use Rattle.std.specs.Int.{bit_at, bit_not}
-use Rattle.std.proofs.lemmas.Bool.{cases_eq}
-use Rattle.std.proofs.lemmas.List.{get_or-set_same, get_or-set_other}
-use Rattle.std.proofs.lemmas.Nat.{and_le_l, or_lt}
-use Rattle.std.proofs.lemmas.Nat.Bits.{bit_at_set_same, bit_at_set_other, bit_at_clear_same, bit_at_clear_other}
+use Rattle.dob_classes.proofs.Common.{◌%◌, ◌*◌, ◌<◌, ◌^◌, ◌∙◌, ◌≡◌, ◌≤◌, Bool, None, Some, ap, arith, bit_and, bit_or, false, inl, inr, length, refl, set}
+use Rattle.dob_classes.proofs.Common.{subst, sym, true, w16, ℕ, cases_eq, get_or-set_other, get_or-set_same, and_le_l, or_lt, bit_at_clear_other}
+use Rattle.dob_classes.proofs.Common.{bit_at_clear_same, bit_at_set_other, bit_at_set_same, bit_at, bit_not, IsMask-same, bit_if, AreSquares, Cell, at}
+use Rattle.dob_classes.proofs.Common.{piece_of, Hands, Kind, Chick, Elephant, Giraffe, Hen, Lion, Side, Enemy, Mover, Setup, AreBitboards, is_chick}
+use Rattle.dob_classes.proofs.Common.{is_elephant, is_enemy, is_enemy_lion, is_giraffe, is_hen, is_own_lion, IsWith, with_enemy, with_own, Bitboards}
 use Rattle.std.proofs.Math.Pow.{pow_mono}
-use Rattle.dob_pieces.specs.declared.hand.Hands.{Hands}
-use Rattle.dob_pieces.specs.declared.kind.Kind.{Kind}
-use Rattle.dob_pieces.specs.declared.kind.Kind.TheVariants.{Lion, Giraffe, Elephant, Chick, Hen}
-use Rattle.dob_pieces.specs.declared.kind.Side.{Side}
-use Rattle.dob_pieces.specs.declared.kind.Side.TheVariants.{Mover, Enemy}
-use Rattle.dob_pieces.specs.declared.setup.Setup.{Setup}
-use Rattle.dob_pieces.specs.Masks.{AreSquares}
-use Rattle.dob_pieces.specs.Setups.{Cell, at, piece_of}
-use Rattle.dob_pieces.proofs.MaskBits.{bit_if, IsMask-same}
-use Rattle.dob_classes.specs.declared.bits.bitboards.Bitboards.{Bitboards}
-use Rattle.dob_classes.specs.Bitboards.{is_own_lion, is_enemy_lion, is_chick, is_elephant, is_giraffe, is_hen, is_enemy, AreBitboards}
-use Rattle.dob_classes.specs.Changes.{IsWith, with_own, with_enemy}
 
 -- ---- one set
 

@@ -1,16 +1,10 @@
 -- The masks of a setup by its sets of squares.
-use Rattle.std.proofs.Common.{◌≡◌, ℕ, ◌&&◌, ◌||◌, not, Bool, true, bit_and, bit_or, w16, None, refl}
-use Rattle.std.specs.Int.{bit_not}
-use Rattle.dob_pieces.specs.declared.kind.Kind.TheVariants.{Lion, Giraffe, Elephant, Chick, Hen}
-use Rattle.dob_pieces.specs.declared.kind.Side.TheVariants.{Mover, Enemy}
-use Rattle.dob_pieces.specs.declared.setup.Setup.{Setup}
-use Rattle.dob_pieces.specs.Masks.{AreSquares, AreMasks, is_piece, is_own, is_end, is_empty}
-use Rattle.dob_pieces.specs.Setups.{Cell, at}
-use Rattle.dob_pieces.proofs.MaskBits.{IsMask-or, IsMask-without, IsMask-same}
+use Rattle.dob_classes.proofs.Common.{◌&&◌, ◌||◌, ◌≡◌, Bool, None, bit_and, bit_or, not, refl, true, w16, ℕ, bit_not, IsMask-or, IsMask-same, IsMask-without}
+use Rattle.dob_classes.proofs.Common.{AreMasks, AreSquares, is_empty, is_end, is_own, is_piece, Cell, at, Chick, Elephant, Giraffe, Hen, Lion, Enemy, Mover}
+use Rattle.dob_classes.proofs.Common.{Setup, AreBitboards, is_chick, is_elephant, is_enemy, is_enemy_lion, is_giraffe, is_hen, is_own_lion, Bitboards}
+use Rattle.dob_pieces.specs.declared.masks.TheConstants.{ALL_SQUARES}
 use Rattle.dob_pieces.proofs.Planes.{all_are}
 use Rattle.dob_rank.proofs.Boards.EachCell.{OfEachKind, of_cell}
-use Rattle.dob_classes.specs.declared.bits.bitboards.Bitboards.{Bitboards}
-use Rattle.dob_classes.specs.Bitboards.{is_own_lion, is_enemy_lion, is_chick, is_elephant, is_giraffe, is_hen, is_enemy, AreBitboards}
 
 abbrev either : (Cell → Bool) → (Cell → Bool) → Cell → Bool
 either f g cell = f cell || g cell
@@ -41,7 +35,7 @@ is_other = either (either is_chick is_elephant) is_giraffe
 
 pub masks_found : (setup : Setup) (b : Bitboards) → AreBitboards setup b →
     let pieces = bit_or (bit_or b.chicks b.elephants) b.giraffes in
-    let empty = bit_and 4095 (bit_not w16 (bit_or (bit_or b.own_lion b.enemy_lion) pieces)) in
+    let empty = bit_and ALL_SQUARES (bit_not w16 (bit_or (bit_or b.own_lion b.enemy_lion) pieces)) in
     AreMasks setup (record {
       lion = b.own_lion;
       giraffes = bit_and b.giraffes (bit_not w16 b.enemies);
@@ -58,7 +52,7 @@ masks_found setup b are =
     let pieces = of_either setup (either is_chick is_elephant) is_giraffe (bit_or b.chicks b.elephants) b.giraffes
     (of_either setup is_chick is_elephant b.chicks b.elephants are.chicks_are are.elephants_are) are.giraffes_are in
     let all = of_either setup is_any_lion is_other (bit_or b.own_lion b.enemy_lion) (bit_or (bit_or b.chicks b.elephants) b.giraffes) lions pieces in
-    let empty = of_but_not setup (λ cell. true) (either is_any_lion is_other) 4095 _ (all_are setup) all in
+    let empty = of_but_not setup (λ cell. true) (either is_any_lion is_other) ALL_SQUARES _ (all_are setup) all in
     record {
       lion_is = by_test setup is_own_lion (is_piece Mover Lion) b.own_lion refl (refl, refl, refl, refl, refl) (refl, refl, refl, refl, refl) are.own_lion_is;
       giraffes_are = by_test setup (but_not is_giraffe is_enemy) (is_piece Mover Giraffe) _ refl (refl, refl, refl, refl, refl) (refl, refl, refl, refl, refl)

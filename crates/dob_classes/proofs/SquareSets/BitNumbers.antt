@@ -1,15 +1,9 @@
 -- The numbers and digits of a position that sets of squares show.
-use Rattle.std.proofs.Common.{◌≡◌, ℕ, List, [], ◌∷◌, length, slice_index, ap, sym}
-use Rattle.dob_pieces.specs.declared.hand.Hands.{Hands}
-use Rattle.dob_pieces.specs.declared.piece_set.PieceSet.{PieceSet}
-use Rattle.dob_pieces.specs.declared.setup.Setup.{Setup}
-use Rattle.dob_classes.specs.declared.bits.bitboards.Bitboards.{Bitboards}
-use Rattle.dob_rank.specs.declared.layers.Layer.TheVariants.{Chicks, Elephants, Giraffes}
+use Rattle.dob_classes.proofs.Common.{◌∷◌, ◌≡◌, List, [], ap, length, slice_index, sym, ℕ, Hands, PieceSet, Setup, digits, forms_number, on_board, order}
+use Rattle.dob_classes.proofs.Common.{Chicks, Elephants, Giraffes, AreBitboards, HasOfLayer, IsShownOfSet, Bitboards}
 use Rattle.dob_rank.specs.declared.masks.Masks.{Masks}
-use Rattle.dob_classes.specs.Bitboards.{IsShownOfSet, AreBitboards, HasOfLayer}
 use Rattle.dob_rank.specs.BoardDigits.{ArePartsOf, AreNumbersOf}
 use Rattle.dob_rank.specs.BoardMasks.{AreMasksOfBoard}
-use Rattle.dob_rank.specs.Numbers.{order, forms_number, on_board, digits}
 use Rattle.dob_rank.proofs.Boards.BoardMasks.{numbers_are, AreNumbers, three}
 
 -- a position that is shown, by the masks and the numbers found

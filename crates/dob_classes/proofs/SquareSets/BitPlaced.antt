@@ -1,23 +1,11 @@
 -- Sets of squares with a piece more, as either side sees them.
-use Rattle.std.proofs.Common.{◌≡◌, ◌≢◌, ℕ, zero, suc, ◌-◌, ◌*◌, ◌/◌, ◌%◌, ◌^◌, ◌<◌, Bool, true, false, bit_or, length, set}
-use Rattle.std.proofs.Common.{List, None, replicate, slice_index_or, refl, sym, ap, ◌∙◌, subst, arith}
-use Rattle.std.proofs.lemmas.List.{get_or-set_other, length-set}
+use Rattle.dob_classes.proofs.Common.{◌%◌, ◌*◌, ◌-◌, ◌/◌, ◌<◌, ◌^◌, ◌∙◌, ◌≡◌, ◌≢◌, Bool, List, None, ap, arith, bit_or, false, length, refl, replicate, set}
+use Rattle.dob_classes.proofs.Common.{slice_index_or, subst, suc, sym, true, zero, ℕ, get_or-set_other, length-set, at-turned, bit_if, AreSquares, Cell, at}
+use Rattle.dob_classes.proofs.Common.{setup_of, turned, turned_cell, Hands, Side, Enemy, Mover, Setup, base_of, cell_of, enemy_squares, order, own_squares, put}
+use Rattle.dob_classes.proofs.Common.{Chicks, Elephants, Empty, Giraffes, AreBitboards, is_chick, is_elephant, is_enemy, is_enemy_lion, is_giraffe, is_hen}
+use Rattle.dob_classes.proofs.Common.{is_own_lion, IsWith, seen_by, seen_hands, seen_owner, seen_square, Bitboards}
 use Rattle.std.specs.Int.Bits.{or_zero_r}
-use Rattle.dob_pieces.specs.declared.hand.Hands.{Hands}
-use Rattle.dob_pieces.specs.declared.kind.Side.{Side}
-use Rattle.dob_pieces.specs.declared.kind.Side.TheVariants.{Mover, Enemy}
-use Rattle.dob_pieces.specs.declared.setup.Setup.{Setup}
-use Rattle.dob_pieces.specs.Masks.{AreSquares}
-use Rattle.dob_pieces.specs.Setups.{Cell, at, setup_of, turned, turned_cell}
-use Rattle.dob_pieces.proofs.Boards.{at-turned}
-use Rattle.dob_pieces.proofs.MaskBits.{bit_if}
-use Rattle.dob_classes.specs.declared.bits.bitboards.Bitboards.{Bitboards}
-use Rattle.dob_rank.specs.declared.layers.Layer.TheVariants.{Chicks, Elephants, Giraffes, Empty}
-use Rattle.dob_classes.specs.Bitboards.{is_own_lion, is_enemy_lion, is_chick, is_elephant, is_giraffe, is_hen, is_enemy, AreBitboards}
-use Rattle.dob_classes.specs.Changes.{IsWith}
-use Rattle.dob_rank.specs.Numbers.{order, cell_of, base_of, own_squares, enemy_squares}
-use Rattle.dob_rank.specs.Placing.{past, put, AreFree}
-use Rattle.dob_classes.specs.Views.{seen_by, seen_square, seen_hands, seen_owner}
+use Rattle.dob_rank.specs.Placing.{past, AreFree}
 use Rattle.dob_rank.proofs.Boards.EmptySquares.{past-upto}
 use Rattle.dob_classes.proofs.SquareSets.BitChanges.{kept, added, with_one}
 

@@ -1,20 +1,11 @@
 -- Sets of squares found in one pass over the board: five in one word, twelve bits each, which no sum carries over.
-use Rattle.std.proofs.Common.{◌≡◌, ℕ, suc, ◌+◌, ◌-◌, ◌*◌, ◌^◌, ◌<◌, ◌≤◌, Bool, false, ◌||◌, List, [], ◌∷◌, Some, None}
-use Rattle.std.proofs.Common.{length, drop, slice_index_or, refl, sym, ap, ◌∙◌, arith}
+use Rattle.dob_classes.proofs.Common.{◌*◌, ◌+◌, ◌-◌, ◌<◌, ◌^◌, ◌||◌, ◌∙◌, ◌∷◌, ◌≡◌, ◌≤◌, Bool, List, None, Some, [], ap, arith, drop, false, length, refl}
+use Rattle.dob_classes.proofs.Common.{slice_index_or, suc, sym, ℕ, at-turned, length-turned, entry_of, Cell, at, piece_of, turned, turned_cell, Kind, Chick}
+use Rattle.dob_classes.proofs.Common.{Elephant, Giraffe, Hen, Lion, Side, Enemy, Mover, Setup, Chicks, Elephants, Giraffes, is_hen, is_of}
 use Rattle.std.proofs.Math.Seq.{drop-cons}
-use Rattle.dob_pieces.specs.declared.kind.Kind.{Kind}
-use Rattle.dob_pieces.specs.declared.kind.Kind.TheVariants.{Lion, Giraffe, Elephant, Chick, Hen}
-use Rattle.dob_pieces.specs.declared.kind.Side.{Side}
-use Rattle.dob_pieces.specs.declared.kind.Side.TheVariants.{Mover, Enemy}
-use Rattle.dob_pieces.specs.Masks.{entry_of}
-use Rattle.dob_pieces.specs.declared.setup.Setup.{Setup}
 use Rattle.dob_pieces.specs.Pieces.{is_side, other_side}
-use Rattle.dob_pieces.specs.Setups.{Cell, at, piece_of, turned, turned_cell}
-use Rattle.dob_pieces.proofs.Boards.{length-turned, at-turned}
 use Rattle.dob_pieces.proofs.Planes.{mask_of, mask_of-small, is_lion, word_by, word_by-small, word_by-parts, AreIn, IsRead, from_start}
 use Rattle.dob_classes.specs.declared.bits.bitboards.TheConstants.{TURNED_PLANES}
-use Rattle.dob_rank.specs.declared.layers.Layer.TheVariants.{Chicks, Elephants, Giraffes}
-use Rattle.dob_classes.specs.Bitboards.{is_of, is_hen}
 
 -- a piece of the enemy, the lion too
 abbrev pub is_foe : Cell → Bool

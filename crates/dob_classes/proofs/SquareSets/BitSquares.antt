@@ -1,21 +1,10 @@
 -- Sets of squares of a setup: its layers as masks, and the form of a piece by the sets that have its square.
-use Rattle.std.proofs.Common.{◌≡◌, ℕ, zero, suc, ◌+◌, ◌-◌, ◌*◌, ◌/◌, ◌^◌, ◌<◌, ◌==◌, bit_and}
-use Rattle.std.proofs.Common.{List, [], ◌∷◌, length, map, slice_index_or, get_or, None, refl, sym, ap, ◌∙◌, subst, inl, inr, arith}
-use Rattle.std.specs.Int.{bit_at}
-use Rattle.std.proofs.lemmas.Bool.{cases_eq, eq-eqb, ne_eqb}
-use Rattle.std.proofs.lemmas.Nat.Bits.{bit_at-suc}
-use Rattle.dob_pieces.specs.declared.setup.Setup.{Setup}
-use Rattle.dob_pieces.specs.Masks.{AreSquares}
-use Rattle.dob_pieces.specs.Setups.{Cell, at}
-use Rattle.dob_pieces.proofs.MaskBits.{bit_if}
-use Rattle.dob_classes.specs.declared.bits.bitboards.Bitboards.{Bitboards}
+use Rattle.dob_classes.proofs.Common.{◌*◌, ◌+◌, ◌-◌, ◌/◌, ◌<◌, ◌==◌, ◌^◌, ◌∙◌, ◌∷◌, ◌≡◌, List, None, [], ap, arith, bit_and, get_or, inl, inr, length, map}
+use Rattle.dob_classes.proofs.Common.{refl, slice_index_or, subst, suc, sym, zero, ℕ, cases_eq, eq-eqb, ne_eqb, bit_at-suc, bit_at, bit_if, AreSquares, Cell}
+use Rattle.dob_classes.proofs.Common.{at, Setup, count_other, count_same, count, layer, order, form, Chicks, Elephants, Empty, EnemyLion, Giraffes, OwnLion}
+use Rattle.dob_classes.proofs.Common.{AreBitboards, is_enemy, is_hen, is_of, Bitboards}
 use Rattle.dob_rank.specs.declared.layers.Layer.{Layer}
-use Rattle.dob_rank.specs.declared.layers.Layer.TheVariants.{OwnLion, EnemyLion, Chicks, Elephants, Giraffes, Empty}
-use Rattle.dob_classes.specs.Bitboards.{is_of, is_hen, is_enemy, AreBitboards}
 use Rattle.dob_rank.specs.Masks.{layer_mask}
-use Rattle.dob_rank.specs.Numbers.{order, layer, count}
-use Rattle.dob_rank.specs.Order.{form}
-use Rattle.dob_rank.proofs.Boards.Choices.{count_same, count_other}
 use Rattle.dob_rank.proofs.Boards.EachCell.{of_cell}
 use Rattle.dob_rank.proofs.Boards.Planes.{first_square, second_square, lowest, first_found, second_found}
 

@@ -1,17 +1,10 @@
 -- Masks of mirror images: columns a and c exchanged.
-use Rattle.std.proofs.Common.{◌≡◌, ℕ, suc, ◌+◌, ◌-◌, ◌*◌, ◌/◌, ◌%◌, ◌^◌, ◌<◌, ◌==◌, nat_le, nat_lt, ◌&&◌, ◌||◌, not, Bool, true, false, cond, bit_and, bit_or}
-use Rattle.std.proofs.Common.{refl, sym, ap, ◌∙◌, inl, inr, arith}
-use Rattle.std.specs.Int.{bit_at}
-use Rattle.std.proofs.lemmas.Bool.{and_parts, cases_lt, eqb-true, le-leb, lt-leb, lt-ltb, le-ltb}
-use Rattle.std.proofs.lemmas.Nat.{and_le_l}
-use Rattle.std.proofs.lemmas.Nat.Bits.{bit_at-suc, bit_at-zero, bit_at_above, bit_at_cat_low, bit_at_cat_high}
-use Rattle.dob_pieces.specs.declared.setup.Setup.{Setup}
-use Rattle.dob_pieces.specs.Masks.{IsMask, AreSquares}
-use Rattle.dob_pieces.specs.Squares.{column, mirrored_square}
-use Rattle.dob_pieces.specs.Setups.{Cell, at, mirrored}
-use Rattle.dob_pieces.proofs.Boards.{all_below, all_below-at, at-mirrored}
+use Rattle.dob_classes.proofs.Common.{◌%◌, ◌&&◌, ◌*◌, ◌+◌, ◌-◌, ◌/◌, ◌<◌, ◌==◌, ◌^◌, ◌||◌, ◌∙◌, ◌≡◌, Bool, ap, arith, bit_and, bit_or, cond, false, inl, inr}
+use Rattle.dob_classes.proofs.Common.{nat_le, nat_lt, not, refl, suc, sym, true, ℕ, cases_lt, le-leb, lt-leb, and_le_l, bit_at-suc, bit_at-zero, bit_at_above}
+use Rattle.dob_classes.proofs.Common.{bit_at_cat_high, bit_at_cat_low, bit_at, all_below, all_below-at, at-mirrored, IsMask-and, IsMask-or, IsMask-same, bit_if}
+use Rattle.dob_classes.proofs.Common.{AreSquares, IsMask, Cell, at, mirrored, column, mirrored_square, Setup}
+use Rattle.std.proofs.lemmas.Bool.{and_parts, eqb-true, lt-ltb, le-ltb}
 use Rattle.dob_pieces.proofs.Targets.{is_mask}
-use Rattle.dob_pieces.proofs.MaskBits.{bit_if, IsMask-and, IsMask-or, IsMask-same}
 use Rattle.dob_classes.specs.declared.bits.images.TheConstants.{COLUMN_A, COLUMN_B}
 
 -- ---- all squares two up or two down

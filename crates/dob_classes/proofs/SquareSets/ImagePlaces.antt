@@ -1,6 +1,5 @@
 -- The digits of squares in a spot's digits are choices.
-use Rattle.std.proofs.Common.{List, ℕ, ◌∷◌, [], slice_index, slice_index_or}
-use Rattle.dob_rank.specs.Placing.{AreChoices, AreSquareChoices}
+use Rattle.dob_classes.proofs.Common.{◌∷◌, List, [], slice_index_or, ℕ, AreChoices, AreSquareChoices}
 
 pub square_choices : (on_board digits : List ℕ) → AreChoices on_board digits
     → AreSquareChoices on_board (slice_index_or digits 5 0 ∷ slice_index_or digits 6 0 ∷ slice_index_or digits 7 0 ∷ [])

@@ -1,33 +1,20 @@
 -- The blocks of a family: what a block of the list says of the family's positions and classes.
-use Rattle.std.proofs.Common.{◌≡◌, ℕ, ◌+◌, ◌-◌, ◌*◌, ◌%◌, ◌^◌, ◌<◌, ◌≤◌, List, length, slice_index, slice_index_or, true, [], ◌∷◌, ◌++◌, refl, sym, ap, ◌∙◌}
-use Rattle.std.proofs.Common.{subst, inl, inr, arith}
-use Rattle.std.proofs.lemmas.Bool.{cases_lt}
-use Rattle.std.proofs.lemmas.List.{length_push, get_or_append_left, get_or_push}
-use Rattle.dob_pieces.specs.declared.profile.Family.{Family}
-use Rattle.dob_pieces.specs.declared.profile.Profile.{Profile}
-use Rattle.dob_pieces.specs.declared.profile.Profile.TheVariants.{A, B}
-use Rattle.dob_pieces.specs.declared.setup.Setup.{Setup}
-use Rattle.dob_classes.specs.declared.block_classes.BlockClasses.{BlockClasses}
-use Rattle.dob_rank.specs.Numbers.{product, number_of, digits_of, HasDigits, block_bases, block_of, block_size, start_of, rank_of_set, size_of_set}
-use Rattle.dob_rank.specs.Runs.{AreFewOnBoard, run_bases, local_bases, runs_in, run_size, run_start, run_of, local_of, lion_pairs}
-use Rattle.dob_rank.specs.Marks.{marks_below}
-use Rattle.dob_rank.specs.Families.{family_of, IsPositionOf, is_present, is_marked, classes_of}
-use Rattle.dob_classes.specs.FamilyRuns.{is_there, run_size_in, local_marks_in, classes_before, IsInRunOf, IsNumbered}
+use Rattle.dob_classes.proofs.Common.{◌%◌, ◌*◌, ◌++◌, ◌+◌, ◌-◌, ◌<◌, ◌^◌, ◌∙◌, ◌∷◌, ◌≡◌, ◌≤◌, List, [], ap, arith, inl, inr, length, refl, slice_index}
+use Rattle.dob_classes.proofs.Common.{slice_index_or, subst, sym, true, ℕ, cases_lt, get_or_append_left, get_or_push, length_push, Family, Profile, A, B, Setup}
+use Rattle.dob_classes.proofs.Common.{AreFewOnBoard-digits, marks_from, run_start_next, start_small, spot_there, marks_below-le, marks_below_none, represents}
+use Rattle.dob_classes.proofs.Common.{there, HasDigits-numbers, sum_below_more, local_in_bases, made_in_block, run_in_bases, IsPositionOf, classes_of}
+use Rattle.dob_classes.proofs.Common.{family_of, is_marked, is_present, marks_below, HasDigits, block_bases, block_of, block_size, digits_of, number_of}
+use Rattle.dob_classes.proofs.Common.{product, rank_of_set, size_of_set, start_of, AreFewOnBoard, lion_pairs, local_bases, local_of, run_bases, run_of}
+use Rattle.dob_classes.proofs.Common.{run_size, run_start, runs_in, IsInRunOf, IsNumbered, classes_before, is_there, local_marks_in, run_size_in, BlockClasses}
 use Rattle.dob_classes.specs.BlockTables.{IsBlock, AreBlocks}
 use Rattle.dob_rank.specs.Places.{IsPresentAt, IsPlaceFor}
 use Rattle.dob_rank.specs.Weights.{forms_in, others_squares, others_forms}
-use Rattle.dob_rank.proofs.Positions.Blocks.{sum_below_more, HasDigits-numbers}
-use Rattle.dob_rank.proofs.InRuns.DigitParts.{AreFewOnBoard-digits}
-use Rattle.dob_rank.proofs.Marked.Words.{marks_below_none, marks_below-le}
 use Rattle.dob_rank.proofs.Positions.Numbering.{HasBlock, rank_of_set-block}
-use Rattle.dob_rank.proofs.Positions.Found.{made_in_block, run_in_bases, local_in_bases}
-use Rattle.dob_rank.proofs.InRuns.RunPlaces.{run_start-is, spot_there}
-use Rattle.dob_rank.proofs.InRuns.RunMarks.{marks_from, run_start_next, start_small}
+use Rattle.dob_rank.proofs.InRuns.RunPlaces.{run_start-is}
 use Rattle.dob_rank.proofs.OfFamilies.FamilyRuns.{ob_of, run_present, lions_alike}
 use Rattle.dob_classes.proofs.OfFamilies.FamilyNumbers.{IsAtClass, at_class}
 use Rattle.dob_classes.proofs.MarksOfRuns.FamilyMarks.{mark_of_number, number_of_position}
 use Rattle.dob_classes.proofs.Counting.FarCounts.{all_there, same_left}
-use Rattle.dob_rank.proofs.OfFamilies.Present.{represents, there}
 
 -- ---- the place of a number
 

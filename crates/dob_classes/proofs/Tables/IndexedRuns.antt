@@ -1,21 +1,7 @@
 -- The index of a block's runs as it grows, and the run of a class that it leads to.
-use Rattle.std.proofs.Common.{◌≡◌, ℕ, zero, suc, ◌+◌, ◌*◌, ◌%◌, ◌^◌, ◌<◌, ◌≤◌, List, [], ◌∷◌, ◌++◌, length, slice_index_or}
-use Rattle.std.proofs.Common.{refl, sym, ap, ◌∙◌, subst, inl, inr, arith}
-use Rattle.std.proofs.lemmas.Bool.{cases_lt}
-use Rattle.std.proofs.lemmas.List.{length_push, get_or_append_left, get_or_push}
-use Rattle.std.proofs.lemmas.Nat.{one_shl}
-use Rattle.std.proofs.Math.Nat.{add-mul}
-use Rattle.dob_pieces.specs.declared.profile.Family.{Family}
-use Rattle.dob_classes.specs.declared.block_classes.BlockClasses.{BlockClasses}
-use Rattle.dob_classes.specs.declared.runs.Run.{Run}
-use Rattle.dob_rank.specs.declared.runs.RunKind.TheVariants.{First}
-use Rattle.dob_classes.specs.declared.stretch_tables.StretchTable.{StretchTable}
-use Rattle.dob_rank.specs.Marks.{marks_below}
-use Rattle.dob_rank.specs.Families.{is_marked}
-use Rattle.dob_rank.specs.Runs.{runs_in, run_start}
-use Rattle.dob_classes.specs.RunTables.{AreRuns}
-use Rattle.dob_classes.specs.RunIndex.{IsAtMost, AreEntries}
-use Rattle.dob_rank.proofs.InRuns.RunMarks.{run_start_end}
+use Rattle.dob_classes.proofs.Common.{◌%◌, ◌*◌, ◌++◌, ◌+◌, ◌<◌, ◌^◌, ◌∙◌, ◌∷◌, ◌≡◌, ◌≤◌, List, [], ap, arith, inl, inr, length, refl, slice_index_or, subst}
+use Rattle.dob_classes.proofs.Common.{suc, sym, zero, ℕ, add-mul, cases_lt, get_or_append_left, get_or_push, length_push, one_shl, Family, run_start_end}
+use Rattle.dob_classes.proofs.Common.{is_marked, marks_below, run_start, runs_in, First, AreEntries, IsAtMost, AreRuns, BlockClasses, Run, StretchTable}
 use Rattle.dob_classes.proofs.Tables.RunTables.{make_run}
 
 -- one entry more

@@ -1,17 +1,11 @@
 -- The table of a block's places as it grows, and as it is read at a spot.
-use Rattle.std.specs.List.{All}
-use Rattle.std.proofs.Common.{◌≡◌, ℕ, zero, suc, ◌+◌, ◌-◌, ◌*◌, ◌/◌, ◌^◌, ◌<◌, List, [], ◌∷◌, ◌++◌, length, slice_index, slice_index_or, refl, sym, ap, ◌∙◌}
-use Rattle.std.proofs.Common.{subst, inl, inr, arith}
-use Rattle.std.proofs.lemmas.Bool.{cases_lt}
-use Rattle.std.proofs.lemmas.List.{length_push, get_or_append_left, get_or_push}
-use Rattle.dob_pieces.specs.declared.piece_set.PieceSet.{PieceSet}
+use Rattle.dob_classes.proofs.Common.{◌*◌, ◌++◌, ◌+◌, ◌-◌, ◌/◌, ◌<◌, ◌^◌, ◌∙◌, ◌∷◌, ◌≡◌, List, [], ap, arith, inl, inr, length, refl, slice_index}
+use Rattle.dob_classes.proofs.Common.{slice_index_or, subst, suc, sym, zero, ℕ, cases_lt, get_or_append_left, get_or_push, length_push, All, PieceSet}
+use Rattle.dob_classes.proofs.Common.{parts_are, choose-positive, choose-small, most_choices, product-at_most, HasDigits, bases_by, choose, digits_of}
+use Rattle.dob_classes.proofs.Common.{free_squares, product, AreSomePlaces, AreSquareChoices, AreFewOnBoard, form_bases, local_bases, run_bases, square_bases}
 use Rattle.dob_rank.specs.declared.placing.Places.{Places}
-use Rattle.dob_rank.specs.Numbers.{product, digits_of, HasDigits, bases_by, choose, free_squares}
-use Rattle.dob_rank.specs.Runs.{AreFewOnBoard, run_bases, local_bases, square_bases, form_bases}
-use Rattle.dob_rank.specs.Placing.{ArePlaces, AreSquareChoices, HasPlaces, AreSomePlaces, AreAllPlaces}
+use Rattle.dob_rank.specs.Placing.{ArePlaces, HasPlaces, AreAllPlaces}
 use Rattle.dob_rank.proofs.Arithmetic.MixedRadix.{HasDigits-digits_of}
-use Rattle.dob_rank.proofs.Positions.Blocks.{most_choices, choose-small, choose-positive, product-at_most}
-use Rattle.dob_rank.proofs.InRuns.DigitParts.{parts_are}
 
 -- the digits of a number of a choice of all squares are choices
 pub are_choices : (ob ds : List ℕ) (number : ℕ) → AreFewOnBoard ob → number < product (square_bases ob) → ds ≡ digits_of (square_bases ob) number

@@ -1,26 +1,12 @@
 -- The tables of runs of a family and of their marks, as they grow and as they are read.
-use Rattle.std.proofs.Common.{◌≡◌, ℕ, ◌+◌, ◌*◌, ◌%◌, ◌^◌, ◌<◌, ◌≤◌, Bool, true, false, List, [], ◌∷◌, ◌++◌, length, slice_index_or}
-use Rattle.std.proofs.Common.{refl, sym, ap, ◌∙◌, subst, inl, inr, arith}
-use Rattle.std.proofs.lemmas.Bool.{cases_lt}
-use Rattle.std.proofs.lemmas.List.{length-append, length_push, get_or_append_left, get_or_push}
-use Rattle.std.proofs.Math.Nat.{mul-le-mul_right}
-use Rattle.dob_pieces.specs.declared.profile.Family.{Family}
-use Rattle.dob_classes.specs.declared.block_classes.BlockClasses.{BlockClasses}
-use Rattle.dob_classes.specs.declared.runs.Run.{Run}
+use Rattle.dob_classes.proofs.Common.{◌%◌, ◌*◌, ◌++◌, ◌+◌, ◌<◌, ◌^◌, ◌∙◌, ◌∷◌, ◌≡◌, ◌≤◌, Bool, List, [], ap, arith, false, inl, inr, length, refl}
+use Rattle.dob_classes.proofs.Common.{slice_index_or, subst, sym, true, ℕ, mul-le-mul_right, cases_lt, get_or_append_left, get_or_push, length-append}
+use Rattle.dob_classes.proofs.Common.{length_push, Family, start_small, marks_below-le, marks_below-upto, block_size-small, is_marked, marks_below, block_bases}
+use Rattle.dob_classes.proofs.Common.{block_size, digits_of, product, start_of, lion_pairs, run_bases, run_digits, run_kind, run_size, run_start, runs_in}
+use Rattle.dob_classes.proofs.Common.{RunKind, First, Later, Mixed, IsInRunOf, classes_before, local_marks_in, run_size_in, AreRuns, HasTable, IsRun}
+use Rattle.dob_classes.proofs.Common.{IsTableOfRuns, BlockClasses, Run, StretchTable}
 use Rattle.dob_rank.specs.declared.runs.RunDigits.{RunDigits}
-use Rattle.dob_rank.specs.declared.runs.RunKind.{RunKind}
-use Rattle.dob_rank.specs.declared.runs.RunKind.TheVariants.{First, Later, Mixed}
-use Rattle.dob_classes.specs.declared.stretch_tables.StretchTable.{StretchTable}
-use Rattle.dob_rank.specs.Numbers.{product, digits_of, block_bases, block_size, start_of}
-use Rattle.dob_rank.specs.Marks.{marks_below}
-use Rattle.dob_rank.specs.Families.{is_marked}
-use Rattle.dob_rank.specs.Runs.{runs_in, run_size, run_start, run_kind, run_bases, run_digits, lion_pairs}
-use Rattle.dob_classes.specs.FamilyRuns.{run_size_in, local_marks_in, classes_before, IsInRunOf}
-use Rattle.dob_classes.specs.RunTables.{IsRun, AreRuns, IsTableOfRuns, HasTable}
-use Rattle.dob_rank.proofs.Positions.Blocks.{block_size-small}
-use Rattle.dob_rank.proofs.Marked.Words.{marks_below-le, marks_below-upto}
 use Rattle.dob_rank.proofs.InRuns.RunPlaces.{block_size-runs, run_start-is}
-use Rattle.dob_rank.proofs.InRuns.RunMarks.{start_small}
 use Rattle.dob_classes.proofs.MarksOfRuns.FamilyMarks.{first_mark_in, later_mark_in, first_marks, later_marks, classes_before_next, IsAlike, alike_by_lions}
 
 -- ---- how many marks a run has

@@ -60,7 +60,7 @@ pub(crate) fn bits_by(
     )
 }
 
-/// The hands as the side sees them.
+// The hands as the side sees them.
 fn seen_hands(side: Side, hands: Hands) -> Hands
     ensures { result ≡ seen_hands side hands }
 {
@@ -73,7 +73,7 @@ fn seen_hands(side: Side, hands: Hands) -> Hands
     }
 }
 
-/// The sets of an empty board.
+// The sets of an empty board.
 fn no_pieces(hands: Hands) -> Bitboards
     ensures { (setup : Setup) → ((square : ℕ) → square < 12 → at setup square ≡ None) → setup.hands ≡ hands → AreBitboards setup result }
 {
@@ -89,7 +89,7 @@ fn no_pieces(hands: Hands) -> Bitboards
     }
 }
 
-/// The sets with as many pieces of a layer, at most two, on those squares; the number's digits are their forms.
+// The sets with as many pieces of a layer, at most two, on those squares; the number's digits are their forms.
 #[inline(always)]
 fn put(
     side: Side,
@@ -116,7 +116,7 @@ fn put(
     }
 }
 
-/// The sets with a piece of that layer and form on an empty square.
+// The sets with a piece of that layer and form on an empty square.
 #[inline(always)]
 fn with_piece(side: Side, bits: Bitboards, layer: Layer, square: u64, form: u64) -> Bitboards
     requires square { square < 12 }
@@ -148,7 +148,7 @@ fn with_piece(side: Side, bits: Bitboards, layer: Layer, square: u64, form: u64)
     }
 }
 
-/// The sets with a lion on an empty square, the mover's where the owner is 0 and the enemy's where it is 1.
+// The sets with a lion on an empty square, the mover's where the owner is 0 and the enemy's where it is 1.
 #[inline(always)]
 fn with_lion(side: Side, bits: Bitboards, owner: u64, square: u64) -> Bitboards
     requires owner { owner ≤ 1 }
@@ -164,7 +164,7 @@ fn with_lion(side: Side, bits: Bitboards, owner: u64, square: u64) -> Bitboards
     }
 }
 
-/// The owner as the side sees it: 0 its own, 1 the other one.
+// The owner as the side sees it: 0 its own, 1 the other one.
 fn seen_owner(side: Side, owner: u64) -> u64
     requires { owner ≤ 1 }
     ensures value { result ≡ seen_owner side owner }
@@ -176,7 +176,7 @@ fn seen_owner(side: Side, owner: u64) -> u64
     }
 }
 
-/// The bit of a square as the side sees it, times a flag of 0 or 1.
+// The bit of a square as the side sees it, times a flag of 0 or 1.
 fn mark(side: Side, flag: u64, square: u64) -> u16
     requires flag { flag ≤ 1 }
     requires square { square < 12 }

@@ -9,7 +9,7 @@ ghost use Rattle.dob_rank.specs.BoardMasks.{AreMasksOfBoard};
 ghost use Rattle.dob_rank.specs.Numbers.{order, layer, forms_number};
 ghost use Rattle.dob_rank.specs.Order.{form};
 
-use dob_pieces::{CellTable, Hands, Piece, Setup, Square, entry_of};
+use dob_pieces::{ALL_SQUARES, CellTable, Hands, Piece, Setup, Square, entry_of, plane};
 use dob_rank::forms::base_of;
 use dob_rank::layers::Layer;
 use dob_rank::masks::Masks;
@@ -31,9 +31,6 @@ pub struct Bitboards {
     pub hands: Hands,
 }
 
-// All squares of the board.
-const ALL: u16 = 0b111_111_111_111;
-
 // The lowest bits of five planes of a word: the lions of both, ..
 const LIONS: u64 = 1;
 
@@ -49,7 +46,7 @@ const ELEPHANTS: u64 = 1 << 36;
 // .. and giraffes and hens.
 const GIRAFFES_AND_HENS: u64 = 1 << 48;
 
-/// By a cell's kind and owner what it adds to the word once the board is turned: the mover's pieces are the enemy's then.
+// By a cell's kind and owner what it adds to the word once the board is turned: the mover's pieces are the enemy's then.
 const TURNED_PLANES: CellTable = [
     [0, LIONS + ENEMIES, LIONS, 0],
     [0, GIRAFFES_AND_HENS + ENEMIES, GIRAFFES_AND_HENS, 0],
@@ -71,8 +68,8 @@ impl Bitboards {
         Bitboards::turned_by(&setup.board, setup.hands)
     }
 
-    /// The sets of squares of that board, turned, and those hands, found in one pass without a branch on what stands on a square. The pass begins
-    /// with the square that becomes the last one.
+    // The sets of squares of that board, turned, and those hands, found in one pass without a branch on what stands on a square. The pass begins
+    // with the square that becomes the last one.
     fn turned_by(board: &[Option<Piece>; Square::COUNT], hands: Hands) -> Bitboards
         ensures { AreBitboards (turned (setup_of board.now hands)) result }
     {
@@ -106,7 +103,7 @@ impl Bitboards {
         ensures { (setup : Setup) → AreBitboards setup self.now → AreSetupMasks setup result }
     {
         let pieces = self.chicks | self.elephants | self.giraffes;
-        let empty = ALL & !(self.own_lion | self.enemy_lion | pieces);
+        let empty = ALL_SQUARES & !(self.own_lion | self.enemy_lion | pieces);
         dob_pieces::Masks {
             lion: self.own_lion,
             giraffes: self.giraffes & !self.enemies,
@@ -151,7 +148,7 @@ impl Bitboards {
         first * base_of(of_layer) + second
     }
 
-    /// The form of the piece of that layer on the square of that number.
+    // The form of the piece of that layer on the square of that number.
     fn form_at(&self, of_layer: Layer, square: u32) -> u64
         requires { square < 12 }
         ensures value { (setup : Setup) → AreBitboards setup self.now → layer (at setup square) ≡ order of_layer → result ≡ form (at setup square) }
@@ -165,15 +162,7 @@ impl Bitboards {
     }
 }
 
-/// The mask whose lowest bit has that value in the word.
-fn plane(planes: u64, unit: u64) -> u16
-    requires { 0 < unit }
-    ensures { result ≡ planes / unit % 4096 }
-{
-    (planes / unit % 4096) as u16
-}
-
-/// The bit of a square.
+// The bit of a square.
 fn bit_of(mask: u16, square: u32) -> u16
     requires { square < 12 }
     ensures value { result ≡ bit_at mask square }

@@ -24,6 +24,7 @@ pub(crate) fn image_place(set: PieceSet, block: u64, spot: Spot, shape: &RunShap
     requires shape { IsShape set block spot.run shape.now }
     ensures { (setup : Setup) × (HasBlock set block (spot.run * run_size set block + spot.local) setup × (result ≡ local_of (mirrored setup))) }
 {
+    // The shape is that of a run of the block, which the contract alone names.
     let _ = block;
     let on_board = shape.on_board;
     let digits = block::digits_with(set, &on_board, &shape.choices, shape.digits, spot);

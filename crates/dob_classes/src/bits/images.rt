@@ -8,12 +8,12 @@ ghost use Rattle.dob_classes.specs.Bitboards.{AreBitboards};
 
 use crate::bits::bitboards::Bitboards;
 
-/// The squares of column a, the lowest of the three of each row, and those of column b.
+// The squares of column a, the lowest of the three of each row, and those of column b.
 const COLUMN_A: u16 = 0b001_001_001_001;
 
 const COLUMN_B: u16 = 0b010_010_010_010;
 
-/// The mask with columns a and c exchanged.
+// The mask with columns a and c exchanged.
 fn mirrored_mask(mask: u16) -> u16
     ensures { (test : ℕ → Bool) → IsMask test mask → IsMask (λ square. test (mirrored_square square)) result }
 {

@@ -1,6 +1,5 @@
 -- A numbering of the setups with a property shows how many there are.
-use Rattle.std.proofs.Common.{◌≡◌, ℕ, ◌<◌}
-use Rattle.dob_pieces.specs.declared.setup.Setup.{Setup}
+use Rattle.dob_rank.proofs.Common.{◌<◌, ◌≡◌, ℕ, Setup}
 
 -- the setups that have the property are numbered from 0 without gaps
 pub record IsNumbering (P : Setup → Type 0) (n : ℕ) (nth : ℕ → Setup) (index : Setup → ℕ) : Type 0 where

@@ -1,9 +1,7 @@
 -- Mixed radix numbers: the number of the digits and the digits of the number, in order.
-use Rattle.std.proofs.Common.{◌≡◌, ℕ, zero, suc, ◌+◌, ◌*◌, ◌%◌, ◌<◌, ◌≤◌, ◌/◌, List, [], ◌∷◌, ◌++◌, length, get_or, refl, sym, ap, ◌∙◌, subst, inl, inr, arith}
-use Rattle.std.proofs.Math.Nat.{mul_comm, mul_assoc, add-mul}
-use Rattle.std.proofs.lemmas.Nat.{div-mul-add, mod-mul-add, div-add-mod', mul-add-lt, div_below, mod_below}
-use Rattle.dob_rank.specs.Order.{Precedes}
-use Rattle.dob_rank.specs.Numbers.{product, number_of, digits_of, HasDigits}
+use Rattle.dob_rank.proofs.Common.{◌%◌, ◌*◌, ◌++◌, ◌+◌, ◌/◌, ◌<◌, ◌∙◌, ◌∷◌, ◌≡◌, ◌≤◌, List, [], ap, arith, get_or, inl, inr, length, refl, subst, suc, sym}
+use Rattle.dob_rank.proofs.Common.{zero, ℕ, add-mul, mul_assoc, mul_comm, div-add-mod', div-mul-add, div_below, mod-mul-add, mod_below, mul-add-lt, HasDigits}
+use Rattle.dob_rank.proofs.Common.{digits_of, number_of, product, Precedes}
 
 -- a digit below its base, and less than a whole step after it
 pub digit_below : (d b p n : ℕ) → d < b → n < p → d * p + n < b * p

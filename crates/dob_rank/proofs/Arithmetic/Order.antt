@@ -1,7 +1,5 @@
 -- The lexicographic order of lists, part by part.
-use Rattle.std.proofs.Common.{◌≡◌, ℕ, ◌⊎◌, List, [], ◌∷◌, ◌++◌, length, refl, sym, inl, inr, arith}
-use Rattle.std.proofs.lemmas.Bool.{cases_order}
-use Rattle.dob_rank.specs.Order.{Precedes}
+use Rattle.dob_rank.proofs.Common.{◌++◌, ◌∷◌, ◌≡◌, ◌⊎◌, List, [], arith, inl, inr, length, refl, sym, ℕ, cases_order, Precedes}
 
 -- an earlier list is earlier in its first part, or the first parts are the same and it is earlier in the rest
 pub Precedes-split : (a b c d : List ℕ) → length a ≡ length b → Precedes (a ++ c) (b ++ d) → Precedes a b ⊎ ((a ≡ b) × Precedes c d)

@@ -1,13 +1,9 @@
 -- What the masks of a position say of its digits and its piece set.
-use Rattle.std.proofs.Common.{◌≡◌, ℕ, ◌+◌, ◌-◌, ◌≤◌, List, [], ◌∷◌, length, map, slice_index, refl, sym, ◌∙◌, subst, arith}
-use Rattle.std.proofs.lemmas.List.{length-map}
+use Rattle.dob_rank.proofs.Common.{◌+◌, ◌-◌, ◌∙◌, ◌∷◌, ◌≡◌, ◌≤◌, List, [], arith, length, map, refl, slice_index, subst, sym, ℕ, length-map, Cell, IsLegal}
+use Rattle.dob_rank.proofs.Common.{total, Setup, all_squares, from_mask, layer_mask, count, layer, on_board, order, Chicks, Elephants, Empty, EnemyLion}
+use Rattle.dob_rank.proofs.Common.{Giraffes, OwnLion}
 use Rattle.dob_pieces.specs.declared.kind.HandKind.TheVariants as hand
-use Rattle.dob_pieces.specs.declared.setup.Setup.{Setup}
-use Rattle.dob_pieces.specs.Setups.{Cell, total, IsLegal}
 use Rattle.dob_rank.specs.declared.masks.Masks.{Masks}
-use Rattle.dob_rank.specs.declared.layers.Layer.TheVariants.{OwnLion, EnemyLion, Chicks, Elephants, Giraffes, Empty}
-use Rattle.dob_rank.specs.Numbers.{order, layer, count, on_board}
-use Rattle.dob_rank.specs.Masks.{layer_mask, from_mask, all_squares}
 use Rattle.dob_rank.specs.BoardMasks.{AreMasksOfBoard}
 use Rattle.dob_rank.proofs.Positions.Digits.{HasParts, HasParts-from_position}
 use Rattle.dob_rank.proofs.Boards.Planes.{later_are}

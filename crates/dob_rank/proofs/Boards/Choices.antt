@@ -1,8 +1,6 @@
 -- Choices of squares: one step at a time, their bound, and their order.
-use Rattle.std.proofs.Common.{◌≡◌, ℕ, zero, suc, ◌+◌, ◌<◌, ◌≤◌, ◌⊎◌, eqb, List, [], ◌∷◌, refl, sym, ap, ◌∙◌, subst, inl, inr, arith}
-use Rattle.std.proofs.lemmas.Bool.{cases_order, cases_eq, lt-ltb, le-ltb, eq-eqb, ne_eqb}
-use Rattle.dob_rank.specs.Order.{Precedes, squares_from}
-use Rattle.dob_rank.specs.Numbers.{count, count_from, choose, with_first, choice}
+use Rattle.dob_rank.proofs.Common.{◌+◌, ◌<◌, ◌∙◌, ◌∷◌, ◌≡◌, ◌≤◌, ◌⊎◌, List, [], ap, arith, eqb, inl, inr, refl, subst, suc, sym, zero, ℕ, cases_eq, cases_order}
+use Rattle.dob_rank.proofs.Common.{eq-eqb, le-ltb, lt-ltb, ne_eqb, choice, choose, count, count_from, with_first, Precedes, squares_from}
 
 -- ---- one more cell in front
 

@@ -1,10 +1,5 @@
 -- What holds of an empty cell and of each piece of each side holds of every cell.
-use Rattle.std.proofs.Common.{Some, None}
-use Rattle.dob_pieces.specs.declared.kind.Kind.{Kind}
-use Rattle.dob_pieces.specs.declared.kind.Kind.TheVariants.{Lion, Giraffe, Elephant, Chick, Hen}
-use Rattle.dob_pieces.specs.declared.kind.Side.{Side}
-use Rattle.dob_pieces.specs.declared.kind.Side.TheVariants.{Mover, Enemy}
-use Rattle.dob_pieces.specs.Setups.{Cell, piece_of}
+use Rattle.dob_rank.proofs.Common.{None, Some, Cell, piece_of, Kind, Chick, Elephant, Giraffe, Hen, Lion, Side, Enemy, Mover}
 
 -- what holds of a side's lion, giraffe, elephant, chick and hen
 abbrev pub OfEachKind : (Cell → Type 0) → Side → Type 0

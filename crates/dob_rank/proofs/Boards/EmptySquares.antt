@@ -1,9 +1,6 @@
 -- The empty squares of a list of layers: where they stand, what is left of them, and the layers that pieces on them make.
-use Rattle.std.proofs.Common.{◌≡◌, ℕ, zero, suc, ◌+◌, ◌-◌, ◌<◌, ◌≤◌, cond, eqb, List, [], ◌∷◌, length, set, refl, sym, ap, ◌∙◌, subst, inl, inr, arith}
-use Rattle.std.proofs.lemmas.Bool.{cases_eq, cases_lt, lt-ltb, le-ltb, ne_eqb}
-use Rattle.dob_rank.specs.Numbers.{count, choose, with_first, settle, order}
-use Rattle.dob_rank.specs.Placing.{past, lower_of, higher_of}
-use Rattle.dob_rank.specs.declared.layers.Layer.TheVariants.{Empty}
+use Rattle.dob_rank.proofs.Common.{◌+◌, ◌-◌, ◌<◌, ◌∙◌, ◌∷◌, ◌≡◌, ◌≤◌, List, [], ap, arith, cond, eqb, inl, inr, length, refl, set, subst, suc, sym, zero, ℕ}
+use Rattle.dob_rank.proofs.Common.{cases_eq, cases_lt, le-ltb, lt-ltb, ne_eqb, choose, count, order, settle, with_first, higher_of, lower_of, past, Empty}
 use Rattle.dob_rank.proofs.Boards.Choices.{count_same, count_other, choose-split}
 use Rattle.dob_rank.proofs.Boards.Settled.{settle_kept, settle_taken, settle_left}
 

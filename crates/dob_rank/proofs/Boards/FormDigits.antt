@@ -1,17 +1,8 @@
 -- Forms as digits: a layer's forms number comes back from the board of it, and so does each board.
-use Rattle.std.proofs.Common.{◌≡◌, ℕ, zero, suc, ◌+◌, ◌*◌, ◌/◌, ◌%◌, ◌^◌, ◌<◌, ◌≤◌, List, [], ◌∷◌, Some, None, map, refl, sym, ap, ◌∙◌, subst, inl, inr, arith}
-use Rattle.std.proofs.lemmas.Bool.{cases_eq, eq-eqb, ne_eqb}
-use Rattle.std.proofs.lemmas.Nat.{same_from_place, mod_below}
-use Rattle.std.proofs.Math.Nat.{mod-one, pow-zero, pow-succ'}
-use Rattle.std.proofs.Math.Arith.{mod-mul}
-use Rattle.dob_pieces.specs.declared.kind.Kind.{Kind}
-use Rattle.dob_pieces.specs.declared.kind.Kind.TheVariants.{Lion, Giraffe, Elephant, Chick, Hen}
-use Rattle.dob_pieces.specs.declared.kind.Side.{Side}
-use Rattle.dob_pieces.specs.declared.kind.Side.TheVariants.{Mover, Enemy}
-use Rattle.dob_pieces.specs.Setups.{Cell, piece_of}
-use Rattle.dob_rank.specs.Order.{form, form_of}
-use Rattle.dob_rank.specs.Numbers.{order, layer, layer_of, count, base_of, forms_number, cell_of, board_of}
-use Rattle.dob_rank.specs.declared.layers.Layer.TheVariants.{Empty}
+use Rattle.dob_rank.proofs.Common.{◌%◌, ◌*◌, ◌+◌, ◌/◌, ◌<◌, ◌^◌, ◌∙◌, ◌∷◌, ◌≡◌, ◌≤◌, List, None, Some, [], ap, arith, inl, inr, map, refl, subst, suc, sym}
+use Rattle.dob_rank.proofs.Common.{zero, ℕ, mod-mul, mod-one, pow-succ', pow-zero, cases_eq, eq-eqb, ne_eqb, mod_below, same_from_place, Cell, piece_of, Kind}
+use Rattle.dob_rank.proofs.Common.{Chick, Elephant, Giraffe, Hen, Lion, Side, Enemy, Mover, base_of, board_of, cell_of, count, forms_number, layer, layer_of}
+use Rattle.dob_rank.proofs.Common.{order, form, form_of, Empty}
 use Rattle.dob_rank.proofs.Arithmetic.MixedRadix.{digit_below}
 use Rattle.dob_rank.proofs.Boards.Choices.{count_same, count_other}
 use Rattle.dob_rank.proofs.Boards.Settled.{AreLayers}

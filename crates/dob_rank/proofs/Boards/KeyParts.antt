@@ -1,15 +1,10 @@
 -- The parts of the key against the digits: squares against choices, forms against forms numbers.
-use Rattle.std.proofs.Common.{◌≡◌, ℕ, zero, suc, ◌+◌, ◌*◌, ◌^◌, ◌<◌, ◌≤◌, cond, eqb, List, [], ◌∷◌, length, map, replicate, refl, sym, ap}
-use Rattle.std.proofs.Common.{◌∙◌, subst, inl, inr, arith}
-use Rattle.std.specs.List.{filter}
-use Rattle.std.proofs.lemmas.Bool.{cases_eq, cases_lt, eq-eqb, ne_eqb}
-use Rattle.std.proofs.Math.Nat.{pow-zero, pow-succ'}
-use Rattle.dob_pieces.specs.Setups.{Cell}
-use Rattle.dob_rank.specs.Order.{Precedes, form}
-use Rattle.dob_rank.specs.Numbers.{layer, count, count_from, with_first, choice, product, number_of, HasDigits, base_of, forms_number}
+use Rattle.dob_rank.proofs.Common.{◌*◌, ◌+◌, ◌<◌, ◌^◌, ◌∙◌, ◌∷◌, ◌≡◌, ◌≤◌, List, [], ap, arith, cond, eqb, inl, inr, length, map, refl, replicate, subst, suc}
+use Rattle.dob_rank.proofs.Common.{sym, zero, ℕ, pow-succ', pow-zero, cases_eq, cases_lt, eq-eqb, ne_eqb, filter, Cell, HasDigits, base_of, choice, count}
+use Rattle.dob_rank.proofs.Common.{count_from, forms_number, layer, number_of, product, with_first, Precedes, form}
 use Rattle.dob_rank.proofs.Arithmetic.MixedRadix.{number_of-rises}
-use Rattle.dob_rank.proofs.Boards.Choices.{Alike, layer_squares, layer_squares_same, layer_squares_other, count_same, count_other}
-use Rattle.dob_rank.proofs.Boards.Choices.{count_from-alike, choice_later, choice_not_later}
+use Rattle.dob_rank.proofs.Boards.Choices.{Alike, layer_squares, layer_squares_same, layer_squares_other, count_same, count_other, count_from-alike}
+use Rattle.dob_rank.proofs.Boards.Choices.{choice_later, choice_not_later}
 use Rattle.dob_rank.proofs.Boards.FormDigits.{form-below, forms_number_same, forms_number_other}
 
 -- ---- squares

@@ -1,17 +1,10 @@
 -- Layers and what a board's tests count.
-use Rattle.std.proofs.Common.{◌≡◌, ℕ, zero, suc, ◌+◌, ◌-◌, ◌<◌, ◌≤◌, Bool, true, false, cond, eqb, List, [], ◌∷◌, Some, None, length, map}
-use Rattle.std.proofs.Common.{get_or, refl, sym, ap, ◌∙◌, subst, inl, inr, arith}
-use Rattle.std.specs.List.{count_by}
-use Rattle.std.proofs.lemmas.Bool.{cases_order, cases_lt, cases_eq}
+use Rattle.dob_rank.proofs.Common.{◌+◌, ◌-◌, ◌<◌, ◌∙◌, ◌∷◌, ◌≡◌, ◌≤◌, Bool, List, None, Some, [], ap, arith, cond, eqb, false, get_or, inl, inr, length, map}
+use Rattle.dob_rank.proofs.Common.{refl, subst, suc, sym, true, zero, ℕ, cases_eq, cases_lt, cases_order, count_by, Cell, holds_kind, holds_lion, piece_of}
+use Rattle.dob_rank.proofs.Common.{HandKind, Lion, Enemy, Mover, choice, count, count_from, layer, order, settle, with_first, squares_from, Chicks, Elephants}
+use Rattle.dob_rank.proofs.Common.{Empty, EnemyLion, Giraffes, OwnLion}
 use Rattle.std.proofs.lemmas.List.Recursion.{is_count_by}
-use Rattle.dob_pieces.specs.declared.kind.Kind.TheVariants.{Lion}
-use Rattle.dob_pieces.specs.declared.kind.HandKind.{HandKind}
 use Rattle.dob_pieces.specs.declared.kind.HandKind.TheVariants as hand
-use Rattle.dob_pieces.specs.declared.kind.Side.TheVariants.{Mover, Enemy}
-use Rattle.dob_pieces.specs.Setups.{Cell, piece_of, holds_lion, holds_kind}
-use Rattle.dob_rank.specs.Order.{squares_from}
-use Rattle.dob_rank.specs.Numbers.{order, layer, count, count_from, with_first, choice, settle}
-use Rattle.dob_rank.specs.declared.layers.Layer.TheVariants.{OwnLion, Empty, EnemyLion, Chicks, Elephants, Giraffes}
 use Rattle.dob_rank.proofs.Boards.EachCell.{of_cell}
 use Rattle.dob_rank.proofs.Boards.Choices.{count_same, count_other, count_from_lower, count_from_later, choice_later, choice_not_later, layer_squares}
 use Rattle.dob_rank.proofs.Boards.Settled.{AreShown, AreLayers, settle_kept, settle_taken, settle_left}

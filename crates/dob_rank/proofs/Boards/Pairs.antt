@@ -1,11 +1,7 @@
 -- The tables of the choices of two squares: computed for each number of squares and each choice.
-use Rattle.std.proofs.Common.{◌≡◌, ℕ, ◌+◌, ◌-◌, ◌*◌, ◌/◌, ◌<◌, ◌≤◌, ◌||◌, ◌&&◌, nat_eq, nat_lt, not, Bool, true, false, slice_index_or}
-use Rattle.std.proofs.Common.{refl, ap, subst, inl, inr, arith}
-use Rattle.std.proofs.lemmas.Bool.{lt-ltb, le-ltb, cases_lt}
-use Rattle.dob_pieces.proofs.Boards.{all_below, all_below-at}
+use Rattle.dob_rank.proofs.Common.{◌&&◌, ◌*◌, ◌+◌, ◌-◌, ◌/◌, ◌<◌, ◌||◌, ◌≡◌, ◌≤◌, Bool, ap, arith, false, inl, inr, nat_eq, nat_lt, not, refl, slice_index_or}
+use Rattle.dob_rank.proofs.Common.{subst, true, ℕ, cases_lt, le-ltb, lt-ltb, all_below, all_below-at, choose, free_squares, higher_of, lower_of}
 use Rattle.dob_rank.specs.declared.placing.TheConstants.{FIRST_FROM_END, SECOND_FROM_END}
-use Rattle.dob_rank.specs.Numbers.{choose, free_squares}
-use Rattle.dob_rank.specs.Placing.{lower_of, higher_of}
 use Rattle.dob_rank.proofs.Positions.Blocks.{choose-small, most_choices}
 use Rattle.dob_rank.proofs.Boards.EmptySquares.{choose_one}
 use Rattle.dob_rank.proofs.Positions.BlockStarts.{same_number, second}

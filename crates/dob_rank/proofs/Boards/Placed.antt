@@ -1,19 +1,15 @@
 -- Pieces placed one after another on the squares that are left make the board of the settled layers.
-use Rattle.std.proofs.Common.{◌≡◌, ℕ, zero, suc, ◌+◌, ◌-◌, ◌*◌, ◌/◌, ◌%◌, ◌^◌, ◌<◌, ◌≤◌, List, [], ◌∷◌, length, replicate, slice_index, slice_index_or, set, ◌≢◌}
-use Rattle.std.proofs.Common.{None, refl, sym, ap, ◌∙◌, subst, inl, inr, arith}
-use Rattle.std.proofs.lemmas.Bool.{cases_eq, cases_lt, lt-ltb, le-ltb}
-use Rattle.std.proofs.Math.Nat.{pow-zero, pow-succ'}
-use Rattle.dob_pieces.specs.Setups.{Cell}
-use Rattle.dob_rank.specs.Numbers.{count, choose, settle, base_of, cell_of, board_of, numbers_by, layers_by, own_squares, enemy_squares, free_squares}
-use Rattle.dob_rank.specs.Placing.{past, lower_of, higher_of, first_place, second_place, put, AreChoices, AreFree}
-use Rattle.dob_rank.specs.Numbers.{order, empty_layers}
-use Rattle.dob_rank.specs.declared.layers.Layer.TheVariants.{OwnLion, EnemyLion, Chicks, Elephants, Giraffes, Empty}
+use Rattle.dob_rank.proofs.Common.{◌%◌, ◌*◌, ◌+◌, ◌-◌, ◌/◌, ◌<◌, ◌^◌, ◌∙◌, ◌∷◌, ◌≡◌, ◌≢◌, ◌≤◌, List, None, [], ap, arith, inl, inr, length, refl, replicate}
+use Rattle.dob_rank.proofs.Common.{set, slice_index, slice_index_or, subst, suc, sym, zero, ℕ, pow-succ', pow-zero, cases_eq, cases_lt, le-ltb, lt-ltb, Cell}
+use Rattle.dob_rank.proofs.Common.{base_of, board_of, cell_of, choose, count, empty_layers, enemy_squares, free_squares, layers_by, numbers_by, order}
+use Rattle.dob_rank.proofs.Common.{own_squares, settle, AreChoices, AreFree, first_place, higher_of, lower_of, past, put, second_place, Chicks, Elephants}
+use Rattle.dob_rank.proofs.Common.{Empty, EnemyLion, Giraffes, OwnLion}
 use Rattle.dob_rank.proofs.Boards.Choices.{count_same, count_other, choose-split}
 use Rattle.dob_rank.proofs.Boards.Settled.{AreShown, IsSettled, settle-settles}
 use Rattle.dob_rank.proofs.Boards.LayerCounts.{length-settle}
 use Rattle.dob_rank.proofs.Positions.Made.{empty_after}
-use Rattle.dob_rank.proofs.Boards.EmptySquares.{empty_place, kept, empty_place-below, empty_place-set, past-low, past-upto, settle_none}
-use Rattle.dob_rank.proofs.Boards.EmptySquares.{settle_one, settle_two, choose_one}
+use Rattle.dob_rank.proofs.Boards.EmptySquares.{empty_place, kept, empty_place-below, empty_place-set, past-low, past-upto, settle_none, settle_one, settle_two}
+use Rattle.dob_rank.proofs.Boards.EmptySquares.{choose_one}
 
 -- ---- a board with one more piece
 
@@ -466,6 +462,38 @@ elephants_stand ob ds c =
     stage (numbers_by ds) (order Elephants) (slice_index ob 1) (slice_index ds 6) (free_squares - slice_index ob 0) (chicks_by ob ds) (with_chicks ob ds)
     (after_chicks ob ds)
     low c.elephants room c.elephant_squares (chicks_stand ob ds c)
+
+-- where the squares of a choice are on the board
+abbrev pub AreChosen : (ℕ → ℕ) → ℕ → ℕ → ℕ → ℕ → ℕ → Type 0
+AreChosen f m p n first second = (first ≡ f (first_place m p n)) × (second ≡ f (second_place m p n))
+
+chosen_below : (numbers : ℕ → ℕ) (t p n m : ℕ) (ls : List ℕ) (cells : List Cell) (f : ℕ → ℕ) (first second : ℕ) → p ≤ 2 → n < choose m p
+    → Stand numbers t m ls cells f → AreChosen f m p n first second → (0 < p → first < 12) × (1 < p → second < 12)
+chosen_below numbers t p n m ls cells f first second few low s are = (
+  λ some. subst (λ (x : ℕ). x < 12) (sym are.0) (first_below numbers t p n m ls cells f few low s some),
+  λ some. subst (λ (x : ℕ). x < 12) (sym are.1) (second_below numbers t p n m ls cells f few low s some),
+)
+
+pub chicks_below : (ob ds : List ℕ) (first second : ℕ) → AreChoices ob ds
+    → AreChosen (after_lions ds) free_squares (slice_index ob 0) (slice_index ds 5) first second
+    → (0 < slice_index ob 0 → first < 12) × (1 < slice_index ob 0 → second < 12)
+chicks_below ob ds first second c =
+    chosen_below (numbers_by ds) (order Chicks) (slice_index ob 0) (slice_index ds 5) free_squares (lions_by ds) (with_lions ds) (after_lions ds) first second
+    c.chicks c.chick_squares (lions_stand ob ds c)
+
+pub elephants_below : (ob ds : List ℕ) (first second : ℕ) → AreChoices ob ds
+    → AreChosen (after_chicks ob ds) (free_squares - slice_index ob 0) (slice_index ob 1) (slice_index ds 6) first second
+    → (0 < slice_index ob 1 → first < 12) × (1 < slice_index ob 1 → second < 12)
+elephants_below ob ds first second c =
+    chosen_below (numbers_by ds) (order Elephants) (slice_index ob 1) (slice_index ds 6) (free_squares - slice_index ob 0) (chicks_by ob ds)
+    (with_chicks ob ds) (after_chicks ob ds) first second c.elephants c.elephant_squares (chicks_stand ob ds c)
+
+pub giraffes_below : (ob ds : List ℕ) (first second : ℕ) → AreChoices ob ds
+    → AreChosen (after_elephants ob ds) (free_squares - slice_index ob 0 - slice_index ob 1) (slice_index ob 2) (slice_index ds 7) first second
+    → (0 < slice_index ob 2 → first < 12) × (1 < slice_index ob 2 → second < 12)
+giraffes_below ob ds first second c =
+    chosen_below (numbers_by ds) (order Giraffes) (slice_index ob 2) (slice_index ds 7) (free_squares - slice_index ob 0 - slice_index ob 1) (elephants_by ob ds)
+    (with_elephants ob ds) (after_elephants ob ds) first second c.giraffes c.giraffe_squares (elephants_stand ob ds c)
 
 pub whole_board : (ob ds : List ℕ) → AreChoices ob ds → with_giraffes ob ds ≡ board_of (numbers_by ds) (layers_by ob ds)
 whole_board ob ds c =

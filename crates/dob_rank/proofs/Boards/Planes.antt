@@ -1,20 +1,14 @@
 -- Masks of layers: what their bits count, and the number of the choice that two bits make.
-use Rattle.std.proofs.Common.{◌≡◌, ℕ, zero, suc, ◌+◌, ◌-◌, ◌*◌, ◌/◌, ◌%◌, ◌^◌, ◌<◌, ◌≤◌, cond, nat_lt, nat_eq, ◌||◌, Bool, true, bit_and}
-use Rattle.std.proofs.Common.{List, [], ◌∷◌, length, map, drop, get_or, None, refl, sym, ap, ◌∙◌, subst, inl, inr, arith}
-use Rattle.std.proofs.lemmas.Bool.{cases_order, cases_eq, cases_lt, lt-ltb, le-ltb, eq-eqb, ne_eqb}
+use Rattle.dob_rank.proofs.Common.{◌%◌, ◌*◌, ◌+◌, ◌-◌, ◌/◌, ◌<◌, ◌^◌, ◌||◌, ◌∙◌, ◌∷◌, ◌≡◌, ◌≤◌, Bool, List, None, [], ap, arith, bit_and, cond, drop, get_or}
+use Rattle.dob_rank.proofs.Common.{inl, inr, length, map, nat_eq, nat_lt, refl, subst, suc, sym, true, zero, ℕ, pow-le-pow_right, pow-suc, pow-succ', pow-zero}
+use Rattle.dob_rank.proofs.Common.{cases_eq, cases_lt, cases_order, eq-eqb, le-ltb, lt-ltb, ne_eqb, length-drop, length-map, all_below, all_below-at, Cell}
+use Rattle.dob_rank.proofs.Common.{all_squares, first_bit, from_mask, layer_mask, plane_len, planes, base_of, choice, count, count_from, forms_number, layer}
+use Rattle.dob_rank.proofs.Common.{order, with_first, form, Chicks, Elephants, Empty, EnemyLion, Giraffes, OwnLion}
 use Rattle.std.proofs.lemmas.Nat.{ones_cat, and_block}
 use lib.Bits.{and_self}
-use Rattle.std.proofs.Math.Nat.{pow-zero, pow-suc, pow-succ', pow-le-pow_right}
-use Rattle.std.proofs.lemmas.List.{length-map, length-drop}
 use lib.Count.{ones, count_trailing_zeros, under}
-use Rattle.dob_rank.specs.declared.layers.Layer.TheVariants.{OwnLion, EnemyLion, Chicks, Elephants, Giraffes, Empty}
-use Rattle.dob_rank.specs.Numbers.{order, layer, count, count_from, with_first, choice, base_of, forms_number}
-use Rattle.dob_rank.specs.Order.{form}
 use Rattle.dob_rank.proofs.Boards.FormDigits.{forms_number-below, forms_number_same, forms_number_other}
-use Rattle.dob_rank.specs.Masks.{layer_mask, from_mask, plane_len, all_squares, first_bit, planes}
 use Rattle.dob_rank.proofs.Boards.Choices.{count_same, count_other, count_from_lower, count_from_later, choice_later, choice_not_later}
-use Rattle.dob_pieces.specs.Setups.{Cell}
-use Rattle.dob_pieces.proofs.Boards.{all_below, all_below-at}
 use Rattle.dob_rank.proofs.Boards.LayerCounts.{count_from-next, choice_none}
 use Rattle.dob_rank.proofs.Boards.EmptySquares.{choose_one, one_way}
 use Rattle.dob_rank.proofs.Positions.BlockStarts.{same_number, second}

@@ -1,9 +1,8 @@
 -- Layers settled one after another: each choice comes back, and so does each list of layers.
-use Rattle.std.proofs.Common.{◌≡◌, ℕ, zero, suc, ◌+◌, ◌-◌, ◌<◌, ◌≤◌, ◌⊎◌, cond, eqb, ltb, List, [], ◌∷◌, refl, sym, ap, ◌∙◌, subst, inl, inr, arith}
-use Rattle.std.proofs.lemmas.Bool.{cases_order, cases_lt, lt-ltb, le-ltb, ne_eqb}
-use Rattle.dob_rank.specs.Numbers.{count, count_from, choose, with_first, choice, settle, order}
-use Rattle.dob_rank.specs.declared.layers.Layer.TheVariants.{Empty}
-use Rattle.dob_rank.proofs.Boards.Choices.{count_same, count_other, count_from_lower, count_from_later, choice_later, choice_not_later, choose-split, choice-below}
+use Rattle.dob_rank.proofs.Common.{◌+◌, ◌-◌, ◌<◌, ◌∙◌, ◌∷◌, ◌≡◌, ◌≤◌, ◌⊎◌, List, [], ap, arith, cond, eqb, inl, inr, ltb, refl, subst, suc, sym, zero, ℕ}
+use Rattle.dob_rank.proofs.Common.{cases_lt, cases_order, le-ltb, lt-ltb, ne_eqb, choice, choose, count, count_from, order, settle, with_first, Empty}
+use Rattle.dob_rank.proofs.Boards.Choices.{count_same, count_other, count_from_lower, count_from_later, choice_later, choice_not_later, choose-split}
+use Rattle.dob_rank.proofs.Boards.Choices.{choice-below}
 
 -- a layer that is shown only if it is below t
 abbrev pub hidden : ℕ → ℕ → ℕ

@@ -1,13 +1,10 @@
 -- The digits of a place in a block, part by part: the hands, the lions, the squares and the forms.
-use Rattle.std.proofs.Common.{◌≡◌, ℕ, ◌+◌, ◌-◌, ◌*◌, ◌/◌, ◌%◌, ◌^◌, ◌<◌, ◌≤◌, nat_eq, Bool, true, List, [], ◌∷◌, ◌++◌, length, get_or, slice_index}
-use Rattle.std.proofs.Common.{refl, sym, ap, ◌∙◌, subst, arith}
-use Rattle.std.proofs.lemmas.Nat.{div_below, mod_below, div-add-mod', mul-le, one_shl}
-use Rattle.dob_pieces.specs.declared.piece_set.PieceSet.{PieceSet}
-use Rattle.dob_pieces.proofs.Boards.{all_below, all_below-at}
-use Rattle.dob_rank.specs.Numbers.{product, number_of, digits_of, HasDigits, choose, block_bases, bases_by, own_squares, enemy_squares, free_squares}
-use Rattle.dob_rank.specs.Runs.{run_bases, local_bases, square_bases, form_bases, run_number, local_number, AreFewOnBoard, lion_pairs}
-use Rattle.dob_rank.proofs.Arithmetic.MixedRadix.{factor_positive, product-append, number_of-below, number_of-append, number_by_three}
-use Rattle.dob_rank.proofs.Arithmetic.MixedRadix.{digits_of-append, digits_of-parts, digits_of-two, digits_of-three}
+use Rattle.dob_rank.proofs.Common.{◌%◌, ◌*◌, ◌++◌, ◌+◌, ◌-◌, ◌/◌, ◌<◌, ◌^◌, ◌∙◌, ◌∷◌, ◌≡◌, ◌≤◌, Bool, List, [], ap, arith, get_or, length, nat_eq, refl}
+use Rattle.dob_rank.proofs.Common.{slice_index, subst, sym, true, ℕ, div-add-mod', div_below, mod_below, mul-le, one_shl, all_below, all_below-at, PieceSet}
+use Rattle.dob_rank.proofs.Common.{HasDigits, bases_by, block_bases, choose, digits_of, enemy_squares, free_squares, number_of, own_squares, product}
+use Rattle.dob_rank.proofs.Common.{AreFewOnBoard, form_bases, lion_pairs, local_bases, local_number, run_bases, run_number, square_bases}
+use Rattle.dob_rank.proofs.Arithmetic.MixedRadix.{factor_positive, product-append, number_of-below, number_of-append, number_by_three, digits_of-append}
+use Rattle.dob_rank.proofs.Arithmetic.MixedRadix.{digits_of-parts, digits_of-two, digits_of-three}
 use Rattle.dob_rank.proofs.Positions.Loops.{digit-at}
 use Rattle.dob_rank.proofs.Positions.Blocks.{few_from_digits, few_of_three, four_small, two_small, choose-small, most_choices}
 use Rattle.dob_rank.proofs.Positions.BlockStarts.{same_number}

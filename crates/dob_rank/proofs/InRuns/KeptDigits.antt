@@ -1,12 +1,10 @@
 -- The digits that the positions of a run have in common as the code keeps them, and the digits of a spot by them.
-use Rattle.std.proofs.Common.{◌≡◌, ℕ, ◌+◌, ◌*◌, ◌/◌, ◌%◌, ◌<◌, List, [], ◌∷◌, ◌++◌, get_or, sym, ap, ◌∙◌, subst, arith}
-use Rattle.dob_pieces.specs.declared.piece_set.PieceSet.{PieceSet}
+use Rattle.dob_rank.proofs.Common.{◌%◌, ◌*◌, ◌++◌, ◌+◌, ◌/◌, ◌<◌, ◌∙◌, ◌∷◌, ◌≡◌, List, [], ap, arith, get_or, subst, sym, ℕ, div_below, mod_below, PieceSet}
+use Rattle.dob_rank.proofs.Common.{HasDigits, bases_by, digits_of, enemy_squares, own_squares, product, form_bases, lion_pairs, local_bases, run_bases}
+use Rattle.dob_rank.proofs.Common.{run_digits, square_bases}
 use Rattle.dob_rank.specs.declared.runs.RunDigits.{RunDigits}
-use Rattle.dob_rank.specs.Numbers.{product, digits_of, HasDigits, bases_by, own_squares, enemy_squares}
-use Rattle.dob_rank.specs.Runs.{run_bases, local_bases, square_bases, form_bases, run_digits, lion_pairs}
 use Rattle.dob_rank.proofs.Arithmetic.MixedRadix.{product-append, HasDigits-digits_of, digits_of-append, digits_of-parts, digits_of-two}
 use Rattle.dob_rank.proofs.InRuns.DigitParts.{AreBasesFound, hand_bases, digits_same}
-use Rattle.std.proofs.lemmas.Nat.{div_below, mod_below}
 
 -- what the code finds of a run: the hands' number and digits, which are small, and the digits of all
 pub record AreRunParts (set : PieceSet) (ob : List ℕ) (run : ℕ) (hands : List ℕ) : Type 0 where

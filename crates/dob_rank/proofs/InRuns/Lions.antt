@@ -1,21 +1,11 @@
 -- What the lions' squares say of a position and its mirror image.
-use Rattle.std.proofs.Common.{◌≡◌, ℕ, ◌+◌, ◌*◌, ◌/◌, ◌%◌, ◌<◌, Bool, true, ◌&&◌, cond, eqb, ltb, List, [], ◌∷◌, Some, None, length, map, replicate}
-use Rattle.std.proofs.Common.{slice_index_or, refl, sym, ap, ◌∙◌, subst, arith}
-use Rattle.std.specs.List.{range_with_len}
-use Rattle.std.proofs.lemmas.Bool.{and_parts, eqb-true, ltb-true}
-use Rattle.dob_pieces.specs.declared.piece_set.PieceSet.{PieceSet}
-use Rattle.dob_pieces.specs.declared.setup.Setup.{Setup}
-use Rattle.dob_pieces.specs.declared.kind.Kind.TheVariants.{Lion}
-use Rattle.dob_pieces.specs.declared.kind.Side.TheVariants.{Mover, Enemy}
+use Rattle.dob_rank.proofs.Common.{◌%◌, ◌&&◌, ◌*◌, ◌+◌, ◌/◌, ◌<◌, ◌∙◌, ◌∷◌, ◌≡◌, Bool, List, None, Some, [], ap, arith, cond, eqb, length, ltb, map, refl}
+use Rattle.dob_rank.proofs.Common.{replicate, slice_index_or, subst, sym, true, ℕ, and_parts, eqb-true, ltb-true, range_with_len, all_below, all_below-at, Cell}
+use Rattle.dob_rank.proofs.Common.{board_by, mirrored, piece_of, Lion, Enemy, Mover, PieceSet, Setup, choice, count, empty_layers, enemy_squares, layer, order}
+use Rattle.dob_rank.proofs.Common.{own_squares, settle, IsPositionOfSet, enemy_square, lion_pairs, lions_of, run_kind, Chicks, Empty, EnemyLion, OwnLion}
 use Rattle.dob_pieces.specs.Squares.{mirrored_square}
-use Rattle.dob_pieces.specs.Setups.{Cell, piece_of, board_by, mirrored}
-use Rattle.dob_pieces.proofs.Boards.{all_below, all_below-at}
 use Rattle.dob_rank.specs.declared.runs.RunKind.{RunKind}
 use Rattle.dob_rank.specs.declared.runs.RunKind.TheVariants.{First, Later, Mixed}
-use Rattle.dob_rank.specs.Order.{IsPositionOfSet}
-use Rattle.dob_rank.specs.Numbers.{layer, count, choice, settle, own_squares, enemy_squares, order, empty_layers}
-use Rattle.dob_rank.specs.Runs.{lions_of, enemy_square, run_kind, lion_pairs}
-use Rattle.dob_rank.specs.declared.layers.Layer.TheVariants.{OwnLion, EnemyLion, Chicks, Empty}
 use Rattle.dob_rank.proofs.Boards.Settled.{hide, AreLayers, hide-hide, settle-choice, choice_hide_next}
 use Rattle.dob_rank.proofs.Boards.FormDigits.{AreLayers-map}
 use Rattle.dob_rank.proofs.Positions.Digits.{HasParts, HasParts-from_position, HasDigits-digits, hide_zero}

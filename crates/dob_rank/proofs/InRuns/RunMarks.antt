@@ -1,11 +1,6 @@
 -- The marks of runs: how many there are before each place of a block, and the tables that say so.
-use Rattle.std.proofs.Common.{◌≡◌, ℕ, zero, suc, ◌+◌, ◌*◌, ◌%◌, ◌^◌, ◌<◌, ◌≤◌, Bool}
-use Rattle.std.proofs.Common.{sym, ap, ◌∙◌, arith}
-use Rattle.std.proofs.Math.Nat.{add-mul}
-use Rattle.dob_pieces.specs.declared.piece_set.PieceSet.{PieceSet}
-use Rattle.dob_rank.specs.Numbers.{product, sum_below, block_bases, block_size, start_of}
-use Rattle.dob_rank.specs.Marks.{marks_below, one_if}
-use Rattle.dob_rank.specs.Runs.{runs_in, run_size, run_start, lion_pairs}
+use Rattle.dob_rank.proofs.Common.{◌%◌, ◌*◌, ◌+◌, ◌<◌, ◌^◌, ◌∙◌, ◌≡◌, ◌≤◌, Bool, ap, arith, suc, sym, zero, ℕ, add-mul, PieceSet, marks_below, one_if}
+use Rattle.dob_rank.proofs.Common.{block_bases, block_size, product, start_of, sum_below, lion_pairs, run_size, run_start, runs_in}
 use Rattle.dob_rank.proofs.Positions.Blocks.{block_size-small, blocks_small}
 use Rattle.dob_rank.proofs.Marked.Words.{marks_below_more, marks_below_none}
 use Rattle.dob_rank.proofs.InRuns.RunPlaces.{block_size-runs, run_start-is}

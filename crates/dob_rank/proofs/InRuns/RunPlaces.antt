@@ -1,27 +1,17 @@
 -- A place in a block is a run and a place in that run, and the lions of a run compare its positions with their mirror
 -- images.
-use Rattle.std.proofs.Common.{◌≡◌, ℕ, zero, suc, ◌+◌, ◌-◌, ◌*◌, ◌/◌, ◌%◌, ◌<◌, ◌≤◌, Bool, true, false, List, [], ◌∷◌, ◌++◌, length, get_or, ◌^◌}
-use Rattle.std.proofs.Common.{map, refl, sym, ap, ◌∙◌, subst, inl, inr, arith}
-use Rattle.std.specs.List.{All}
-use Rattle.std.proofs.lemmas.Bool.{cases_Bool, cases_lt}
-use Rattle.std.proofs.lemmas.List.{length-map}
-use Rattle.std.proofs.lemmas.Nat.{div-mul-add}
-use Rattle.std.proofs.Math.Nat.{mul-pos}
-use Rattle.dob_pieces.specs.declared.piece_set.PieceSet.{PieceSet}
-use Rattle.dob_pieces.specs.declared.setup.Setup.{Setup}
-use Rattle.dob_pieces.specs.Setups.{mirrored}
+use Rattle.dob_rank.proofs.Common.{◌%◌, ◌*◌, ◌++◌, ◌+◌, ◌-◌, ◌/◌, ◌<◌, ◌^◌, ◌∙◌, ◌∷◌, ◌≡◌, ◌≤◌, Bool, List, [], ap, arith, false, get_or, inl, inr, length, map}
+use Rattle.dob_rank.proofs.Common.{refl, subst, suc, sym, true, zero, ℕ, mul-pos, cases_Bool, cases_lt, length-map, div-mul-add, All, mirrored, PieceSet, Setup}
+use Rattle.dob_rank.proofs.Common.{is_first, marked, bases_by, block_bases, block_of, block_size, choice, count, digits_of, enemy_squares, forms_number, layer}
+use Rattle.dob_rank.proofs.Common.{number_of, on_board, order, own_squares, product, rank_of_set, setup_in, size_of_set, sum_below, IsPositionOfSet, IsInRun}
+use Rattle.dob_rank.proofs.Common.{lion_pairs, lions_of, local_bases, local_of, run_bases, run_kind, run_of, run_size, run_start, runs_in, Chicks, Elephants}
+use Rattle.dob_rank.proofs.Common.{EnemyLion, Giraffes, OwnLion}
 use Rattle.dob_rank.specs.declared.runs.RunKind.TheVariants.{First, Later}
-use Rattle.dob_rank.specs.Order.{IsPositionOfSet}
-use Rattle.dob_rank.specs.Numbers.{layer, count, choice, forms_number, product, number_of, digits_of, sum_below, block_bases, bases_by, order}
-use Rattle.dob_rank.specs.Numbers.{on_board, block_of, block_size, size_of_set, rank_of_set, setup_in, own_squares, enemy_squares}
-use Rattle.dob_rank.specs.Marks.{is_first, marked}
-use Rattle.dob_rank.specs.Runs.{run_bases, local_bases, runs_in, run_size, run_start, run_of, local_of, IsInRun, lions_of, run_kind, lion_pairs}
-use Rattle.dob_rank.specs.declared.layers.Layer.TheVariants.{OwnLion, EnemyLion, Chicks, Elephants, Giraffes}
 use Rattle.dob_rank.proofs.Positions.Blocks.{AreBases-by, few_in_block, block_size-small, run_bases-few, place_below_size}
 use Rattle.dob_rank.proofs.Arithmetic.MixedRadix.{digit_below, number_of-below, product-append, number_of-append}
 use Rattle.dob_rank.proofs.Positions.Digits.{HasParts-from_position, HasDigits-digits}
-use Rattle.dob_rank.proofs.Positions.Numbering.{HasBlock, place_of, rank_of_set-place, block_of-below, block_size-product, on_board-block}
-use Rattle.dob_rank.proofs.Positions.Numbering.{HasBlock-setup_in, rank_of_set-block, rank_of_set-below}
+use Rattle.dob_rank.proofs.Positions.Numbering.{HasBlock, place_of, rank_of_set-place, block_of-below, block_size-product, on_board-block, HasBlock-setup_in}
+use Rattle.dob_rank.proofs.Positions.Numbering.{rank_of_set-block, rank_of_set-below}
 use Rattle.dob_rank.proofs.Positions.Found.{IsPositionOfSet-mirrored}
 use Rattle.dob_rank.proofs.Marked.Marks.{first-marked, marked-first, marked-first_of}
 use Rattle.dob_rank.proofs.Marked.Representatives.{first_by_rank, rank_of_first}

@@ -1,8 +1,6 @@
 -- The marks of a block as a sum over the runs of one hand.
-use Rattle.std.proofs.Common.{◌≡◌, ℕ, zero, suc, ◌*◌, ◌%◌, ◌<◌, ◌≤◌, [], ◌∷◌, arith}
-use Rattle.dob_pieces.specs.declared.piece_set.PieceSet.{PieceSet}
-use Rattle.dob_rank.specs.Numbers.{product, digits_of, block_bases, own_squares, enemy_squares}
-use Rattle.dob_rank.specs.Runs.{runs_in, lion_pairs}
+use Rattle.dob_rank.proofs.Common.{◌%◌, ◌*◌, ◌<◌, ◌∷◌, ◌≡◌, ◌≤◌, [], arith, suc, zero, ℕ, PieceSet, block_bases, digits_of, enemy_squares, own_squares, product}
+use Rattle.dob_rank.proofs.Common.{lion_pairs, runs_in}
 use Rattle.dob_rank.proofs.Arithmetic.MixedRadix.{product-append}
 use Rattle.dob_rank.proofs.InRuns.RunPlaces.{hand_bases, no_runs}
 

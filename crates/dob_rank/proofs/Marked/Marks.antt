@@ -1,17 +1,10 @@
 -- Marked places: how many setups there are whose place is marked and below a bound, and the places of first setups.
-use Rattle.std.proofs.Common.{◌≡◌, ◌≢◌, ℕ, zero, suc, ◌+◌, ◌<◌, ◌≤◌, Bool, true, false, ◌&&◌, leb, [], ◌∷◌, ◌++◌, length, get_or, refl, sym}
-use Rattle.std.proofs.Common.{ap, ◌∙◌, subst, inl, inr, arith}
-use Rattle.std.specs.List.{Contains}
-use Rattle.std.proofs.lemmas.Bool.{cases_lt, cases_Bool, le-leb, leb-true, lt-ltb, both_ways}
-use Rattle.std.proofs.lemmas.List.{length_push}
+use Rattle.dob_rank.proofs.Common.{◌&&◌, ◌++◌, ◌+◌, ◌<◌, ◌∙◌, ◌∷◌, ◌≡◌, ◌≢◌, ◌≤◌, Bool, [], ap, arith, false, get_or, inl, inr, leb, length, refl, subst, suc}
+use Rattle.dob_rank.proofs.Common.{sym, true, zero, ℕ, cases_Bool, cases_lt, lt-ltb, length_push, Contains, mirrored, PieceSet, Setup, is_first, marked}
+use Rattle.dob_rank.proofs.Common.{marks_below, one_if, nth, rank_of_set, size_of_set, HasCount, IsFirstOfTwo, IsPositionOfSet}
+use Rattle.std.proofs.lemmas.Bool.{le-leb, leb-true, both_ways}
 use Rattle.std.proofs.lemmas.List.Elements.{All-nil, All-push, All-weaker, Contains-push, Contains-append_left}
 use Rattle.std.proofs.lemmas.List.Quantifiers.{all_pairs_push}
-use Rattle.dob_pieces.specs.declared.piece_set.PieceSet.{PieceSet}
-use Rattle.dob_pieces.specs.declared.setup.Setup.{Setup}
-use Rattle.dob_pieces.specs.Setups.{mirrored}
-use Rattle.dob_rank.specs.Order.{IsPositionOfSet, HasCount, IsFirstOfTwo}
-use Rattle.dob_rank.specs.Numbers.{size_of_set, rank_of_set, nth}
-use Rattle.dob_rank.specs.Marks.{one_if, marks_below, is_first, marked}
 use Rattle.dob_rank.proofs.Arithmetic.Counts.{IsNumbering}
 use Rattle.dob_rank.proofs.Positions.Numbering.{nth-block, nth-rank_of_set, rank_of_set-nth, rank_of_set-below, rank_of_set-rises, Before-from_rank}
 use Rattle.dob_rank.proofs.Positions.Found.{IsPositionOfSet-mirrored}

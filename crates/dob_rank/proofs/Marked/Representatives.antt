@@ -1,14 +1,9 @@
 -- Each position of a set has one representative and one class number, and numbers stand in the order of the
 -- representatives.
-use Rattle.std.proofs.Common.{◌≡◌, ℕ, zero, suc, ◌+◌, ◌<◌, ◌≤◌, Bool, true, false, ◌&&◌, eqb, if◌then◌else◌, inl, inr, refl, sym, subst, ◌∙◌, arith}
-use Rattle.std.proofs.lemmas.Bool.{cases_lt, cases_eq, eqb-true}
-use Rattle.dob_pieces.specs.declared.piece_set.PieceSet.{PieceSet}
-use Rattle.dob_pieces.specs.declared.setup.Setup.{Setup}
-use Rattle.dob_pieces.specs.Setups.{mirrored}
+use Rattle.dob_rank.proofs.Common.{if◌then◌else◌, ◌&&◌, ◌+◌, ◌<◌, ◌∙◌, ◌≡◌, ◌≤◌, Bool, arith, eqb, false, inl, inr, refl, subst, suc, sym, true, zero, ℕ}
+use Rattle.dob_rank.proofs.Common.{cases_eq, cases_lt, eqb-true, mirrored, PieceSet, Setup, marks_below, one_if, rank_of_set, Before, IsEither, IsFirstOfTwo}
+use Rattle.dob_rank.proofs.Common.{IsPositionOfSet, IsRepresentativeOfSet, RepresentativeOf, key}
 use Rattle.dob_pieces.proofs.Symmetries.{mirrored-mirrored}
-use Rattle.dob_rank.specs.Order.{IsPositionOfSet, Before, key, IsFirstOfTwo, IsEither, IsRepresentativeOfSet, RepresentativeOf}
-use Rattle.dob_rank.specs.Numbers.{rank_of_set}
-use Rattle.dob_rank.specs.Marks.{one_if, marks_below}
 use Rattle.dob_rank.specs.ClassRows.{marked_place}
 use Rattle.dob_rank.proofs.Arithmetic.Order.{Precedes-irreflexive}
 use Rattle.dob_rank.proofs.Positions.Found.{IsPositionOfSet-mirrored}

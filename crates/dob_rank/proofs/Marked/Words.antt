@@ -1,6 +1,5 @@
 -- Marks below a place.
-use Rattle.std.proofs.Common.{◌≡◌, ℕ, zero, suc, ◌+◌, ◌-◌, ◌<◌, ◌≤◌, Bool, true, false, refl, ap, arith}
-use Rattle.dob_rank.specs.Marks.{one_if, marks_below}
+use Rattle.dob_rank.proofs.Common.{◌+◌, ◌-◌, ◌<◌, ◌≡◌, ◌≤◌, Bool, ap, arith, false, refl, suc, true, zero, ℕ, marks_below, one_if}
 
 one_if-below : (b : Bool) → one_if b < 2
 one_if-below true = omega arith

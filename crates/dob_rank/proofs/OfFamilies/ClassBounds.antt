@@ -1,9 +1,5 @@
 -- How many positions and classes a family has at most.
-use Rattle.std.proofs.Common.{ℕ, ◌<◌, ◌≤◌, ◌^◌, sym, subst, arith}
-use Rattle.dob_pieces.specs.declared.piece_set.PieceSet.{PieceSet}
-use Rattle.dob_pieces.specs.declared.profile.Family.{Family}
-use Rattle.dob_rank.specs.Families.{is_marked, classes_of}
-use Rattle.dob_rank.specs.Numbers.{size_of_set, product, block_bases}
+use Rattle.dob_rank.proofs.Common.{◌<◌, ◌^◌, ◌≤◌, arith, subst, sym, ℕ, PieceSet, Family, classes_of, is_marked, block_bases, product, size_of_set}
 use Rattle.dob_rank.proofs.Positions.BlockStarts.{start_few}
 use Rattle.dob_rank.proofs.Positions.Blocks.{size_of_set-sum}
 use Rattle.dob_rank.proofs.Marked.Words.{marks_below-le}

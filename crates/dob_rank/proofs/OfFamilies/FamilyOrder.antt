@@ -1,12 +1,6 @@
 -- Ranks in a family are below its size, and no two of its positions have one; the position of a present rank of its set.
-use Rattle.std.proofs.Common.{◌≡◌, ℕ, suc, ◌+◌, ◌-◌, ◌<◌, Bool, true, sym, ap, ◌∙◌, subst, inl, inr, arith}
-use Rattle.std.proofs.lemmas.Bool.{cases_lt}
-use Rattle.dob_pieces.specs.declared.profile.Family.{Family}
-use Rattle.dob_pieces.specs.declared.setup.Setup.{Setup}
-use Rattle.dob_rank.specs.Order.{Before}
-use Rattle.dob_rank.specs.Numbers.{size_of_set, rank_of_set, nth}
-use Rattle.dob_rank.specs.Marks.{one_if, marks_below}
-use Rattle.dob_rank.specs.Families.{IsPositionOf, HasRank, IsRanked, is_present, rank_of}
+use Rattle.dob_rank.proofs.Common.{◌+◌, ◌-◌, ◌<◌, ◌∙◌, ◌≡◌, Bool, ap, arith, inl, inr, subst, suc, sym, true, ℕ, cases_lt, Family, Setup, HasRank, IsPositionOf}
+use Rattle.dob_rank.proofs.Common.{IsRanked, is_present, rank_of, marks_below, one_if, nth, rank_of_set, size_of_set, Before}
 use Rattle.dob_rank.proofs.Positions.Numbering.{nth-block, rank_of_set-nth, rank_of_set-same, rank_of_set-rises}
 use Rattle.dob_rank.proofs.Marked.Words.{marks_below_more, marks_below-up}
 use Rattle.dob_rank.proofs.OfFamilies.Present.{present, allowed, HasRank-rank_of}

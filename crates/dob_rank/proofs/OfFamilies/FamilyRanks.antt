@@ -1,19 +1,11 @@
 -- A position's rank in its family, by the start of its block, its hand, its lions, its squares and its forms.
-use Rattle.std.proofs.Common.{◌≡◌, ℕ, ◌+◌, ◌-◌, ◌*◌, ◌/◌, ◌%◌, ◌^◌, ◌<◌, Bool, true, List, [], ◌∷◌, map, slice_index, refl, sym, ap, ◌∙◌, subst, arith}
-use Rattle.std.proofs.lemmas.Nat.{div-mul-add}
-use Rattle.std.proofs.Math.Nat.{mul_assoc, add-mul}
-use Rattle.dob_pieces.specs.declared.piece_set.PieceSet.{PieceSet}
-use Rattle.dob_pieces.specs.declared.profile.Family.{Family}
-use Rattle.dob_pieces.specs.declared.profile.Profile.{Profile}
-use Rattle.dob_pieces.specs.declared.setup.Setup.{Setup}
-use Rattle.dob_rank.specs.Order.{IsPositionOfSet}
-use Rattle.dob_rank.specs.Numbers.{product, number_of, sum_below, choose, choice, block_bases, block_of, start_of, on_board, digits, layer, forms_number}
-use Rattle.dob_rank.specs.Numbers.{free_squares, enemy_squares, order, settle, empty_layers}
-use Rattle.dob_rank.specs.Marks.{one_if, marks_below}
-use Rattle.dob_rank.specs.Runs.{runs_in, run_start, run_of, local_of, lions_of, lion_pairs, square_bases, form_bases}
-use Rattle.dob_rank.specs.Families.{IsPositionOf, is_present, rank_of}
-use Rattle.dob_rank.specs.Weights.{hand_size, place_in, weight, forms_on, may_have, are_allowed, lions_in, choice_weight, forms_before, lions_before, allowed_number, others_squares, others_forms}
-use Rattle.dob_rank.specs.declared.layers.Layer.TheVariants.{OwnLion, EnemyLion, Chicks, Elephants, Giraffes}
+use Rattle.dob_rank.proofs.Common.{◌%◌, ◌*◌, ◌+◌, ◌-◌, ◌/◌, ◌<◌, ◌^◌, ◌∙◌, ◌∷◌, ◌≡◌, Bool, List, [], ap, arith, map, refl, slice_index, subst, sym, true, ℕ}
+use Rattle.dob_rank.proofs.Common.{add-mul, mul_assoc, div-mul-add, PieceSet, Family, Profile, Setup, IsPositionOf, is_present, rank_of, marks_below, one_if}
+use Rattle.dob_rank.proofs.Common.{block_bases, block_of, choice, choose, digits, empty_layers, enemy_squares, forms_number, free_squares, layer, number_of}
+use Rattle.dob_rank.proofs.Common.{on_board, order, product, settle, start_of, sum_below, IsPositionOfSet, form_bases, lion_pairs, lions_of, local_of, run_of}
+use Rattle.dob_rank.proofs.Common.{run_start, runs_in, square_bases, allowed_number, are_allowed, choice_weight, forms_before, forms_on, hand_size}
+use Rattle.dob_rank.proofs.Common.{lions_before, lions_in, may_have, others_forms, others_squares, place_in, weight, Chicks, Elephants, EnemyLion, Giraffes}
+use Rattle.dob_rank.proofs.Common.{OwnLion}
 use Rattle.dob_rank.proofs.Arithmetic.MixedRadix.{number_of-append, number_of-below, digit_below}
 use Rattle.dob_rank.proofs.Positions.Digits.{HasParts-from_position, HasDigits-digits, layers_by-back}
 use Rattle.dob_rank.proofs.Positions.Numbering.{block_of-below, on_board-block}

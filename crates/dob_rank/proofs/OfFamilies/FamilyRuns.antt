@@ -1,15 +1,9 @@
 -- How many positions of a family a run has, and how many stand before it in its block.
-use Rattle.std.proofs.Common.{◌≡◌, ℕ, zero, suc, ◌+◌, ◌-◌, ◌*◌, ◌%◌, ◌^◌, ◌<◌, ◌≤◌, List, slice_index, refl, sym, ap, ◌∙◌, subst, arith}
-use Rattle.std.proofs.Math.Nat.{mul_comm, mul_assoc, add-mul, mul-pos}
-use Rattle.dob_pieces.specs.declared.profile.Family.{Family}
-use Rattle.dob_pieces.specs.declared.profile.Profile.{Profile}
-use Rattle.dob_rank.specs.Numbers.{product, digits_of, sum_below, choose, block_bases, block_size, start_of, free_squares, order, settle}
-use Rattle.dob_rank.specs.Marks.{marks_below}
-use Rattle.dob_rank.specs.Runs.{runs_in, run_size, run_start, lion_pairs, square_bases, form_bases}
-use Rattle.dob_rank.specs.Families.{is_present}
-use Rattle.dob_rank.specs.Weights.{weight, forms_on, choice_weight, forms_in, lions_before, others_squares, others_forms}
-use Rattle.dob_rank.specs.declared.layers.Layer.TheVariants.{Chicks}
-use Rattle.dob_lists.proofs.Sums.{sum_same, sum_times, sum_blocks, sum_alike}
+use Rattle.dob_rank.proofs.Common.{◌%◌, ◌*◌, ◌+◌, ◌-◌, ◌<◌, ◌^◌, ◌∙◌, ◌≡◌, ◌≤◌, List, ap, arith, refl, slice_index, subst, suc, sym, zero, ℕ, add-mul, mul-pos}
+use Rattle.dob_rank.proofs.Common.{mul_assoc, mul_comm, Family, Profile, sum_alike, sum_blocks, sum_same, sum_times, is_present, marks_below, block_bases}
+use Rattle.dob_rank.proofs.Common.{block_size, choose, digits_of, free_squares, order, product, settle, start_of, sum_below, form_bases, lion_pairs, run_size}
+use Rattle.dob_rank.proofs.Common.{run_start, runs_in, square_bases, choice_weight, forms_in, forms_on, lions_before, others_forms, others_squares, weight}
+use Rattle.dob_rank.proofs.Common.{Chicks}
 use Rattle.dob_rank.proofs.Arithmetic.MixedRadix.{product-append}
 use Rattle.dob_rank.proofs.Boards.FormDigits.{power_positive}
 use Rattle.dob_rank.proofs.Positions.Blocks.{sum_below_more, choose-positive, few_in_block, room_left}

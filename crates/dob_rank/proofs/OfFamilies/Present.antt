@@ -1,16 +1,8 @@
 -- The positions of a family, counted among the setups of its set.
-use Rattle.std.proofs.Common.{◌≡◌, ℕ, zero, suc, ◌+◌, ◌<◌, ◌≤◌, Bool, true, false, ◌&&◌, refl, sym, ap, ◌∙◌, arith}
-use Rattle.dob_pieces.specs.declared.piece_set.PieceSet.{PieceSet}
-use Rattle.dob_pieces.specs.declared.profile.Family.{Family}
-use Rattle.dob_pieces.specs.declared.profile.Profile.{Profile}
-use Rattle.dob_pieces.specs.declared.profile.Profile.TheVariants.{A}
-use Rattle.dob_pieces.specs.declared.setup.Setup.{Setup}
-use Rattle.dob_pieces.specs.Profiles.{is_allowed}
-use Rattle.dob_rank.specs.Order.{IsPositionOfSet, Before}
-use Rattle.dob_rank.specs.Numbers.{size_of_set, rank_of_set, nth, product, block_bases, block_size, start_of}
-use Rattle.dob_rank.specs.Marks.{one_if, marks_below, is_first}
-use Rattle.dob_rank.specs.Families.{IsPositionOf, HasSize, HasRank, IsRepresentative, HasClasses, HasClass}
-use Rattle.dob_rank.specs.Families.{family_of, is_present, is_marked, size_of, rank_of, classes_of}
+use Rattle.dob_rank.proofs.Common.{◌&&◌, ◌+◌, ◌<◌, ◌∙◌, ◌≡◌, ◌≤◌, Bool, ap, arith, false, refl, suc, sym, true, zero, ℕ, is_allowed, PieceSet, Family, Profile}
+use Rattle.dob_rank.proofs.Common.{A, Setup, HasRank, HasSize, IsPositionOf, classes_of, family_of, is_marked, is_present, rank_of, size_of, is_first}
+use Rattle.dob_rank.proofs.Common.{marks_below, one_if, block_bases, block_size, nth, product, rank_of_set, size_of_set, start_of, Before, IsPositionOfSet}
+use Rattle.dob_rank.specs.Families.{IsRepresentative, HasClasses, HasClass}
 use Rattle.dob_rank.proofs.Positions.Numbering.{nth-rank_of_set, rank_of_set-below, rank_of_set-rises, Before-from_rank}
 use Rattle.dob_rank.proofs.Positions.Blocks.{sum_below_more}
 use Rattle.dob_rank.proofs.Marked.Marks.{HasCount-same, HasCount-marked, IsMarkedBelow, numbering, first-marked, marked-first}

@@ -1,16 +1,9 @@
 -- How many positions of the family a run has before each of its places.
-use Rattle.std.proofs.Common.{◌≡◌, ℕ, ◌+◌, ◌-◌, ◌*◌, ◌/◌, ◌%◌, ◌^◌, ◌<◌, ◌≤◌, Bool, List, [], ◌∷◌, slice_index, sym, ap, ◌∙◌, subst, arith}
-use Rattle.std.proofs.lemmas.Nat.{div-mul-add, mod-mul-add}
-use Rattle.dob_pieces.specs.declared.profile.Family.{Family}
-use Rattle.dob_pieces.specs.declared.profile.Profile.{Profile}
-use Rattle.dob_rank.specs.Numbers.{sum_below, count, choose, settle, order, product, digits_of, block_bases, free_squares}
-use Rattle.dob_rank.specs.Marks.{one_if, marks_below}
-use Rattle.dob_rank.specs.Runs.{local_bases, square_bases, form_bases, runs_in, run_size, run_start, IsInRun}
-use Rattle.dob_rank.specs.Families.{is_present}
-use Rattle.dob_rank.specs.Weights.{may_have, are_allowed, lions_in, choice_weight}
-use Rattle.dob_rank.specs.declared.layers.Layer.TheVariants.{Chicks}
+use Rattle.dob_rank.proofs.Common.{◌%◌, ◌*◌, ◌+◌, ◌-◌, ◌/◌, ◌<◌, ◌^◌, ◌∙◌, ◌∷◌, ◌≡◌, ◌≤◌, Bool, List, [], ap, arith, slice_index, subst, sym, ℕ, div-mul-add}
+use Rattle.dob_rank.proofs.Common.{mod-mul-add, Family, Profile, sum_parts, sum_same, is_present, marks_below, one_if, block_bases, choose, count, digits_of}
+use Rattle.dob_rank.proofs.Common.{free_squares, order, product, settle, sum_below, IsInRun, form_bases, local_bases, run_size, run_start, runs_in}
+use Rattle.dob_rank.proofs.Common.{square_bases, are_allowed, choice_weight, lions_in, may_have, Chicks}
 use Rattle.dob_rank.proofs.Arithmetic.MixedRadix.{product-append, digit_below}
-use Rattle.dob_lists.proofs.Sums.{sum_same, sum_parts}
 use Rattle.dob_rank.proofs.ProfileB.Weights.{forms_weigh}
 use Rattle.dob_rank.proofs.ProfileB.RunWeights.{middle_alike, low_alike}
 use Rattle.dob_rank.proofs.OfFamilies.RunPresent.{allowed_in_run}

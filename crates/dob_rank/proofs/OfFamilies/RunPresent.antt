@@ -1,18 +1,10 @@
 -- Which places of a run are of the family.
-use Rattle.std.proofs.Common.{◌≡◌, ℕ, ◌+◌, ◌-◌, ◌*◌, ◌/◌, ◌%◌, ◌^◌, ◌<◌, Bool, List, [], ◌∷◌, map, slice_index, sym, ap, ◌∙◌, arith}
-use Rattle.dob_pieces.specs.declared.piece_set.PieceSet.{PieceSet}
-use Rattle.dob_pieces.specs.declared.profile.Family.{Family}
-use Rattle.dob_pieces.specs.declared.profile.Profile.{Profile}
-use Rattle.dob_pieces.specs.declared.setup.Setup.{Setup}
-use Rattle.dob_pieces.specs.Profiles.{may_all_stand, is_allowed}
+use Rattle.dob_rank.proofs.Common.{◌%◌, ◌*◌, ◌+◌, ◌-◌, ◌/◌, ◌<◌, ◌^◌, ◌∙◌, ◌∷◌, ◌≡◌, Bool, List, [], ap, arith, map, slice_index, sym, ℕ, is_allowed}
+use Rattle.dob_rank.proofs.Common.{may_all_stand, PieceSet, Family, Profile, Setup, is_present, HasBlock, bases_by, block_bases, block_size, board_of, choose}
+use Rattle.dob_rank.proofs.Common.{digits, digits_of, empty_layers, enemy_squares, free_squares, layer, nth, numbers_by, on_board, order, product, rank_of_set}
+use Rattle.dob_rank.proofs.Common.{settle, setup_in, sum_below, IsPositionOfSet, IsInRun, form_bases, lion_pairs, local_bases, run_size, run_start, runs_in}
+use Rattle.dob_rank.proofs.Common.{are_allowed, may_have, Chicks, Elephants, EnemyLion, Giraffes, OwnLion}
 use Rattle.dob_pieces.proofs.Allowed.{is_allowed-stand}
-use Rattle.dob_rank.specs.Order.{IsPositionOfSet}
-use Rattle.dob_rank.specs.Numbers.{choose, settle, order, layer, board_of, numbers_by, empty_layers, on_board, digits}
-use Rattle.dob_rank.specs.Numbers.{product, digits_of, block_bases, bases_by, setup_in, nth, rank_of_set, HasBlock, free_squares, enemy_squares, sum_below, block_size}
-use Rattle.dob_rank.specs.Runs.{local_bases, form_bases, runs_in, run_size, run_start, IsInRun, lion_pairs}
-use Rattle.dob_rank.specs.Families.{is_present}
-use Rattle.dob_rank.specs.Weights.{may_have, are_allowed}
-use Rattle.dob_rank.specs.declared.layers.Layer.TheVariants.{OwnLion, EnemyLion, Chicks, Elephants, Giraffes}
 use Rattle.dob_rank.proofs.Boards.FormDigits.{AreLayers-map, board_of-back}
 use Rattle.dob_rank.proofs.Positions.Digits.{HasParts-from_position, HasDigits-digits, layers_by-back, numbers-back}
 use Rattle.dob_rank.proofs.Arithmetic.MixedRadix.{digits_of-number_of}

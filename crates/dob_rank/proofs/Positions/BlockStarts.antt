@@ -1,13 +1,9 @@
 -- The table of the blocks' starts, profile by profile: what is computed of each set and each block holds of every one. In profile A an entry is the sum
 -- of the blocks before.
-use Rattle.std.proofs.Common.{◌≡◌, ℕ, ◌+◌, ◌-◌, ◌*◌, ◌^◌, ◌<◌, ◌≤◌, ◌||◌, nat_eq, nat_lt, Bool, true, false, List, [], ◌∷◌}
-use Rattle.std.proofs.Common.{slice_index, slice_index_or, refl, sym, subst, ◌∙◌, inl, inr, arith}
-use Rattle.std.proofs.lemmas.Bool.{ltb-true, cases_eq, ne_eqb}
-use Rattle.dob_pieces.specs.declared.piece_set.PieceSet.{PieceSet}
-use Rattle.dob_pieces.proofs.Boards.{all_below, all_below-at}
-use Rattle.dob_rank.specs.declared.starts.TheConstants.{STARTS}
-use Rattle.dob_rank.specs.Numbers.{product, digits_of, sum_below, choose, block_bases, block_size, own_squares, enemy_squares, free_squares}
-use Rattle.dob_lists.proofs.Sums.{sum_same}
+use Rattle.dob_rank.proofs.Common.{◌*◌, ◌+◌, ◌-◌, ◌<◌, ◌^◌, ◌||◌, ◌∙◌, ◌∷◌, ◌≡◌, ◌≤◌, Bool, List, [], arith, false, inl, inr, nat_eq, nat_lt, refl, slice_index}
+use Rattle.dob_rank.proofs.Common.{slice_index_or, subst, sym, true, ℕ, cases_eq, ltb-true, ne_eqb, all_below, all_below-at, PieceSet, sum_same, block_bases}
+use Rattle.dob_rank.proofs.Common.{block_size, choose, digits_of, enemy_squares, free_squares, own_squares, product, sum_below}
+use Rattle.dob_rank.specs.declared.starts.TheConstants.{FIRST, STARTS}
 use Rattle.dob_rank.proofs.Positions.Numbering.{block_size-product}
 
 -- ---- each set by its numbers, and each of its blocks with the end
@@ -40,11 +36,11 @@ at_block f all set block upto =
 
 -- ---- the table's entries
 
-abbrev row_of : ℕ → ℕ → ℕ → ℕ → List ℕ
-row_of profile c e g = slice_index_or (slice_index_or STARTS profile []) (9 * c + 3 * e + g) []
+abbrev place_in : ℕ → ℕ → ℕ → ℕ → ℕ
+place_in c e g block = slice_index_or FIRST (9 * c + 3 * e + g) 0 + block
 
 abbrev start_in : ℕ → ℕ → ℕ → ℕ → ℕ → ℕ
-start_in profile c e g block = slice_index_or (row_of profile c e g) block 0
+start_in profile c e g block = slice_index_or (slice_index_or STARTS profile []) (place_in c e g block) 0
 
 abbrev pub start_at : ℕ → PieceSet → ℕ → ℕ
 start_at profile set block = start_in profile set.chicks set.elephants set.giraffes block

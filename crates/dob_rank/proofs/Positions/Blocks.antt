@@ -1,20 +1,13 @@
 -- Blocks: their bases are positive, and their sizes and number are small.
-use Rattle.std.proofs.Common.{◌≡◌, ℕ, zero, suc, ◌+◌, ◌-◌, ◌*◌, ◌^◌, ◌<◌, ◌≤◌, List, [], ◌∷◌, slice_index, refl, sym, ap, subst, inl, inr, arith}
-use Rattle.std.specs.List.{All}
-use Rattle.std.proofs.lemmas.Bool.{cases_lt}
-use Rattle.std.proofs.lemmas.Nat.{mul-le}
-use Rattle.std.proofs.Math.Nat.{mul-le-mul}
-use Rattle.dob_pieces.specs.declared.piece_set.PieceSet.{PieceSet}
-use Rattle.dob_rank.specs.Numbers.{product, digits_of, HasDigits, sum_below, choose, with_first, bases, bases_by, block_bases, block_size, start_of, size_of_set}
-use Rattle.dob_rank.specs.Placing.{AreChoices}
-use Rattle.dob_rank.specs.Numbers.{own_squares, enemy_squares, free_squares}
-use Rattle.dob_rank.specs.Runs.{run_bases, lion_pairs}
+use Rattle.dob_rank.proofs.Common.{◌*◌, ◌+◌, ◌-◌, ◌<◌, ◌^◌, ◌∷◌, ◌≡◌, ◌≤◌, List, [], ap, arith, inl, inr, refl, slice_index, subst, suc, sym, zero, ℕ}
+use Rattle.dob_rank.proofs.Common.{mul-le-mul, cases_lt, mul-le, All, PieceSet, sum_below-rises, HasDigits, bases, bases_by, block_bases, block_size, choose}
+use Rattle.dob_rank.proofs.Common.{digits_of, enemy_squares, free_squares, own_squares, product, size_of_set, start_of, sum_below, with_first, AreChoices}
+use Rattle.dob_rank.proofs.Common.{lion_pairs, run_bases}
 use Rattle.dob_rank.proofs.Arithmetic.MixedRadix.{HasDigits-digits_of}
 use Rattle.dob_rank.proofs.Boards.Choices.{choose-split}
 use Rattle.dob_rank.proofs.Boards.FormDigits.{power_positive}
 use Rattle.dob_rank.proofs.Positions.Loops.{digit-at}
 use Rattle.dob_rank.proofs.Positions.Numbering.{block_size-product}
-use Rattle.dob_lists.proofs.Sums.{sum_below-rises}
 
 -- each number is at most the one beside it
 abbrev pub AreAtMost : List ℕ → List ℕ → Type 0

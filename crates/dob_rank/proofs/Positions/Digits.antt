@@ -1,26 +1,15 @@
 -- The digits of a position of a set: each is below its base, and they give the position back.
-use Rattle.std.proofs.Common.{◌≡◌, ℕ, zero, suc, ◌+◌, ◌-◌, ◌%◌, ◌^◌, ◌<◌, ◌≤◌, List, [], ◌∷◌, length, map, replicate, refl, sym, ap, ◌∙◌}
-use Rattle.std.proofs.Common.{subst, inl, inr, arith}
-use Rattle.std.specs.List.{count_by}
-use Rattle.std.proofs.lemmas.Bool.{cases_lt}
-use Rattle.std.proofs.lemmas.List.{length-map}
-use Rattle.std.proofs.Math.Nat.{pow-zero, pow-succ', mod-eq_of_lt}
-use Rattle.dob_pieces.specs.declared.kind.HandKind.{HandKind}
+use Rattle.dob_rank.proofs.Common.{◌%◌, ◌+◌, ◌-◌, ◌<◌, ◌^◌, ◌∙◌, ◌∷◌, ◌≡◌, ◌≤◌, List, [], ap, arith, inl, inr, length, map, refl, replicate, subst, suc, sym}
+use Rattle.dob_rank.proofs.Common.{zero, ℕ, mod-eq_of_lt, pow-succ', pow-zero, cases_lt, length-map, count_by, Cell, IsLegal, at, held, holds_kind, holds_lion}
+use Rattle.dob_rank.proofs.Common.{total, Hand, HandKind, Enemy, Mover, PieceSet, Setup, HasDigits, base_of, bases_by, block_bases, board_of, choice, choose}
+use Rattle.dob_rank.proofs.Common.{count, count_from, digits, empty_layers, enemy_squares, forms_number, free_squares, layer, layers_by, numbers_by, on_board}
+use Rattle.dob_rank.proofs.Common.{order, own_squares, settle, setup_by, IsPositionOfSet, pieces_of, Chicks, Elephants, Empty, EnemyLion, Giraffes, OwnLion}
 use Rattle.dob_pieces.specs.declared.kind.HandKind.TheVariants as hand
-use Rattle.dob_pieces.specs.declared.kind.Side.TheVariants.{Mover, Enemy}
-use Rattle.dob_pieces.specs.declared.hand.Hand.{Hand}
-use Rattle.dob_pieces.specs.declared.piece_set.PieceSet.{PieceSet}
-use Rattle.dob_pieces.specs.declared.setup.Setup.{Setup}
-use Rattle.dob_pieces.specs.Setups.{Cell, at, held, holds_lion, holds_kind, total, IsLegal}
-use Rattle.dob_rank.specs.declared.layers.Layer.TheVariants.{OwnLion, EnemyLion, Chicks, Elephants, Giraffes, Empty}
-use Rattle.dob_rank.specs.Order.{IsPositionOfSet, pieces_of}
-use Rattle.dob_rank.specs.Numbers.{order, layer, count, count_from, choose, choice, settle, HasDigits, base_of, forms_number, board_of, empty_layers}
-use Rattle.dob_rank.specs.Numbers.{bases_by, block_bases, on_board, digits, numbers_by, layers_by, setup_by, own_squares, enemy_squares, free_squares}
 use Rattle.dob_rank.proofs.Boards.Choices.{choice-below}
 use Rattle.dob_rank.proofs.Boards.Settled.{hidden, hide, hidden_lower, hidden_later, settle-choice, AreLayers}
 use Rattle.dob_rank.proofs.Boards.FormDigits.{AreLayers-map, forms_number-below, board_of-back}
-use Rattle.dob_rank.proofs.Boards.LayerCounts.{count_from-next, count_from-zero, lion_at, holds_mover_lion, holds_enemy_lion, holds_kind-layer}
-use Rattle.dob_rank.proofs.Boards.LayerCounts.{count-layer, mover_lion, layer-at}
+use Rattle.dob_rank.proofs.Boards.LayerCounts.{count_from-next, count_from-zero, lion_at, holds_mover_lion, holds_enemy_lion, holds_kind-layer, count-layer}
+use Rattle.dob_rank.proofs.Boards.LayerCounts.{mover_lion, layer-at}
 
 -- what a position of the set says of its layers and hands
 pub record HasParts (set : PieceSet) (s : Setup) : Type 0 where

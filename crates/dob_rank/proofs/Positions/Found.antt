@@ -1,13 +1,8 @@
 -- What the lists and numbers of the code amount to: the rank of a position, and the position of a rank.
-use Rattle.std.proofs.Common.{◌≡◌, ℕ, ◌+◌, ◌*◌, ◌<◌, ◌≤◌, List, take, drop, refl, sym, ap, ◌∙◌, subst, arith, ◌^◌}
-use Rattle.dob_pieces.specs.declared.piece_set.PieceSet.{PieceSet}
-use Rattle.dob_pieces.specs.declared.setup.Setup.{Setup}
-use Rattle.dob_pieces.specs.Setups.{mirrored}
+use Rattle.dob_rank.proofs.Common.{◌*◌, ◌+◌, ◌<◌, ◌^◌, ◌∙◌, ◌≡◌, ◌≤◌, List, ap, arith, drop, refl, subst, sym, take, ℕ, mirrored, PieceSet, Setup, HasDigits}
+use Rattle.dob_rank.proofs.Common.{bases_by, block_bases, block_of, block_size, digits, digits_of, number_of, on_board, product, rank_of_set, setup_by}
+use Rattle.dob_rank.proofs.Common.{setup_in, sum_below, IsPositionOfSet, local_bases, local_number, local_of, run_bases, run_number, run_of, run_size, runs_in}
 use Rattle.dob_pieces.proofs.Boards.{total-mirrored, IsLegal-mirrored}
-use Rattle.dob_rank.specs.Order.{IsPositionOfSet}
-use Rattle.dob_rank.specs.Numbers.{product, number_of, digits_of, HasDigits, sum_below, block_bases, bases_by}
-use Rattle.dob_rank.specs.Numbers.{on_board, digits, block_of, block_size, rank_of_set, setup_by, setup_in}
-use Rattle.dob_rank.specs.Runs.{run_bases, local_bases, run_number, local_number, run_of, local_of, runs_in, run_size}
 use Rattle.dob_rank.proofs.Arithmetic.MixedRadix.{HasDigits-digits_of, digits_of-number_of, number_of-digits_of, number_of-below, number_of-append, parts-below}
 use Rattle.dob_rank.proofs.Positions.Digits.{HasParts-from_position, HasDigits-on_board, HasDigits-digits}
 use Rattle.dob_rank.proofs.Positions.Numbering.{HasBlock, place_of, HasBlock-setup_in, block_size-product, block_of-below, place_of-below, rank_of_set-place}

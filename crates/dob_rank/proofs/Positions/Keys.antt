@@ -1,20 +1,14 @@
 -- The order of keys against the order of digits.
-use Rattle.std.proofs.Common.{◌≡◌, ℕ, suc, ◌⊎◌, eqb, List, [], ◌∷◌, ◌++◌, map, refl, sym, ap, ◌∙◌, subst, inl, inr}
-use Rattle.std.specs.List.{count_by}
+use Rattle.dob_rank.proofs.Common.{◌++◌, ◌∙◌, ◌∷◌, ◌≡◌, ◌⊎◌, List, [], ap, eqb, inl, inr, map, refl, subst, suc, sym, ℕ, count_by, Cell, holds_kind, holds_lion}
+use Rattle.dob_rank.proofs.Common.{HandKind, Enemy, Mover, PieceSet, Setup, choice, count, digits, forms_number, layer, on_board, order, Before}
+use Rattle.dob_rank.proofs.Common.{IsPositionOfSet, Precedes, form, forms, key, Chicks, Elephants, EnemyLion, Giraffes, OwnLion}
 use Rattle.std.proofs.lemmas.List.Elements.{filter_agree}
-use Rattle.dob_pieces.specs.declared.kind.HandKind.{HandKind}
 use Rattle.dob_pieces.specs.declared.kind.HandKind.TheVariants as hand
-use Rattle.dob_pieces.specs.declared.kind.Side.TheVariants.{Mover, Enemy}
-use Rattle.dob_pieces.specs.declared.piece_set.PieceSet.{PieceSet}
-use Rattle.dob_pieces.specs.declared.setup.Setup.{Setup}
-use Rattle.dob_pieces.specs.Setups.{Cell, holds_lion, holds_kind}
 use Rattle.dob_pieces.proofs.Lists.{append-same}
-use Rattle.dob_rank.specs.Order.{IsPositionOfSet, Precedes, Before, key, forms, form}
-use Rattle.dob_rank.specs.Numbers.{layer, count, choice, forms_number, on_board, digits, order}
-use Rattle.dob_rank.specs.declared.layers.Layer.TheVariants.{OwnLion, EnemyLion, Chicks, Elephants, Giraffes}
 use Rattle.dob_rank.proofs.Boards.Choices.{Alike, Alike-next, choice-rises, layer_squares}
 use Rattle.dob_rank.proofs.Boards.LayerCounts.{holds_mover_lion, holds_enemy_lion, holds_kind-layer, count-layer, squares-layer}
-use Rattle.dob_rank.proofs.Boards.KeyParts.{length-layer_squares, Alike-start, choice-alike, layer_forms, length-layer_forms, forms_number-rises, forms_number-alike}
+use Rattle.dob_rank.proofs.Boards.KeyParts.{length-layer_squares, Alike-start, choice-alike, layer_forms, length-layer_forms, forms_number-rises}
+use Rattle.dob_rank.proofs.Boards.KeyParts.{forms_number-alike}
 use Rattle.dob_rank.proofs.Arithmetic.Order.{Precedes-split, Precedes-left}
 use Rattle.dob_rank.proofs.Positions.Digits.{HasParts, HasParts-from_position}
 

@@ -1,11 +1,6 @@
 -- The steps of the loops, over plain lists and numbers.
-use Rattle.std.proofs.Common.{◌≡◌, ℕ, zero, suc, ◌+◌, ◌-◌, ◌*◌, ◌/◌, ◌^◌, ◌<◌, ◌≤◌, List, [], ◌∷◌, length, drop}
-use Rattle.std.proofs.Common.{get_or, refl, sym, ap, ◌∙◌, arith}
-use Rattle.std.specs.List.{All}
-use Rattle.std.proofs.lemmas.List.{drop_more}
-use Rattle.std.proofs.lemmas.Nat.{mul-le}
-use Rattle.std.proofs.Math.Nat.{mul_comm, pow-zero, pow-succ'}
-use Rattle.dob_rank.specs.Numbers.{product, HasDigits, choose}
+use Rattle.dob_rank.proofs.Common.{◌*◌, ◌+◌, ◌-◌, ◌/◌, ◌<◌, ◌^◌, ◌∙◌, ◌∷◌, ◌≡◌, ◌≤◌, List, [], ap, arith, drop, get_or, length, refl, suc, sym, zero, ℕ}
+use Rattle.dob_rank.proofs.Common.{mul_comm, pow-succ', pow-zero, drop_more, mul-le, All, HasDigits, choose, product}
 use Rattle.dob_rank.proofs.Arithmetic.MixedRadix.{digit_below}
 
 -- ---- the rest of a list, one element further back

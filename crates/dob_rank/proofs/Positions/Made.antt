@@ -1,22 +1,14 @@
 -- The setup made of digits that are below their bases: it is a position of the set, and has those digits.
-use Rattle.std.proofs.Common.{◌≡◌, ℕ, suc, ◌+◌, ◌-◌, ◌%◌, ◌^◌, ◌<◌, ◌≤◌, ◌⊎◌, List, [], ◌∷◌, length, map, get_or, refl, sym, ap}
-use Rattle.std.proofs.Common.{◌∙◌, subst, inr, arith}
-use Rattle.std.proofs.lemmas.List.{length-map}
-use Rattle.std.proofs.Math.Nat.{mod-eq_of_lt}
-use Rattle.dob_pieces.specs.declared.kind.HandKind.{HandKind}
+use Rattle.dob_rank.proofs.Common.{◌%◌, ◌+◌, ◌-◌, ◌<◌, ◌^◌, ◌∙◌, ◌∷◌, ◌≡◌, ◌≤◌, ◌⊎◌, List, [], ap, arith, get_or, inr, length, map, refl, subst, suc, sym, ℕ}
+use Rattle.dob_rank.proofs.Common.{mod-eq_of_lt, length-map, Cell, HasLionOffFarRow, HasLions, holds_kind, holds_lion, total, HandKind, Enemy, Mover, PieceSet}
+use Rattle.dob_rank.proofs.Common.{Setup, HasDigits, base_of, bases, block_bases, board_of, choice, choose, count, count_from, digits, empty_layers}
+use Rattle.dob_rank.proofs.Common.{enemy_squares, forms_number, free_squares, layer, numbers_by, on_board, order, own_squares, settle, setup_by}
+use Rattle.dob_rank.proofs.Common.{IsPositionOfSet, pieces_of, Chicks, Elephants, Empty, EnemyLion, Giraffes, OwnLion}
 use Rattle.dob_pieces.specs.declared.kind.HandKind.TheVariants as hand
-use Rattle.dob_pieces.specs.declared.kind.Side.TheVariants.{Mover, Enemy}
-use Rattle.dob_pieces.specs.declared.piece_set.PieceSet.{PieceSet}
-use Rattle.dob_pieces.specs.declared.setup.Setup.{Setup}
-use Rattle.dob_pieces.specs.Setups.{Cell, holds_lion, holds_kind, total, HasLions, HasLionOffFarRow}
-use Rattle.dob_rank.specs.Order.{IsPositionOfSet, pieces_of}
-use Rattle.dob_rank.specs.Numbers.{layer, count, count_from, choose, choice, settle, HasDigits, base_of, forms_number, board_of, bases, order, empty_layers}
-use Rattle.dob_rank.specs.Numbers.{block_bases, on_board, digits, numbers_by, setup_by, own_squares, enemy_squares, free_squares}
-use Rattle.dob_rank.specs.declared.layers.Layer.TheVariants.{OwnLion, EnemyLion, Chicks, Elephants, Giraffes, Empty}
 use Rattle.dob_rank.proofs.Boards.Settled.{hide, hide-hide, AreLayers, AreShown, IsSettled, settle-settles, choice_hide_next, count_hide_next}
 use Rattle.dob_rank.proofs.Boards.FormDigits.{layers-board_of, forms_number-board_of}
-use Rattle.dob_rank.proofs.Boards.LayerCounts.{count_from-next, count_five, AreLayers-shown, length-settle, lion_only, holds_mover_lion}
-use Rattle.dob_rank.proofs.Boards.LayerCounts.{holds_enemy_lion, holds_kind-layer, count-layer, layer-at}
+use Rattle.dob_rank.proofs.Boards.LayerCounts.{count_from-next, count_five, AreLayers-shown, length-settle, lion_only, holds_mover_lion, holds_enemy_lion}
+use Rattle.dob_rank.proofs.Boards.LayerCounts.{holds_kind-layer, count-layer, layer-at}
 
 -- all layers settled on an empty board, by the numbers of pieces and of choices
 abbrev pub all_settled : ℕ → ℕ → ℕ → ℕ → ℕ → ℕ → ℕ → ℕ → List ℕ

@@ -1,14 +1,10 @@
 -- Ranks number the positions of a set, in their order.
-use Rattle.std.proofs.Common.{◌≡◌, ℕ, zero, suc, ◌+◌, ◌-◌, ◌<◌, ◌≤◌, Bool, cond, List, [], ◌∷◌, refl, sym, ap, ◌∙◌, subst, inl, inr, arith}
-use Rattle.std.proofs.lemmas.Bool.{cases_lt, lt-ltb, le-ltb}
-use Rattle.dob_pieces.specs.declared.piece_set.PieceSet.{PieceSet}
-use Rattle.dob_pieces.specs.declared.setup.Setup.{Setup}
-use Rattle.dob_rank.specs.Order.{IsPositionOfSet, Before, key}
-use Rattle.dob_rank.specs.Numbers.{product, number_of, digits_of, HasDigits, sum_below, block_bases, bases_by, on_board, digits}
-use Rattle.dob_rank.specs.Numbers.{block_of, block_size, size_of_set, rank_of_set, setup_by, setup_in, find, nth}
+use Rattle.dob_rank.proofs.Common.{◌+◌, ◌-◌, ◌<◌, ◌∙◌, ◌∷◌, ◌≡◌, ◌≤◌, Bool, List, [], ap, arith, cond, inl, inr, refl, subst, suc, sym, zero, ℕ, cases_lt}
+use Rattle.dob_rank.proofs.Common.{le-ltb, lt-ltb, PieceSet, Setup, same_block, sum_below-rises, HasDigits, bases_by, block_bases, block_of, block_size, digits}
+use Rattle.dob_rank.proofs.Common.{digits_of, find, nth, number_of, on_board, product, rank_of_set, setup_by, setup_in, size_of_set, sum_below, Before}
+use Rattle.dob_rank.proofs.Common.{IsPositionOfSet, key}
 pub use Rattle.dob_rank.specs.Numbers.{place_of, HasBlock}
 use Rattle.dob_rank.proofs.Arithmetic.MixedRadix.{number_of-below, number_of-rises, HasDigits-digits_of, number_of-digits_of, digits_of-number_of}
-use Rattle.dob_lists.proofs.Sums.{sum_below-rises, same_block}
 use Rattle.dob_rank.proofs.Positions.Digits.{HasParts, HasParts-from_position, HasDigits-on_board, HasDigits-digits, setup_by-back}
 use Rattle.dob_rank.proofs.Positions.Made.{HasPlace, made, IsMade-made, IsPositionOfSet-made, on_board-made, digits-made, all_settled}
 use Rattle.dob_rank.proofs.Positions.Keys.{Before-digits, key-same}

@@ -1,17 +1,11 @@
 -- A position and its piece set.
-use Rattle.std.proofs.Common.{◌≡◌, ℕ, zero, suc, ◌+◌, ◌<◌, ◌≤◌, List, map, slice_index, refl, sym, ap, ◌∙◌, subst, arith}
+use Rattle.dob_rank.proofs.Common.{◌+◌, ◌<◌, ◌∙◌, ◌≡◌, ◌≤◌, List, ap, arith, map, refl, slice_index, subst, suc, sym, zero, ℕ, IsLegal, total, HandKind}
+use Rattle.dob_rank.proofs.Common.{PieceSet, Setup, sum_same, bases, bases_by, block_bases, block_of, block_size, count, digits, digits_of, layer, number_of}
+use Rattle.dob_rank.proofs.Common.{on_board, order, product, rank_of_set, sum_below, IsPositionOfSet, pieces_of, Chicks, Elephants, Empty, EnemyLion, Giraffes}
+use Rattle.dob_rank.proofs.Common.{OwnLion}
 use Rattle.std.proofs.Math.Bridge.{le_prop}
-use Rattle.dob_pieces.specs.declared.kind.HandKind.{HandKind}
 use Rattle.dob_pieces.specs.declared.kind.HandKind.TheVariants as hand
-use Rattle.dob_pieces.specs.declared.piece_set.PieceSet.{PieceSet}
-use Rattle.dob_pieces.specs.declared.setup.Setup.{Setup}
-use Rattle.dob_pieces.specs.Setups.{total, IsLegal}
-use Rattle.dob_rank.specs.Order.{IsPositionOfSet, pieces_of}
-use Rattle.dob_rank.specs.Numbers.{layer, count, product, number_of, digits_of, sum_below, block_bases, bases, bases_by, on_board, digits, order}
-use Rattle.dob_rank.specs.Numbers.{block_of, block_size, rank_of_set}
-use Rattle.dob_rank.specs.declared.layers.Layer.TheVariants.{OwnLion, EnemyLion, Chicks, Elephants, Giraffes, Empty}
 use Rattle.dob_rank.proofs.Positions.Digits.{HasParts, HasParts-from_position}
-use Rattle.dob_lists.proofs.Sums.{sum_same}
 use Rattle.dob_rank.proofs.Positions.Numbering.{place_of, block_size-product, rank_of_set-place}
 
 -- a legal setup with the totals of the set

@@ -1,12 +1,7 @@
 -- Which boards a profile allows, by the forms of their chicks.
-use Rattle.std.proofs.Common.{◌≡◌, ℕ, zero, suc, ◌/◌, ◌%◌, ◌^◌, ◌≤◌, ◌&&◌, Bool, true, List, [], ◌∷◌, refl, sym, ap, ◌∙◌, subst, inl, inr, arith}
-use Rattle.std.proofs.lemmas.Bool.{cases_eq, ne_eqb}
-use Rattle.dob_pieces.specs.declared.profile.Profile.{Profile}
-use Rattle.dob_pieces.specs.declared.profile.Profile.TheVariants.{A, B}
-use Rattle.dob_pieces.specs.Profiles.{may_stand, may_all_stand}
-use Rattle.dob_rank.specs.Numbers.{count, order, base_of, cell_of, board_of}
-use Rattle.dob_rank.specs.Weights.{may_have, are_allowed}
-use Rattle.dob_rank.specs.declared.layers.Layer.TheVariants.{Chicks, Empty}
+use Rattle.dob_rank.proofs.Common.{◌%◌, ◌&&◌, ◌/◌, ◌^◌, ◌∙◌, ◌∷◌, ◌≡◌, ◌≤◌, Bool, List, [], ap, arith, inl, inr, refl, subst, suc, sym, true, zero, ℕ, cases_eq}
+use Rattle.dob_rank.proofs.Common.{ne_eqb, may_all_stand, Profile, A, B, base_of, board_of, cell_of, count, order, are_allowed, may_have, Chicks, Empty}
+use Rattle.dob_pieces.specs.Profiles.{may_stand}
 use Rattle.dob_rank.proofs.Boards.Settled.{AreLayers}
 
 -- what isn't a chick may stand anywhere

@@ -1,15 +1,9 @@
 -- A position's place in profile B by what the code finds of it.
-use Rattle.std.proofs.Common.{◌≡◌, ℕ, ◌+◌, ◌-◌, ◌*◌, ◌/◌, ◌%◌, ◌^◌, ◌<◌, ◌≤◌, List, [], ◌∷◌, map, get_or, slice_index, refl, sym, ap, ◌∙◌, subst, arith}
-use Rattle.dob_pieces.specs.declared.piece_set.PieceSet.{PieceSet}
-use Rattle.dob_pieces.specs.declared.profile.Profile.TheVariants.{B}
-use Rattle.dob_pieces.specs.declared.setup.Setup.{Setup}
-use Rattle.dob_rank.specs.Order.{IsPositionOfSet}
-use Rattle.dob_rank.specs.Numbers.{product, block_bases, size_of_set, rank_of_set, choose, free_squares, block_of, start_of, on_board, digits, layer, count, order}
-use Rattle.dob_rank.specs.Marks.{marks_below}
-use Rattle.dob_rank.specs.Runs.{run_number, run_of, lions_of, lion_pairs, local_of}
-use Rattle.dob_rank.specs.Families.{family_of, IsPositionOf, is_present, rank_of}
-use Rattle.dob_rank.specs.Weights.{may_have, allowed_number, others_squares, others_forms, squares_by, others_by, place_in}
-use Rattle.dob_rank.specs.declared.layers.Layer.TheVariants.{Chicks}
+use Rattle.dob_rank.proofs.Common.{◌%◌, ◌*◌, ◌+◌, ◌-◌, ◌/◌, ◌<◌, ◌^◌, ◌∙◌, ◌∷◌, ◌≡◌, ◌≤◌, List, [], ap, arith, get_or, map, refl, slice_index, subst, sym, ℕ}
+use Rattle.dob_rank.proofs.Common.{PieceSet, B, Setup, IsPositionOf, family_of, is_present, rank_of, marks_below, block_bases, block_of, choose, count, digits}
+use Rattle.dob_rank.proofs.Common.{free_squares, layer, on_board, order, product, rank_of_set, size_of_set, start_of, IsPositionOfSet, lion_pairs, lions_of}
+use Rattle.dob_rank.proofs.Common.{local_of, run_number, run_of, allowed_number, may_have, others_by, others_forms, others_squares, place_in, squares_by}
+use Rattle.dob_rank.proofs.Common.{Chicks}
 use Rattle.dob_rank.proofs.Arithmetic.MixedRadix.{number_of-below}
 use Rattle.dob_rank.proofs.Positions.Digits.{HasParts-from_position, HasDigits-digits}
 use Rattle.dob_rank.proofs.Positions.Numbering.{rank_of_set-below}

@@ -1,17 +1,10 @@
 -- The place of a run before which the run has so many positions of profile B, by its choice, squares and forms.
-use Rattle.std.proofs.Common.{◌≡◌, ℕ, suc, ◌+◌, ◌-◌, ◌*◌, ◌/◌, ◌%◌, ◌^◌, ◌<◌, ◌≤◌, Bool, true, false, List, slice_index, refl, sym, ap, ◌∙◌, subst, arith}
-use Rattle.std.proofs.lemmas.Nat.{div-mul-add, div_below, mod_below, div-add-mod'}
-use Rattle.std.proofs.Math.Nat.{mul_comm, mul_assoc, add-mul, mul-le-mul, mul-le-mul_right}
-use Rattle.dob_pieces.specs.declared.piece_set.PieceSet.{PieceSet}
-use Rattle.dob_pieces.specs.declared.profile.Profile.TheVariants.{B}
-use Rattle.dob_rank.specs.Numbers.{product, digits_of, sum_below, choose, settle, order, block_bases, free_squares}
-use Rattle.dob_rank.specs.Marks.{one_if, marks_below}
-use Rattle.dob_rank.specs.Runs.{runs_in, run_start, lion_pairs}
-use Rattle.dob_rank.specs.Families.{family_of, is_present}
-use Rattle.dob_rank.specs.Places.{stands, AreChickParts, IsPresentAt, IsPlaceFor}
-use Rattle.dob_rank.specs.Weights.{weight, forms_on, may_have, are_allowed, forms_stand, lions_in, choice_weight, forms_before, lions_before}
-use Rattle.dob_rank.specs.Weights.{hand_size, others_squares, others_forms}
-use Rattle.dob_rank.specs.declared.layers.Layer.TheVariants.{Chicks}
+use Rattle.dob_rank.proofs.Common.{◌%◌, ◌*◌, ◌+◌, ◌-◌, ◌/◌, ◌<◌, ◌^◌, ◌∙◌, ◌≡◌, ◌≤◌, Bool, List, ap, arith, false, refl, slice_index, subst, suc, sym, true, ℕ}
+use Rattle.dob_rank.proofs.Common.{add-mul, mul-le-mul, mul_assoc, mul_comm, div-add-mod', div-mul-add, div_below, mod_below, PieceSet, B, family_of}
+use Rattle.dob_rank.proofs.Common.{is_present, marks_below, one_if, block_bases, choose, digits_of, free_squares, order, product, settle, sum_below}
+use Rattle.dob_rank.proofs.Common.{AreChickParts, IsPlaceFor, IsPresentAt, stands, lion_pairs, run_start, runs_in, are_allowed, choice_weight, forms_before}
+use Rattle.dob_rank.proofs.Common.{forms_on, forms_stand, hand_size, lions_before, lions_in, may_have, others_forms, others_squares, weight, Chicks}
+use Rattle.std.proofs.Math.Nat.{mul-le-mul_right}
 use Rattle.dob_rank.proofs.Arithmetic.MixedRadix.{digit_below, factor_positive}
 use Rattle.dob_rank.proofs.Positions.Blocks.{sum_below_more, choose_ten, four_small}
 use Rattle.dob_rank.proofs.Marked.Words.{marks_below_more}

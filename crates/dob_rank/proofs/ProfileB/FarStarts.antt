@@ -1,14 +1,7 @@
 -- The table of the blocks' starts in profile B is the sum of the blocks before: computed for each set and each block.
-use Rattle.std.proofs.Common.{◌≡◌, ℕ, ◌+◌, ◌-◌, ◌*◌, ◌<◌, ◌≤◌, true, List, [], ◌∷◌, slice_index, refl, sym, ap, ◌∙◌, arith}
-use Rattle.dob_pieces.specs.declared.piece_set.PieceSet.{PieceSet}
-use Rattle.dob_pieces.specs.declared.profile.Profile.{Profile}
-use Rattle.dob_pieces.specs.declared.profile.Profile.TheVariants.{A, B}
-use Rattle.dob_rank.specs.Numbers.{product, digits_of, block_bases, start_of}
-use Rattle.dob_rank.specs.Marks.{marks_below}
-use Rattle.dob_rank.specs.Runs.{lion_pairs}
-use Rattle.dob_rank.specs.Families.{family_of, is_present}
-use Rattle.dob_rank.specs.Weights.{others_squares, others_forms}
-use Rattle.dob_lists.proofs.Sums.{sum_same}
+use Rattle.dob_rank.proofs.Common.{◌*◌, ◌+◌, ◌-◌, ◌<◌, ◌∙◌, ◌∷◌, ◌≡◌, ◌≤◌, List, [], ap, arith, refl, slice_index, sym, true, ℕ, PieceSet, Profile, A, B}
+use Rattle.dob_rank.proofs.Common.{sum_same, family_of, is_present, marks_below, block_bases, digits_of, product, start_of, lion_pairs, others_forms}
+use Rattle.dob_rank.proofs.Common.{others_squares}
 use Rattle.dob_rank.proofs.Positions.Blocks.{few_in_block}
 use Rattle.dob_rank.proofs.InRuns.DigitParts.{AreFewOnBoard-digits}
 use Rattle.dob_rank.proofs.Positions.BlockStarts.{bases_of, on_all, agrees, start_at, entry_is, start_is}

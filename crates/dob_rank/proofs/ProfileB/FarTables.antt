@@ -1,15 +1,9 @@
 -- The tables of profile B are the sums that they stand for, computed for each number of chicks and each shape of the squares that the lions leave.
-use Rattle.std.proofs.Common.{◌≡◌, ℕ, zero, suc, ◌+◌, ◌*◌, ◌/◌, ◌%◌, ◌<◌, ◌≤◌, ◌&&◌, nat_eq, nat_lt, Bool, true, false, List, [], ◌∷◌, slice_index_or}
-use Rattle.std.proofs.Common.{refl, sym, ap, ◌∙◌, subst, arith}
-use Rattle.std.proofs.lemmas.Bool.{and_parts, ltb-true}
-use Rattle.dob_pieces.specs.declared.profile.Profile.TheVariants.{B}
-use Rattle.dob_pieces.proofs.Boards.{all_below, all_below-at}
+use Rattle.dob_rank.proofs.Common.{◌%◌, ◌&&◌, ◌*◌, ◌+◌, ◌/◌, ◌<◌, ◌∙◌, ◌∷◌, ◌≡◌, ◌≤◌, Bool, List, [], ap, arith, false, nat_eq, nat_lt, refl, slice_index_or}
+use Rattle.dob_rank.proofs.Common.{subst, suc, sym, true, zero, ℕ, and_parts, ltb-true, all_below, all_below-at, B, marks_below, choose, enemy_squares}
+use Rattle.dob_rank.proofs.Common.{free_squares, order, own_squares, lion_pairs, choice_weight, chosen, forms_before, forms_on, free_weights, hand_size}
+use Rattle.dob_rank.proofs.Common.{lions_before, lions_in, may_have, weights_of, Chicks, Empty}
 use Rattle.dob_rank.specs.declared.far_rows.TheConstants.{SHAPE, BEFORE, LIONS_BEFORE, FORMS_BELOW}
-use Rattle.dob_rank.specs.Numbers.{choose, order, own_squares, enemy_squares, free_squares}
-use Rattle.dob_rank.specs.Marks.{marks_below}
-use Rattle.dob_rank.specs.Runs.{lion_pairs}
-use Rattle.dob_rank.specs.Weights.{free_weights, chosen, may_have, forms_on, lions_in, choice_weight, weights_of, forms_before, lions_before, hand_size}
-use Rattle.dob_rank.specs.declared.layers.Layer.TheVariants.{Chicks, Empty}
 use Rattle.dob_rank.proofs.Boards.Settled.{hide}
 use Rattle.dob_rank.proofs.Positions.BlockStarts.{same_number}
 use Rattle.dob_rank.proofs.InRuns.Lions.{pair_layers, lions_layers, lions_layers-pair}

@@ -1,20 +1,9 @@
 -- The position of a rank of profile B: its block, its spot there, and that it is the one of that rank.
-use Rattle.std.proofs.Common.{◌≡◌, ℕ, ◌+◌, ◌-◌, ◌*◌, ◌/◌, ◌%◌, ◌^◌, ◌<◌, ◌≤◌, true, List, slice_index, refl, sym, ap, ◌∙◌, subst, arith}
-use Rattle.std.proofs.lemmas.Nat.{div_below, div-add-mod'}
-use Rattle.std.proofs.Math.Nat.{mul_comm, mul-pos, mul-le-mul}
-use Rattle.dob_pieces.specs.declared.piece_set.PieceSet.{PieceSet}
-use Rattle.dob_pieces.specs.declared.profile.Family.{Family}
-use Rattle.dob_pieces.specs.declared.profile.Profile.{Profile}
-use Rattle.dob_pieces.specs.declared.profile.Profile.TheVariants.{A, B}
-use Rattle.dob_pieces.specs.declared.setup.Setup.{Setup}
-use Rattle.dob_pieces.specs.Profiles.{is_allowed}
-use Rattle.dob_rank.specs.Order.{IsPositionOfSet}
-use Rattle.dob_rank.specs.Numbers.{product, number_of, digits_of, block_bases, start_of, free_squares, nth, size_of_set, rank_of_set, HasBlock}
-use Rattle.dob_rank.specs.Marks.{marks_below}
-use Rattle.dob_rank.specs.Runs.{AreFewOnBoard, runs_in, run_size, run_start, lion_pairs, local_bases}
-use Rattle.dob_rank.specs.Families.{family_of, IsPositionOf, HasRank, IsRanked, is_present, size_of, rank_of}
-use Rattle.dob_rank.specs.Places.{IsPlaceFor, IsPresentIn, IsSpotFor}
-use Rattle.dob_rank.specs.Weights.{forms_in, lions_before, hand_size, others_squares, others_forms}
+use Rattle.dob_rank.proofs.Common.{◌%◌, ◌*◌, ◌+◌, ◌-◌, ◌/◌, ◌<◌, ◌^◌, ◌∙◌, ◌≡◌, ◌≤◌, List, ap, arith, refl, slice_index, subst, sym, true, ℕ, mul-le-mul}
+use Rattle.dob_rank.proofs.Common.{mul-pos, mul_comm, div-add-mod', div_below, is_allowed, PieceSet, Family, Profile, A, B, Setup, HasRank, IsPositionOf}
+use Rattle.dob_rank.proofs.Common.{IsRanked, family_of, is_present, rank_of, size_of, marks_below, HasBlock, block_bases, digits_of, free_squares, nth}
+use Rattle.dob_rank.proofs.Common.{number_of, product, rank_of_set, size_of_set, start_of, IsPositionOfSet, IsPlaceFor, IsPresentIn, IsSpotFor, AreFewOnBoard}
+use Rattle.dob_rank.proofs.Common.{lion_pairs, local_bases, run_size, run_start, runs_in, forms_in, hand_size, lions_before, others_forms, others_squares}
 use Rattle.dob_rank.proofs.Positions.Blocks.{sum_below_more, choose-positive, room_left}
 use Rattle.dob_rank.proofs.Marked.Words.{marks_below-le}
 use Rattle.dob_rank.proofs.InRuns.RunMarks.{start_small}

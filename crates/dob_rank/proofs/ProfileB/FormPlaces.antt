@@ -1,15 +1,7 @@
 -- How many allowed numbers of forms stand before that of a board's pieces.
-use Rattle.std.proofs.Common.{◌≡◌, ℕ, suc, ◌+◌, ◌-◌, ◌*◌, ◌^◌, ◌<◌, ◌&&◌, Bool, true, List, [], ◌∷◌, None, length, map, get_or, bit_and}
-use Rattle.std.proofs.Common.{refl, sym, ap, ◌∙◌, subst, inl, inr, arith}
-use Rattle.std.proofs.lemmas.Bool.{cases_eq, eq-eqb, ne_eqb, and_parts}
-use Rattle.std.proofs.Math.Nat.{mul_comm}
-use Rattle.dob_pieces.specs.Setups.{Cell}
-use Rattle.dob_rank.specs.Order.{form}
-use Rattle.dob_rank.specs.Numbers.{sum_below, layer, count, base_of, forms_number}
-use Rattle.dob_rank.specs.Marks.{one_if, marks_below}
-use Rattle.dob_rank.specs.Masks.{layer_mask}
-use Rattle.dob_rank.specs.Weights.{weight, are_allowed, allowed_number}
-use Rattle.dob_lists.proofs.Sums.{sum_same, sum_times, sum_blocks}
+use Rattle.dob_rank.proofs.Common.{◌&&◌, ◌*◌, ◌+◌, ◌-◌, ◌<◌, ◌^◌, ◌∙◌, ◌∷◌, ◌≡◌, Bool, List, None, [], ap, arith, bit_and, get_or, inl, inr, length, map, refl}
+use Rattle.dob_rank.proofs.Common.{subst, suc, sym, true, ℕ, mul_comm, and_parts, cases_eq, eq-eqb, ne_eqb, Cell, sum_blocks, sum_same, sum_times, marks_below}
+use Rattle.dob_rank.proofs.Common.{one_if, layer_mask, base_of, count, forms_number, layer, sum_below, form, allowed_number, are_allowed, weight}
 use Rattle.dob_rank.proofs.Marked.Words.{marks_below_none}
 use Rattle.dob_rank.proofs.InRuns.RunMarks.{marks_agree}
 use Rattle.dob_rank.proofs.Boards.Choices.{count_same, count_other}

@@ -1,14 +1,9 @@
 -- Which forms the chicks of a choice may have, by the squares that it takes.
-use Rattle.std.proofs.Common.{◌≡◌, ℕ, zero, suc, ◌+◌, ◌*◌, ◌/◌, ◌%◌, ◌^◌, ◌<◌, ◌≤◌, ◌&&◌, Bool, true, false, List, [], ◌∷◌, length, refl, sym, ap, ◌∙◌, subst, inl, inr, arith}
+use Rattle.dob_rank.proofs.Common.{◌%◌, ◌&&◌, ◌*◌, ◌+◌, ◌/◌, ◌<◌, ◌^◌, ◌∙◌, ◌∷◌, ◌≡◌, ◌≤◌, Bool, List, [], ap, arith, false, inl, inr, length, refl, subst, suc}
+use Rattle.dob_rank.proofs.Common.{sym, true, zero, ℕ, pow-succ', pow-zero, cases_eq, B, choose, count, empty_layers, enemy_squares, free_squares, order}
+use Rattle.dob_rank.proofs.Common.{settle, first_place, higher_of, lower_of, past, second_place, lion_pairs, are_allowed, forms_stand, lions_in, may_have}
+use Rattle.dob_rank.proofs.Common.{Chicks, Empty, EnemyLion, OwnLion}
 use Rattle.std.proofs.Math.ListN.{set}
-use Rattle.std.proofs.lemmas.Bool.{cases_eq}
-use Rattle.std.proofs.Math.Nat.{pow-zero, pow-succ'}
-use Rattle.dob_pieces.specs.declared.profile.Profile.TheVariants.{B}
-use Rattle.dob_rank.specs.Numbers.{count, choose, settle, order, enemy_squares, free_squares, empty_layers}
-use Rattle.dob_rank.specs.Placing.{past, lower_of, higher_of, first_place, second_place}
-use Rattle.dob_rank.specs.Runs.{lion_pairs}
-use Rattle.dob_rank.specs.Weights.{may_have, are_allowed, forms_stand, lions_in}
-use Rattle.dob_rank.specs.declared.layers.Layer.TheVariants.{OwnLion, EnemyLion, Chicks, Empty}
 use Rattle.dob_rank.proofs.Boards.Choices.{count_same, count_other}
 use Rattle.dob_rank.proofs.ProfileB.Weights.{allowed_other, allowed_same}
 use Rattle.dob_rank.proofs.Boards.EmptySquares.{empty_place, empty_place-below, kept, settle_none, settle_one, settle_two, choose_one}

@@ -1,10 +1,7 @@
 -- The board of two lions alone: ten squares are left, and the weight of a choice among them follows from their weights.
-use Rattle.std.proofs.Common.{◌≡◌, ℕ, zero, suc, ◌+◌, ◌-◌, ◌*◌, ◌/◌, ◌%◌, ◌<◌, ◌≤◌, ◌⊎◌, List, [], ◌∷◌, length, refl, sym, ap, ◌∙◌, subst, inl, inr, arith}
-use Rattle.std.proofs.lemmas.Bool.{cases_eq, cases_lt, lt-ltb, le-ltb, ne_eqb}
-use Rattle.dob_rank.specs.Numbers.{count, choose, with_first, settle, order, own_squares, enemy_squares, free_squares, empty_layers}
-use Rattle.dob_rank.specs.Runs.{lion_pairs}
-use Rattle.dob_rank.specs.Weights.{weight, free_weights, chosen, lions_in}
-use Rattle.dob_rank.specs.declared.layers.Layer.TheVariants.{OwnLion, EnemyLion, Chicks, Empty}
+use Rattle.dob_rank.proofs.Common.{◌%◌, ◌*◌, ◌+◌, ◌-◌, ◌/◌, ◌<◌, ◌∙◌, ◌∷◌, ◌≡◌, ◌≤◌, ◌⊎◌, List, [], ap, arith, inl, inr, length, refl, subst, suc, sym, zero, ℕ}
+use Rattle.dob_rank.proofs.Common.{cases_eq, cases_lt, le-ltb, lt-ltb, ne_eqb, choose, count, empty_layers, enemy_squares, free_squares, order, own_squares}
+use Rattle.dob_rank.proofs.Common.{settle, with_first, lion_pairs, chosen, free_weights, lions_in, weight, Chicks, Empty, EnemyLion, OwnLion}
 use Rattle.dob_rank.proofs.Boards.Choices.{count_same, count_other}
 use Rattle.dob_rank.proofs.Boards.Settled.{AreShown, IsSettled, settle-settles, settle_kept, settle_taken, settle_left}
 use Rattle.dob_rank.proofs.Positions.Made.{empty_after, eleven, below_twelve, all_empty, lion_before_empty}

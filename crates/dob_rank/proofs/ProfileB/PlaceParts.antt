@@ -1,11 +1,7 @@
 -- The parts of a place of profile B as the code finds them, and that they are small.
-use Rattle.std.proofs.Common.{◌≡◌, ℕ, ◌+◌, ◌-◌, ◌*◌, ◌^◌, ◌<◌, ◌≤◌, List, [], ◌∷◌, get_or, slice_index, sym, ap, ◌∙◌, subst, arith}
-use Rattle.std.proofs.Math.Nat.{mul-le-mul}
-use Rattle.dob_pieces.specs.declared.profile.Profile.TheVariants.{B}
-use Rattle.dob_rank.specs.Numbers.{product, number_of, choose, free_squares}
-use Rattle.dob_rank.specs.Runs.{AreFewOnBoard, square_bases}
-use Rattle.dob_rank.specs.Weights.{others_squares, others_forms, squares_by, others_by, hand_size, lions_before, forms_before, choice_weight}
-use Rattle.dob_rank.specs.Weights.{place_behind, place_in, local_in}
+use Rattle.dob_rank.proofs.Common.{◌*◌, ◌+◌, ◌-◌, ◌<◌, ◌^◌, ◌∙◌, ◌∷◌, ◌≡◌, ◌≤◌, List, [], ap, arith, get_or, slice_index, subst, sym, ℕ, mul-le-mul, B, choose}
+use Rattle.dob_rank.proofs.Common.{free_squares, number_of, product, AreFewOnBoard, square_bases, choice_weight, forms_before, hand_size, lions_before}
+use Rattle.dob_rank.proofs.Common.{local_in, others_by, others_forms, others_squares, place_behind, place_in, squares_by}
 use Rattle.dob_rank.proofs.Positions.Blocks.{product-at_most, choose-small, two_small, most_choices}
 
 two_digits : (b c x y : ℕ) → x * c + y ≡ number_of (b ∷ c ∷ []) (x ∷ y ∷ [])

@@ -1,15 +1,10 @@
 -- How many of a run's places are of the family, before each of them.
-use Rattle.std.proofs.Common.{◌≡◌, ℕ, suc, ◌+◌, ◌-◌, ◌*◌, ◌/◌, ◌%◌, ◌^◌, ◌<◌, ◌≤◌, ◌&&◌, cond, eqb, Bool, true, List, [], ◌∷◌, refl, sym, ap, ◌∙◌, subst, inl, inr, arith}
-use Rattle.std.proofs.lemmas.Bool.{cases_eq, cases_lt, ne_eqb}
-use Rattle.std.proofs.Math.Nat.{mul_comm}
-use Rattle.dob_rank.specs.Numbers.{sum_below, count, with_first, settle, order}
-use Rattle.dob_rank.specs.Marks.{one_if, marks_below}
-use Rattle.dob_rank.specs.Weights.{are_allowed}
-use Rattle.dob_rank.specs.declared.layers.Layer.TheVariants.{Empty}
+use Rattle.dob_rank.proofs.Common.{◌%◌, ◌&&◌, ◌*◌, ◌+◌, ◌-◌, ◌/◌, ◌<◌, ◌^◌, ◌∙◌, ◌∷◌, ◌≡◌, ◌≤◌, Bool, List, [], ap, arith, cond, eqb, inl, inr, refl, subst}
+use Rattle.dob_rank.proofs.Common.{suc, sym, true, ℕ, mul_comm, cases_eq, cases_lt, ne_eqb, sum_alike, sum_blocks, sum_same, sum_times, marks_below, one_if}
+use Rattle.dob_rank.proofs.Common.{count, order, settle, sum_below, with_first, are_allowed, Empty}
 use Rattle.dob_rank.proofs.Arithmetic.MixedRadix.{digit_below}
 use Rattle.dob_rank.proofs.Boards.Choices.{count_other}
 use Rattle.dob_rank.proofs.Boards.Settled.{settle_kept, settle_taken, settle_left}
-use Rattle.dob_lists.proofs.Sums.{sum_same, sum_times, sum_blocks, sum_alike}
 
 -- ---- marks that a part of the place gives
 

@@ -1,14 +1,8 @@
 -- Weighted counts: the sum of the weights of all choices, and how many numbers stand for allowed forms.
-use Rattle.std.proofs.Common.{◌≡◌, ℕ, suc, ◌+◌, ◌-◌, ◌*◌, ◌/◌, ◌%◌, ◌^◌, ◌<◌, ◌&&◌, Bool, true, false, List, [], ◌∷◌, refl, sym, ap, ◌∙◌, subst, inl, inr, arith}
-use Rattle.std.proofs.lemmas.Bool.{cases_eq, eq-eqb, ne_eqb}
-use Rattle.std.proofs.lemmas.Nat.{div-mul-add, mod-mul-add, mod_below, same_from_place}
-use Rattle.std.proofs.Math.Arith.{mod-mul}
-use Rattle.std.proofs.Math.Nat.{mul_comm, pow-succ', pow-zero, mod-eq_of_lt}
-use Rattle.dob_rank.specs.Numbers.{sum_below, count, choose, with_first, settle, order}
-use Rattle.dob_rank.specs.Marks.{one_if, marks_below}
-use Rattle.dob_rank.specs.Weights.{weight, are_allowed}
-use Rattle.dob_rank.specs.declared.layers.Layer.TheVariants.{Empty}
-use Rattle.dob_lists.proofs.Sums.{sum_same, sum_times, sum_blocks}
+use Rattle.dob_rank.proofs.Common.{◌%◌, ◌&&◌, ◌*◌, ◌+◌, ◌-◌, ◌/◌, ◌<◌, ◌^◌, ◌∙◌, ◌∷◌, ◌≡◌, Bool, List, [], ap, arith, false, inl, inr, refl, subst, suc, sym}
+use Rattle.dob_rank.proofs.Common.{true, ℕ, mod-mul, mod-eq_of_lt, mul_comm, pow-succ', pow-zero, cases_eq, eq-eqb, ne_eqb, div-mul-add, mod-mul-add, mod_below}
+use Rattle.dob_rank.proofs.Common.{same_from_place, sum_blocks, sum_same, sum_times, marks_below, one_if, choose, count, order, settle, sum_below, with_first}
+use Rattle.dob_rank.proofs.Common.{are_allowed, weight, Empty}
 use Rattle.dob_rank.proofs.Boards.Choices.{count_same, count_other}
 use Rattle.dob_rank.proofs.Boards.Settled.{settle_kept, settle_taken, settle_left}
 use Rattle.dob_rank.proofs.Boards.FormDigits.{power_positive}

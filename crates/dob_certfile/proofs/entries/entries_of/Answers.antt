@@ -1,7 +1,5 @@
 -- One entry more.
-use Rattle.std.proofs.Common.{arith}
-use Rattle.std.proofs.lemmas.Result.{err_from_is_err_and}
-use Rattle.dob_certfile.specs.Reading.{entries_at}
+use Rattle.dob_certfile.proofs.Common.{arith, err_from_is_err_and, entries_at}
 use Rattle.dob_certfile.proofs.Loop.{goes_on, ends, is_done}
 use Rattle.dob_certfile.proofs.Verdicts.{read_ascends}
 use Rattle.dob_certfile.proofs.entries.entries_of.Goals as goal

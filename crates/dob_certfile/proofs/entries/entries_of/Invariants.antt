@@ -1,6 +1,5 @@
 -- What was read before, and what is still read, is the whole.
-use Rattle.std.proofs.Common.{◌≡◌, ◌-◌, ◌≤◌}
-use Rattle.dob_certfile.specs.Reading.{entries_at}
+use Rattle.dob_certfile.proofs.Common.{◌-◌, ◌≡◌, ◌≤◌, entries_at}
 use Rattle.dob_certfile.proofs.Loop.{with_front}
 use Rattle.dob_certfile.proofs.entries.entries_of.Given as goal
 

@@ -1,6 +1,5 @@
 -- By one byte, and the number that the bytes after it stand for.
-use Rattle.std.proofs.Common.{◌-◌, arith}
-use Rattle.std.proofs.lemmas.Result.{err_from_is_err_and}
+use Rattle.dob_certfile.proofs.Common.{◌-◌, arith, err_from_is_err_and}
 use Rattle.dob_certfile.proofs.Digits.{number_err, number_low, number_last, number_more_err, number_zero, number_more, low_room, high_room, limit_small}
 use Rattle.dob_certfile.proofs.numbers.+number_of.Goals as goal
 

@@ -1,6 +1,5 @@
 -- The rest is the digest, or not.
-use Rattle.std.proofs.Common.{arith}
-use Rattle.std.proofs.lemmas.Bool.{iff_false}
+use Rattle.dob_certfile.proofs.Common.{arith, iff_false}
 use Rattle.dob_certfile.proofs.Files.{seal_right, seal_wrong}
 use Rattle.dob_certfile.proofs.read.check_seal.Goals as goal
 

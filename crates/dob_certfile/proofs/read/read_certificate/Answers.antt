@@ -1,7 +1,5 @@
 -- By the two laws of what is read.
-use Rattle.std.proofs.Common.{ap, subst, ◌∙◌, arith}
-use Rattle.dob_certfile.specs.Format.{content}
-use Rattle.dob_certfile.specs.Reading.{MayGive, file_at}
+use Rattle.dob_certfile.proofs.Common.{◌∙◌, ap, arith, subst, content, MayGive, file_at}
 use Rattle.dob_certfile.proofs.Verdicts.{is_found, is_fault}
 use Rattle.dob_certfile.proofs.Files.{file_again}
 use Rattle.dob_certfile.proofs.read.read_certificate.Goals as goal

@@ -1,8 +1,5 @@
 -- Each list has few entries, and the pieces are the contents.
-use Rattle.std.proofs.Common.{length, ap, arith}
-use Rattle.dob_rank.specs.Families.{classes_of}
-use Rattle.dob_rank.proofs.OfFamilies.ClassBounds.{classes_of-below}
-use Rattle.dob_certfile.specs.Format.{content}
+use Rattle.dob_certfile.proofs.Common.{ap, arith, length, classes_of-below, classes_of, content}
 use Rattle.dob_certfile.proofs.Files.{few_entries, pieces}
 use Rattle.dob_certfile.proofs.write.push_contents.Goals as goal
 

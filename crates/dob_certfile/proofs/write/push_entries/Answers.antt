@@ -1,6 +1,5 @@
 -- One entry more.
-use Rattle.std.proofs.Common.{◌++◌}
-use Rattle.dob_certfile.specs.Format.{entries_bytes}
+use Rattle.dob_certfile.proofs.Common.{◌++◌, entries_bytes}
 use Rattle.dob_certfile.proofs.Writes.{written_more, written_all}
 use Rattle.dob_certfile.proofs.write.push_entries.Goals as goal
 

@@ -1,6 +1,5 @@
 -- What was written and what is left are the whole.
-use Rattle.std.proofs.Common.{◌++◌}
-use Rattle.dob_certfile.specs.Format.{entries_bytes}
+use Rattle.dob_certfile.proofs.Common.{◌++◌, entries_bytes}
 use Rattle.dob_certfile.proofs.Writes.{AreWritten}
 use Rattle.dob_certfile.proofs.write.push_entries.Given as goal
 

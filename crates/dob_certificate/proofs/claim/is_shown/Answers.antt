@@ -1,7 +1,5 @@
 -- Each kind of claim shows in its way.
-use Rattle.std.proofs.Common.{◌↔◌, sym, subst, IsTrue, IfOk}
-use Rattle.dob_certificate.specs.declared.claim.Claim.{Claim}
-use Rattle.dob_certificate.specs.Claims.{Show}
+use Rattle.dob_certificate.proofs.Common.{◌↔◌, IfOk, IsTrue, subst, sym, Show, Claim}
 use Rattle.dob_certificate.proofs.claim.is_shown.Goals as goal
 
 pub returns-in-Exactly : goal.returns-in-Exactly

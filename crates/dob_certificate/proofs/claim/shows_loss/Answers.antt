@@ -1,6 +1,5 @@
 -- A loss shows by both lists.
-use Rattle.std.proofs.Common.{◌≡◌, rules, arith, false}
-use Rattle.std.proofs.lemmas.Bool.Decides.{nat_tests}
+use Rattle.dob_certificate.proofs.Common.{◌≡◌, arith, false, rules, nat_tests}
 use Rattle.dob_certificate.proofs.claim.shows_loss.Goals as goal
 
 pub returns-then-plies-eq0 : goal.returns-then-plies-eq0

@@ -1,7 +1,6 @@
 -- Each kind of value shows in its way.
-use Rattle.std.proofs.Common.{◌↔◌, sym, subst, IsTrue, IfOk}
+use Rattle.dob_certificate.proofs.Common.{◌↔◌, IfOk, IsTrue, subst, sym, ShowsValue}
 use Rattle.dob_value.specs.declared.value.Value.{Value}
-use Rattle.dob_certificate.specs.Claims.{ShowsValue}
 use Rattle.dob_certificate.proofs.claim.shows_value.Goals as goal
 
 pub returns-in-Loss : goal.returns-in-Loss

@@ -1,8 +1,5 @@
 -- A win shows by both lists where it has more than one ply.
-use Rattle.std.proofs.Common.{◌↔◌, ◌-◌, arith, IsTrue}
-use Rattle.std.proofs.lemmas.Result.{IfOk-weaker}
-use Rattle.dob_certificate.specs.Held.{IsSafe}
-use Rattle.dob_certificate.specs.Claims.{ShowsWon, ShowsWin}
+use Rattle.dob_certificate.proofs.Common.{◌-◌, ◌↔◌, IsTrue, arith, IfOk-weaker, ShowsWin, ShowsWon, IsSafe}
 use Rattle.dob_certificate.proofs.Cases.{said_no, not_so}
 use Rattle.dob_certificate.proofs.claim.shows_win.Goals as goal
 

@@ -1,6 +1,5 @@
 -- The classes before the place ascend.
-use Rattle.std.proofs.Common.{ℕ, ◌+◌, ◌<◌}
-use Rattle.dob_certificate.specs.Ascending.{class_at}
+use Rattle.dob_certificate.proofs.Common.{◌+◌, ◌<◌, ℕ, class_at}
 use Rattle.dob_certificate.proofs.entries.are_ascending.Given as goal
 
 abbrev pub invariant-loop-place : goal.invariant-loop-place

@@ -1,8 +1,6 @@
 -- The search ends at the class, or no place has it.
-use Rattle.std.proofs.Common.{Ok, Err, ◌∙◌, sym, rules}
+use Rattle.dob_certificate.proofs.Common.{◌∙◌, Err, Ok, rules, sym, answers_always, Entry}
 use Rattle.std.proofs.lemmas.List.Elements.{Contains-get_or}
-use Rattle.std.proofs.lemmas.List.Sorted.{answers_always}
-use Rattle.dob_certificate.specs.declared.entry.Entry.{Entry}
 use Rattle.dob_certificate.proofs.Orders.{no_entry, searched, no_place, one_entry}
 use Rattle.dob_certificate.proofs.entries.find_in.Goals as goal
 

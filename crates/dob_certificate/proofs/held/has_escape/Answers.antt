@@ -1,9 +1,5 @@
 -- The move that was found is one, and where none was found none is.
-use Rattle.std.proofs.Common.{refl, rules}
-use Rattle.std.proofs.lemmas.Option.{slice_get_read}
-use Rattle.dob_pieces.specs.declared.setup.Setup.{Setup}
-use Rattle.dob_value.proofs.Successors.{move_goes}
-use Rattle.dob_certificate.specs.Held.{IsSafe}
+use Rattle.dob_certificate.proofs.Common.{refl, rules, slice_get_read, Setup, move_goes, IsSafe}
 use Rattle.dob_certificate.proofs.Cases.{said_no, not_so}
 use Rattle.dob_certificate.proofs.Replies.{all_more, all_done}
 use Rattle.dob_certificate.proofs.held.has_escape.Goals as goal

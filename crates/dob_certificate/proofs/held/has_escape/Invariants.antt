@@ -1,6 +1,5 @@
 -- None of the moves so far leads to a safe position.
-use Rattle.dob_pieces.specs.declared.setup.Setup.{Setup}
-use Rattle.dob_certificate.specs.Held.{IsSafe}
+use Rattle.dob_certificate.proofs.Common.{Setup, IsSafe}
 use Rattle.dob_certificate.proofs.Replies.{AllBelow}
 use Rattle.dob_certificate.proofs.held.has_escape.Given as goal
 

@@ -1,6 +1,5 @@
 -- By the status: where the game goes on, within one ply or by the list.
-use Rattle.std.proofs.Common.{inl}
-use Rattle.dob_moves.specs.declared.position_status.Status.TheVariants.{Caught}
+use Rattle.dob_certificate.proofs.Common.{inl, Caught}
 use Rattle.dob_certificate.proofs.Cases.{said_no, said_yes, of_status, over_by, said_held_over}
 use Rattle.dob_certificate.proofs.held.is_said_held.Goals as goal
 

@@ -1,8 +1,5 @@
 -- The slice is the list.
-use Rattle.std.proofs.Common.{ap, subst, List}
-use Rattle.dob_certificate.specs.declared.entry.Entry.{Entry}
-use Rattle.dob_certificate.specs.Ascending.{entry_at, class_at}
-use Rattle.dob_certificate.specs.Lists.{Supports}
+use Rattle.dob_certificate.proofs.Common.{List, ap, subst, class_at, entry_at, Supports, Entry}
 use Rattle.dob_certificate.proofs.Cases.{not_so}
 use Rattle.dob_certificate.proofs.lists.check_entry.Goals as goal
 

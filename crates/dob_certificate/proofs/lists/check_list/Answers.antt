@@ -1,7 +1,5 @@
 -- Each entry is one more, or the first that isn't supported.
-use Rattle.std.proofs.Common.{◌≤◌, length, ap, arith}
-use Rattle.std.proofs.lemmas.Result.{err_from_is_err_and}
-use Rattle.dob_certificate.specs.Lists.{Supports}
+use Rattle.dob_certificate.proofs.Common.{◌≤◌, ap, arith, length, err_from_is_err_and, Supports}
 use Rattle.dob_certificate.proofs.Firsts.{entries_more, entries_done, first_found}
 use Rattle.dob_certificate.proofs.lists.check_list.Goals as goal
 

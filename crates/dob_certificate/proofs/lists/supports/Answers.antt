@@ -1,7 +1,6 @@
 -- Each kind in its way.
-use Rattle.std.proofs.Common.{sym, subst, ◌↔◌, IsTrue, IfOk}
+use Rattle.dob_certificate.proofs.Common.{◌↔◌, IfOk, IsTrue, subst, sym, Supports}
 use Rattle.dob_certificate.specs.declared.list_kind.ListKind.{ListKind}
-use Rattle.dob_certificate.specs.Lists.{Supports}
 use Rattle.dob_certificate.proofs.lists.supports.Goals as goal
 
 pub returns-in-Lost : goal.returns-in-Lost

@@ -1,8 +1,5 @@
 -- Each move's outcome is one more.
-use Rattle.std.proofs.Common.{refl, rules}
-use Rattle.std.proofs.lemmas.Option.{slice_get_read}
-use Rattle.dob_value.proofs.Successors.{move_goes}
-use Rattle.dob_certificate.specs.Lost.{IsAnswered}
+use Rattle.dob_certificate.proofs.Common.{refl, rules, slice_get_read, move_goes, IsAnswered}
 use Rattle.dob_certificate.proofs.Cases.{said_yes}
 use Rattle.dob_certificate.proofs.Replies.{all_more, all_done}
 use Rattle.dob_certificate.proofs.lost.are_all_answered.Goals as goal

@@ -1,6 +1,5 @@
 -- None of the replies so far leads to what is said to be lost.
-use Rattle.dob_pieces.specs.declared.setup.Setup.{Setup}
-use Rattle.dob_certificate.specs.Lost.{IsSaidLost}
+use Rattle.dob_certificate.proofs.Common.{Setup, IsSaidLost}
 use Rattle.dob_certificate.proofs.Replies.{AllBelow}
 use Rattle.dob_certificate.proofs.lost.has_reply.Given as goal
 

@@ -1,6 +1,5 @@
 -- By the status: where the game goes on, by a reply.
-use Rattle.std.proofs.Common.{inl}
-use Rattle.dob_moves.specs.declared.position_status.Status.TheVariants.{Caught, Open}
+use Rattle.dob_certificate.proofs.Common.{inl, Caught, Open}
 use Rattle.dob_certificate.proofs.Cases.{said_no, said_yes, of_status, over_by, answered_over, answered_open}
 use Rattle.dob_certificate.proofs.lost.is_answered.Goals as goal
 

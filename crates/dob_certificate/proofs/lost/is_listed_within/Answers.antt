@@ -1,6 +1,5 @@
 -- The one entry of the position's class decides.
-use Rattle.std.proofs.Common.{◌≤◌}
-use Rattle.dob_certificate.specs.declared.entry.Entry.{Entry}
+use Rattle.dob_certificate.proofs.Common.{◌≤◌, Entry}
 use Rattle.dob_certificate.proofs.Cases.{said_no, at_most, listed_by}
 use Rattle.dob_certificate.proofs.lost.is_listed_within.Goals as goal
 

@@ -1,8 +1,5 @@
 -- By the status: where the game goes on, by each move.
-use Rattle.dob_moves.specs.declared.position_status.Status.TheVariants.{Caught, Open}
-use Rattle.std.proofs.Common.{inl, ◌-◌, ◌↔◌, IsTrue}
-use Rattle.std.proofs.lemmas.Result.{IfOk-weaker}
-use Rattle.dob_certificate.specs.Lost.{AreAllAnswered, IsLossSupported}
+use Rattle.dob_certificate.proofs.Common.{◌-◌, ◌↔◌, IsTrue, inl, IfOk-weaker, Caught, Open, AreAllAnswered, IsLossSupported}
 use Rattle.dob_certificate.proofs.Cases.{said_no, said_yes, of_status, over_by, loss_caught, loss_soon, loss_open}
 use Rattle.dob_certificate.proofs.lost.is_loss_supported.Goals as goal
 

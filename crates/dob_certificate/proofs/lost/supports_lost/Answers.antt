@@ -1,8 +1,5 @@
 -- The class's representative stands for it.
-use Rattle.std.proofs.Common.{◌<◌, ◌↔◌, arith, IsTrue}
-use Rattle.std.proofs.lemmas.Result.{IfOk-weaker}
-use Rattle.dob_rank.specs.Families.{classes_of}
-use Rattle.dob_certificate.specs.Lost.{IsLossSupported, SupportsLost}
+use Rattle.dob_certificate.proofs.Common.{◌<◌, ◌↔◌, IsTrue, arith, IfOk-weaker, classes_of, IsLossSupported, SupportsLost}
 use Rattle.dob_certificate.proofs.Cases.{supports_lost_by}
 use Rattle.dob_certificate.proofs.lost.supports_lost.Goals as goal
 

@@ -1,9 +1,5 @@
 -- What is shown to be won is so.
-use Rattle.std.proofs.Common.{◌↔◌, IsTrue}
-use Rattle.std.proofs.lemmas.Result.{IfOk-weaker}
-use Rattle.dob_value.specs.Values.{Won}
-use Rattle.dob_certificate.specs.Lost.{SupportsAllLost}
-use Rattle.dob_certificate.specs.Claims.{ShowsWon}
+use Rattle.dob_certificate.proofs.Common.{◌↔◌, IsTrue, IfOk-weaker, Won, ShowsWon, SupportsAllLost}
 use Rattle.dob_certificate.proofs.Exact.{shown_won}
 use Rattle.dob_certificate.proofs.verifying.is_won_within.Goals as goal
 

@@ -1,8 +1,6 @@
 -- All are supported, or some entry isn't.
-use Rattle.std.proofs.Common.{◌≡◌, ◌≢◌, ◌↔◌, false, IsTrue}
-use Rattle.std.proofs.lemmas.Result.{IfOk-weaker}
+use Rattle.dob_certificate.proofs.Common.{◌↔◌, ◌≡◌, ◌≢◌, IsTrue, false, IfOk-weaker, SupportsAllLost, SupportsLost}
 use Rattle.dob_certificate.specs.declared.refusal.Refusal.TheVariants.{Memory}
-use Rattle.dob_certificate.specs.Lost.{SupportsLost, SupportsAllLost}
 use Rattle.dob_certificate.proofs.Cases.{said_yes}
 use Rattle.dob_certificate.proofs.Firsts.{not_supported}
 use Rattle.dob_certificate.proofs.verifying.supports_all_lost.Goals as goal

@@ -1,7 +1,5 @@
 -- The part ends where the next one begins, or with the classes.
-use Rattle.std.proofs.Common.{◌≡◌, ◌+◌, ◌-◌, ◌*◌, ℕ, arith, subst}
-use Rattle.dob_probe.specs.Slots.{AreSlots, part_of}
-use Rattle.dob_check.specs.Parts.{part_size}
+use Rattle.dob_check.proofs.Common.{◌*◌, ◌+◌, ◌-◌, ◌≡◌, arith, subst, ℕ, AreSlots, part_of, part_size}
 use Rattle.dob_check.proofs.counts.slots_of_part.Goals as goal
 
 pub overflow_mul-first : goal.overflow_mul-first

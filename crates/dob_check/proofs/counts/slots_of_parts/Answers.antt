@@ -1,14 +1,9 @@
 -- The parts in their places, each counted by itself.
-use Rattle.std.proofs.Common.{◌≡◌, ◌-◌, ◌<◌, ℕ, List, ap, arith, subst, ◌∙◌}
-use Rattle.std.specs.Prelude.{IfOk, Result}
-use Rattle.std.specs.List.{AllZip, range_with_len}
-use Rattle.rayon.specs.Numbers.{nat_range}
-use Rattle.rayon.proofs.ListFacts.{AllZip-weaken}
-use Rattle.rayon.proofs.ToStd.{nat_range-All}
+use Rattle.dob_check.proofs.Common.{◌-◌, ◌<◌, ◌∙◌, ◌≡◌, List, ap, arith, subst, ℕ, AllZip, range_with_len, IfOk, Result, AllZip-weaken, nat_range-All}
+use Rattle.dob_check.proofs.Common.{nat_range, made_all, IsPart, IsPlace, part_count}
 use Rattle.dob_pieces.specs.declared.memory.Memory.{Memory}
 use Rattle.dob_check.specs.declared.counts.Part.{Part}
-use Rattle.dob_check.specs.Parts.{IsPart, IsPlace, part_count}
-use Rattle.dob_check.proofs.Counted.{made_all, part_begins}
+use Rattle.dob_check.proofs.Counted.{part_begins}
 use Rattle.dob_check.proofs.counts.slots_of_parts.Goals as goal
 
 pub collect-requires-clause-ready : goal.collect-requires-clause-ready

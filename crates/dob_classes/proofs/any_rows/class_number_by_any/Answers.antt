@@ -1,8 +1,5 @@
 -- The class of a position is that of the earlier of it and its mirror image, whose block is the same.
-use Rattle.std.proofs.Common.{◌≡◌, ◌<◌, ℕ, sym, ◌∙◌, subst, inl, inr, ap}
-use Rattle.dob_classes.specs.BlockRows.{IsRow}
-use Rattle.dob_rank.specs.Families.{IsInClass, classes_of, class_number}
-use Rattle.dob_rank.specs.Numbers.{block_of}
+use Rattle.dob_classes.proofs.Common.{◌<◌, ◌∙◌, ◌≡◌, ap, inl, inr, subst, sym, ℕ, IsInClass, class_number, classes_of, block_of, IsRow}
 use Rattle.dob_rank.proofs.InRuns.RunPlaces.{block_of-mirrored}
 use Rattle.dob_classes.proofs.OfFamilies.FamilyNumbers.{class_number-below, IsInClass-class_number}
 use Rattle.dob_classes.proofs.OfFamilies.FamilyRepresentatives.{representative_is}

@@ -1,6 +1,5 @@
--- By the block's row the classes before its block, those before its run, and those before its place, and nothing wraps.
-use Rattle.std.proofs.Common.{ℕ, sym, subst, arith, get_or}
-use Rattle.dob_classes.specs.BlockRows.{IsRow}
+-- By the block's row the classes before the run and those before its place, and nothing wraps.
+use Rattle.dob_classes.proofs.Common.{arith, subst, sym, ℕ, IsRow}
 use Rattle.dob_classes.proofs.Counting.ClassesBefore.{IsAt, stands_at, are_before}
 use Rattle.dob_classes.proofs.any_rows.number_by_any.Goals as goal
 use Rattle.dob_classes.proofs.any_rows.number_by_any.Goals.{After-spot_of-block}
@@ -9,13 +8,6 @@ stands : (c : After-spot_of-block) → IsAt c.args.family c.args.position.now.se
 stands c =
     stands_at c.args.family c.args.position.now.setup c.spot_of-block.result.0 c.spot_of-block.result.1.run c.spot_of-block.result.1.local c.requires.member
     c.spot_of-block.ensures.block c.spot_of-block.ensures.run c.spot_of-block.ensures.local
-
-pub runs_by_any-runs-requires-clause-block : goal.runs_by_any-runs-requires-clause-block
-runs_by_any-runs-requires-clause-block c = (stands (goal.at.runs_by_any-runs-requires-clause-block c).After-spot_of-block).in_run.block_below
-
-pub runs_by_any-runs-requires-clause-run : goal.runs_by_any-runs-requires-clause-run
-runs_by_any-runs-requires-clause-run c =
-    let below = (stands (goal.at.runs_by_any-runs-requires-clause-run c).After-spot_of-block).in_run.run_below in omega (arith, below)
 
 pub classes_in_run-places-requires-clause-block : goal.classes_in_run-places-requires-clause-block
 classes_in_run-places-requires-clause-block c = (stands (goal.at.classes_in_run-places-requires-clause-block c).After-spot_of-block).in_run.block_below
@@ -30,10 +22,14 @@ classes_in_run-places-requires-clause-place c =
 pub returns : goal.returns
 returns c = λ row.
     let family = c.args.family in
-    let here : IsRow family c.spot_of-block.result.0 c.args.row.now = subst (λ (b : ℕ). IsRow family b c.args.row.now) (sym c.spot_of-block.ensures.block) row in
-    let whole = are_before family c.args.position.now.setup c.spot_of-block.result.0 c.spot_of-block.result.1.run c.spot_of-block.result.1.local
-    (get_or c.args.row.now 100 0) c.runs_by_any-runs.result c.classes_in_run-places.result
-    (stands (goal.at.returns c).After-spot_of-block) (here.start 0) (c.runs_by_any-runs.ensures here) c.classes_in_run-places.ensures in
+    let block = c.spot_of-block.result.0 in
+    let here : IsRow family block c.args.row.now = subst (λ (b : ℕ). IsRow family b c.args.row.now) (sym c.spot_of-block.ensures.block) row in
+    let at = stands (goal.at.returns c).After-spot_of-block in
+    let below = at.in_run.run_below in
+    let whole = are_before family c.args.position.now.setup block c.spot_of-block.result.1.run c.spot_of-block.result.1.local
+    c.before_run-runs.result c.classes_in_run-places.result at
+    (c.before_run-runs.ensures family block at.in_run.block_below (omega (arith, below)) (c.row_at.ensures family block here))
+    c.classes_in_run-places.ensures in
     let few = whole.few in
     let sum = whole.sum_is in
     omega (arith, few, sum)

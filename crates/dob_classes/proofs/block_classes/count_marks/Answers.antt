@@ -1,7 +1,5 @@
 -- The kind of a run says how many marks it has, or its table does.
-use Rattle.std.proofs.Common.{sym, ap, ◌∙◌, arith}
-use Rattle.dob_rank.specs.Marks.{marks_below}
-use Rattle.dob_classes.specs.FamilyRuns.{is_there}
+use Rattle.dob_classes.proofs.Common.{◌∙◌, ap, arith, sym, marks_below, is_there}
 use Rattle.dob_classes.proofs.Tables.RunTables.{count_first, count_later, count_mixed}
 use Rattle.dob_classes.proofs.block_classes.count_marks.Goals as goal
 

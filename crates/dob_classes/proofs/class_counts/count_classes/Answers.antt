@@ -1,8 +1,5 @@
 -- The classes before the end of the last block are the family's.
-use Rattle.std.proofs.Common.{ℕ, ◌<◌, ◌^◌, sym, subst, arith}
-use Rattle.dob_rank.proofs.OfFamilies.ClassBounds.{classes_of-below}
-use Rattle.dob_rank.specs.Families.{HasClasses}
-use Rattle.dob_rank.proofs.OfFamilies.Present.{HasClasses-classes_of}
+use Rattle.dob_classes.proofs.Common.{◌<◌, ◌^◌, arith, subst, sym, ℕ, classes_of-below, HasClasses-classes_of, HasClasses}
 use Rattle.dob_classes.proofs.Tables.FamilyBlocks.{classes_all}
 use Rattle.dob_classes.proofs.class_counts.count_classes.Goals as goal
 

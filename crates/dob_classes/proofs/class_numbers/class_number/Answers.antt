@@ -1,6 +1,5 @@
 -- The class of a position is that of the earlier of it and its mirror image.
-use Rattle.std.proofs.Common.{◌≡◌, ◌<◌, ℕ, sym, ◌∙◌, subst}
-use Rattle.dob_rank.specs.Families.{IsInClass, classes_of, class_number}
+use Rattle.dob_classes.proofs.Common.{◌<◌, ◌∙◌, ◌≡◌, subst, sym, ℕ, IsInClass, class_number, classes_of}
 use Rattle.dob_classes.proofs.OfFamilies.FamilyNumbers.{class_number-below, IsInClass-class_number}
 use Rattle.dob_classes.proofs.OfFamilies.FamilyRepresentatives.{representative_is}
 use Rattle.dob_classes.proofs.Counting.ClassesBefore.{class_of_earlier}

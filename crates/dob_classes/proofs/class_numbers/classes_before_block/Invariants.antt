@@ -1,8 +1,5 @@
 -- The count is of the classes in the blocks so far.
-use Rattle.std.proofs.Common.{◌≡◌}
-use Rattle.dob_rank.specs.Numbers.{start_of}
-use Rattle.dob_rank.specs.Marks.{marks_below}
-use Rattle.dob_rank.specs.Families.{is_marked}
+use Rattle.dob_classes.proofs.Common.{◌≡◌, is_marked, marks_below, start_of}
 use Rattle.dob_classes.proofs.class_numbers.classes_before_block.Given as goal
 
 abbrev pub invariant-loop-earlier : goal.invariant-loop-earlier

@@ -1,8 +1,5 @@
 -- A walk from the run's start passes all representatives before the place.
-use Rattle.std.proofs.Common.{ap, ◌∙◌, arith}
-use Rattle.dob_classes.specs.FamilyRuns.{is_there, local_marks_in}
-use Rattle.dob_rank.specs.Marks.{marks_below}
-use Rattle.dob_rank.proofs.Marked.Words.{marks_below_none}
+use Rattle.dob_classes.proofs.Common.{◌∙◌, ap, arith, marks_below_none, marks_below, is_there, local_marks_in}
 use Rattle.dob_classes.proofs.class_numbers.classes_in_stretches.Goals as goal
 
 pub returns : goal.returns

@@ -1,11 +1,6 @@
 -- Each run of the first hand adds its own classes, and they are written behind it.
-use Rattle.std.proofs.Common.{◌≡◌, ℕ, ◌+◌, ◌≤◌, ◌<◌, ◌∙◌, sym, ap, inl, inr, arith, length, List, get_or, slice_set}
-use Rattle.std.proofs.lemmas.Bool.{cases_lt}
-use Rattle.std.proofs.lemmas.List.{get_or-set_same, get_or-set_other, length-set}
-use Rattle.dob_rank.specs.Marks.{marks_below}
-use Rattle.dob_rank.specs.Numbers.{start_of}
-use Rattle.dob_rank.specs.Runs.{run_start}
-use Rattle.dob_rank.specs.Families.{is_marked}
+use Rattle.dob_classes.proofs.Common.{◌+◌, ◌<◌, ◌∙◌, ◌≡◌, ◌≤◌, List, ap, arith, get_or, inl, inr, length, slice_set, sym, ℕ, cases_lt, get_or-set_other}
+use Rattle.dob_classes.proofs.Common.{get_or-set_same, length-set, is_marked, marks_below, start_of, run_start}
 use Rattle.dob_classes.proofs.Tables.RunTables.{marks_small}
 use Rattle.dob_classes.proofs.Counting.ClassesBefore.{none_before, all_lions, one_run_more}
 use Rattle.dob_classes.proofs.class_rows.class_row.Goals as goal

@@ -1,9 +1,5 @@
 -- The row has what is counted so far.
-use Rattle.std.proofs.Common.{◌≡◌, ℕ, ◌+◌, ◌≤◌, length, get_or}
-use Rattle.dob_rank.specs.Marks.{marks_below}
-use Rattle.dob_rank.specs.Numbers.{start_of}
-use Rattle.dob_rank.specs.Runs.{run_start}
-use Rattle.dob_rank.specs.Families.{is_marked}
+use Rattle.dob_classes.proofs.Common.{◌+◌, ◌≡◌, ◌≤◌, get_or, length, ℕ, is_marked, marks_below, start_of, run_start}
 use Rattle.dob_classes.proofs.class_rows.class_row.Given as goal
 
 abbrev pub invariant-loop-run : goal.invariant-loop-run

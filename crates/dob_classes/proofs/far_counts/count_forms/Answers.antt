@@ -1,8 +1,5 @@
 -- One more number is of forms that the chicks may have, or none.
-use Rattle.std.proofs.Common.{sym, ◌∙◌, arith}
-use Rattle.dob_rank.specs.Weights.{forms_stand}
-use Rattle.dob_rank.proofs.Marked.Words.{marks_below_none}
-use Rattle.dob_rank.proofs.ProfileB.FarSpots.{one_counted, none_counted}
+use Rattle.dob_classes.proofs.Common.{◌∙◌, arith, sym, marks_below_none, none_counted, one_counted, forms_stand}
 use Rattle.dob_classes.proofs.far_counts.count_forms.Goals as goal
 use Rattle.dob_classes.proofs.far_counts.count_forms.Goals.{then-may_have_forms, else-may_have_forms}
 

@@ -1,7 +1,5 @@
 -- So many of the numbers so far are of forms that the chicks may have.
-use Rattle.std.proofs.Common.{◌≡◌, ◌≤◌}
-use Rattle.dob_rank.specs.Marks.{marks_below}
-use Rattle.dob_rank.specs.Weights.{forms_stand}
+use Rattle.dob_classes.proofs.Common.{◌≡◌, ◌≤◌, marks_below, forms_stand}
 use Rattle.dob_classes.proofs.far_counts.count_forms.Given as goal
 
 abbrev pub invariant-loop-forms : goal.invariant-loop-forms

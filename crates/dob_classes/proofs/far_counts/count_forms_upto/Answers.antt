@@ -1,52 +1,44 @@
 -- The others' forms don't matter: those of the chicks before have all of theirs, and the own ones up to the last if they are allowed.
-use Rattle.std.proofs.Common.{sym, ◌∙◌, arith}
-use Rattle.dob_rank.specs.Weights.{forms_stand}
-use Rattle.dob_classes.proofs.Counting.FarCounts.{form_count}
+use Rattle.dob_classes.proofs.Common.{◌∙◌, arith, sym, forms_stand}
+use Rattle.dob_classes.proofs.Counting.FarCounts.{IsFormCount, form_count}
 use Rattle.dob_classes.proofs.far_counts.count_forms_upto.Goals as goal
+use Rattle.dob_classes.proofs.far_counts.count_forms_upto.Goals.{After-count_forms}
+
+counted : (c : After-count_forms) → IsFormCount (forms_stand c.args.chicks c.args.squares.0 c.args.squares.1) c.args.others c.args.last c.count_forms.result
+counted c = form_count (forms_stand c.args.chicks c.args.squares.0 c.args.squares.1) c.args.others c.args.last c.count_forms.result c.requires.others
+    c.count_forms.ensures.value c.count_forms.ensures.bound
 
 pub overflow_mul-before : goal.overflow_mul-before
 overflow_mul-before c =
-    let at = form_count (forms_stand c.args.chicks c.args.squares.0 c.args.squares.1) c.args.others c.args.last c.count_forms.result c.requires.others
-    c.count_forms.ensures.value c.count_forms.ensures.bound in
-    let few = at.few in
+    let few = (counted (goal.at.overflow_mul-before c).After-count_forms).few in
     omega (arith, few, c.requires.last)
 
 pub overflow_add-result : goal.overflow_add-result
 overflow_add-result c =
-    let at = form_count (forms_stand c.args.chicks c.args.squares.0 c.args.squares.1) c.args.others c.args.last c.count_forms.result c.requires.others
-    c.count_forms.ensures.value c.count_forms.ensures.bound in
-    let few = at.upto in
+    let few = (counted (goal.at.overflow_add-result c).After-count_forms).upto in
     omega (arith, few, c.requires.last)
 
 pub overflow_add-result-then-may_have_forms : goal.overflow_add-result-then-may_have_forms
 overflow_add-result-then-may_have_forms c =
-    let at = form_count (forms_stand c.args.chicks c.args.squares.0 c.args.squares.1) c.args.others c.args.last c.count_forms.result c.requires.others
-    c.count_forms.ensures.value c.count_forms.ensures.bound in
-    let few = at.upto in
+    let few = (counted (goal.at.overflow_add-result-then-may_have_forms c).After-count_forms).upto in
     omega (arith, few, c.requires.last)
 
 pub returns-then-may_have_forms-clause-value : goal.returns-then-may_have_forms-clause-value
 returns-then-may_have_forms-clause-value c =
-    let at = form_count (forms_stand c.args.chicks c.args.squares.0 c.args.squares.1) c.args.others c.args.last c.count_forms.result c.requires.others
-    c.count_forms.ensures.value c.count_forms.ensures.bound in
+    let at = counted (goal.at.returns-then-may_have_forms-clause-value c).After-count_forms in
     at.on (sym c.may_have_forms.ensures ∙ c.if-may_have_forms.true)
 
 pub returns-then-may_have_forms-clause-bound : goal.returns-then-may_have_forms-clause-bound
 returns-then-may_have_forms-clause-bound c =
-    let at = form_count (forms_stand c.args.chicks c.args.squares.0 c.args.squares.1) c.args.others c.args.last c.count_forms.result c.requires.others
-    c.count_forms.ensures.value c.count_forms.ensures.bound in
-    let few = at.upto in
+    let few = (counted (goal.at.returns-then-may_have_forms-clause-bound c).After-count_forms).upto in
     omega (arith, few, c.requires.last)
 
 pub returns-else-may_have_forms-clause-value : goal.returns-else-may_have_forms-clause-value
 returns-else-may_have_forms-clause-value c =
-    let at = form_count (forms_stand c.args.chicks c.args.squares.0 c.args.squares.1) c.args.others c.args.last c.count_forms.result c.requires.others
-    c.count_forms.ensures.value c.count_forms.ensures.bound in
+    let at = counted (goal.at.returns-else-may_have_forms-clause-value c).After-count_forms in
     at.off (sym c.may_have_forms.ensures ∙ c.if-may_have_forms.false)
 
 pub returns-else-may_have_forms-clause-bound : goal.returns-else-may_have_forms-clause-bound
 returns-else-may_have_forms-clause-bound c =
-    let at = form_count (forms_stand c.args.chicks c.args.squares.0 c.args.squares.1) c.args.others c.args.last c.count_forms.result c.requires.others
-    c.count_forms.ensures.value c.count_forms.ensures.bound in
-    let few = at.few in
+    let few = (counted (goal.at.returns-else-may_have_forms-clause-bound c).After-count_forms).few in
     omega (arith, few, c.requires.last)

@@ -1,11 +1,27 @@
 -- The parts of the place are small, and what they count is what the run has up to there.
-use Rattle.std.proofs.Common.{◌*◌, ◌≤◌, [], refl, arith}
-use Rattle.std.proofs.Math.Nat.{mul-le-mul}
-use Rattle.dob_rank.proofs.Positions.Blocks.{HasDigits-numbers}
-use Rattle.dob_rank.proofs.InRuns.DigitParts.{AreFewOnBoard-digits}
+use Rattle.dob_classes.proofs.Common.{◌%◌, ◌*◌, ◌/◌, ◌≤◌, [], arith, get_or, refl, mul-le-mul, AreFewOnBoard-digits, HasDigits-numbers}
 use Rattle.dob_rank.proofs.ProfileB.PlaceParts.{others_squares_are, others_forms_are}
-use Rattle.dob_classes.proofs.Counting.FarCounts.{upto_parts, upto_small, at_most, sums, count_is}
+use Rattle.dob_classes.proofs.Counting.FarCounts.{AreUptoParts, AreUptoSmall, upto_parts, upto_small, at_most, sums, count_is}
 use Rattle.dob_classes.proofs.far_counts.count_upto.Goals as goal
+use Rattle.dob_classes.proofs.far_counts.count_upto.Goals.{After-power-3, After-weight_of}
+
+-- the choices of squares and of forms, as the code has them
+parts : (c : After-power-3) → AreUptoParts c.numbers_in-on_board.result c.args.last
+    (get_or c.choices_in-choices.result 1 0 * get_or c.choices_in-choices.result 2 0) (c.power.result * c.power-2.result)
+    (c.power-3.result * (c.power.result * c.power-2.result))
+parts c = upto_parts c.args.set c.args.block c.args.last c.numbers_in-on_board.result c.choices_in-choices.result c.power.result c.power-2.result c.power-3.result
+    c.requires.block c.numbers_in-on_board.ensures c.requires.last c.choices_in-choices.ensures c.power.ensures c.power-2.ensures c.power-3.ensures
+
+-- what stands before the place is few
+small : (c : After-weight_of) → AreUptoSmall (get_or c.choices_in-choices.result 1 0 * get_or c.choices_in-choices.result 2 0)
+    (c.args.last / (c.power-3.result * (c.power.result * c.power-2.result))
+    % (get_or c.choices_in-choices.result 1 0 * get_or c.choices_in-choices.result 2 0)) (c.power.result * c.power-2.result) c.before_choice.result
+    c.weight_of.result
+small c =
+    let at = upto_parts c.args.set c.args.block c.args.last c.numbers_in-on_board.result c.choices_in-choices.result c.power.result c.power-2.result c.power-3.result
+    c.requires.block c.numbers_in-on_board.ensures c.requires.last c.choices_in-choices.ensures c.power.ensures c.power-2.ensures c.power-3.ensures in
+    upto_small _ _ (c.power.result * c.power-2.result) c.before_choice.result c.weight_of.result at.few_squares at.parts.squares_below at.few_others
+    c.before_choice.ensures.bound c.weight_of.ensures.bound
 
 pub overflow_mul-others : goal.overflow_mul-others
 overflow_mul-others c =
@@ -21,137 +37,84 @@ overflow_mul-forms c =
 
 pub overflow_mul-all_forms : goal.overflow_mul-all_forms
 overflow_mul-all_forms c =
-    let at = upto_parts c.args.set c.args.block c.args.last c.numbers_in-on_board.result c.choices_in-choices.result c.power.result c.power-2.result c.power-3.result
-    c.requires.block c.numbers_in-on_board.ensures c.requires.last c.choices_in-choices.ensures c.power.ensures c.power-2.ensures c.power-3.ensures in
+    let at = parts (goal.at.overflow_mul-all_forms c).After-power-3 in
     (let low = at.parts.few_forms in omega (arith, low))
 
 pub nonzero_div-choice : goal.nonzero_div-choice
-nonzero_div-choice c =
-    let at = upto_parts c.args.set c.args.block c.args.last c.numbers_in-on_board.result c.choices_in-choices.result c.power.result c.power-2.result c.power-3.result
-    c.requires.block c.numbers_in-on_board.ensures c.requires.last c.choices_in-choices.ensures c.power.ensures c.power-2.ensures c.power-3.ensures in
-    at.parts.some_forms
+nonzero_div-choice c = (parts (goal.at.nonzero_div-choice c).After-power-3).parts.some_forms
 
 pub nonzero_div-choice-2 : goal.nonzero_div-choice-2
-nonzero_div-choice-2 c =
-    let at = upto_parts c.args.set c.args.block c.args.last c.numbers_in-on_board.result c.choices_in-choices.result c.power.result c.power-2.result c.power-3.result
-    c.requires.block c.numbers_in-on_board.ensures c.requires.last c.choices_in-choices.ensures c.power.ensures c.power-2.ensures c.power-3.ensures in
-    at.parts.some_squares
+nonzero_div-choice-2 c = (parts (goal.at.nonzero_div-choice-2 c).After-power-3).parts.some_squares
 
 pub nonzero_div-squares : goal.nonzero_div-squares
-nonzero_div-squares c =
-    let at = upto_parts c.args.set c.args.block c.args.last c.numbers_in-on_board.result c.choices_in-choices.result c.power.result c.power-2.result c.power-3.result
-    c.requires.block c.numbers_in-on_board.ensures c.requires.last c.choices_in-choices.ensures c.power.ensures c.power-2.ensures c.power-3.ensures in
-    at.parts.some_forms
+nonzero_div-squares c = (parts (goal.at.nonzero_div-squares c).After-power-3).parts.some_forms
 
 pub nonzero_rem-squares : goal.nonzero_rem-squares
-nonzero_rem-squares c =
-    let at = upto_parts c.args.set c.args.block c.args.last c.numbers_in-on_board.result c.choices_in-choices.result c.power.result c.power-2.result c.power-3.result
-    c.requires.block c.numbers_in-on_board.ensures c.requires.last c.choices_in-choices.ensures c.power.ensures c.power-2.ensures c.power-3.ensures in
-    at.parts.some_squares
+nonzero_rem-squares c = (parts (goal.at.nonzero_rem-squares c).After-power-3).parts.some_squares
 
 pub before_choice-requires-clause-choice : goal.before_choice-requires-clause-choice
 before_choice-requires-clause-choice c =
-    let at = upto_parts c.args.set c.args.block c.args.last c.numbers_in-on_board.result c.choices_in-choices.result c.power.result c.power-2.result c.power-3.result
-    c.requires.block c.numbers_in-on_board.ensures c.requires.last c.choices_in-choices.ensures c.power.ensures c.power-2.ensures c.power-3.ensures in
+    let at = parts (goal.at.before_choice-requires-clause-choice c).After-power-3 in
     at_most _ _ at.parts.choice_below
 
 pub overflow_mul-before : goal.overflow_mul-before
 overflow_mul-before c =
-    let at = upto_parts c.args.set c.args.block c.args.last c.numbers_in-on_board.result c.choices_in-choices.result c.power.result c.power-2.result c.power-3.result
-    c.requires.block c.numbers_in-on_board.ensures c.requires.last c.choices_in-choices.ensures c.power.ensures c.power-2.ensures c.power-3.ensures in
+    let at = parts (goal.at.overflow_mul-before c).After-power-3 in
     let few : c.before_choice.result * _ ≤ 582 * 2025 = mul-le-mul c.before_choice.ensures.bound at.few_squares in
     omega (arith, few)
 
 pub weight_of-requires-clause-chicks : goal.weight_of-requires-clause-chicks
-weight_of-requires-clause-chicks c =
-    let at = upto_parts c.args.set c.args.block c.args.last c.numbers_in-on_board.result c.choices_in-choices.result c.power.result c.power-2.result c.power-3.result
-    c.requires.block c.numbers_in-on_board.ensures c.requires.last c.choices_in-choices.ensures c.power.ensures c.power-2.ensures c.power-3.ensures in
-    at.few.chicks
+weight_of-requires-clause-chicks c = (parts (goal.at.weight_of-requires-clause-chicks c).After-power-3).few.chicks
 
 pub weight_of-requires-clause-choice : goal.weight_of-requires-clause-choice
-weight_of-requires-clause-choice c =
-    let at = upto_parts c.args.set c.args.block c.args.last c.numbers_in-on_board.result c.choices_in-choices.result c.power.result c.power-2.result c.power-3.result
-    c.requires.block c.numbers_in-on_board.ensures c.requires.last c.choices_in-choices.ensures c.power.ensures c.power-2.ensures c.power-3.ensures in
-    at.parts.choice_below
+weight_of-requires-clause-choice c = (parts (goal.at.weight_of-requires-clause-choice c).After-power-3).parts.choice_below
 
 pub overflow_mul-before-2 : goal.overflow_mul-before-2
 overflow_mul-before-2 c =
-    let at = upto_parts c.args.set c.args.block c.args.last c.numbers_in-on_board.result c.choices_in-choices.result c.power.result c.power-2.result c.power-3.result
-    c.requires.block c.numbers_in-on_board.ensures c.requires.last c.choices_in-choices.ensures c.power.ensures c.power-2.ensures c.power-3.ensures in
-    let few = upto_small _ _ (c.power.result * c.power-2.result) c.before_choice.result c.weight_of.result at.few_squares at.parts.squares_below at.few_others
-    c.before_choice.ensures.bound c.weight_of.ensures.bound in
+    let few = small (goal.at.overflow_mul-before-2 c).After-weight_of in
     (let low = few.own in omega (arith, low))
 
 pub overflow_add-before : goal.overflow_add-before
 overflow_add-before c =
-    let at = upto_parts c.args.set c.args.block c.args.last c.numbers_in-on_board.result c.choices_in-choices.result c.power.result c.power-2.result c.power-3.result
-    c.requires.block c.numbers_in-on_board.ensures c.requires.last c.choices_in-choices.ensures c.power.ensures c.power-2.ensures c.power-3.ensures in
-    let few = upto_small _ _ (c.power.result * c.power-2.result) c.before_choice.result c.weight_of.result at.few_squares at.parts.squares_below at.few_others
-    c.before_choice.ensures.bound c.weight_of.ensures.bound in
+    let few = small (goal.at.overflow_add-before c).After-weight_of in
     (let low = few.own in let first = few.before in omega (arith, low, first))
 
 pub chick_squares-chosen-requires-clause-chicks : goal.chick_squares-chosen-requires-clause-chicks
-chick_squares-chosen-requires-clause-chicks c =
-    let at = upto_parts c.args.set c.args.block c.args.last c.numbers_in-on_board.result c.choices_in-choices.result c.power.result c.power-2.result c.power-3.result
-    c.requires.block c.numbers_in-on_board.ensures c.requires.last c.choices_in-choices.ensures c.power.ensures c.power-2.ensures c.power-3.ensures in
-    at.few.chicks
+chick_squares-chosen-requires-clause-chicks c = (parts (goal.at.chick_squares-chosen-requires-clause-chicks c).After-power-3).few.chicks
 
 pub chick_squares-chosen-requires-clause-choice : goal.chick_squares-chosen-requires-clause-choice
-chick_squares-chosen-requires-clause-choice c =
-    let at = upto_parts c.args.set c.args.block c.args.last c.numbers_in-on_board.result c.choices_in-choices.result c.power.result c.power-2.result c.power-3.result
-    c.requires.block c.numbers_in-on_board.ensures c.requires.last c.choices_in-choices.ensures c.power.ensures c.power-2.ensures c.power-3.ensures in
-    at.parts.choice_below
+chick_squares-chosen-requires-clause-choice c = (parts (goal.at.chick_squares-chosen-requires-clause-choice c).After-power-3).parts.choice_below
 
 pub overflow_mul-result : goal.overflow_mul-result
 overflow_mul-result c =
-    let at = upto_parts c.args.set c.args.block c.args.last c.numbers_in-on_board.result c.choices_in-choices.result c.power.result c.power-2.result c.power-3.result
-    c.requires.block c.numbers_in-on_board.ensures c.requires.last c.choices_in-choices.ensures c.power.ensures c.power-2.ensures c.power-3.ensures in
-    let few = upto_small _ _ (c.power.result * c.power-2.result) c.before_choice.result c.weight_of.result at.few_squares at.parts.squares_below at.few_others
-    c.before_choice.ensures.bound c.weight_of.ensures.bound in
+    let few = small (goal.at.overflow_mul-result c).After-weight_of in
     (let low = few.all in omega (arith, low))
 
 pub nonzero_rem-last : goal.nonzero_rem-last
-nonzero_rem-last c =
-    let at = upto_parts c.args.set c.args.block c.args.last c.numbers_in-on_board.result c.choices_in-choices.result c.power.result c.power-2.result c.power-3.result
-    c.requires.block c.numbers_in-on_board.ensures c.requires.last c.choices_in-choices.ensures c.power.ensures c.power-2.ensures c.power-3.ensures in
-    at.parts.some_forms
+nonzero_rem-last c = (parts (goal.at.nonzero_rem-last c).After-power-3).parts.some_forms
 
 pub count_forms_upto-requires-clause-chicks : goal.count_forms_upto-requires-clause-chicks
-count_forms_upto-requires-clause-chicks c =
-    let at = upto_parts c.args.set c.args.block c.args.last c.numbers_in-on_board.result c.choices_in-choices.result c.power.result c.power-2.result c.power-3.result
-    c.requires.block c.numbers_in-on_board.ensures c.requires.last c.choices_in-choices.ensures c.power.ensures c.power-2.ensures c.power-3.ensures in
-    at.few.chicks
+count_forms_upto-requires-clause-chicks c = (parts (goal.at.count_forms_upto-requires-clause-chicks c).After-power-3).few.chicks
 
 pub count_forms_upto-requires-clause-others : goal.count_forms_upto-requires-clause-others
-count_forms_upto-requires-clause-others c =
-    let at = upto_parts c.args.set c.args.block c.args.last c.numbers_in-on_board.result c.choices_in-choices.result c.power.result c.power-2.result c.power-3.result
-    c.requires.block c.numbers_in-on_board.ensures c.requires.last c.choices_in-choices.ensures c.power.ensures c.power-2.ensures c.power-3.ensures in
-    at.some_others
+count_forms_upto-requires-clause-others c = (parts (goal.at.count_forms_upto-requires-clause-others c).After-power-3).some_others
 
 pub count_forms_upto-requires-clause-few : goal.count_forms_upto-requires-clause-few
-count_forms_upto-requires-clause-few c =
-    let at = upto_parts c.args.set c.args.block c.args.last c.numbers_in-on_board.result c.choices_in-choices.result c.power.result c.power-2.result c.power-3.result
-    c.requires.block c.numbers_in-on_board.ensures c.requires.last c.choices_in-choices.ensures c.power.ensures c.power-2.ensures c.power-3.ensures in
-    at.few_others
+count_forms_upto-requires-clause-few c = (parts (goal.at.count_forms_upto-requires-clause-few c).After-power-3).few_others
 
 pub count_forms_upto-requires-clause-last : goal.count_forms_upto-requires-clause-last
 count_forms_upto-requires-clause-last c =
-    let at = upto_parts c.args.set c.args.block c.args.last c.numbers_in-on_board.result c.choices_in-choices.result c.power.result c.power-2.result c.power-3.result
-    c.requires.block c.numbers_in-on_board.ensures c.requires.last c.choices_in-choices.ensures c.power.ensures c.power-2.ensures c.power-3.ensures in
+    let at = parts (goal.at.count_forms_upto-requires-clause-last c).After-power-3 in
     (let low = at.parts.form_below in let most = at.parts.few_forms in omega (arith, low, most))
 
 pub overflow_add-result : goal.overflow_add-result
 overflow_add-result c =
-    let at = upto_parts c.args.set c.args.block c.args.last c.numbers_in-on_board.result c.choices_in-choices.result c.power.result c.power-2.result c.power-3.result
-    c.requires.block c.numbers_in-on_board.ensures c.requires.last c.choices_in-choices.ensures c.power.ensures c.power-2.ensures c.power-3.ensures in
-    let few = upto_small _ _ (c.power.result * c.power-2.result) c.before_choice.result c.weight_of.result at.few_squares at.parts.squares_below at.few_others
-    c.before_choice.ensures.bound c.weight_of.ensures.bound in
+    let few = small (goal.at.overflow_add-result c).After-weight_of in
     (let low = few.all in omega (arith, low, c.count_forms_upto.ensures.bound))
 
 pub returns : goal.returns
 returns c =
-    let at = upto_parts c.args.set c.args.block c.args.last c.numbers_in-on_board.result c.choices_in-choices.result c.power.result c.power-2.result c.power-3.result
-    c.requires.block c.numbers_in-on_board.ensures c.requires.last c.choices_in-choices.ensures c.power.ensures c.power-2.ensures c.power-3.ensures in
+    let at = parts (goal.at.returns c).After-power-3 in
     count_is c.args.set c.args.block c.args.run c.args.last _ (c.power.result * c.power-2.result) (c.power-3.result * (c.power.result * c.power-2.result)) _
     c.chick_squares-chosen.result.0 c.chick_squares-chosen.result.1 _ c.count_forms_upto.result c.numbers_in-on_board.result
     c.requires.block c.requires.run c.numbers_in-on_board.ensures at.squares_are at.forms_are at.all_are at.parts refl c.chick_squares-chosen.ensures

@@ -1,8 +1,5 @@
 -- Each number's digits are choices, and their places go to the end of the table.
-use Rattle.std.proofs.Common.{◌≡◌, ◌<◌, ℕ, List, ap, ◌∙◌, subst, arith}
-use Rattle.dob_rank.specs.Numbers.{product, digits_of}
-use Rattle.dob_rank.specs.Runs.{square_bases}
-use Rattle.dob_rank.specs.Placing.{AreSomePlaces}
+use Rattle.dob_classes.proofs.Common.{◌<◌, ◌∙◌, ◌≡◌, List, ap, arith, subst, ℕ, digits_of, product, AreSomePlaces, square_bases}
 use Rattle.dob_classes.proofs.Tables.PlaceTables.{are_choices, choices-positive, choices-fit, places_more}
 use Rattle.dob_classes.proofs.place_tables.all_places.Goals as goal
 

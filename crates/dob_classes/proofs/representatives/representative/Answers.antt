@@ -1,7 +1,5 @@
 -- Both ranks are of one family, so that the lower one is the earlier position's.
-use Rattle.std.proofs.Common.{sym, subst}
-use Rattle.dob_pieces.specs.Profiles.{IsAllowed}
-use Rattle.dob_pieces.proofs.Allowed.{IsAllowed-mirrored}
+use Rattle.dob_classes.proofs.Common.{subst, sym, IsAllowed-mirrored, IsAllowed}
 use Rattle.dob_classes.proofs.OfFamilies.FamilyRepresentatives.{image_first, itself_first}
 use Rattle.dob_classes.proofs.representatives.representative.Goals as goal
 

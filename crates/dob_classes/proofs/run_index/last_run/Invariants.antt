@@ -1,6 +1,5 @@
 -- The run before the next one has no more classes before it.
-use Rattle.std.proofs.Common.{◌-◌, ◌<◌, ◌≤◌, length}
-use Rattle.dob_classes.specs.RunIndex.{IsAtMost}
+use Rattle.dob_classes.proofs.Common.{◌-◌, ◌<◌, ◌≤◌, length, IsAtMost}
 use Rattle.dob_classes.proofs.run_index.last_run.Given as goal
 
 abbrev pub invariant-loop-next : goal.invariant-loop-next

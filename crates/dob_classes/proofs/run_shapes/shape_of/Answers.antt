@@ -1,7 +1,5 @@
 -- The numbers on the board are few, and the run is one of theirs.
-use Rattle.dob_rank.proofs.Positions.Blocks.{HasDigits-numbers}
-use Rattle.dob_rank.proofs.InRuns.DigitParts.{AreFewOnBoard-digits}
-use Rattle.dob_rank.proofs.Positions.Found.{run_in_bases}
+use Rattle.dob_classes.proofs.Common.{AreFewOnBoard-digits, HasDigits-numbers, run_in_bases}
 use Rattle.dob_classes.proofs.run_shapes.shape_of.Goals as goal
 
 pub choices_in-choices-requires : goal.choices_in-choices-requires

@@ -1,10 +1,5 @@
 -- In profile A each place is one of the family's, in profile B those up to the place before are counted.
-use Rattle.std.proofs.Common.{ℕ, sym, ap, ◌∙◌}
-use Rattle.dob_pieces.specs.declared.profile.Profile.{Profile}
-use Rattle.dob_rank.specs.Marks.{marks_below}
-use Rattle.dob_rank.specs.Families.{family_of}
-use Rattle.dob_classes.specs.FamilyRuns.{is_there}
-use Rattle.dob_rank.proofs.Marked.Words.{marks_below_none}
+use Rattle.dob_classes.proofs.Common.{◌∙◌, ap, sym, ℕ, Profile, marks_below_none, family_of, marks_below, is_there}
 use Rattle.dob_classes.proofs.Counting.FarCounts.{all_there, one_before}
 use Rattle.dob_classes.proofs.spots.count_before.Goals as goal
 

@@ -1,8 +1,6 @@
 -- The digits are below their bases, and tell the position's number.
-use Rattle.std.proofs.Common.{ℕ, ◌<◌, ◌≤◌, refl, ◌∙◌, arith}
-use Rattle.dob_rank.specs.Numbers.{block_bases}
+use Rattle.dob_classes.proofs.Common.{◌<◌, ◌∙◌, ◌≤◌, arith, refl, ℕ, AreFewOnBoard-digits, block_bases}
 use Rattle.dob_rank.proofs.Positions.Found.{HasDigits-same, HasDigits-board, HasDigits-place, block_found, run_is_of}
-use Rattle.dob_rank.proofs.InRuns.DigitParts.{AreFewOnBoard-digits}
 use Rattle.dob_rank.proofs.ProfileB.FarPlaces.{far_parts, chicks_on_board}
 use Rattle.dob_rank.proofs.ProfileB.PlaceParts.{place_in_run}
 use Rattle.dob_classes.proofs.Counting.FarCounts.{number_by_digits}

@@ -1,12 +1,5 @@
 -- In profile A a position's number in its run is its place there.
-use Rattle.std.proofs.Common.{sym, ap, ◌∙◌, subst}
-use Rattle.dob_pieces.specs.declared.profile.Profile.{Profile}
-use Rattle.dob_pieces.specs.Profiles.{IsAllowed}
-use Rattle.dob_rank.specs.Marks.{marks_below}
-use Rattle.dob_rank.specs.Numbers.{block_of}
-use Rattle.dob_rank.specs.Runs.{run_of, local_of}
-use Rattle.dob_rank.specs.Families.{family_of}
-use Rattle.dob_classes.specs.FamilyRuns.{is_there}
+use Rattle.dob_classes.proofs.Common.{◌∙◌, ap, subst, sym, IsAllowed, Profile, family_of, marks_below, block_of, local_of, run_of, is_there}
 use Rattle.dob_classes.proofs.Counting.FarCounts.{all_there}
 use Rattle.dob_classes.proofs.spots.spot_in.Goals as goal
 

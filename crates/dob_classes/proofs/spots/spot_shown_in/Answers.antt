@@ -1,11 +1,6 @@
 -- The spot in the set's numbering says how many positions of the family stand before.
-use Rattle.std.proofs.Common.{ℕ, refl, ap, ◌∙◌, arith, ◌≤◌, ◌<◌}
-use Rattle.dob_classes.specs.Bitboards.{IsShownOfSet}
-use Rattle.dob_rank.specs.Marks.{marks_below}
-use Rattle.dob_rank.specs.Numbers.{block_of}
-use Rattle.dob_rank.specs.Runs.{run_of}
-use Rattle.dob_classes.specs.FamilyRuns.{is_there}
-use Rattle.dob_rank.proofs.InRuns.RunPlaces.{HasSpot, spot_there}
+use Rattle.dob_classes.proofs.Common.{◌<◌, ◌∙◌, ◌≤◌, ap, arith, refl, ℕ, spot_there, marks_below, block_of, run_of, IsShownOfSet, is_there}
+use Rattle.dob_rank.proofs.InRuns.RunPlaces.{HasSpot}
 use Rattle.dob_classes.proofs.spots.spot_shown_in.Goals as goal
 
 pub spot_shown-block-requires : goal.spot_shown-block-requires

@@ -1,9 +1,5 @@
 -- The first digit in which the image differs decides for all places that have the same digits up to there.
-use Rattle.std.proofs.Common.{◌<◌, ℕ, leb, sym, ap, subst, refl, arith, ◌+◌, ◌*◌, ◌/◌}
-use Rattle.std.specs.List.{All}
-use Rattle.std.proofs.Math.Nat.{div-le_self}
-use Rattle.dob_rank.specs.Numbers.{product}
-use Rattle.dob_rank.proofs.InRuns.RunPlaces.{run_size-small}
+use Rattle.dob_classes.proofs.Common.{◌*◌, ◌+◌, ◌/◌, ◌<◌, ap, arith, leb, refl, subst, sym, ℕ, div-le_self, All, run_size-small, product}
 use Rattle.dob_classes.proofs.MarksOfRuns.MixedRuns.{IsStretchFrom, stretch_told, local_bases-positive, run_size-bases}
 use Rattle.dob_classes.proofs.stretches.stretch_from.Goals as goal
 use Rattle.dob_classes.proofs.stretches.stretch_from.Goals.{After-width_of-width}

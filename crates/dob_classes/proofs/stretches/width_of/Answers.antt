@@ -1,7 +1,5 @@
 -- The weights are products of fewer and fewer bases, and the last at which the numbers differ is the width.
-use Rattle.std.proofs.Common.{◌^◌, ◌≤◌, length, sym, subst, arith}
-use Rattle.dob_classes.specs.Stretches.{IsWidth}
-use Rattle.dob_rank.proofs.Positions.Loops.{product_fits}
+use Rattle.dob_classes.proofs.Common.{◌^◌, ◌≤◌, arith, length, subst, sym, product_fits, IsWidth}
 use Rattle.dob_classes.proofs.MarksOfRuns.StretchLists.{width_start, width_further, weight_start, weight_further}
 use Rattle.dob_classes.proofs.stretches.width_of.Goals as goal
 use Rattle.dob_classes.proofs.stretches.width_of.Goals.{then-local-weight, else-local-weight}

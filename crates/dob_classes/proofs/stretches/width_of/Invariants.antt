@@ -1,7 +1,5 @@
 -- The weight is the product of the bases from the one reached on, and the width that of the bases after a digit reached.
-use Rattle.std.proofs.Common.{◌≡◌, ◌<◌, drop}
-use Rattle.dob_rank.specs.Numbers.{product}
-use Rattle.dob_classes.specs.Stretches.{IsWidth}
+use Rattle.dob_classes.proofs.Common.{◌<◌, ◌≡◌, drop, product, IsWidth}
 use Rattle.dob_classes.proofs.stretches.width_of.Given as goal
 
 abbrev pub invariant-loop-i : goal.invariant-loop-i

@@ -1,7 +1,5 @@
 -- What the first bytes are refused for is a fault of the stream.
-use Rattle.std.proofs.Common.{◌≡◌, ◌∙◌, ℕ, List, arith, subst, ap, length, take}
-use Rattle.std.proofs.lemmas.Result.{IfErr-weaker}
-use Rattle.dob_dbfile.specs.Faults.{HasHeaderFault}
+use Rattle.dob_dbfile.proofs.Common.{◌∙◌, ◌≡◌, List, ap, arith, length, subst, take, ℕ, IfErr-weaker, HasHeaderFault}
 use Rattle.dob_dbfile.proofs.Headers.{fault_lifts, front_refused}
 use Rattle.dob_dbfile.proofs.front.read_front.Goals as goal
 

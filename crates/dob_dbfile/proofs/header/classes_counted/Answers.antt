@@ -1,8 +1,5 @@
 -- The header says no profile, or has another number than that of the family's classes.
-use Rattle.std.proofs.Common.{◌≡◌, ◌∙◌, ap, inr, sym, true, false}
-use Rattle.dob_rank.specs.Families.{family_of, classes_of}
-use Rattle.dob_dbfile.specs.Format.{count_bytes}
-use Rattle.dob_dbfile.specs.Faults.{count_place, header_len}
+use Rattle.dob_dbfile.proofs.Common.{◌∙◌, ◌≡◌, ap, false, inr, sym, true, classes_of, family_of, count_place, header_len, count_bytes}
 use Rattle.dob_dbfile.proofs.Headers.{count_last, last_count}
 use Rattle.dob_dbfile.proofs.header.classes_counted.Goals as goal
 

@@ -1,8 +1,5 @@
 -- The header says no profile, or has another number than that of the family's classes.
-use Rattle.std.proofs.Common.{◌≡◌, ◌∙◌, sym, ap, true, false}
-use Rattle.dob_rank.specs.Families.{family_of}
-use Rattle.dob_dbfile.specs.Format.{count_bytes}
-use Rattle.dob_dbfile.specs.Faults.{count_place, header_len}
+use Rattle.dob_dbfile.proofs.Common.{◌∙◌, ◌≡◌, ap, false, sym, true, family_of, count_place, header_len, count_bytes}
 use Rattle.dob_dbfile.proofs.Headers.{count_last, last_count}
 use Rattle.dob_dbfile.proofs.header.family_counted.Goals as goal
 

@@ -1,7 +1,5 @@
 -- The three pieces, one after the other.
-use Rattle.std.proofs.Common.{◌∷◌, [], ◌≡◌, ◌∙◌, ◌++◌, List, ℕ, ap, append_assoc, rules}
-use Rattle.dob_dbfile.specs.declared.header.Format.TheVariants.{Second}
-use Rattle.dob_dbfile.specs.Format.{title, set_bytes, profile_bytes, count_bytes}
+use Rattle.dob_dbfile.proofs.Common.{◌++◌, ◌∙◌, ◌∷◌, ◌≡◌, List, [], ap, append_assoc, rules, ℕ, count_bytes, profile_bytes, set_bytes, title, Second}
 use Rattle.dob_dbfile.proofs.header.push_header.Goals as goal
 
 pieces : (old first second now a b c : List ℕ) → first ≡ old ++ a → second ≡ first ++ b → now ≡ second ++ c → now ≡ old ++ (a ++ (b ++ c))
@@ -15,5 +13,5 @@ returns-clause-items c =
     c.in_ok-extend_from_slice.ensures.items
     (c.in_ok-extend_from_slice-2.ensures.items
     ∙ ap (λ (p : ℕ). c.extend_from_slice.new.self.items ++ (c.args.family.set.chicks ∷ c.args.family.set.elephants ∷ c.args.family.set.giraffes ∷ 2 ∷ p ∷ []))
-    c.profile_byte-profile.ensures)
+    c.number-profile.ensures)
     (search rules)

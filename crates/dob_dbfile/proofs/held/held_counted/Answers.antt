@@ -1,10 +1,6 @@
 -- What the header says stands in the bytes, and of a file of the family no test fails.
-use Rattle.std.proofs.Common.{◌≡◌, ◌≤◌, ◌∙◌, ℕ, refl, sym, ap, subst, arith, length, take, drop, Option, None, Some}
-use Rattle.dob_pieces.specs.declared.profile.Family.{Family}
-use Rattle.dob_dbfile.specs.declared.header.Format.{Format}
-use Rattle.dob_dbfile.specs.Devices.{whole}
-use Rattle.dob_dbfile.specs.Format.{count_bytes}
-use Rattle.dob_dbfile.specs.Faults.{NamesFamily, CountsClasses, count_place, header_len}
+use Rattle.dob_dbfile.proofs.Common.{◌∙◌, ◌≡◌, ◌≤◌, None, Option, Some, ap, arith, drop, length, refl, subst, sym, take, ℕ, Family, whole, CountsClasses}
+use Rattle.dob_dbfile.proofs.Common.{NamesFamily, count_place, header_len, count_bytes, Format}
 use Rattle.dob_dbfile.proofs.Headers.{set_lifts, family_lifts, counts_falls, count_part, fault_lifts, header_long}
 use Rattle.dob_dbfile.proofs.HeldBytes.{refused, no_digest}
 use Rattle.dob_dbfile.proofs.Places.{only_digest, same_head, same_format, same_set}

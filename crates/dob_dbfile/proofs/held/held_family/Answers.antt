@@ -1,7 +1,5 @@
 -- The fault that is given is the one that holds.
-use Rattle.std.proofs.Common.{refl}
-use Rattle.std.proofs.lemmas.Result.{IfOk-weaker}
-use Rattle.dob_dbfile.specs.Devices.{whole}
+use Rattle.dob_dbfile.proofs.Common.{refl, IfOk-weaker, whole}
 use Rattle.dob_dbfile.proofs.Places.{exact_but_digest}
 use Rattle.dob_dbfile.proofs.held.held_family.Goals as goal
 

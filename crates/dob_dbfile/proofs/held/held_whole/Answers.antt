@@ -1,6 +1,5 @@
 -- How many bytes there are shows whether the file is cut or goes on.
-use Rattle.std.proofs.Common.{◌≤◌, arith, inr, refl, length}
-use Rattle.dob_dbfile.specs.Faults.{file_len}
+use Rattle.dob_dbfile.proofs.Common.{◌≤◌, arith, inr, length, refl, file_len}
 use Rattle.dob_dbfile.proofs.held.held_whole.Goals as goal
 
 pub returns-then-bytes-wanted-clause-fault : goal.returns-then-bytes-wanted-clause-fault

@@ -1,7 +1,5 @@
 -- What the first bytes and the length are refused for is a fault of the file.
-use Rattle.std.proofs.Common.{◌≤◌, arith, inr, refl, length}
-use Rattle.std.proofs.lemmas.Result.{err_from_is_err_and}
-use Rattle.dob_dbfile.specs.Faults.{file_len}
+use Rattle.dob_dbfile.proofs.Common.{◌≤◌, arith, inr, length, refl, err_from_is_err_and, file_len}
 use Rattle.dob_dbfile.proofs.FrontBytes.{counts_by_front, fault_by_front}
 use Rattle.dob_dbfile.proofs.held_front.front_family.Goals as goal
 

@@ -1,7 +1,5 @@
 -- The two bytes at the class's place are its record.
-use Rattle.std.proofs.Common.{◌≡◌, ◌+◌, ◌*◌, ℕ, length, subst}
-use Rattle.dob_dbfile.specs.Devices.{after}
-use Rattle.dob_dbfile.specs.Reading.{TakesBytes}
+use Rattle.dob_dbfile.proofs.Common.{◌*◌, ◌+◌, ◌≡◌, length, subst, ℕ, after, TakesBytes}
 use Rattle.dob_dbfile.proofs.Looked.{record_is}
 use Rattle.dob_dbfile.proofs.look.read_value.Goals as goal
 

@@ -1,7 +1,5 @@
 -- The digest that was read is compared with that of the bytes before it.
-use Rattle.std.proofs.Common.{◌≡◌, ◌∙◌, ℕ, sym, subst, length, true, false}
-use Rattle.std.proofs.lemmas.Result.{err_from_is_err_and}
-use Rattle.dob_dbfile.specs.Reading.{GivesFewer}
+use Rattle.dob_dbfile.proofs.Common.{◌∙◌, ◌≡◌, false, length, subst, sym, true, ℕ, err_from_is_err_and, GivesFewer}
 use Rattle.dob_dbfile.proofs.Endings.{digest_cut, all_taken}
 use Rattle.dob_dbfile.proofs.read.expect_digest.Goals as goal
 

@@ -1,12 +1,6 @@
 -- Each part of the file that is read gives its faults, and the last one the values.
-use Rattle.std.proofs.Common.{◌≡◌, ◌∙◌, ℕ, List, sym, subst, length, false}
-use Rattle.std.proofs.lemmas.Result.{err_from_is_err_and}
-use Rattle.dob_rank.specs.Families.{classes_of}
-use Rattle.dob_value.specs.Follows.{ClassTable}
-use Rattle.dob_dbfile.specs.Devices.{Stream, after}
-use Rattle.dob_dbfile.specs.Format.{IsFile}
-use Rattle.dob_dbfile.specs.Faults.{PassesAll, header_len}
-use Rattle.dob_dbfile.specs.Reading.{EndsWith, HasRestFault}
+use Rattle.dob_dbfile.proofs.Common.{◌∙◌, ◌≡◌, List, false, length, subst, sym, ℕ, err_from_is_err_and, classes_of, ClassTable, Stream, after, PassesAll}
+use Rattle.dob_dbfile.proofs.Common.{header_len, IsFile, EndsWith, HasRestFault}
 use Rattle.dob_dbfile.proofs.Verdicts.{front, head_is, rest_fault, right_file, right_digest}
 use Rattle.dob_dbfile.proofs.read.read_file.Goals as goal
 

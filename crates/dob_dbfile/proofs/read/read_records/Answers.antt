@@ -1,9 +1,6 @@
 -- Piece after piece the codes and the digest grow by the bytes that were read.
-use Rattle.std.proofs.Common.{◌≡◌, ◌∙◌, ◌*◌, ℕ, [], ap, arith, rules, sym, refl, subst, length}
-use Rattle.std.proofs.Math.Bool.{or-false}
-use Rattle.std.proofs.lemmas.Result.{err_from_is_err_and}
-use Rattle.dob_dbfile.specs.Devices.{after}
-use Rattle.dob_dbfile.specs.Reading.{ReadsCodes, HashesNext}
+use Rattle.dob_dbfile.proofs.Common.{◌*◌, ◌∙◌, ◌≡◌, [], ap, arith, length, refl, rules, subst, sym, ℕ, or-false, err_from_is_err_and, after, HashesNext}
+use Rattle.dob_dbfile.proofs.Common.{ReadsCodes}
 use Rattle.dob_dbfile.proofs.Filled.{after-after}
 use Rattle.dob_dbfile.proofs.Pieces.{reads_none, reads_more, hashes_none, hashes_more, cut_later, few_more}
 use Rattle.dob_dbfile.proofs.read.read_records.Goals as goal

@@ -1,8 +1,5 @@
 -- The codes and the digest are of the bytes read so far.
-use Rattle.std.proofs.Common.{◌≡◌, ◌*◌, ◌-◌, ◌<◌, ◌≤◌, [], length}
-use Rattle.std.specs.List.{All}
-use Rattle.dob_dbfile.specs.Devices.{Stream, after}
-use Rattle.dob_dbfile.specs.Reading.{ReadsCodes, HashesNext}
+use Rattle.dob_dbfile.proofs.Common.{◌*◌, ◌-◌, ◌<◌, ◌≡◌, ◌≤◌, [], length, All, Stream, after, HashesNext, ReadsCodes}
 use Rattle.dob_dbfile.proofs.read.read_records.Given as goal
 
 -- so many records were read, and the hasher has had their bytes

@@ -1,10 +1,5 @@
 -- The table read is that of the file, and a fault is given just where it holds.
-use Rattle.std.proofs.Common.{◌≡◌, false}
-use Rattle.std.proofs.lemmas.Result.{IfOk-weaker}
-use Rattle.dob_value.specs.Follows.{ClassTable}
-use Rattle.dob_dbfile.specs.Devices.{whole}
-use Rattle.dob_dbfile.specs.Format.{IsFile}
-use Rattle.dob_dbfile.specs.Faults.{PassesAll}
+use Rattle.dob_dbfile.proofs.Common.{◌≡◌, false, IfOk-weaker, ClassTable, whole, PassesAll, IsFile}
 use Rattle.dob_dbfile.proofs.Places.{exact_as}
 use Rattle.dob_dbfile.proofs.Written.{read_back}
 use Rattle.dob_dbfile.proofs.read.read_table.Goals as goal

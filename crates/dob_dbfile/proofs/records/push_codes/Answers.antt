@@ -1,9 +1,6 @@
 -- A code more is appended.
-use Rattle.std.proofs.Common.{◌≡◌, ◌∙◌, ◌+◌, ◌*◌, ◌<◌, ◌≤◌, ◌++◌, ◌∷◌, [], ℕ, List, arith, ap, sym, append_assoc, length, subst}
-use Rattle.std.specs.List.{All}
-use Rattle.std.proofs.lemmas.List.Elements.{All-push}
-use Rattle.std.proofs.lemmas.List.{length-append, take_rest}
-use Rattle.byteorder.specs.Endian.{little_number}
+use Rattle.dob_dbfile.proofs.Common.{◌*◌, ◌++◌, ◌+◌, ◌<◌, ◌∙◌, ◌∷◌, ◌≡◌, ◌≤◌, List, [], ap, append_assoc, arith, length, subst, sym, ℕ, length-append}
+use Rattle.dob_dbfile.proofs.Common.{take_rest, All-push, All, little_number}
 use Rattle.dob_dbfile.proofs.CodeBytes.{code_more}
 use Rattle.dob_dbfile.proofs.records.push_codes.Goals as goal
 

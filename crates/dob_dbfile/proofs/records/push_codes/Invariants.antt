@@ -1,7 +1,5 @@
 -- The codes of the records so far stand.
-use Rattle.std.proofs.Common.{◌≡◌, ◌*◌, ◌<◌, ◌++◌, ℕ, List, take, length}
-use Rattle.std.specs.List.{All}
-use Rattle.dob_dbfile.specs.Format.{code_bytes}
+use Rattle.dob_dbfile.proofs.Common.{◌*◌, ◌++◌, ◌<◌, ◌≡◌, List, length, take, ℕ, All, code_bytes}
 use Rattle.dob_dbfile.proofs.records.push_codes.Given as goal
 
 -- so many records were read

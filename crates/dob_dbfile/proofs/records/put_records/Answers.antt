@@ -1,8 +1,5 @@
 -- The record of a class more is appended.
-use Rattle.std.proofs.Common.{◌∙◌, ◌++◌, ◌<◌, List, ℕ, arith, ap, sym, append_assoc, take, length}
-use Rattle.byteorder.specs.Endian.{little_bytes}
-use Rattle.dob_value.specs.Codes.{code_of_value}
-use Rattle.dob_dbfile.specs.Format.{records}
+use Rattle.dob_dbfile.proofs.Common.{◌++◌, ◌<◌, ◌∙◌, List, ap, append_assoc, arith, length, sym, take, ℕ, little_bytes, code_of_value, records}
 use Rattle.dob_dbfile.proofs.CodeBytes.{records_more}
 use Rattle.dob_dbfile.proofs.records.put_records.Goals as goal
 

@@ -1,6 +1,5 @@
 -- The records of the classes so far stand, and there is room for the rest.
-use Rattle.std.proofs.Common.{◌≡◌, ◌++◌, ◌*◌, ◌-◌, ◌≤◌, take, vec_capacity, vec_len}
-use Rattle.dob_dbfile.specs.Format.{records}
+use Rattle.dob_dbfile.proofs.Common.{◌*◌, ◌++◌, ◌-◌, ◌≡◌, ◌≤◌, take, vec_capacity, vec_len, records}
 use Rattle.dob_dbfile.proofs.records.put_records.Given as goal
 
 abbrev pub invariant-loop-class : goal.invariant-loop-class

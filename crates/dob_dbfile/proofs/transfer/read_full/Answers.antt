@@ -1,7 +1,5 @@
 -- The room filled grows by what a call gives.
-use Rattle.std.proofs.Common.{◌∙◌, ◌-◌, rules, subst, length, arith}
-use Rattle.std.proofs.lemmas.Grind.{common_steps}
-use Rattle.std.proofs.Math.Bool.{or-false}
+use Rattle.dob_dbfile.proofs.Common.{◌-◌, ◌∙◌, arith, length, rules, subst, or-false, common_steps}
 use Rattle.dob_dbfile.proofs.Filled.{filled_more, after-after}
 use Rattle.dob_dbfile.proofs.transfer.read_full.Goals as goal
 

@@ -1,6 +1,5 @@
 -- The room filled so far has the stream's next bytes.
-use Rattle.std.proofs.Common.{◌≡◌, length, take, ◌-◌, ◌≤◌}
-use Rattle.dob_dbfile.specs.Devices.{Stream, after}
+use Rattle.dob_dbfile.proofs.Common.{◌-◌, ◌≡◌, ◌≤◌, length, take, Stream, after}
 use Rattle.dob_dbfile.proofs.transfer.read_full.Given as goal
 
 -- the front of the room is the front of the stream, and nothing has failed

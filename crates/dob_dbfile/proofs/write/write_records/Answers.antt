@@ -1,15 +1,11 @@
--- Piece after piece the records go in, and into the digest.
-use Rattle.std.proofs.Common.{◌≡◌, ◌∙◌, ◌++◌, ◌*◌, List, ℕ, arith, ap, subst, take, drop}
-use Rattle.std.proofs.lemmas.Result.{err_from_is_err_and}
-use Rattle.dob_dbfile.specs.Format.{records}
-use Rattle.dob_dbfile.specs.Sinks.{Writes, change}
-use Rattle.dob_dbfile.specs.Writing.{Hashes}
+-- Piece after piece the records go in.
+use Rattle.dob_dbfile.proofs.Common.{◌*◌, ◌++◌, ◌∙◌, ◌≡◌, List, ap, arith, drop, subst, take, ℕ, err_from_is_err_and, records, Writes, change}
 use Rattle.dob_dbfile.proofs.Sinks.{stops_behind, writes_more, writes_none}
-use Rattle.dob_dbfile.proofs.Hashed.{hashes_after, hashes_nothing, records_len, records_part}
+use Rattle.dob_dbfile.proofs.Hashed.{records_len, records_part}
 use Rattle.dob_dbfile.proofs.write.write_records.Goals as goal
 
 pub pieces-init : goal.pieces-init
-pieces-init g c = (omega arith, c.requires.room, writes_none (g.W.Sink.state c.args.sink.now), hashes_nothing c.args.hasher.now)
+pieces-init g c = (omega arith, c.requires.room, writes_none (g.W.Sink.state c.args.sink.now))
 
 pub pieces-preserved : goal.pieces-preserved
 pieces-preserved g c =
@@ -20,19 +16,16 @@ pieces-preserved g c =
     ap (λ (bytes : List ℕ). front ++ bytes) c.deref.ensures.value ∙ c.put_records.ensures.records in (
       omega (arith, c.min-end.ensures),
       omega (arith, c.put_records.ensures.capacity, c.pieces.invariant.1),
-      subst (Writes (change (g.W.Sink.state c.args.sink.now) (g.W.Sink.state c.write_hashed.new.sink))) joined
-          (writes_more (g.W.Sink.state c.args.sink.now) (g.W.Sink.state c.pieces.sink) (g.W.Sink.state c.write_hashed.new.sink) front
-          piece c.pieces.invariant.2 c.in_ok-write_hashed.ensures.done),
-      subst (λ (bytes : List ℕ). Hashes c.args.hasher.now bytes c.write_hashed.new.hasher) joined
-          (hashes_after c.args.hasher.now c.pieces.hasher c.write_hashed.new.hasher front piece c.pieces.invariant.3
-          c.write_hashed.ensures.hashed),
+      subst (Writes (change (g.W.Sink.state c.args.sink.now) (g.W.Sink.state c.write_behind.new.sink))) joined
+          (writes_more (g.W.Sink.state c.args.sink.now) (g.W.Sink.state c.pieces.sink) (g.W.Sink.state c.write_behind.new.sink) front
+          piece c.pieces.invariant.2 c.in_ok-write_behind.ensures.done),
     )
 
 pub put_records-requires-clause-entries : goal.put_records-requires-clause-entries
 put_records-requires-clause-entries g c = c.requires.table.entries
 
-pub returns-in_err-write_hashed-clause-part : goal.returns-in_err-write_hashed-clause-part
-returns-in_err-write_hashed-clause-part g c =
+pub returns-in_err-write_behind-clause-part : goal.returns-in_err-write_behind-clause-part
+returns-in_err-write_behind-clause-part g c =
     let p = err_from_is_err_and c.from_residual.result c.from_residual.ensures.1 in
     let values = c.args.table.now.values in
     let class = c.pieces.class in
@@ -40,7 +33,7 @@ returns-in_err-write_hashed-clause-part g c =
     let piece = c.deref.result.now in
     let joined : front ++ piece ≡ records (take c.min-end.result values) =
     ap (λ (bytes : List ℕ). front ++ bytes) c.deref.ensures.value ∙ c.put_records.ensures.records in
-    rw (p.1, p.2) (stops_behind (g.W.Sink.state c.args.sink.now) (g.W.Sink.state c.pieces.sink) (g.W.Sink.state c.write_hashed.new.sink) 21 (2 * class)
+    rw (p.1, p.2) (stops_behind (g.W.Sink.state c.args.sink.now) (g.W.Sink.state c.pieces.sink) (g.W.Sink.state c.write_behind.new.sink) 21 (2 * class)
     front piece (records (drop c.min-end.result values)) (records values) _ c.pieces.invariant.2
     (records_len values class (omega (arith, c.pieces.invariant.0, c.requires.counted)))
-    (records_part values class c.min-end.result piece joined) c.in_err-write_hashed.ensures.part)
+    (records_part values class c.min-end.result piece joined) c.in_err-write_behind.ensures.part)

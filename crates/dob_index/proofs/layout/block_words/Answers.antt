@@ -1,6 +1,5 @@
 -- Nine runs of a block have entries, each as many.
-use Rattle.std.proofs.Common.{arith}
-use Rattle.dob_rank.specs.Runs.{lion_pairs}
+use Rattle.dob_index.proofs.Common.{arith, lion_pairs}
 use Rattle.dob_index.proofs.Places.{block_few, nine_mixed}
 use Rattle.dob_index.proofs.layout.block_words.Goals as goal
 

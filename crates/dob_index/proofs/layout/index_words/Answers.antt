@@ -1,8 +1,5 @@
 -- Each block adds its own entries.
-use Rattle.std.proofs.Common.{◌≡◌, ◌∙◌, ℕ, ap, arith}
-use Rattle.dob_rank.specs.Numbers.{product, block_bases}
-use Rattle.dob_rank.proofs.Positions.Blocks.{blocks_small}
-use Rattle.dob_index.specs.Layout.{entries_at}
+use Rattle.dob_index.proofs.Common.{◌∙◌, ◌≡◌, ap, arith, ℕ, blocks_small, block_bases, product, entries_at}
 use Rattle.dob_index.proofs.Places.{words_few, run_within, block_more}
 use Rattle.dob_index.proofs.layout.index_words.Goals as goal
 

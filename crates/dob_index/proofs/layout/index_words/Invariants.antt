@@ -1,6 +1,5 @@
 -- The count is of the blocks so far.
-use Rattle.std.proofs.Common.{◌≡◌}
-use Rattle.dob_index.specs.Layout.{entries_at}
+use Rattle.dob_index.proofs.Common.{◌≡◌, entries_at}
 use Rattle.dob_index.proofs.layout.index_words.Given as goal
 
 abbrev pub invariant-loop-block : goal.invariant-loop-block

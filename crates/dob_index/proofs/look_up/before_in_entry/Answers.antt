@@ -1,10 +1,5 @@
 -- The entry says how many stand before its place, and the walk how many behind it.
-use Rattle.std.proofs.Common.{◌≡◌, ◌+◌, ◌/◌, ◌∙◌, ℕ, ap, arith, get_or}
-use Rattle.dob_rank.specs.Families.{is_marked}
-use Rattle.dob_rank.specs.Marks.{marks_below}
-use Rattle.dob_rank.specs.Runs.{run_start}
-use Rattle.dob_classes.proofs.Counting.WalkMarks.{walked_few}
-use Rattle.dob_index.specs.Layout.{row_at}
+use Rattle.dob_index.proofs.Common.{◌+◌, ◌/◌, ◌∙◌, ◌≡◌, ap, arith, get_or, ℕ, is_marked, marks_below, run_start, walked_few, row_at}
 use Rattle.dob_index.proofs.Walked.{walked}
 use Rattle.dob_index.proofs.Read.{entry_read, first_small}
 use Rattle.dob_index.proofs.look_up.before_in_entry.Goals as goal

@@ -1,10 +1,5 @@
 -- The lions say it, or the entries of the first hand's run of those lions.
-use Rattle.std.proofs.Common.{◌+◌, ◌∙◌, sym, arith}
-use Rattle.dob_rank.specs.Families.{is_marked}
-use Rattle.dob_rank.specs.Runs.{run_start}
-use Rattle.dob_rank.proofs.InRuns.RunMarks.{run_start_next}
-use Rattle.dob_classes.proofs.Tables.RunTables.{marks_small}
-use Rattle.dob_rank.proofs.Marked.Words.{marks_below-upto}
+use Rattle.dob_index.proofs.Common.{◌+◌, ◌∙◌, arith, sym, run_start_next, marks_below-upto, is_marked, run_start, marks_small}
 use Rattle.dob_index.proofs.Walked.{by_lions}
 use Rattle.dob_index.proofs.look_up.before_place.Goals as goal
 

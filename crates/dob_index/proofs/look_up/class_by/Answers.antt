@@ -1,7 +1,6 @@
 -- The class of a position is that of the earlier of it and its mirror image.
-use Rattle.std.proofs.Common.{◌∙◌}
+use Rattle.dob_index.proofs.Common.{◌∙◌, class_of_earlier}
 use Rattle.dob_classes.proofs.OfFamilies.FamilyRepresentatives.{representative_is}
-use Rattle.dob_classes.proofs.Counting.ClassesBefore.{class_of_earlier}
 use Rattle.dob_index.proofs.look_up.class_by.Goals as goal
 
 pub classes_before-requires : goal.classes_before-requires

@@ -1,16 +1,10 @@
 -- Each run is written behind those before it.
-use Rattle.std.proofs.Common.{◌≡◌, ◌≤◌, ◌+◌, ◌∙◌, ℕ, refl, ap, inl, arith, length}
-use Rattle.std.proofs.lemmas.List.{length-set}
-use Rattle.dob_rank.specs.Families.{is_marked}
-use Rattle.dob_rank.specs.Marks.{marks_below}
-use Rattle.dob_rank.specs.Numbers.{product, block_bases}
-use Rattle.dob_rank.specs.Runs.{run_size, run_start, run_kind}
-use Rattle.dob_classes.proofs.Tables.RunTables.{marks_small}
-use Rattle.dob_classes.proofs.Counting.ClassesBefore.{none_before, all_lions, one_run_more}
-use Rattle.dob_index.specs.Layout.{row_at, where_mixed}
+use Rattle.dob_index.proofs.Common.{◌+◌, ◌∙◌, ◌≡◌, ◌≤◌, ap, arith, inl, length, refl, ℕ, length-set, is_marked, marks_below, block_bases, product, run_kind}
+use Rattle.dob_index.proofs.Common.{run_size, run_start, all_lions, none_before, one_run_more, marks_small, row_at, where_mixed}
 use Rattle.dob_index.proofs.Places.{run_more, run_within, behind_rows, words_few}
-use Rattle.dob_index.proofs.Kept.{row_opened, one_run, runs_stay, all_runs, outside, below_later, from_earlier}
+use Rattle.dob_index.proofs.Kept.{AreAllRuns, row_opened, one_run, runs_stay, all_runs, outside, below_later, from_earlier}
 use Rattle.dob_index.proofs.write.write_block.Goals as goal
+use Rattle.dob_index.proofs.write.write_block.Goals.{After-count_runs}
 
 pub loop-lions-init : goal.loop-lions-init
 loop-lions-init c =
@@ -93,22 +87,18 @@ loop-lions-preserved c =
           ∙ c.loop-lions.invariant.others i out (from_earlier i c.args.first at next (omega arith) side);
     }
 
-pub overflow_mul-result : goal.overflow_mul-result
-overflow_mul-result c =
+-- all runs of the block are written
+all : (c : After-count_runs) → AreAllRuns c.args.family c.args.block c.args.before c.loop-lions.count c.count_runs.result
+all c =
     let same : c.loop-lions.lions ≡ 99 = omega (arith, c.loop-lions.auto.lions-end, c.loop-lions-test.false) in
-    let few = (all_runs c.args.family c.args.block c.args.before c.loop-lions.count c.count_runs.result c.requires.block c.count_runs.ensures.value c.requires.before
-    (c.loop-lions.invariant.count ∙ ap (λ (n : ℕ). marks_below (is_marked c.args.family) (run_start c.args.family.set c.args.block n)) same)).few in
-    omega (arith, few)
+    all_runs c.args.family c.args.block c.args.before c.loop-lions.count c.count_runs.result c.requires.block c.count_runs.ensures.value c.requires.before
+    (c.loop-lions.invariant.count ∙ ap (λ (n : ℕ). marks_below (is_marked c.args.family) (run_start c.args.family.set c.args.block n)) same)
+
+pub overflow_mul-result : goal.overflow_mul-result
+overflow_mul-result c = let few = (all (goal.at.overflow_mul-result c).After-count_runs).few in omega (arith, few)
 
 pub overflow_add-result : goal.overflow_add-result
-overflow_add-result c =
-    let same : c.loop-lions.lions ≡ 99 = omega (arith, c.loop-lions.auto.lions-end, c.loop-lions-test.false) in
-    let few = (all_runs c.args.family c.args.block c.args.before c.loop-lions.count c.count_runs.result c.requires.block c.count_runs.ensures.value c.requires.before
-    (c.loop-lions.invariant.count ∙ ap (λ (n : ℕ). marks_below (is_marked c.args.family) (run_start c.args.family.set c.args.block n)) same)).few in
-    omega (arith, few)
+overflow_add-result c = let few = (all (goal.at.overflow_add-result c).After-count_runs).few in omega (arith, few)
 
 pub returns-clause-before : goal.returns-clause-before
-returns-clause-before c =
-    let same : c.loop-lions.lions ≡ 99 = omega (arith, c.loop-lions.auto.lions-end, c.loop-lions-test.false) in
-    (all_runs c.args.family c.args.block c.args.before c.loop-lions.count c.count_runs.result c.requires.block c.count_runs.ensures.value c.requires.before
-    (c.loop-lions.invariant.count ∙ ap (λ (n : ℕ). marks_below (is_marked c.args.family) (run_start c.args.family.set c.args.block n)) same)).sum_is
+returns-clause-before c = (all (goal.at.returns-clause-before c).After-count_runs).sum_is

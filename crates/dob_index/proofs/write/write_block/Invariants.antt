@@ -1,11 +1,5 @@
 -- The runs so far are written, and the count is of their classes.
-use Rattle.std.proofs.Common.{◌≡◌, ◌≤◌, ◌<◌, ◌+◌, ◌⊎◌, ℕ, length, get_or}
-use Rattle.dob_rank.specs.Families.{is_marked}
-use Rattle.dob_rank.specs.Marks.{marks_below}
-use Rattle.dob_rank.specs.Numbers.{start_of}
-use Rattle.dob_rank.specs.Runs.{run_start}
-use Rattle.dob_index.specs.Layout.{row_at, entries_at}
-use Rattle.dob_index.specs.Index.{IsKeptRun}
+use Rattle.dob_index.proofs.Common.{◌+◌, ◌<◌, ◌≡◌, ◌≤◌, ◌⊎◌, get_or, length, ℕ, is_marked, marks_below, start_of, run_start, IsKeptRun, entries_at, row_at}
 use Rattle.dob_index.proofs.write.write_block.Given as goal
 
 abbrev pub invariant-loop-lions : goal.invariant-loop-lions

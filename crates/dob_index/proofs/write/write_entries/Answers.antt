@@ -1,15 +1,6 @@
 -- What the walk has passed at the place of an entry is the entry.
-use Rattle.std.proofs.Common.{◌≡◌, ◌≤◌, ◌<◌, ◌+◌, ◌∙◌, ℕ, refl, sym, ap, arith, length}
-use Rattle.std.proofs.lemmas.List.{length-set}
-use Rattle.dob_rank.specs.Families.{is_marked}
-use Rattle.dob_classes.specs.FamilyRuns.{is_there}
-use Rattle.dob_rank.specs.Marks.{marks_below}
-use Rattle.dob_rank.specs.Runs.{run_start}
-use Rattle.dob_classes.specs.Walks.{marks_before}
-use Rattle.dob_rank.proofs.Marked.Words.{marks_below_none}
-use Rattle.dob_classes.specs.FamilyRuns.{local_marks_in}
-use Rattle.dob_classes.proofs.Counting.WalkMarks.{walked_few}
-use Rattle.dob_index.specs.Layout.{entries_in}
+use Rattle.dob_index.proofs.Common.{◌+◌, ◌<◌, ◌∙◌, ◌≡◌, ◌≤◌, ap, arith, length, refl, sym, ℕ, length-set, marks_below_none, is_marked, marks_below, run_start}
+use Rattle.dob_index.proofs.Common.{walked_few, is_there, local_marks_in, marks_before, entries_in}
 use Rattle.dob_index.proofs.Walked.{walked}
 use Rattle.dob_index.proofs.Kept.{entry_written, others_stay}
 use Rattle.dob_index.proofs.write.write_entries.Goals as goal

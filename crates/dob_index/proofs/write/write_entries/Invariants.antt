@@ -1,10 +1,6 @@
 -- The walk stands at the place of the entry before, and the entries up to there are written.
-use Rattle.std.proofs.Common.{◌≡◌, ◌≤◌, ◌<◌, ◌+◌, ◌*◌, ◌⊎◌, ℕ, length, get_or}
-use Rattle.dob_rank.specs.Families.{is_marked}
-use Rattle.dob_rank.specs.Marks.{marks_below}
-use Rattle.dob_rank.specs.Runs.{run_start}
-use Rattle.dob_classes.specs.Walks.{IsWalk, marks_before}
-use Rattle.dob_index.specs.Layout.{entries_in, entry_places}
+use Rattle.dob_index.proofs.Common.{◌*◌, ◌+◌, ◌<◌, ◌≡◌, ◌≤◌, ◌⊎◌, get_or, length, ℕ, is_marked, marks_below, run_start, IsWalk, marks_before, entries_in}
+use Rattle.dob_index.proofs.Common.{entry_places}
 use Rattle.dob_index.proofs.write.write_entries.Given as goal
 
 abbrev pub invariant-loop-entry : goal.invariant-loop-entry

@@ -1,11 +1,6 @@
 -- The blocks before stay where one more is written, and all of them where the first three numbers are.
-use Rattle.std.proofs.Common.{◌≡◌, ◌≤◌, ◌<◌, ◌∙◌, ℕ, refl, ap, subst, inl, inr, arith, slice_set}
-use Rattle.std.proofs.lemmas.Bool.{cases_lt}
-use Rattle.dob_rank.specs.Numbers.{product, block_bases}
-use Rattle.dob_rank.specs.Runs.{lion_pairs}
-use Rattle.dob_classes.proofs.Tables.FamilyBlocks.{no_classes_yet, classes_all}
-use Rattle.dob_index.specs.Layout.{row_at, entries_at, words_of}
-use Rattle.dob_index.specs.Index.{IsKeptBlock}
+use Rattle.dob_index.proofs.Common.{◌<◌, ◌∙◌, ◌≡◌, ◌≤◌, ap, arith, inl, inr, refl, slice_set, subst, ℕ, cases_lt, block_bases, product, lion_pairs, classes_all}
+use Rattle.dob_index.proofs.Common.{no_classes_yet, IsKeptBlock, entries_at, row_at, words_of}
 use Rattle.dob_index.proofs.Places.{block_more, run_within, behind_rows, words_few}
 use Rattle.dob_index.proofs.Kept.{block_stays, headed}
 use Rattle.dob_index.proofs.write.write_index.Goals as goal

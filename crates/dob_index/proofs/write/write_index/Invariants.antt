@@ -1,10 +1,5 @@
 -- The blocks so far are written, and what stands behind the index is as it was.
-use Rattle.std.proofs.Common.{◌≡◌, ◌≤◌, ◌<◌, ℕ, length, get_or}
-use Rattle.dob_rank.specs.Families.{is_marked}
-use Rattle.dob_rank.specs.Marks.{marks_below}
-use Rattle.dob_rank.specs.Numbers.{start_of}
-use Rattle.dob_index.specs.Layout.{entries_at, words_of}
-use Rattle.dob_index.specs.Index.{IsKeptBlock}
+use Rattle.dob_index.proofs.Common.{◌<◌, ◌≡◌, ◌≤◌, get_or, length, ℕ, is_marked, marks_below, start_of, IsKeptBlock, entries_at, words_of}
 use Rattle.dob_index.proofs.write.write_index.Given as goal
 
 abbrev pub invariant-loop-block : goal.invariant-loop-block

@@ -1,7 +1,5 @@
 -- Each run of the first hand is there.
-use Rattle.std.proofs.Common.{◌∙◌, sym, ap, arith}
-use Rattle.dob_rank.specs.Runs.{run_kind}
-use Rattle.dob_rank.proofs.InRuns.RunSums.{lions_same, lions_there}
+use Rattle.dob_index.proofs.Common.{◌∙◌, ap, arith, sym, lions_same, lions_there, run_kind}
 use Rattle.dob_index.proofs.write.write_run.Goals as goal
 
 pub invariant_of-write_entries : goal.invariant_of-write_entries

@@ -1,9 +1,5 @@
 -- What is built is the move's one outcome, and legal since the position is open.
-use Rattle.std.proofs.Common.{sym, subst, ap, ◌∙◌}
-use Rattle.dob_pieces.specs.declared.setup.Setup.{Setup}
-use Rattle.dob_pieces.specs.Setups.{IsLegal, turned}
-use Rattle.dob_moves.specs.Moves.{HasOutcome}
-use Rattle.dob_moves.specs.Outcomes.{moved}
+use Rattle.dob_moves.proofs.Common.{◌∙◌, ap, subst, sym, IsLegal, turned, Setup, HasOutcome, moved}
 use Rattle.dob_moves.proofs.Outcomes.{HasOutcome-moved, IsLegal-HasOutcome}
 use Rattle.dob_moves.proofs.applying.apply.Goals as goal
 

@@ -1,8 +1,5 @@
 -- A step onto the lion stands before the drops, at the place of its two squares.
-use Rattle.std.proofs.Common.{◌≡◌, ℕ, MatchOption, subst}
-use Rattle.dob_moves.specs.declared.game_move.Move.{Move}
-use Rattle.dob_moves.specs.declared.first_moves.Aim.TheVariants.{AtLion}
-use Rattle.dob_moves.specs.Moves.{CatchesLion, place}
+use Rattle.dob_moves.proofs.Common.{◌≡◌, MatchOption, subst, ℕ, CatchesLion, place, AtLion, Move}
 use Rattle.dob_moves.proofs.ByPlace.{step_answer, as_pairs}
 use Rattle.dob_moves.proofs.at_place.catch_at.Goals as goal
 

@@ -1,7 +1,5 @@
 -- Steps stand at the places of their two squares, drops behind them.
-use Rattle.std.proofs.Common.{◌≡◌, ◌+◌, ◌*◌, ℕ, MatchOption, subst, arith}
-use Rattle.dob_moves.specs.declared.game_move.Move.{Move}
-use Rattle.dob_moves.specs.Moves.{CanGo, hand_place, first_drop, place}
+use Rattle.dob_moves.proofs.Common.{◌*◌, ◌+◌, ◌≡◌, MatchOption, arith, subst, ℕ, CanGo, first_drop, hand_place, place, Move}
 use Rattle.dob_moves.proofs.ByPlace.{step_goes, drop_goes, none_behind}
 use Rattle.dob_moves.proofs.at_place.move_of_open.Goals as goal
 

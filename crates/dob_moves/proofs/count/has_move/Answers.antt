@@ -8,7 +8,7 @@ returns c =
     let p = c.args.position.now.setup in
     let steps = c.count_steps.result in
     let drops = c.count_drops.result in (
-      λ h. some_move p steps drops c.count_steps.ensures.number c.count_drops.ensures.number (λ e. eqb-false _ 0 (not-true _ h) e),
-      λ w. not_from_false _ (ne_eqb _ 0 (λ none. no_moves p steps drops c.args.position.now.legal.squares c.count_steps.ensures.number
-          c.count_drops.ensures.number none w)),
+      λ h. some_move p steps drops (c.count_steps.ensures.number p c.requires.masks) (c.count_drops.ensures.number p c.requires.masks c.requires.hand) (λ e. eqb-false _ 0 (not-true _ h) e),
+      λ w. not_from_false _ (ne_eqb _ 0 (λ none. no_moves p steps drops c.args.position.now.legal.squares (c.count_steps.ensures.number p c.requires.masks)
+          (c.count_drops.ensures.number p c.requires.masks c.requires.hand) none w)),
     )

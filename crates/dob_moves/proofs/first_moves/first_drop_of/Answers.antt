@@ -1,13 +1,6 @@
 -- The first drop that is found is the first of the whole list.
-use Rattle.std.proofs.Common.{◌≡◌, ℕ, ◌<◌, true, ◌∙◌, ap, arith, option_to_list, None}
-use Rattle.std.proofs.lemmas.Bool.{lt-ltb}
-use Rattle.std.specs.Option.{is_some}
-use Rattle.dob_pieces.specs.declared.kind.HandKind.{HandKind}
-use Rattle.dob_pieces.specs.declared.profile.Profile.TheVariants.{A}
-use Rattle.dob_pieces.specs.declared.setup.Setup.{Setup}
-use Rattle.dob_pieces.specs.Lists.{each_below}
-use Rattle.dob_pieces.specs.Setups.{held}
-use Rattle.dob_moves.specs.Walks.{first, put_on, drops_of}
+use Rattle.dob_moves.proofs.Common.{◌<◌, ◌∙◌, ◌≡◌, None, ap, arith, option_to_list, true, ℕ, lt-ltb, is_some, each_below, held, HandKind, A, Setup, drops_of}
+use Rattle.dob_moves.proofs.Common.{first, put_on}
 use Rattle.dob_moves.proofs.Firsts.{below_found, first-option}
 use Rattle.dob_moves.proofs.first_moves.first_drop_of.Goals as goal
 

@@ -1,8 +1,5 @@
 -- Nothing was found so far.
-use Rattle.std.proofs.Common.{◌≡◌, None, option_to_list}
-use Rattle.dob_pieces.specs.declared.profile.Profile.TheVariants.{A}
-use Rattle.dob_pieces.specs.Lists.{each_below}
-use Rattle.dob_moves.specs.Walks.{first, put_on}
+use Rattle.dob_moves.proofs.Common.{◌≡◌, None, option_to_list, each_below, A, first, put_on}
 use Rattle.dob_moves.proofs.first_moves.first_drop_of.Given as goal
 
 abbrev pub invariant-loop-index : goal.invariant-loop-index

@@ -1,7 +1,5 @@
 -- What is left has the same first step as the whole.
-use Rattle.std.proofs.Common.{◌≡◌, drop}
-use Rattle.std.specs.List.{filter_map}
-use Rattle.dob_moves.specs.Walks.{first, step_by}
+use Rattle.dob_moves.proofs.Common.{◌≡◌, drop, filter_map, first, step_by}
 use Rattle.dob_moves.proofs.first_moves.first_step_by.Given as goal
 
 abbrev pub invariant-loop-step : goal.invariant-loop-step

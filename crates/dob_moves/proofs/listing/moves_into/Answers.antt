@@ -1,8 +1,5 @@
 -- The steps and then the drops are the moves of an open position, and no other position has any.
-use Rattle.std.proofs.Common.{◌∙◌, [], ◌++◌, ap, refl, rules}
-use Rattle.dob_moves.specs.declared.first_moves.Aim.TheVariants.{Elsewhere}
-use Rattle.dob_moves.specs.Walks.{all_steps, all_drops}
-use Rattle.dob_moves.specs.declared.position_status.Status.TheVariants.{Open}
+use Rattle.dob_moves.proofs.Common.{◌++◌, ◌∙◌, [], ap, refl, rules, all_drops, all_steps, Elsewhere, Open}
 use Rattle.dob_moves.proofs.Shared.{share_status}
 use Rattle.dob_moves.proofs.Verdicts.{open_answer, other_answer}
 use Rattle.dob_moves.proofs.listing.moves_into.Goals as goal

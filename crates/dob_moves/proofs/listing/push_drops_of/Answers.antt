@@ -1,8 +1,7 @@
 -- The squares of the mask are gone over from the lowest on, and the others give nothing.
-use Rattle.std.proofs.Common.{◌++◌, List, sym, ap, ◌∙◌, arith, append-nil}
-use Rattle.dob_moves.specs.declared.game_move.Move.{Move}
+use Rattle.dob_moves.proofs.Common.{◌++◌, ◌∙◌, List, ap, arith, sym, walk_end, walk_less, walk_next, walk_start, Move}
+use Rattle.std.proofs.Common.{append-nil}
 use Rattle.dob_moves.proofs.Listed.{can_put, can_put_mask, puts_on, puts_quiet, put_there, drops_none, drops_all}
-use Rattle.dob_pieces.proofs.MaskWalks.{walk_start, walk_less, walk_next, walk_end}
 use Rattle.dob_moves.proofs.listing.push_drops_of.Goals as goal
 
 pub returns-then-count-eq0 : goal.returns-then-count-eq0

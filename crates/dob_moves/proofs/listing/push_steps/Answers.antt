@@ -1,9 +1,6 @@
 -- The squares of the mask are gone over from the lowest on, and the others give nothing.
-use Rattle.std.proofs.Common.{arith}
-use Rattle.dob_moves.specs.declared.first_moves.Aim.TheVariants.{Elsewhere}
-use Rattle.dob_moves.specs.Walks.{steps_from, all_steps}
+use Rattle.dob_moves.proofs.Common.{arith, walk_end, walk_less, walk_next, walk_start, all_steps, steps_from, Elsewhere}
 use Rattle.dob_moves.proofs.Listed.{own_at, from_quiet}
-use Rattle.dob_pieces.proofs.MaskWalks.{walk_start, walk_less, walk_next, walk_end}
 use Rattle.dob_moves.proofs.listing.push_steps.Goals as goal
 
 pub loop-left-init : goal.loop-left-init

@@ -1,7 +1,5 @@
 -- What the squares gone over give is appended.
-use Rattle.dob_moves.specs.declared.first_moves.Aim.TheVariants.{Elsewhere}
-use Rattle.dob_moves.specs.Walks.{steps_from}
-use Rattle.dob_pieces.proofs.MaskWalks.{IsWalked}
+use Rattle.dob_moves.proofs.Common.{IsWalked, steps_from, Elsewhere}
 use Rattle.dob_moves.proofs.Listed.{own_at}
 use Rattle.dob_moves.proofs.listing.push_steps.Given as goal
 

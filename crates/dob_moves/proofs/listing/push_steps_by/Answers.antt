@@ -1,14 +1,8 @@
 -- The squares of the mask are gone over from the lowest on, and the others give nothing.
-use Rattle.std.proofs.Common.{rules, ◌≡◌, ◌∷◌, [], ◌++◌, List, sym, ap, ◌∙◌, arith}
-use Rattle.dob_moves.specs.declared.game_move.Move.{Move}
-use Rattle.dob_moves.specs.declared.game_move.Move.TheVariants.{Step}
-use Rattle.dob_moves.specs.declared.first_moves.Aim.TheVariants.{Elsewhere}
-use Rattle.std.specs.Option.{is_some}
-use Rattle.dob_pieces.specs.Setups.{at}
-use Rattle.dob_moves.specs.Moves.{grows_at}
+use Rattle.dob_moves.proofs.Common.{◌++◌, ◌∙◌, ◌∷◌, ◌≡◌, List, [], ap, arith, rules, sym, is_some, walk_end, walk_less, walk_next, walk_start, at, grows_at}
+use Rattle.dob_moves.proofs.Common.{Elsewhere, Move, Step}
 use Rattle.dob_moves.proofs.Tables.{steps_by-squares}
 use Rattle.dob_moves.proofs.Listed.{may_step, steps_to, steps_quiet, step_there, may_step_mask}
-use Rattle.dob_pieces.proofs.MaskWalks.{walk_start, walk_less, walk_next, walk_end}
 use Rattle.dob_moves.proofs.listing.push_steps_by.Goals as goal
 
 pub loop-left-init : goal.loop-left-init

@@ -1,7 +1,5 @@
 -- The drops on the squares so far are appended.
-use Rattle.std.proofs.Common.{◌≡◌, ◌++◌, option_to_list}
-use Rattle.dob_pieces.specs.Lists.{each_below}
-use Rattle.dob_moves.specs.Walks.{put_on}
+use Rattle.dob_moves.proofs.Common.{◌++◌, ◌≡◌, option_to_list, each_below, put_on}
 use Rattle.dob_moves.proofs.plain.push_drops_of.Given as goal
 
 abbrev pub invariant-loop-index : goal.invariant-loop-index

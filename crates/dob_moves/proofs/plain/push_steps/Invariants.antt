@@ -1,8 +1,5 @@
 -- The steps from the squares so far are appended.
-use Rattle.std.proofs.Common.{◌≡◌, ◌++◌}
-use Rattle.dob_pieces.specs.Lists.{each_below}
-use Rattle.dob_moves.specs.declared.first_moves.Aim.TheVariants.{Elsewhere}
-use Rattle.dob_moves.specs.Walks.{steps_from}
+use Rattle.dob_moves.proofs.Common.{◌++◌, ◌≡◌, each_below, steps_from, Elsewhere}
 use Rattle.dob_moves.proofs.plain.push_steps.Given as goal
 
 abbrev pub invariant-loop-index : goal.invariant-loop-index

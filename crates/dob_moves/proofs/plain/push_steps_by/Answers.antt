@@ -1,7 +1,5 @@
 -- the next step's move is appended
-use Rattle.std.proofs.Common.{rules, ◌∙◌, ◌++◌, ap, option_to_list}
-use Rattle.dob_moves.specs.declared.first_moves.Aim.TheVariants.{Elsewhere}
-use Rattle.dob_moves.specs.Walks.{step_by}
+use Rattle.dob_moves.proofs.Common.{◌++◌, ◌∙◌, ap, option_to_list, rules, step_by, Elsewhere}
 use Rattle.dob_moves.proofs.PlainLists.{taken_more}
 use Rattle.dob_moves.proofs.plain.push_steps_by.Goals as goal
 

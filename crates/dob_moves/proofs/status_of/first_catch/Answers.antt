@@ -1,11 +1,5 @@
 -- The lowest attacker catches first.
-use Rattle.std.proofs.Common.{◌≡◌, Bool, true, Some, ap, sym, subst, ◌∙◌}
-use Rattle.dob_pieces.specs.declared.kind.Kind.{Kind}
-use Rattle.dob_pieces.specs.declared.kind.Side.TheVariants.{Mover}
-use Rattle.dob_pieces.specs.Setups.{at, piece_of}
-use Rattle.dob_moves.specs.declared.game_move.Move.TheVariants.{Step}
-use Rattle.dob_moves.specs.Statuses.{IsFirstCatch}
-use Rattle.dob_moves.specs.Walks.{own_kind}
+use Rattle.dob_moves.proofs.Common.{◌∙◌, ◌≡◌, Bool, Some, ap, subst, sym, true, own_kind, at, piece_of, Kind, Mover, IsFirstCatch, Step}
 use Rattle.dob_moves.proofs.Masked.{no_attack, first_attack, own_attacker}
 use Rattle.dob_moves.proofs.status_of.first_catch.Goals as goal
 

@@ -1,6 +1,5 @@
 -- A square to which the lion steps and where a step may end is a move.
-use Rattle.std.proofs.lemmas.Bool.{not-true, eqb-false}
-use Rattle.dob_pieces.specs.declared.kind.Kind.TheVariants.{Lion}
+use Rattle.dob_moves.proofs.Common.{eqb-false, not-true, Lion}
 use Rattle.dob_moves.proofs.Masked.{some_step}
 use Rattle.dob_moves.proofs.status_of.lion_can_step.Goals as goal
 

@@ -1,6 +1,5 @@
 -- the mask has just the lion's square
-use Rattle.dob_pieces.specs.declared.kind.Side.TheVariants.{Mover}
-use Rattle.dob_pieces.proofs.Attacks.{lion_mask, lion_at}
+use Rattle.dob_moves.proofs.Common.{lion_at, lion_mask, Mover}
 use Rattle.dob_moves.proofs.status_of.own_lion.Goals as goal
 
 pub lowest_square-requires-clause-some : goal.lowest_square-requires-clause-some

@@ -1,7 +1,5 @@
 -- Before the first that is worse the list stays sorted, and has one move more.
-use Rattle.std.proofs.Common.{◌≡◌, ◌<◌, ◌↔◌, ◌⊎◌, ℕ, ◌≤◌, sym, subst, length, get_or, Contains, AllPairs, List}
-use Rattle.dob_probe.specs.declared.by_value.ValuedMove.{ValuedMove}
-use Rattle.dob_probe.specs.ValuedMoves.{IsBetter, ComesBefore}
+use Rattle.dob_probe.proofs.Common.{◌<◌, ◌↔◌, ◌≡◌, ◌≤◌, ◌⊎◌, AllPairs, Contains, List, get_or, length, subst, sym, ℕ, ComesBefore, IsBetter, ValuedMove}
 use Rattle.dob_probe.proofs.ByValue.{insert_has, insert_sorted}
 use Rattle.dob_probe.proofs.by_value.insert_by_value.Goals as goal
 

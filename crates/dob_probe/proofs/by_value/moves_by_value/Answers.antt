@@ -1,11 +1,8 @@
 -- Each move is later than those listed, and its value is that of the position that it leads to.
-use Rattle.std.proofs.Common.{refl, sym, subst, List}
-use Rattle.std.proofs.lemmas.Option.{slice_get_read}
-use Rattle.dob_value.proofs.Successors.{move_goes}
-use Rattle.dob_probe.specs.declared.by_value.ValuedMove.{ValuedMove}
-use Rattle.dob_probe.specs.Lines.{GivenBy}
+use Rattle.dob_probe.proofs.Common.{List, refl, subst, sym, slice_get_read, move_goes, GivenBy, ValuedMove}
 use Rattle.dob_probe.proofs.Entries.{given_is_entry, one_given}
-use Rattle.dob_probe.proofs.ByValue.{AreListed, listed_none, listed_earlier, listed_more, listed_all}
+use Rattle.dob_probe.proofs.ByValue.{AreListed, listed_none, listed_more, listed_all}
+use Rattle.dob_probe.proofs.InOrder.{before_next}
 use Rattle.dob_probe.proofs.by_value.moves_by_value.Goals as goal
 
 pub loop-the_move-init : goal.loop-the_move-init
@@ -27,8 +24,8 @@ value_seen-value-requires c =
 pub insert_by_value-requires-clause-later : goal.insert_by_value-requires-clause-later
 insert_by_value-requires-clause-later c =
     let here = slice_get_read c.args.the_moves.now _ c.loop-the_move.the_move-index c.the_move-item.result refl c.loop-the_move-test.true c.the_move-item.is in
-    listed_earlier c.args.table.now.family.profile (GivenBy c.args.table.now) c.args.position.now.setup c.args.the_moves.now c.loop-the_move.the_move-index c.loop-the_move.list.items
-    c.the_move-item.result c.requires.the_moves c.loop-the_move-test.true here c.loop-the_move.invariant
+    before_next c.args.table.now.family.profile c.args.position.now.setup c.args.the_moves.now c.loop-the_move.the_move-index c.loop-the_move.list.items
+    c.the_move-item.result c.requires.the_moves c.loop-the_move-test.true here (λ valued there. (c.loop-the_move.invariant.sound valued there).1)
 
 pub loop-the_move-preserved : goal.loop-the_move-preserved
 loop-the_move-preserved c =

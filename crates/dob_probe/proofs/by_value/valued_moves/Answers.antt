@@ -1,8 +1,5 @@
 -- By a consistent table the moves have the right values.
-use Rattle.std.proofs.Common.{subst}
-use Rattle.dob_pieces.specs.declared.profile.Family.{Family}
-use Rattle.dob_rank.specs.Families.{IsPositionOf}
-use Rattle.dob_value.proofs.Consistency.{consistent_is_right}
+use Rattle.dob_probe.proofs.Common.{subst, Family, IsPositionOf, consistent_is_right}
 use Rattle.dob_probe.proofs.ByValue.{valued_rightly}
 use Rattle.dob_probe.proofs.by_value.valued_moves.Goals as goal
 

@@ -1,11 +1,6 @@
 -- The first class that is refused is the fault's, and where none is all follow.
-use Rattle.std.proofs.Common.{◌≡◌, ◌∙◌, length, Err, inl, inr, refl, arith, ap, subst}
-use Rattle.std.proofs.lemmas.Bool.{cases_lt}
+use Rattle.dob_probe.proofs.Common.{◌∙◌, ◌≡◌, Err, ap, arith, inl, inr, length, refl, subst, cases_lt, Family, classes_of, consistent_is_right, ClassFollows}
 use Rattle.std.proofs.lemmas.Result.{err_from_is_err_and}
-use Rattle.dob_pieces.specs.declared.profile.Family.{Family}
-use Rattle.dob_rank.specs.Families.{classes_of}
-use Rattle.dob_value.proofs.Consistency.{consistent_is_right}
-use Rattle.dob_probe.specs.Checks.{ClassFollows}
 use Rattle.dob_probe.proofs.Following.{consistent_of_all}
 use Rattle.dob_probe.proofs.Verdicts.{fault_holds}
 use Rattle.dob_probe.proofs.checks.check.Goals as goal

@@ -1,6 +1,5 @@
 -- The values of the classes so far follow.
-use Rattle.std.proofs.Common.{ℕ, ◌<◌}
-use Rattle.dob_probe.specs.Checks.{ClassFollows}
+use Rattle.dob_probe.proofs.Common.{◌<◌, ℕ, ClassFollows}
 use Rattle.dob_probe.proofs.checks.check.Given as goal
 
 abbrev pub invariant-loop-class : goal.invariant-loop-class

@@ -1,8 +1,5 @@
 -- A class's entry follows where it is the value that follows for its representative, and breaks where it isn't.
-use Rattle.std.proofs.Common.{◌≡◌, rules, refl, subst}
-use Rattle.dob_pieces.specs.declared.profile.Family.{Family}
-use Rattle.dob_rank.specs.Families.{IsRepresentative, HasClass}
-use Rattle.dob_probe.specs.Checks.{HasEntry}
+use Rattle.dob_probe.proofs.Common.{◌≡◌, refl, rules, subst, Family, HasClass, IsRepresentative, HasEntry}
 use Rattle.dob_probe.proofs.Following.{class_follows, class_breaks}
 use Rattle.dob_probe.proofs.checks.check_class.Goals as goal
 use Rattle.dob_probe.proofs.checks.check_class.Goals.{After-value}

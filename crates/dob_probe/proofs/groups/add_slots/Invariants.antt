@@ -1,7 +1,5 @@
 -- The codes so far are those of both parts.
-use Rattle.std.proofs.Common.{◌≡◌, ◌++◌, ◌<◌, ◌^◌, List, length}
-use Rattle.dob_value.specs.declared.value.Value.{Value}
-use Rattle.dob_probe.specs.Slots.{AreSlots}
+use Rattle.dob_probe.proofs.Common.{◌++◌, ◌<◌, ◌^◌, ◌≡◌, List, length, Value, AreSlots}
 use Rattle.dob_probe.proofs.Slotted.{AreAdded}
 use Rattle.dob_probe.proofs.groups.add_slots.Given as goal
 

@@ -1,7 +1,5 @@
 -- The groups of the slots so far.
-use Rattle.std.proofs.Common.{List}
-use Rattle.dob_value.specs.declared.value.Value.{Value}
-use Rattle.dob_probe.specs.Slots.{AreSlots}
+use Rattle.dob_probe.proofs.Common.{List, Value, AreSlots}
 use Rattle.dob_probe.proofs.Slotted.{AreFirstGroups}
 use Rattle.dob_probe.proofs.groups.groups_of.Given as goal
 

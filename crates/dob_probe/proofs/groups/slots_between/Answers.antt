@@ -1,8 +1,5 @@
 -- Each class is counted with its value.
-use Rattle.std.proofs.Common.{◌-◌, ◌≤◌, sym, subst, arith, List}
-use Rattle.std.proofs.lemmas.Option.{slice_get_within}
-use Rattle.dob_value.specs.declared.value.Value.{Value}
-use Rattle.dob_probe.specs.Slots.{AreSlots, part_of}
+use Rattle.dob_probe.proofs.Common.{◌-◌, ◌≤◌, List, arith, subst, sym, slice_get_within, Value, AreSlots, part_of}
 use Rattle.dob_probe.proofs.Slotted.{part_long, part_more, part_none, slots_none}
 use Rattle.dob_probe.proofs.groups.slots_between.Goals as goal
 

@@ -1,6 +1,5 @@
 -- The classes of the part so far are counted.
-use Rattle.std.proofs.Common.{◌-◌, ◌≤◌}
-use Rattle.dob_probe.specs.Slots.{AreSlots, part_of}
+use Rattle.dob_probe.proofs.Common.{◌-◌, ◌≤◌, AreSlots, part_of}
 use Rattle.dob_probe.proofs.groups.slots_between.Given as goal
 
 abbrev pub invariant-loop-class : goal.invariant-loop-class

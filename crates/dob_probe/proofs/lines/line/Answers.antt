@@ -1,6 +1,5 @@
 -- Where the line breaks off its class is the fault, and a consistent table gives the best line, or lack of memory.
-use Rattle.std.proofs.Common.{Vec, Global}
-use Rattle.dob_moves.specs.declared.game_move.Move.{Move}
+use Rattle.dob_probe.proofs.Common.{Global, Vec, Move}
 use Rattle.dob_probe.proofs.Ways.{break_answered}
 use Rattle.dob_probe.proofs.Best.{best_answered}
 use Rattle.dob_probe.proofs.lines.line.Goals as goal

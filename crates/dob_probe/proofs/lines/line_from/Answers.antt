@@ -1,8 +1,6 @@
 -- A line goes on by the first move to the value wanted, and ends with a catch, with no value wanted, or with a fault.
-use Rattle.std.proofs.Common.{List, refl, sym, subst, ◌∙◌}
+use Rattle.dob_probe.proofs.Common.{◌∙◌, List, refl, subst, sym, Move, GivenBy, IsLine}
 use Rattle.std.proofs.lemmas.Result.{err_from_is_err_and}
-use Rattle.dob_moves.specs.declared.game_move.Move.{Move}
-use Rattle.dob_probe.specs.Lines.{GivenBy, IsLine}
 use Rattle.dob_probe.proofs.Ways.{IsOnLine, on_line_more, line_ends, line_catches, gap_breaks}
 use Rattle.dob_probe.proofs.lines.line_from.Goals as goal
 

@@ -1,8 +1,5 @@
 -- The value of a position of the family is its class's entry, and by a consistent table it is the right one.
-use Rattle.std.proofs.Common.{rules, subst}
-use Rattle.dob_pieces.specs.declared.profile.Family.{Family}
-use Rattle.dob_rank.specs.Families.{IsPositionOf}
-use Rattle.dob_value.proofs.Consistency.{consistent_is_right}
+use Rattle.dob_probe.proofs.Common.{rules, subst, Family, IsPositionOf, consistent_is_right}
 use Rattle.dob_probe.proofs.Entries.{given_is_entry}
 use Rattle.dob_probe.proofs.probes.probe.Goals as goal
 

@@ -1,9 +1,6 @@
 -- The puzzles of one place more, until there are as many as were asked for.
-use Rattle.std.proofs.Common.{◌≡◌, ◌≤◌, ◌<◌, [], ℕ, rules, arith, length, subst, sym, ap, ◌∙◌, List, None, Some, Option, vec_len}
-use Rattle.dob_probe.specs.declared.puzzles.Puzzle.{Puzzle}
-use Rattle.dob_probe.specs.Puzzles.{ArePuzzles}
-use Rattle.dob_probe.specs.SingleMoves.{IsPuzzleOf}
-use Rattle.dob_probe.specs.Walks.{begin_at, class_on, first_class}
+use Rattle.dob_probe.proofs.Common.{◌<◌, ◌∙◌, ◌≡◌, ◌≤◌, List, None, Option, Some, [], ap, arith, length, rules, subst, sym, vec_len, ℕ, ArePuzzles, IsPuzzleOf}
+use Rattle.dob_probe.proofs.Common.{begin_at, class_on, first_class, Puzzle}
 use Rattle.dob_probe.proofs.OnlyMoves.{ArePuzzlesBelow, begin, next_few, puzzles_all, puzzles_full, puzzles_next, puzzles_none, puzzles_same, puzzles_too_long}
 use Rattle.dob_probe.proofs.Walked.{first_below}
 use Rattle.dob_probe.proofs.puzzles.first_puzzles.Goals as goal

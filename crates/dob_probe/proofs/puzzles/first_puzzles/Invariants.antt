@@ -1,6 +1,5 @@
 -- The puzzles of the places so far, no more than were asked for, with their outlines.
-use Rattle.std.proofs.Common.{◌≤◌, length}
-use Rattle.dob_probe.specs.Outlines.{AreOutlines}
+use Rattle.dob_probe.proofs.Common.{◌≤◌, length, AreOutlines}
 use Rattle.dob_probe.proofs.OnlyMoves.{ArePuzzlesBelow, begin}
 use Rattle.dob_probe.proofs.puzzles.first_puzzles.Given as goal
 

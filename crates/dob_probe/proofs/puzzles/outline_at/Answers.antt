@@ -1,12 +1,7 @@
 -- The class's representative is the one that its number gives, and has one lion a side.
-use Rattle.std.proofs.Common.{◌≡◌, ◌<◌, ℕ, subst, sym}
-use Rattle.dob_pieces.specs.declared.profile.Family.{Family}
-use Rattle.dob_pieces.specs.declared.setup.Setup.{Setup}
-use Rattle.dob_pieces.specs.Setups.{HasLions}
-use Rattle.dob_rank.specs.Families.{HasClass, IsRepresentative, class_setup, classes_of}
+use Rattle.dob_probe.proofs.Common.{◌<◌, ◌≡◌, subst, sym, ℕ, HasLions, Family, Setup, HasClass, IsRepresentative, class_setup, classes_of, IsOutline}
 use Rattle.dob_classes.proofs.OfFamilies.FamilyRepresentatives.{class_setup_only}
 use Rattle.dob_rank.proofs.OfFamilies.Present.{HasClasses-classes_of}
-use Rattle.dob_probe.specs.Outlines.{IsOutline}
 use Rattle.dob_probe.proofs.puzzles.outline_at.Goals as goal
 
 pub returns : goal.returns

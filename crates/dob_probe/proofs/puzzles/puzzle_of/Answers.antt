@@ -1,13 +1,6 @@
 -- What is found of the class's representative is found of the class.
-use Rattle.std.proofs.Common.{◌≡◌, ◌-◌, rules, subst, None, Option, Some, ap, ◌∙◌}
-use Rattle.dob_pieces.specs.declared.profile.Family.{Family}
-use Rattle.dob_moves.specs.declared.game_move.Move.{Move}
-use Rattle.dob_rank.specs.Families.{IsRepresentative, HasClass}
-use Rattle.dob_value.specs.declared.value.Value.{Value}
-use Rattle.dob_value.specs.declared.value.Value.TheVariants.{Win, Loss}
-use Rattle.dob_probe.specs.Checks.{HasEntry}
-use Rattle.dob_probe.specs.Lines.{GivenBy}
-use Rattle.dob_probe.specs.SingleMoves.{IsSingleMove}
+use Rattle.dob_probe.proofs.Common.{◌-◌, ◌∙◌, ◌≡◌, None, Option, Some, ap, rules, subst, Family, Move, HasClass, IsRepresentative, Value, Loss, Win, HasEntry}
+use Rattle.dob_probe.proofs.Common.{GivenBy, IsSingleMove}
 use Rattle.dob_probe.proofs.OnlyMoves.{puzzle_missing}
 use Rattle.dob_probe.proofs.puzzles.puzzle_of.Goals as goal
 

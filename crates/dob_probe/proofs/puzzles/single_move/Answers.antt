@@ -1,11 +1,6 @@
 -- The moves are gone over; a second one that leads to the value makes both none.
-use Rattle.std.proofs.Common.{◌≡◌, Some, rules, refl, slice_get, subst, is_some, true, false}
-use Rattle.std.proofs.lemmas.Option.{slice_get_read}
-use Rattle.dob_moves.specs.declared.position_status.Status.TheVariants.{Open}
-use Rattle.dob_moves.specs.Moves.{CanGo}
-use Rattle.dob_moves.specs.Statuses.{HasStatus}
-use Rattle.dob_value.proofs.Successors.{move_goes}
-use Rattle.dob_probe.specs.Lines.{GivenBy, LeadsTo}
+use Rattle.dob_probe.proofs.Common.{◌≡◌, Some, false, refl, rules, slice_get, subst, true, slice_get_read, CanGo, HasStatus, Open, move_goes, GivenBy, LeadsTo}
+use Rattle.std.proofs.Common.{is_some}
 use Rattle.dob_probe.proofs.OnlyMoves.{single_all, single_skipped, single_taken, single_twice}
 use Rattle.dob_probe.proofs.Ways.{other_value}
 use Rattle.dob_probe.proofs.puzzles.single_move.Goals as goal

@@ -1,10 +1,5 @@
 -- The piece has arrived from the hand.
-use Rattle.std.proofs.Common.{◌<◌, ℕ, ◌-◌, subst, sym, rules}
-use Rattle.dob_pieces.specs.declared.kind.Kind.{Kind}
-use Rattle.dob_pieces.specs.Setups.{turned}
-use Rattle.dob_pieces.proofs.Boards.{length-turned}
-use Rattle.dob_moves.specs.Outcomes.{dropped}
-use Rattle.dob_probe.specs.ShownMoves.{HasArrived}
+use Rattle.dob_probe.proofs.Common.{◌-◌, ◌<◌, rules, subst, sym, ℕ, length-turned, turned, Kind, dropped, HasArrived}
 use Rattle.dob_probe.proofs.ShownMoves.{drop_arrived, hands_after_drop}
 use Rattle.dob_probe.proofs.shown_moves.after_drop.Goals as goal
 

@@ -1,12 +1,6 @@
 -- The piece has left a square and arrived on another.
-use Rattle.std.proofs.Common.{◌<◌, ◌≡◌, ℕ, ◌-◌, ◌∙◌, None, length, subst, sym, rules, arith}
-use Rattle.std.proofs.lemmas.List.{length-set}
-use Rattle.dob_pieces.specs.declared.kind.Kind.{Kind}
-use Rattle.dob_pieces.specs.Setups.{turned}
-use Rattle.dob_pieces.proofs.Boards.{length-turned}
-use Rattle.dob_moves.specs.Outcomes.{stepped}
-use Rattle.dob_classes.proofs.SquareSets.BitChanges.{with_cell, with_one}
-use Rattle.dob_probe.specs.ShownMoves.{HasArrived}
+use Rattle.dob_probe.proofs.Common.{◌-◌, ◌<◌, ◌∙◌, ◌≡◌, None, arith, length, rules, subst, sym, ℕ, length-set, length-turned, turned, Kind, stepped, with_cell}
+use Rattle.dob_probe.proofs.Common.{with_one, HasArrived}
 use Rattle.dob_probe.proofs.ShownMoves.{step_arrived, hands_after_step}
 use Rattle.dob_probe.proofs.shown_moves.after_step.Goals as goal
 

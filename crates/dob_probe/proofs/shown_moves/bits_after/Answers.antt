@@ -1,12 +1,7 @@
 -- Every outcome of the move is what it leaves, turned.
-use Rattle.std.proofs.Common.{sym, subst}
-use Rattle.dob_pieces.specs.declared.setup.Setup.{Setup}
-use Rattle.dob_moves.specs.Moves.{CanGo, HasOutcome}
-use Rattle.dob_moves.specs.declared.game_move.Move.{Move}
+use Rattle.dob_probe.proofs.Common.{subst, sym, Setup, HasOutcome-is, CanGo, HasOutcome, Move, AreBitboards}
 use Rattle.dob_moves.specs.declared.game_move.Move.TheVariants.{Step, Put}
 use Rattle.dob_pieces.specs.declared.profile.Profile.TheVariants.{A}
-use Rattle.dob_moves.proofs.Outcomes.{HasOutcome-is}
-use Rattle.dob_classes.specs.Bitboards.{AreBitboards}
 use Rattle.dob_probe.proofs.shown_moves.bits_after.Goals as goal
 
 pub after_drop-requires-clause-in_hand : goal.after_drop-requires-clause-in_hand

@@ -1,8 +1,5 @@
 -- One of the position and its mirror image is the representative, and both have one class number.
-use Rattle.std.proofs.Common.{◌∙◌}
-use Rattle.dob_pieces.specs.Setups.{mirrored}
-use Rattle.dob_classes.specs.Bitboards.{IsShown}
-use Rattle.dob_classes.proofs.OfFamilies.FamilyNumbers.{IsPositionOf-mirrored, class_number-mirrored}
+use Rattle.dob_probe.proofs.Common.{◌∙◌, mirrored, IsPositionOf-mirrored, class_number-mirrored, IsShown}
 use Rattle.dob_probe.proofs.ShownMoves.{one_is_first}
 use Rattle.dob_probe.proofs.shown_moves.class_from.Goals as goal
 

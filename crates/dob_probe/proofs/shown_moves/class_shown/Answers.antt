@@ -1,7 +1,5 @@
 -- A position and its mirror image have one class number.
-use Rattle.std.proofs.Common.{◌∙◌}
-use Rattle.dob_pieces.specs.Setups.{mirrored}
-use Rattle.dob_classes.proofs.OfFamilies.FamilyNumbers.{IsPositionOf-mirrored, class_number-mirrored}
+use Rattle.dob_probe.proofs.Common.{◌∙◌, mirrored, IsPositionOf-mirrored, class_number-mirrored}
 use Rattle.dob_probe.proofs.shown_moves.class_shown.Goals as goal
 
 pub class_from-requires : goal.class_from-requires

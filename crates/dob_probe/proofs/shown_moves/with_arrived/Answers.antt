@@ -1,9 +1,5 @@
 -- The square is cleared, the hands change, and the piece is one more.
-use Rattle.std.proofs.Common.{◌<◌, sym, subst, None, rules, arith}
-use Rattle.std.proofs.lemmas.List.{get_or-set_same}
-use Rattle.dob_pieces.specs.declared.kind.Side.TheVariants.{Enemy}
-use Rattle.dob_classes.specs.Bitboards.{AreBitboards}
-use Rattle.dob_classes.proofs.SquareSets.BitChanges.{with_cell, with_one, with_hands, piece_added}
+use Rattle.dob_probe.proofs.Common.{◌<◌, None, arith, rules, subst, sym, get_or-set_same, Enemy, piece_added, with_cell, with_hands, with_one, AreBitboards}
 use Rattle.dob_probe.proofs.ShownMoves.{arrived_on}
 use Rattle.dob_probe.proofs.shown_moves.with_arrived.Goals as goal
 

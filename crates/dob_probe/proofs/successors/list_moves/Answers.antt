@@ -1,8 +1,6 @@
 -- The profile is that of the table's family.
-use Rattle.std.proofs.Common.{subst}
+use Rattle.dob_probe.proofs.Common.{subst, Family, AreMoves, HasStatus}
 use Rattle.std.specs.Result.{IfOk, OnOk}
-use Rattle.dob_pieces.specs.declared.profile.Family.{Family}
-use Rattle.dob_moves.specs.Statuses.{AreMoves, HasStatus}
 use Rattle.dob_probe.proofs.successors.list_moves.Goals as goal
 
 pub returns-clause-moves : goal.returns-clause-moves

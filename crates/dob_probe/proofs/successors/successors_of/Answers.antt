@@ -1,10 +1,6 @@
 -- Each successor's value goes to the end of the list.
-use Rattle.std.proofs.Common.{◌∷◌, ◌++◌, [], List, refl}
-use Rattle.std.proofs.lemmas.Option.{slice_get_read}
-use Rattle.dob_pieces.specs.declared.setup.Setup.{Setup}
-use Rattle.dob_value.specs.declared.value.Value.{Value}
-use Rattle.dob_value.proofs.Successors.{move_goes, successors_none, successors_more, successors_all}
-use Rattle.dob_probe.specs.Lines.{GivenBy}
+use Rattle.dob_probe.proofs.Common.{◌++◌, ◌∷◌, List, [], refl, slice_get_read, Setup, move_goes, Value, GivenBy}
+use Rattle.dob_value.proofs.Successors.{successors_none, successors_more, successors_all}
 use Rattle.dob_probe.proofs.successors.successors_of.Goals as goal
 
 pub loop-the_move-init : goal.loop-the_move-init

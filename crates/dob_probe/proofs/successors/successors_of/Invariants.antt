@@ -1,9 +1,5 @@
 -- The successors' values by the moves so far are summed up in what is kept.
-use Rattle.std.proofs.Common.{List}
-use Rattle.dob_value.specs.declared.value.Value.{Value}
-use Rattle.dob_value.proofs.Successors.{AreSuccessorsBelow}
-use Rattle.dob_probe.specs.Lines.{GivenBy}
-use Rattle.dob_probe.specs.Sums.{AreSummed}
+use Rattle.dob_probe.proofs.Common.{List, AreSuccessorsBelow, Value, GivenBy, AreSummed}
 use Rattle.dob_probe.proofs.successors.successors_of.Given as goal
 
 abbrev pub invariant-loop-the_move : goal.invariant-loop-the_move

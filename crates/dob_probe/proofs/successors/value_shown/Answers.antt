@@ -1,13 +1,6 @@
 -- The position that a move of an open position leads to is of the table's family, and the sets show it.
-use Rattle.std.proofs.Common.{◌≡◌, ◌<◌, ℕ, sym, subst}
-use Rattle.dob_pieces.specs.declared.profile.Family.{Family}
-use Rattle.dob_moves.proofs.ByProfile.{can_go, goes}
-use Rattle.dob_rank.specs.Families.{IsInClass, class_number, classes_of}
-use Rattle.dob_classes.specs.Bitboards.{IsShown}
-use Rattle.dob_classes.proofs.OfFamilies.FamilyNumbers.{class_number-below, IsInClass-class_number}
-use Rattle.dob_value.proofs.Successors.{moves_keep_the_family}
-use Rattle.dob_pieces.specs.declared.setup.Setup.{Setup}
-use Rattle.dob_moves.specs.Moves.{Goes}
+use Rattle.dob_probe.proofs.Common.{◌<◌, ◌≡◌, subst, sym, ℕ, Family, Setup, can_go, goes, Goes, IsInClass, class_number, classes_of, IsInClass-class_number}
+use Rattle.dob_probe.proofs.Common.{class_number-below, IsShown, moves_keep_the_family}
 use Rattle.dob_probe.proofs.successors.value_shown.Goals as goal
 use Rattle.dob_probe.proofs.successors.value_shown.Goals.{After-bits_after-bits}
 

@@ -1,11 +1,5 @@
 -- The value follows from what is kept of the successors' values.
-use Rattle.std.proofs.Common.{subst, sym}
-use Rattle.dob_moves.specs.declared.position_status.Status.{Status}
-use Rattle.dob_moves.specs.declared.position_status.Status.TheVariants.{Open}
-use Rattle.dob_moves.specs.Statuses.{HasStatus}
-use Rattle.dob_value.specs.declared.value.Value.{Value}
-use Rattle.dob_value.specs.Follows.{FollowsFromSuccessors}
-use Rattle.dob_probe.specs.Lines.{GivenBy}
+use Rattle.dob_probe.proofs.Common.{subst, sym, HasStatus, Status, Open, FollowsFromSuccessors, Value, GivenBy}
 use Rattle.dob_probe.proofs.Following.{follows_from, least_has_next, greatest_has_next}
 use Rattle.dob_probe.proofs.successors.value_that_follows.Goals as goal
 use Rattle.dob_probe.proofs.successors.value_that_follows.Goals.{In-Open}

@@ -1,12 +1,5 @@
 -- The position that a move of an open position leads to is of the table's family.
-use Rattle.std.proofs.Common.{sym, subst, ◌∙◌}
-use Rattle.dob_moves.specs.declared.position_status.Status.TheVariants.{Open}
-use Rattle.dob_moves.proofs.ByProfile.{can_go, goes}
-use Rattle.dob_moves.proofs.Outcomes.{HasOutcome-is}
-use Rattle.dob_moves.proofs.ProfileMoves.{goes_there, status_there}
-use Rattle.dob_value.proofs.Successors.{moves_keep_the_family}
-use Rattle.dob_pieces.specs.declared.setup.Setup.{Setup}
-use Rattle.dob_probe.specs.Lines.{GivenBy}
+use Rattle.dob_probe.proofs.Common.{◌∙◌, subst, sym, Setup, can_go, goes, HasOutcome-is, goes_there, status_there, Open, moves_keep_the_family, GivenBy}
 use Rattle.dob_probe.proofs.successors.value_to.Goals as goal
 
 pub apply-requires-clause-open : goal.apply-requires-clause-open

@@ -1,6 +1,5 @@
 -- The closed form of choices of one and of two.
-use Rattle.std.proofs.Common.{◌≡◌, ◌-◌}
-use Rattle.std.proofs.Common.{arith}
+use Rattle.std.proofs.Common.{◌≡◌, ◌-◌, arith}
 use Rattle.dob_rank.proofs.Positions.Loops.{choose_at_one, choose_at_two}
 use Rattle.dob_rank.proofs.block.choose.Goals as goal
 

@@ -1,6 +1,5 @@
 -- Powers of 4 and 2 are one shift.
-use Rattle.std.proofs.Common.{◌∙◌, arith}
-use Rattle.std.proofs.lemmas.Nat.{one_shl}
+use Rattle.dob_rank.proofs.Common.{◌∙◌, arith, one_shl}
 use Rattle.dob_rank.proofs.block.forms_in.Goals as goal
 
 pub returns : goal.returns

@@ -1,6 +1,5 @@
 -- A run's number and its size are small.
-use Rattle.std.proofs.Common.{◌+◌, ◌*◌, ◌^◌, ℕ, ap, arith}
-use Rattle.std.proofs.lemmas.Nat.{mul-le}
+use Rattle.dob_rank.proofs.Common.{◌*◌, ◌+◌, ◌^◌, ap, arith, ℕ, mul-le}
 use Rattle.dob_rank.proofs.block.place_of.Goals as goal
 
 pub overflow_mul-result : goal.overflow_mul-result

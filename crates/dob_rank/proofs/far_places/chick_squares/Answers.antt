@@ -1,7 +1,5 @@
 -- The places among the squares that the lions leave are squares of the board.
-use Rattle.std.proofs.Common.{ℕ, ◌/◌, ◌%◌, ap, ◌∙◌}
-use Rattle.dob_rank.specs.Numbers.{enemy_squares}
-use Rattle.dob_rank.specs.Placing.{past}
+use Rattle.dob_rank.proofs.Common.{◌%◌, ◌/◌, ◌∙◌, ap, ℕ, enemy_squares, past}
 use Rattle.dob_rank.proofs.ProfileB.FormSquares.{chick_squares_are}
 use Rattle.dob_rank.proofs.far_places.chick_squares.Goals as goal
 

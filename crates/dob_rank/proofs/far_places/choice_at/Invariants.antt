@@ -1,8 +1,5 @@
 -- The number stands between the two sums, which come closer.
-use Rattle.std.proofs.Common.{◌≤◌, ◌<◌, ◌-◌}
-use Rattle.dob_pieces.specs.declared.profile.Profile.TheVariants.{B}
-use Rattle.dob_rank.specs.Numbers.{choose, free_squares}
-use Rattle.dob_rank.specs.Weights.{forms_before}
+use Rattle.dob_rank.proofs.Common.{◌-◌, ◌<◌, ◌≤◌, B, choose, free_squares, forms_before}
 use Rattle.dob_rank.proofs.far_places.choice_at.Given as goal
 
 abbrev pub invariant-loop-high : goal.invariant-loop-high

@@ -1,6 +1,5 @@
 -- One more number is of forms that the chicks may have, or none.
-use Rattle.std.proofs.Common.{sym, ◌∙◌, arith}
-use Rattle.dob_rank.specs.Weights.{forms_stand}
+use Rattle.dob_rank.proofs.Common.{◌∙◌, arith, sym, forms_stand}
 use Rattle.dob_rank.proofs.Marked.Words.{marks_below_none}
 use Rattle.dob_rank.proofs.ProfileB.FarSpots.{one_counted, none_counted}
 use Rattle.dob_rank.proofs.far_places.forms_at.Goals as goal

@@ -1,7 +1,5 @@
 -- All that the runs of one hand have is the sum over all lions, and the two sums are next to each other at last.
-use Rattle.std.proofs.Common.{◌<◌, subst, arith}
-use Rattle.dob_pieces.specs.declared.profile.Profile.TheVariants.{B}
-use Rattle.dob_rank.specs.Weights.{lions_before}
+use Rattle.dob_rank.proofs.Common.{◌<◌, arith, subst, B, lions_before}
 use Rattle.dob_rank.proofs.ProfileB.FarSpots.{hand_size_is, next_above}
 use Rattle.dob_rank.proofs.far_places.lions_at.Goals as goal
 

@@ -1,8 +1,5 @@
 -- The number stands between the two sums, which come closer.
-use Rattle.std.proofs.Common.{◌≤◌, ◌<◌, ◌-◌}
-use Rattle.dob_pieces.specs.declared.profile.Profile.TheVariants.{B}
-use Rattle.dob_rank.specs.Runs.{lion_pairs}
-use Rattle.dob_rank.specs.Weights.{lions_before}
+use Rattle.dob_rank.proofs.Common.{◌-◌, ◌<◌, ◌≤◌, B, lion_pairs, lions_before}
 use Rattle.dob_rank.proofs.far_places.lions_at.Given as goal
 
 abbrev pub invariant-loop-high : goal.invariant-loop-high

@@ -1,8 +1,15 @@
 -- What is left of the choice found is less than its weight for each of the others' squares.
 use Rattle.std.proofs.lemmas.Nat.{div_below, mod_below}
 use Rattle.dob_rank.proofs.Arithmetic.MixedRadix.{factor_positive}
-use Rattle.dob_rank.proofs.ProfileB.FarSpots.{choice_found, weight_some, form_in_weight, parts_are}
+use Rattle.dob_rank.proofs.ProfileB.FarSpots.{IsInChoice, choice_found, weight_some, form_in_weight, parts_are}
 use Rattle.dob_rank.proofs.far_places.parts_at.Goals as goal
+use Rattle.dob_rank.proofs.far_places.parts_at.Goals.{After-weight_of-weight}
+
+in_choice : (c : After-weight_of-weight) → IsInChoice c.args.others c.args.number c.before_choice.result c.weight_of-weight.result
+in_choice c =
+    choice_found c.args.chicks c.args.lions c.args.others c.args.number c.choice_at-choice.result c.before_choice.result
+    c.weight_of-weight.result (factor_positive c.args.number _ c.args.others c.requires.number) c.choice_at-choice.ensures.low
+    c.choice_at-choice.ensures.high c.before_choice.ensures.value c.weight_of-weight.ensures.value
 
 pub nonzero_div-number : goal.nonzero_div-number
 nonzero_div-number c = factor_positive c.args.number _ c.args.others c.requires.number
@@ -13,32 +20,24 @@ choice_at-choice-requires-clause-number c =
 
 pub nonzero_rem-left : goal.nonzero_rem-left
 nonzero_rem-left c =
-    let in_it = choice_found c.args.chicks c.args.lions c.args.others c.args.number c.choice_at-choice.result c.before_choice.result
-    c.weight_of-weight.result (factor_positive c.args.number _ c.args.others c.requires.number) c.choice_at-choice.ensures.low
-    c.choice_at-choice.ensures.high c.before_choice.ensures.value c.weight_of-weight.ensures.value in
+    let in_it = in_choice (goal.at.nonzero_rem-left c).After-weight_of-weight in
     weight_some c.args.others _ c.weight_of-weight.result in_it.left
 
 pub nonzero_div-result : goal.nonzero_div-result
 nonzero_div-result c =
-    let in_it = choice_found c.args.chicks c.args.lions c.args.others c.args.number c.choice_at-choice.result c.before_choice.result
-    c.weight_of-weight.result (factor_positive c.args.number _ c.args.others c.requires.number) c.choice_at-choice.ensures.low
-    c.choice_at-choice.ensures.high c.before_choice.ensures.value c.weight_of-weight.ensures.value in
+    let in_it = in_choice (goal.at.nonzero_div-result c).After-weight_of-weight in
     weight_some c.args.others _ c.weight_of-weight.result in_it.left
 
 pub forms_at-forms-requires-clause-number : goal.forms_at-forms-requires-clause-number
 forms_at-forms-requires-clause-number c =
-    let in_it = choice_found c.args.chicks c.args.lions c.args.others c.args.number c.choice_at-choice.result c.before_choice.result
-    c.weight_of-weight.result (factor_positive c.args.number _ c.args.others c.requires.number) c.choice_at-choice.ensures.low
-    c.choice_at-choice.ensures.high c.before_choice.ensures.value c.weight_of-weight.ensures.value in
+    let in_it = in_choice (goal.at.forms_at-forms-requires-clause-number c).After-weight_of-weight in
     form_in_weight c.args.chicks c.args.lions c.choice_at-choice.result c.chick_squares.result.0 c.chick_squares.result.1 _ c.weight_of-weight.result
     c.choice_at-choice.ensures.choice c.chick_squares.ensures c.weight_of-weight.ensures.value
     (mod_below _ c.weight_of-weight.result (weight_some c.args.others _ c.weight_of-weight.result in_it.left))
 
 pub returns : goal.returns
 returns c =
-    let in_it = choice_found c.args.chicks c.args.lions c.args.others c.args.number c.choice_at-choice.result c.before_choice.result
-    c.weight_of-weight.result (factor_positive c.args.number _ c.args.others c.requires.number) c.choice_at-choice.ensures.low
-    c.choice_at-choice.ensures.high c.before_choice.ensures.value c.weight_of-weight.ensures.value in
+    let in_it = in_choice (goal.at.returns c).After-weight_of-weight in
     parts_are c.args.chicks c.args.lions c.args.others c.args.number c.choice_at-choice.result c.before_choice.result c.weight_of-weight.result
     c.forms_at-forms.result c.chick_squares.result.0 c.chick_squares.result.1 c.choice_at-choice.ensures.choice in_it
     c.before_choice.ensures.value c.weight_of-weight.ensures.value c.chick_squares.ensures

@@ -1,8 +1,6 @@
 -- The table has the form of each cell's piece, and 0 for an empty cell.
-use Rattle.std.proofs.Common.{◌≡◌, ◌≤◌, ℕ, refl, subst, sym, ◌∙◌, arith}
-use Rattle.dob_pieces.specs.Masks.{entry_of}
+use Rattle.dob_rank.proofs.Common.{◌∙◌, ◌≡◌, ◌≤◌, arith, refl, subst, sym, ℕ, entry_of, form}
 use Rattle.dob_rank.specs.declared.forms.TheConstants.{FORMS}
-use Rattle.dob_rank.specs.Order.{form}
 use Rattle.dob_rank.proofs.Boards.EachCell.{of_cell}
 use Rattle.dob_rank.proofs.forms.form_of.Goals as goal
 

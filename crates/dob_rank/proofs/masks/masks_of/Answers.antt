@@ -1,6 +1,5 @@
 -- The planes of the board are the masks of its layers.
-use Rattle.std.proofs.Common.{map, drop, ◌∙◌, arith}
-use Rattle.dob_rank.specs.Numbers.{layer}
+use Rattle.dob_rank.proofs.Common.{◌∙◌, arith, drop, map, layer}
 use Rattle.dob_rank.proofs.Boards.Planes.{planes-small, planes_all, layers_upto}
 use Rattle.dob_rank.proofs.masks.masks_of.Goals as goal
 

@@ -1,7 +1,5 @@
 -- The word has the planes of the squares from the one reached on.
-use Rattle.std.proofs.Common.{◌≡◌, map, drop}
-use Rattle.dob_rank.specs.Numbers.{layer}
-use Rattle.dob_rank.specs.Masks.{planes}
+use Rattle.dob_rank.proofs.Common.{◌≡◌, drop, map, planes, layer}
 use Rattle.dob_rank.proofs.masks.masks_of.Given as goal
 
 abbrev pub invariant-loop-square : goal.invariant-loop-square

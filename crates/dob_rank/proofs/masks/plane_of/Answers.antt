@@ -1,9 +1,6 @@
 -- The table has the bit of each cell's layer, and none for an empty cell.
-use Rattle.std.proofs.Common.{◌≡◌, ◌≤◌, ℕ, refl, subst, sym, ◌∙◌, arith}
-use Rattle.dob_pieces.specs.Masks.{entry_of}
+use Rattle.dob_rank.proofs.Common.{◌∙◌, ◌≡◌, ◌≤◌, arith, refl, subst, sym, ℕ, entry_of, plane, layer}
 use Rattle.dob_rank.specs.declared.masks.TheConstants.{PLANES, GIRAFFES_PLANE}
-use Rattle.dob_rank.specs.Numbers.{layer}
-use Rattle.dob_rank.specs.Masks.{plane}
 use Rattle.dob_rank.proofs.Boards.EachCell.{of_cell}
 use Rattle.dob_rank.proofs.masks.plane_of.Goals as goal
 

@@ -1,12 +1,10 @@
 -- The squares of the pieces are those that the layers before leave, and the board is the one of the settled layers.
-use Rattle.std.proofs.Common.{◌<◌, ◌-◌, ℕ, None, replicate, set, slice_index, sym, ap, ◌∙◌, subst}
-use Rattle.dob_pieces.specs.Setups.{Cell}
-use Rattle.dob_rank.specs.Numbers.{numbers_by, cell_of, free_squares, order}
-use Rattle.dob_rank.specs.Placing.{past}
-use Rattle.dob_rank.specs.declared.layers.Layer.TheVariants.{OwnLion, Chicks, Elephants, Giraffes}
-use Rattle.dob_rank.proofs.Boards.Placed.{after_lions, after_chicks, after_elephants, with_lions, with_chicks, with_elephants, lions_by, chicks_by}
-use Rattle.dob_rank.proofs.Boards.Placed.{elephants_by, lions_stand, chicks_stand, elephants_stand, whole_board, first_below, second_below, put-same}
+use Rattle.dob_rank.proofs.Common.{◌-◌, ◌∙◌, None, ap, replicate, set, slice_index, ℕ, Cell, cell_of, free_squares, order, past, Chicks, Elephants, Giraffes}
+use Rattle.dob_rank.proofs.Common.{OwnLion}
+use Rattle.dob_rank.proofs.Boards.Placed.{after_lions, after_chicks, after_elephants, with_lions, with_chicks, with_elephants, AreChosen, chicks_below}
+use Rattle.dob_rank.proofs.Boards.Placed.{elephants_below, giraffes_below, whole_board, put-same}
 use Rattle.dob_rank.proofs.placing.board_by.Goals as goal
+use Rattle.dob_rank.proofs.placing.board_by.Goals.{After-among-chick_squares, After-among-elephant_squares, After-among-giraffe_squares}
 
 pub places_by-places-requires : goal.places_by-places-requires
 places_by-places-requires c = record {
@@ -18,82 +16,59 @@ places_by-places-requires c = record {
   giraffe_squares = c.requires.giraffe_squares;
 }
 
+chicks : (c : After-among-chick_squares) → AreChosen (after_lions c.args.digits.now) free_squares (slice_index c.args.on_board.now 0)
+    (slice_index c.args.digits.now 5) c.among-chick_squares.result.0 c.among-chick_squares.result.1
+chicks c = (
+  c.among-chick_squares.ensures.first ∙ ap (after_lions c.args.digits.now) (c.wide.ensures.first ∙ c.places_by-places.ensures.first_chick),
+  c.among-chick_squares.ensures.second ∙ ap (after_lions c.args.digits.now) (c.wide.ensures.second ∙ c.places_by-places.ensures.second_chick),
+)
+
+elephants : (c : After-among-elephant_squares) → AreChosen (after_chicks c.args.on_board.now c.args.digits.now) (free_squares - slice_index c.args.on_board.now 0) (slice_index c.args.on_board.now 1)
+    (slice_index c.args.digits.now 6) c.among-elephant_squares.result.0 c.among-elephant_squares.result.1
+elephants c = (
+  c.among-elephant_squares.ensures.first ∙ ap (after_lions c.args.digits.now) (c.wide-2.ensures.first ∙ c.places_by-places.ensures.first_elephant),
+  c.among-elephant_squares.ensures.second ∙ ap (after_lions c.args.digits.now) (c.wide-2.ensures.second ∙ c.places_by-places.ensures.second_elephant),
+)
+
+giraffes : (c : After-among-giraffe_squares) → AreChosen (after_elephants c.args.on_board.now c.args.digits.now) (free_squares - slice_index c.args.on_board.now 0 - slice_index c.args.on_board.now 1) (slice_index c.args.on_board.now 2)
+    (slice_index c.args.digits.now 7) c.among-giraffe_squares.result.0 c.among-giraffe_squares.result.1
+giraffes c = (
+  c.among-giraffe_squares.ensures.first ∙ ap (after_lions c.args.digits.now) (c.wide-3.ensures.first ∙ c.places_by-places.ensures.first_giraffe),
+  c.among-giraffe_squares.ensures.second ∙ ap (after_lions c.args.digits.now) (c.wide-3.ensures.second ∙ c.places_by-places.ensures.second_giraffe),
+)
+
 pub put-requires-clause-first : goal.put-requires-clause-first
-put-requires-clause-first c =
-    let on_board = c.args.on_board.now in
-    let digits = c.args.digits.now in
-    λ some. subst (λ (n : ℕ). n < 12)
-    (sym (c.among-chick_squares.ensures.first ∙ ap (after_lions digits) (c.wide.ensures.first ∙ c.places_by-places.ensures.first_chick)))
-    (first_below (numbers_by digits) (order Chicks) (slice_index on_board 0) (slice_index digits 5)
-    free_squares (lions_by digits) (with_lions digits) (after_lions digits)
-    c.requires.chicks c.requires.chick_squares (lions_stand on_board digits c.requires) some)
+put-requires-clause-first c = (chicks_below c.args.on_board.now c.args.digits.now _ _ c.requires (chicks (goal.at.put-requires-clause-first c).After-among-chick_squares)).0
 
 pub put-requires-clause-second : goal.put-requires-clause-second
-put-requires-clause-second c =
-    let on_board = c.args.on_board.now in
-    let digits = c.args.digits.now in
-    λ some. subst (λ (n : ℕ). n < 12)
-    (sym (c.among-chick_squares.ensures.second ∙ ap (after_lions digits) (c.wide.ensures.second ∙ c.places_by-places.ensures.second_chick)))
-    (second_below (numbers_by digits) (order Chicks) (slice_index on_board 0) (slice_index digits 5)
-    free_squares (lions_by digits) (with_lions digits) (after_lions digits)
-    c.requires.chicks c.requires.chick_squares (lions_stand on_board digits c.requires) some)
+put-requires-clause-second c = (chicks_below c.args.on_board.now c.args.digits.now _ _ c.requires (chicks (goal.at.put-requires-clause-second c).After-among-chick_squares)).1
 
 pub put-requires-2-clause-first : goal.put-requires-2-clause-first
-put-requires-2-clause-first c =
-    let on_board = c.args.on_board.now in
-    let digits = c.args.digits.now in
-    λ some. subst (λ (n : ℕ). n < 12)
-    (sym (c.among-elephant_squares.ensures.first ∙ ap (after_lions digits) (c.wide-2.ensures.first ∙ c.places_by-places.ensures.first_elephant)))
-    (first_below (numbers_by digits) (order Elephants) (slice_index on_board 1) (slice_index digits 6)
-    (free_squares - slice_index on_board 0) (chicks_by on_board digits) (with_chicks on_board digits) (after_chicks on_board digits)
-    c.requires.elephants c.requires.elephant_squares (chicks_stand on_board digits c.requires) some)
+put-requires-2-clause-first c = (elephants_below c.args.on_board.now c.args.digits.now _ _ c.requires (elephants (goal.at.put-requires-2-clause-first c).After-among-elephant_squares)).0
 
 pub put-requires-2-clause-second : goal.put-requires-2-clause-second
-put-requires-2-clause-second c =
-    let on_board = c.args.on_board.now in
-    let digits = c.args.digits.now in
-    λ some. subst (λ (n : ℕ). n < 12)
-    (sym (c.among-elephant_squares.ensures.second ∙ ap (after_lions digits) (c.wide-2.ensures.second ∙ c.places_by-places.ensures.second_elephant)))
-    (second_below (numbers_by digits) (order Elephants) (slice_index on_board 1) (slice_index digits 6)
-    (free_squares - slice_index on_board 0) (chicks_by on_board digits) (with_chicks on_board digits) (after_chicks on_board digits)
-    c.requires.elephants c.requires.elephant_squares (chicks_stand on_board digits c.requires) some)
+put-requires-2-clause-second c = (elephants_below c.args.on_board.now c.args.digits.now _ _ c.requires (elephants (goal.at.put-requires-2-clause-second c).After-among-elephant_squares)).1
 
 pub put-requires-3-clause-first : goal.put-requires-3-clause-first
-put-requires-3-clause-first c =
-    let on_board = c.args.on_board.now in
-    let digits = c.args.digits.now in
-    λ some. subst (λ (n : ℕ). n < 12)
-    (sym (c.among-giraffe_squares.ensures.first ∙ ap (after_lions digits) (c.wide-3.ensures.first ∙ c.places_by-places.ensures.first_giraffe)))
-    (first_below (numbers_by digits) (order Giraffes) (slice_index on_board 2) (slice_index digits 7)
-    (free_squares - slice_index on_board 0 - slice_index on_board 1) (elephants_by on_board digits) (with_elephants on_board digits) (after_elephants on_board digits)
-    c.requires.giraffes c.requires.giraffe_squares (elephants_stand on_board digits c.requires) some)
+put-requires-3-clause-first c = (giraffes_below c.args.on_board.now c.args.digits.now _ _ c.requires (giraffes (goal.at.put-requires-3-clause-first c).After-among-giraffe_squares)).0
 
 pub put-requires-3-clause-second : goal.put-requires-3-clause-second
-put-requires-3-clause-second c =
-    let on_board = c.args.on_board.now in
-    let digits = c.args.digits.now in
-    λ some. subst (λ (n : ℕ). n < 12)
-    (sym (c.among-giraffe_squares.ensures.second ∙ ap (after_lions digits) (c.wide-3.ensures.second ∙ c.places_by-places.ensures.second_giraffe)))
-    (second_below (numbers_by digits) (order Giraffes) (slice_index on_board 2) (slice_index digits 7)
-    (free_squares - slice_index on_board 0 - slice_index on_board 1) (elephants_by on_board digits) (with_elephants on_board digits) (after_elephants on_board digits)
-    c.requires.giraffes c.requires.giraffe_squares (elephants_stand on_board digits c.requires) some)
+put-requires-3-clause-second c = (giraffes_below c.args.on_board.now c.args.digits.now _ _ c.requires (giraffes (goal.at.put-requires-3-clause-second c).After-among-giraffe_squares)).1
 
 pub returns : goal.returns
 returns c =
     let on_board = c.args.on_board.now in
     let digits = c.args.digits.now in
+    let at = goal.at.returns c in
     c.put-3.ensures
     ∙ put-same (order Giraffes) (slice_index on_board 2) _ _ (slice_index digits 10) _ _ _ (with_elephants on_board digits)
-    (c.among-giraffe_squares.ensures.first ∙ ap (after_lions digits) (c.wide-3.ensures.first ∙ c.places_by-places.ensures.first_giraffe))
-    (c.among-giraffe_squares.ensures.second ∙ ap (after_lions digits) (c.wide-3.ensures.second ∙ c.places_by-places.ensures.second_giraffe))
+    (giraffes at.After-among-giraffe_squares).0 (giraffes at.After-among-giraffe_squares).1
     (c.put-2.ensures
     ∙ put-same (order Elephants) (slice_index on_board 1) _ _ (slice_index digits 9) _ _ _ (with_chicks on_board digits)
-    (c.among-elephant_squares.ensures.first ∙ ap (after_lions digits) (c.wide-2.ensures.first ∙ c.places_by-places.ensures.first_elephant))
-    (c.among-elephant_squares.ensures.second ∙ ap (after_lions digits) (c.wide-2.ensures.second ∙ c.places_by-places.ensures.second_elephant))
+    (elephants at.After-among-elephant_squares).0 (elephants at.After-among-elephant_squares).1
     (c.put.ensures
     ∙ put-same (order Chicks) (slice_index on_board 0) _ _ (slice_index digits 8) _ _ _ (with_lions digits)
-    (c.among-chick_squares.ensures.first ∙ ap (after_lions digits) (c.wide.ensures.first ∙ c.places_by-places.ensures.first_chick))
-    (c.among-chick_squares.ensures.second ∙ ap (after_lions digits) (c.wide.ensures.second ∙ c.places_by-places.ensures.second_chick))
+    (chicks at.After-among-chick_squares).0 (chicks at.After-among-chick_squares).1
     (ap (λ (cell : Cell). set (set (replicate 12 None) (slice_index digits 3) cell) c.past.result c.cell_of-2.result) c.cell_of.ensures
     ∙ ap (λ (square : ℕ). set (set (replicate 12 None) (slice_index digits 3) (cell_of (order OwnLion) 0)) square c.cell_of-2.result) c.past.ensures.value
     ∙ ap (set (set (replicate 12 None) (slice_index digits 3) (cell_of (order OwnLion) 0))

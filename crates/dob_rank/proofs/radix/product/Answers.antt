@@ -1,6 +1,5 @@
 -- No product of fewer bases is greater, so that nothing overflows.
-use Rattle.std.proofs.Common.{◌^◌}
-use Rattle.std.proofs.Common.{arith}
+use Rattle.std.proofs.Common.{◌^◌, arith}
 use Rattle.dob_rank.proofs.Positions.Loops.{product_fits}
 use Rattle.dob_rank.proofs.radix.product.Goals as goal
 

@@ -1,6 +1,5 @@
 -- The weight is the product of the bases from the one reached on.
-use Rattle.std.proofs.Common.{◌≡◌, drop}
-use Rattle.dob_rank.specs.Numbers.{product}
+use Rattle.dob_rank.proofs.Common.{◌≡◌, drop, product}
 use Rattle.dob_rank.proofs.radix.product.Given as goal
 
 abbrev pub invariant-loop-i : goal.invariant-loop-i

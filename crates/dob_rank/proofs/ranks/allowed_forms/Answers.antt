@@ -1,10 +1,5 @@
 -- The lowest bit of a mask is the square of the first chick, and the next one that of the second.
-use Rattle.std.proofs.Common.{sym, ap, ◌∙◌, arith}
-use Rattle.dob_pieces.specs.declared.profile.Profile.TheVariants.{B}
-use Rattle.dob_rank.specs.declared.layers.Layer.TheVariants.{Chicks}
-use Rattle.dob_rank.specs.Marks.{marks_below}
-use Rattle.dob_rank.specs.Numbers.{order}
-use Rattle.dob_rank.specs.Weights.{may_have}
+use Rattle.dob_rank.proofs.Common.{◌∙◌, ap, arith, sym, B, marks_below, order, may_have, Chicks}
 use Rattle.dob_rank.proofs.Boards.Planes.{first_on_board, second_on_board, lowest}
 use Rattle.dob_rank.proofs.ProfileB.FormPlaces.{no_number, one_found, two_found}
 use Rattle.dob_rank.proofs.ranks.allowed_forms.Goals as goal

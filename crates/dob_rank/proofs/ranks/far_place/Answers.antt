@@ -1,6 +1,5 @@
 -- The digits are below their bases, and the place that they write is the position's.
-use Rattle.std.proofs.Common.{◌/◌, ◌%◌, refl, ◌∙◌, arith}
-use Rattle.dob_rank.specs.Runs.{lion_pairs}
+use Rattle.dob_rank.proofs.Common.{◌%◌, ◌/◌, ◌∙◌, arith, refl, lion_pairs}
 use Rattle.dob_rank.proofs.Positions.Found.{HasDigits-board, HasDigits-place, run_is_of}
 use Rattle.dob_rank.proofs.InRuns.DigitParts.{AreFewOnBoard-digits}
 use Rattle.dob_rank.proofs.ProfileB.FarPlaces.{far_parts, far_place_is, chicks_on_board}

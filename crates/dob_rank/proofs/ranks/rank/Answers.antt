@@ -1,6 +1,5 @@
 -- In profile A the positions of the family are those of the set.
-use Rattle.std.proofs.Common.{sym, ap, ◌∙◌, subst}
-use Rattle.dob_rank.specs.Families.{family_of, HasRank, rank_of}
+use Rattle.dob_rank.proofs.Common.{◌∙◌, ap, subst, sym, HasRank, family_of, rank_of}
 use Rattle.dob_rank.proofs.OfFamilies.Present.{HasRank-rank_of, rank_of-whole}
 use Rattle.dob_rank.proofs.ranks.rank.Goals as goal
 

@@ -1,6 +1,5 @@
 -- The positions before the end of the last block are all.
-use Rattle.std.proofs.Common.{sym, subst}
-use Rattle.dob_rank.specs.Families.{HasSize}
+use Rattle.dob_rank.proofs.Common.{subst, sym, HasSize}
 use Rattle.dob_rank.proofs.OfFamilies.Present.{HasSize-size_of, size_of-end}
 use Rattle.dob_rank.proofs.ranks.size.Goals as goal
 

@@ -1,7 +1,5 @@
 -- The next choice has so many more before it.
-use Rattle.std.proofs.Common.{◌∙◌, arith}
-use Rattle.dob_pieces.specs.declared.profile.Profile.TheVariants.{B}
-use Rattle.dob_rank.specs.Weights.{choice_weight, forms_before}
+use Rattle.dob_rank.proofs.Common.{◌∙◌, arith, B, choice_weight, forms_before}
 use Rattle.dob_rank.proofs.Positions.Blocks.{sum_below_more, choose_ten}
 use Rattle.dob_rank.proofs.ProfileB.PlaceParts.{one_step, not_less}
 use Rattle.dob_rank.proofs.ranks.weight_of.Goals as goal

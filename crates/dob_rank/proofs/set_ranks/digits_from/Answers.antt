@@ -1,8 +1,5 @@
 -- The masks of later layers are what the earlier ones leave, and the digits are the choices of their squares.
-use Rattle.std.proofs.Common.{◌≡◌, ℕ, List, [], ◌∷◌, map, slice_index, ap, ◌∙◌, arith}
-use Rattle.dob_pieces.specs.declared.hand.Hand.{Hand}
-use Rattle.dob_rank.specs.Numbers.{layer, order}
-use Rattle.dob_rank.specs.declared.layers.Layer.TheVariants.{OwnLion, EnemyLion, Chicks, Elephants, Giraffes}
+use Rattle.dob_rank.proofs.Common.{◌∙◌, ◌∷◌, ◌≡◌, List, [], ap, arith, map, slice_index, ℕ, Hand, layer, order, Chicks, Elephants, EnemyLion, Giraffes, OwnLion}
 use Rattle.dob_rank.proofs.Boards.BoardMasks.{left_are, numbers_are}
 use Rattle.dob_rank.proofs.set_ranks.digits_from.Goals as goal
 

@@ -1,6 +1,5 @@
 -- The position's digits are below their bases; their numbers are its block and its spot.
-use Rattle.std.proofs.Common.{refl}
-use Rattle.dob_rank.specs.Numbers.{block_bases}
+use Rattle.dob_rank.proofs.Common.{refl, block_bases}
 use Rattle.dob_rank.proofs.Positions.Found.{HasDigits-same, HasDigits-board, HasDigits-place, block_found, run_is_of, local_is_of}
 use Rattle.dob_rank.proofs.set_ranks.spot_from.Goals as goal
 

@@ -1,8 +1,5 @@
 -- The position at the place of the rank has that rank.
-use Rattle.std.proofs.Common.{◌<◌, refl, sym, ◌∙◌, subst}
-use Rattle.dob_pieces.specs.declared.profile.Profile.TheVariants.{A}
-use Rattle.dob_rank.specs.Numbers.{HasBlock}
-use Rattle.dob_rank.specs.Families.{family_of}
+use Rattle.dob_rank.proofs.Common.{◌<◌, ◌∙◌, refl, subst, sym, A, family_of, HasBlock}
 use Rattle.dob_rank.proofs.Positions.Blocks.{HasDigits-numbers}
 use Rattle.dob_rank.proofs.InRuns.DigitParts.{AreFewOnBoard-digits}
 use Rattle.dob_rank.proofs.Positions.Found.{place_in, made_at_place}

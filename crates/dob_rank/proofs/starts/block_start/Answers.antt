@@ -1,7 +1,5 @@
 -- The table's entry is the sum, computed for each set and each block.
-use Rattle.std.proofs.Common.{ℕ, ◌<◌, ◌≤◌, ◌^◌, sym, ◌∙◌, subst, arith}
-use Rattle.dob_rank.specs.Numbers.{start_of}
-use Rattle.dob_rank.specs.Families.{is_present}
+use Rattle.dob_rank.proofs.Common.{◌<◌, ◌^◌, ◌∙◌, ◌≤◌, arith, subst, sym, ℕ, is_present, start_of}
 use Rattle.dob_rank.proofs.Positions.BlockStarts.{start_few}
 use Rattle.dob_rank.proofs.Marked.Words.{marks_below-le}
 use Rattle.dob_rank.proofs.OfFamilies.Present.{all_present}

@@ -1,6 +1,5 @@
 -- Past the last block no rank is left.
-use Rattle.std.proofs.Common.{sym, arith}
-use Rattle.dob_rank.specs.Families.{is_present}
+use Rattle.dob_rank.proofs.Common.{arith, sym, is_present}
 use Rattle.dob_rank.proofs.Marked.Words.{marks_below_none}
 use Rattle.dob_rank.proofs.OfFamilies.Present.{none_beyond}
 use Rattle.dob_rank.proofs.starts.find_block.Goals as goal

@@ -1,8 +1,5 @@
 -- The rank is at or behind the start of the block reached.
-use Rattle.std.proofs.Common.{◌≡◌, ◌≤◌}
-use Rattle.dob_rank.specs.Numbers.{start_of}
-use Rattle.dob_rank.specs.Marks.{marks_below}
-use Rattle.dob_rank.specs.Families.{is_present}
+use Rattle.dob_rank.proofs.Common.{◌≡◌, ◌≤◌, is_present, marks_below, start_of}
 use Rattle.dob_rank.proofs.starts.find_block.Given as goal
 
 abbrev pub invariant-loop-block : goal.invariant-loop-block

@@ -1,11 +1,7 @@
 -- What stands after a move is a position of the same family.
-use Rattle.std.proofs.Common.{◌∙◌, sym, subst}
-use Rattle.dob_moves.specs.declared.position_status.Status.TheVariants.{Open}
+use Rattle.dob_reach.proofs.Common.{◌∙◌, subst, sym, goes_there, status_there, Open, IsInClass, moves_keep_the_family}
 use Rattle.dob_moves.proofs.ByProfile.{can_go, goes}
 use Rattle.dob_moves.proofs.Outcomes.{HasOutcome-is}
-use Rattle.dob_moves.proofs.ProfileMoves.{goes_there, status_there}
-use Rattle.dob_rank.specs.Families.{IsInClass}
-use Rattle.dob_value.proofs.Successors.{moves_keep_the_family}
 use Rattle.dob_reach.proofs.parts.class_after.Goals as goal
 
 pub apply-requires-clause-open : goal.apply-requires-clause-open

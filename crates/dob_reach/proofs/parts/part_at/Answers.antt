@@ -1,7 +1,5 @@
 -- The part ends where the next one begins, or with the classes.
-use Rattle.std.proofs.Common.{◌≡◌, ◌+◌, ◌-◌, ◌*◌, ℕ, List, arith, length, subst, min}
-use Rattle.rayon.proofs.ListFacts.{IfOk-then}
-use Rattle.dob_reach.specs.Fronts.{AreExpanded}
+use Rattle.dob_reach.proofs.Common.{◌*◌, ◌+◌, ◌-◌, ◌≡◌, List, arith, length, min, subst, ℕ, IfOk-then, AreExpanded}
 use Rattle.dob_reach.proofs.Parting.{cut_in, part_is}
 use Rattle.dob_reach.proofs.parts.part_at.Goals as goal
 

@@ -1,9 +1,6 @@
 -- One class more each time, and then all of them.
-use Rattle.std.proofs.Common.{◌+◌, ℕ, List, [], ◌∷◌, ◌++◌, arith, get_or, subst, sym, take}
-use Rattle.std.proofs.lemmas.List.{length-take, take_all, take_more}
+use Rattle.dob_reach.proofs.Common.{◌++◌, ◌+◌, ◌∷◌, List, [], arith, get_or, subst, sym, take, ℕ, length-take, take_all, take_more, AreExpanded, one_if, IsOpen}
 use Rattle.std.proofs.lemmas.List.Elements.{Contains-get_or}
-use Rattle.dob_reach.specs.Fronts.{AreExpanded, one_if}
-use Rattle.dob_reach.specs.Leads.{IsOpen}
 use Rattle.dob_reach.proofs.Counts.{among_few}
 use Rattle.dob_reach.proofs.Stepping.{expanded_more, expanded_none, one_few}
 use Rattle.dob_reach.proofs.parts.part_of.Goals as goal

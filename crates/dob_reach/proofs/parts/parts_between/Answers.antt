@@ -1,14 +1,10 @@
 -- The parts in their places, each looked at by itself.
-use Rattle.std.proofs.Common.{◌-◌, ℕ, List, ap, arith, subst, ◌∙◌}
-use Rattle.std.specs.Prelude.{IfOk, Result}
-use Rattle.std.specs.List.{AllZip, range_with_len}
+use Rattle.dob_reach.proofs.Common.{◌-◌, ◌∙◌, List, ap, arith, subst, ℕ, AllZip, range_with_len, IfOk, Result, AllZip-weaken, IsPartAt, IsPlace, Part}
 use Rattle.rayon.specs.Numbers.{nat_range}
-use Rattle.rayon.proofs.ListFacts.{AllZip-weaken}
 use Rattle.rayon.proofs.ToStd.{nat_range-All}
+use Rattle.dob_pieces.proofs.Zips.{made_all}
 use Rattle.dob_pieces.specs.declared.memory.Memory.{Memory}
-use Rattle.dob_reach.specs.declared.parts.Part.{Part}
-use Rattle.dob_reach.specs.Fronts.{IsPartAt, IsPlace}
-use Rattle.dob_reach.proofs.Parting.{made_all, place_begins}
+use Rattle.dob_reach.proofs.Parting.{place_begins}
 use Rattle.dob_reach.proofs.parts.parts_between.Goals as goal
 
 pub collect-requires-clause-ready : goal.collect-requires-clause-ready

@@ -1,10 +1,7 @@
 -- Each move's class goes to the end of the list, where it isn't marked.
-use Rattle.std.proofs.Common.{◌∷◌, ◌++◌, [], ℕ, List, refl, sym, subst, ap, ◌∙◌, append_assoc, append-nil, arith}
-use Rattle.std.proofs.lemmas.Option.{slice_get_read}
-use Rattle.dob_moves.specs.declared.position_status.Status.TheVariants.{Open}
-use Rattle.dob_moves.specs.Statuses.{AreMoves, HasStatus}
+use Rattle.dob_reach.proofs.Common.{◌++◌, ◌∙◌, ◌∷◌, List, [], ap, append-nil, append_assoc, arith, refl, subst, sym, ℕ, slice_get_read, AreMoves, HasStatus}
+use Rattle.dob_reach.proofs.Common.{Open, move_goes, successors_all, successors_more, successors_none}
 use Rattle.dob_moves.proofs.Cases.{one_status}
-use Rattle.dob_value.proofs.Successors.{move_goes, successors_all, successors_more, successors_none}
 use Rattle.dob_reach.proofs.Stepping.{StandsFor, expanded_class, sifted_both, sifted_none}
 use Rattle.dob_reach.proofs.parts.push_outcomes.Goals as goal
 use Rattle.dob_reach.proofs.parts.push_outcomes.Goals.{After-deref-the_move-items}

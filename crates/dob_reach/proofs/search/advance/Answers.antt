@@ -1,6 +1,5 @@
 -- The front's classes are counted, and the next ones are marked.
-use Rattle.std.proofs.Common.{◌+◌, arith, length, refl}
-use Rattle.dob_reach.specs.declared.search.Reached.{Reached}
+use Rattle.dob_reach.proofs.Common.{◌+◌, arith, length, refl, Reached}
 use Rattle.dob_reach.proofs.Searched.{counted_few, front_low, opens_few, searched_next}
 use Rattle.dob_reach.proofs.search.advance.Goals as goal
 

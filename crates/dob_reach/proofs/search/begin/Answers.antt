@@ -1,7 +1,5 @@
 -- The first class alone is marked.
-use Rattle.std.proofs.Common.{◌∙◌, ◌∷◌, ◌++◌, ℕ, List, [], inl, inr, ap, arith, refl}
-use Rattle.std.proofs.lemmas.Bool.{cases_eq}
-use Rattle.dob_reach.specs.declared.search.Reached.{Reached}
+use Rattle.dob_reach.proofs.Common.{◌++◌, ◌∙◌, ◌∷◌, List, [], ap, arith, inl, inr, refl, ℕ, cases_eq, Reached}
 use Rattle.dob_reach.proofs.Searched.{searched_begin}
 use Rattle.dob_reach.proofs.search.begin.Goals as goal
 

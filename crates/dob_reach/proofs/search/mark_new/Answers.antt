@@ -1,8 +1,6 @@
 -- One number more each time, and then all of them.
-use Rattle.std.proofs.Common.{◌∷◌, ◌++◌, [], ◌∙◌, ℕ, List, ap, append_assoc, arith, get_or, subst, sym, take}
-use Rattle.std.proofs.lemmas.List.{take_all, take_more}
+use Rattle.dob_reach.proofs.Common.{◌++◌, ◌∙◌, ◌∷◌, List, [], ap, append_assoc, arith, get_or, subst, sym, take, ℕ, take_all, take_more, AreMarked}
 use Rattle.std.proofs.lemmas.List.Elements.{Contains-get_or}
-use Rattle.dob_reach.specs.Marks.{AreMarked}
 use Rattle.dob_reach.proofs.Marking.{keeps_both}
 use Rattle.dob_reach.proofs.search.mark_new.Goals as goal
 

@@ -1,6 +1,5 @@
 -- The numbers so far are marked.
-use Rattle.std.proofs.Common.{◌++◌, ℕ, List, take}
-use Rattle.dob_reach.specs.Marks.{AreMarked, KeepsMarks}
+use Rattle.dob_reach.proofs.Common.{◌++◌, List, take, ℕ, AreMarked, KeepsMarks}
 use Rattle.dob_reach.proofs.search.mark_new.Given as goal
 
 abbrev pub invariant-loop-outcome : goal.invariant-loop-outcome

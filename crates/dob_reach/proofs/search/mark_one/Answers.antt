@@ -1,7 +1,5 @@
 -- The number is marked now, or it was before.
-use Rattle.std.proofs.Common.{◌∷◌, ◌++◌, [], ◌∙◌, sym, subst}
-use Rattle.std.proofs.lemmas.Bool.{false≢true}
-use Rattle.dob_reach.specs.Marks.{AreMarked}
+use Rattle.dob_reach.proofs.Common.{◌++◌, ◌∙◌, ◌∷◌, [], subst, sym, false≢true, AreMarked}
 use Rattle.dob_reach.proofs.Marking.{marked_more, marked_twice}
 use Rattle.dob_reach.proofs.search.mark_one.Goals as goal
 

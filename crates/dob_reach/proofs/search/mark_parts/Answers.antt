@@ -1,9 +1,5 @@
 -- One part more each time, and then all of them.
-use Rattle.std.proofs.Common.{◌++◌, ◌∙◌, ℕ, List, ap, append_assoc, arith, subst, sym, take, Contains}
-use Rattle.std.proofs.lemmas.List.{take_all}
-use Rattle.dob_reach.specs.declared.parts.Part.{Part}
-use Rattle.dob_reach.specs.Fronts.{outcomes_of}
-use Rattle.dob_reach.specs.Marks.{AreMarked}
+use Rattle.dob_reach.proofs.Common.{◌++◌, ◌∙◌, Contains, List, ap, append_assoc, arith, subst, sym, take, ℕ, take_all, outcomes_of, AreMarked, Part}
 use Rattle.dob_reach.proofs.Marking.{keeps_both}
 use Rattle.dob_reach.proofs.Parting.{one_part_more, part_outcomes}
 use Rattle.dob_reach.proofs.search.mark_parts.Goals as goal

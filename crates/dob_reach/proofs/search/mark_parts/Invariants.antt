@@ -1,7 +1,5 @@
 -- What the parts so far lead to is marked.
-use Rattle.std.proofs.Common.{◌++◌, ℕ, List, take}
-use Rattle.dob_reach.specs.Fronts.{outcomes_of}
-use Rattle.dob_reach.specs.Marks.{AreMarked, KeepsMarks}
+use Rattle.dob_reach.proofs.Common.{◌++◌, List, take, ℕ, outcomes_of, AreMarked, KeepsMarks}
 use Rattle.dob_reach.proofs.search.mark_parts.Given as goal
 
 abbrev pub invariant-loop-part : goal.invariant-loop-part

@@ -1,8 +1,5 @@
 -- One round more each time, until no class is left to go on from.
-use Rattle.std.proofs.Common.{◌≡◌, ℕ, [], ap, arith, length, subst, sym, vec_len}
-use Rattle.std.proofs.lemmas.List.{nil_from_length}
-use Rattle.dob_reach.specs.Reached.{AreReachedFrom}
-use Rattle.dob_reach.specs.Searches.{IsSearched}
+use Rattle.dob_reach.proofs.Common.{◌≡◌, [], ap, arith, length, subst, sym, vec_len, ℕ, nil_from_length, AreReachedFrom, IsSearched}
 use Rattle.dob_reach.proofs.Searched.{counted_few, none_left, reached_end, some_left, told_more}
 use Rattle.dob_reach.proofs.search.reach.Goals as goal
 

@@ -1,7 +1,5 @@
 -- What is known before a round; the classes that aren't counted get fewer.
-use Rattle.std.proofs.Common.{◌<◌, ◌-◌, ℕ, length, get_or}
-use Rattle.dob_rank.specs.Families.{classes_of}
-use Rattle.dob_reach.specs.Searches.{IsSearched}
+use Rattle.dob_reach.proofs.Common.{◌-◌, ◌<◌, get_or, length, ℕ, classes_of, IsSearched}
 use Rattle.dob_reach.proofs.search.reach.Given as goal
 
 abbrev pub invariant-rounds : goal.invariant-rounds

@@ -1,9 +1,6 @@
 -- Some parts more each time, and then all of them.
-use Rattle.std.proofs.Common.{◌≡◌, ◌+◌, ◌-◌, ◌++◌, ℕ, List, ap, arith, subst, sym}
-use Rattle.std.specs.List.{AllZip, range_with_len}
-use Rattle.dob_reach.specs.declared.parts.Part.{Part}
-use Rattle.dob_reach.specs.Fronts.{AreExpanded, IsPartAt, opens_of, outcomes_of, parts_before}
-use Rattle.dob_reach.specs.Marks.{HaveBits}
+use Rattle.dob_reach.proofs.Common.{◌++◌, ◌+◌, ◌-◌, ◌≡◌, List, ap, arith, subst, sym, ℕ, AllZip, range_with_len, AreExpanded, IsPartAt, opens_of, outcomes_of}
+use Rattle.dob_reach.proofs.Common.{parts_before, HaveBits, Part}
 use Rattle.dob_reach.proofs.Parting.{all_parts, opens_fit, parts_expanded, parts_have_bits, round_met}
 use Rattle.dob_reach.proofs.Stepping.{expanded_kept}
 use Rattle.dob_reach.proofs.search.round.Goals as goal

@@ -1,7 +1,5 @@
 -- The parts so far are expanded, and what they lead to is marked.
-use Rattle.std.proofs.Common.{◌-◌, ℕ, List}
-use Rattle.dob_reach.specs.Fronts.{AreExpanded, parts_before}
-use Rattle.dob_reach.specs.Marks.{AreMarked}
+use Rattle.dob_reach.proofs.Common.{◌-◌, List, ℕ, AreExpanded, parts_before, AreMarked}
 use Rattle.dob_reach.proofs.search.round.Given as goal
 
 abbrev pub invariant-windows : goal.invariant-windows

@@ -1,8 +1,5 @@
 -- No move below the index leads to the value that is wanted, and the source shows what it showed.
-use Rattle.std.proofs.Common.{◌≡◌}
-use Rattle.dob_dbfile.specs.Devices.{Stream}
-use Rattle.dob_probe.proofs.Ways.{NoneBelow}
-use Rattle.dob_records.specs.Records.{IsRecorded}
+use Rattle.dob_records.proofs.Common.{◌≡◌, Stream, NoneBelow, IsRecorded}
 use Rattle.dob_records.proofs.lines.first_to.Given as goal
 
 abbrev pub invariant-loop-the_move : goal.invariant-loop-the_move

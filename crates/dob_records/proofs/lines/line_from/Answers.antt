@@ -1,9 +1,5 @@
 -- A line goes on by the first move to the value wanted, and ends with a catch, with no value wanted, or with a fault.
-use Rattle.std.proofs.Common.{List, rules, sym, subst, ◌∙◌}
-use Rattle.std.proofs.lemmas.Result.{err_from_is_err_and}
-use Rattle.dob_moves.specs.declared.game_move.Move.{Move}
-use Rattle.dob_probe.specs.Lines.{IsLine}
-use Rattle.dob_records.specs.Records.{IsRecorded}
+use Rattle.dob_records.proofs.Common.{◌∙◌, List, rules, subst, sym, err_from_is_err_and, Move, IsLine, IsRecorded}
 use Rattle.dob_records.proofs.Onward.{IsOnLine, gap_breaks, line_catches, line_ends, on_line_more}
 use Rattle.dob_records.proofs.lines.line_from.Goals as goal
 

@@ -1,10 +1,5 @@
 -- The moves so far begin the line and lead to a position of which the record says that value, whose distance falls.
-use Rattle.std.proofs.Common.{◌≡◌}
-use Rattle.dob_rank.specs.Families.{IsPositionOf}
-use Rattle.dob_value.specs.Follows.{IsEntry}
-use Rattle.dob_dbfile.specs.Devices.{Stream}
-use Rattle.dob_probe.proofs.Ways.{distance}
-use Rattle.dob_records.specs.Records.{IsRecorded}
+use Rattle.dob_records.proofs.Common.{◌≡◌, IsPositionOf, IsEntry, Stream, distance, IsRecorded}
 use Rattle.dob_records.proofs.Onward.{IsOnLine}
 use Rattle.dob_records.proofs.lines.line_from.Given as goal
 

@@ -1,11 +1,6 @@
 -- Each move is later than those listed, and its value is the one that the record of the position after it says.
-use Rattle.std.proofs.Common.{refl, rules}
-use Rattle.std.proofs.lemmas.Option.{slice_get_read}
-use Rattle.dob_value.proofs.Successors.{move_goes}
-use Rattle.dob_probe.specs.declared.by_value.ValuedMove.{ValuedMove}
-use Rattle.dob_probe.proofs.ByValue.{listed_all, listed_more}
-use Rattle.dob_records.specs.Records.{IsRecorded}
-use Rattle.dob_records.proofs.Recorded.{before_next, one_more, one_recorded}
+use Rattle.dob_records.proofs.Common.{refl, rules, slice_get_read, move_goes, listed_all, listed_more, before_next, one_more, ValuedMove, IsRecorded}
+use Rattle.dob_records.proofs.Recorded.{one_recorded}
 use Rattle.dob_records.proofs.listing.moves_in_order.Goals as goal
 
 pub value_after-requires-clause-goes_on : goal.value_after-requires-clause-goes_on

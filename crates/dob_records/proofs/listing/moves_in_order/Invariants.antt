@@ -1,10 +1,6 @@
 -- The moves so far are listed, each with the value that its record says, and the source shows what it showed.
-use Rattle.std.proofs.Common.{◌≡◌, AllPairs}
-use Rattle.dob_dbfile.specs.Devices.{Stream}
+use Rattle.dob_records.proofs.Common.{◌≡◌, AllPairs, Stream, AreListed, AreOfFirst, IsRecorded}
 use Rattle.dob_probe.specs.ValuedMoves.{ComesBefore}
-use Rattle.dob_probe.proofs.ByValue.{AreListed}
-use Rattle.dob_records.specs.Records.{IsRecorded}
-use Rattle.dob_records.proofs.Recorded.{AreOfFirst}
 use Rattle.dob_records.proofs.listing.moves_in_order.Given as goal
 
 abbrev pub invariant-loop-the_move : goal.invariant-loop-the_move

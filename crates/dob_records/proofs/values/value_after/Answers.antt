@@ -1,16 +1,7 @@
 -- The position that a move of an open position leads to is of the family, and it is one position.
-use Rattle.std.proofs.Common.{◌∙◌, subst, sym}
-use Rattle.std.proofs.lemmas.Result.{IfErr-weaker}
-use Rattle.dob_pieces.specs.declared.setup.Setup.{Setup}
-use Rattle.dob_moves.specs.Moves.{Goes}
-use Rattle.dob_moves.specs.declared.position_status.Status.TheVariants.{Open}
-use Rattle.dob_moves.proofs.ByProfile.{can_go, goes}
+use Rattle.dob_records.proofs.Common.{◌∙◌, subst, sym, IfErr-weaker, IfOk-weaker, Setup, can_go, goes, goes_there, status_there, Goes, Open}
+use Rattle.dob_records.proofs.Common.{moves_keep_the_family, Value, IsRecorded, LacksNext, LacksRecord}
 use Rattle.dob_moves.proofs.Outcomes.{HasOutcome-is}
-use Rattle.dob_moves.proofs.ProfileMoves.{goes_there, status_there}
-use Rattle.dob_value.specs.declared.value.Value.{Value}
-use Rattle.dob_value.proofs.Successors.{moves_keep_the_family}
-use Rattle.dob_records.specs.Records.{IsRecorded, LacksNext, LacksRecord}
-use Rattle.dob_records.proofs.Recorded.{ok_weaker}
 use Rattle.dob_records.proofs.values.value_after.Goals as goal
 
 pub apply-next-requires-clause-open : goal.apply-next-requires-clause-open
@@ -31,7 +22,7 @@ returns-clause-said g c = λ stream shows.
     let family = c.args.classes.now.family in
     let setup = c.args.position.now.setup in
     let next = c.apply-next.result.setup in
-    ok_weaker c.value_at.result (IsRecorded stream c.args.format family next)
+    IfOk-weaker c.value_at.result (IsRecorded stream c.args.format family next)
     (λ (value : Value). (q : Setup) → Goes family.profile setup c.args.the_move q → IsRecorded stream c.args.format family q value)
     (λ value says q by.
     let same = HasOutcome-is setup c.args.the_move next c.apply-next.ensures

@@ -1,10 +1,6 @@
 -- The record that is read is that of the position's class.
-use Rattle.std.proofs.Common.{arith}
-use Rattle.std.proofs.lemmas.Result.{IfErr-weaker}
+use Rattle.dob_records.proofs.Common.{arith, IfErr-weaker, IfOk-weaker, HasRecord, HasRecordFault, IsRecorded, LacksRecord}
 use Rattle.dob_rank.proofs.OfFamilies.ClassBounds.{classes_of-below}
-use Rattle.dob_dbfile.specs.Looking.{HasRecord, HasRecordFault}
-use Rattle.dob_records.specs.Records.{IsRecorded, LacksRecord}
-use Rattle.dob_records.proofs.Recorded.{ok_weaker}
 use Rattle.dob_records.proofs.values.value_at.Goals as goal
 
 pub read_value-requires : goal.read_value-requires
@@ -12,7 +8,7 @@ read_value-requires g c = let few = classes_of-below c.args.classes.now.family i
 
 pub returns-clause-said : goal.returns-clause-said
 returns-clause-said g c = λ stream shows.
-    ok_weaker c.read_value.result (HasRecord stream c.args.format c.class_of.result)
+    IfOk-weaker c.read_value.result (HasRecord stream c.args.format c.class_of.result)
     (IsRecorded stream c.args.format c.args.classes.now.family c.args.position.now.setup)
     (λ value says. record { class = c.class_of.result; number = c.class_of.ensures.class; below = c.class_of.ensures.bound; says = says })
     (c.read_value.ensures.read stream shows)

@@ -1,7 +1,5 @@
 -- The squares filled so far have the cells of their letters.
-use Rattle.std.proofs.Common.{◌≡◌, ◌<◌, ℕ, length, get_or, None}
-use Rattle.dob_text.specs.Letters.{letter_of}
-use Rattle.dob_text.specs.Readings.{letter_place}
+use Rattle.dob_text.proofs.Common.{◌<◌, ◌≡◌, None, get_or, length, ℕ, letter_of, letter_place}
 use Rattle.dob_text.proofs.boards.board_of.Given as goal
 
 abbrev pub invariant-loop-square : goal.invariant-loop-square

@@ -1,6 +1,5 @@
 -- A dash, three runs of letters, or no hand's text.
-use Rattle.std.proofs.Common.{◌≡◌, ◌≢◌, ◌-◌, ℕ, List, [], ◌∷◌, length, get_or, take, drop, refl, ap, ◌∙◌, arith}
-use Rattle.std.proofs.lemmas.List.{take_rest}
+use Rattle.dob_text.proofs.Common.{◌-◌, ◌∙◌, ◌∷◌, ◌≡◌, ◌≢◌, List, [], ap, arith, drop, get_or, length, refl, take, ℕ, take_rest}
 use Rattle.dob_text.proofs.Fronts.{Counts, counts, one_byte, same_hand, hand_spelled, hand_fault}
 use Rattle.dob_text.proofs.hands.hand_of.Goals as goal
 use Rattle.dob_text.proofs.hands.hand_of.Goals.{else-word-eq1-via-then-word-eq1+else-word-eq45, else-word-eq1-via-else-word-eq1}

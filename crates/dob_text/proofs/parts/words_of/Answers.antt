@@ -1,7 +1,5 @@
 -- The words are what stands before the first space and after it.
-use Rattle.std.proofs.Common.{◌≡◌, ◌+◌, ◌-◌, ℕ, true, List, length, take, drop, refl}
-use Rattle.std.proofs.lemmas.List.{take_rest}
-use Rattle.dob_text.specs.PositionText.{IsWord}
+use Rattle.dob_text.proofs.Common.{◌+◌, ◌-◌, ◌≡◌, List, drop, length, refl, take, true, ℕ, take_rest, IsWord}
 use Rattle.dob_text.proofs.Splits.{no_space, words_found, words_only}
 use Rattle.dob_text.proofs.parts.words_of.Goals as goal
 use Rattle.dob_text.proofs.parts.words_of.Goals.{else-is_word-via-then-is_word+else-is_word-2, else-is_word-via-else-is_word}

@@ -1,7 +1,5 @@
 -- One square more is drawn.
-use Rattle.std.proofs.Common.{◌∙◌, ◌++◌, ap, None, slice_index_or}
-use Rattle.std.specs.String.{string_bytes}
-use Rattle.dob_text.specs.Pictures.{square_picture}
+use Rattle.dob_text.proofs.Common.{◌++◌, ◌∙◌, None, ap, slice_index_or, string_bytes, square_picture}
 use Rattle.dob_text.proofs.Joins.{one_more}
 use Rattle.dob_text.proofs.pictures.push_board.Goals as goal
 

@@ -1,8 +1,5 @@
 -- The squares below the index are drawn.
-use Rattle.std.proofs.Common.{◌≡◌, ◌++◌, None, map, slice_index_or}
-use Rattle.std.specs.List.{concat, range_with_len}
-use Rattle.std.specs.String.{string_bytes}
-use Rattle.dob_text.specs.Pictures.{square_picture}
+use Rattle.dob_text.proofs.Common.{◌++◌, ◌≡◌, None, map, slice_index_or, concat, range_with_len, string_bytes, square_picture}
 use Rattle.dob_text.proofs.pictures.push_board.Given as goal
 
 abbrev pub invariant-loop-index : goal.invariant-loop-index

@@ -1,8 +1,5 @@
 -- The line's name and turn are those of the piece.
-use Rattle.std.proofs.Common.{◌∙◌, ◌∷◌, [], ◌++◌, ap}
-use Rattle.std.specs.String.{string_bytes}
-use Rattle.dob_text.specs.Letters.{letter_of_kind}
-use Rattle.dob_text.specs.Pictures.{use_line}
+use Rattle.dob_text.proofs.Common.{◌++◌, ◌∙◌, ◌∷◌, [], ap, string_bytes, letter_of_kind, use_line}
 use Rattle.dob_text.proofs.pictures.push_piece.Goals as goal
 
 pub returns : goal.returns

@@ -1,7 +1,5 @@
 -- One piece more is drawn.
-use Rattle.std.proofs.Common.{◌∙◌, ◌+◌, ◌*◌, ◌++◌, ap}
-use Rattle.std.specs.String.{string_bytes}
-use Rattle.dob_text.specs.Pictures.{hand_left, hand_top, piece_picture}
+use Rattle.dob_text.proofs.Common.{◌*◌, ◌++◌, ◌+◌, ◌∙◌, ap, string_bytes, hand_left, hand_top, piece_picture}
 use Rattle.dob_text.proofs.Joins.{one_more}
 use Rattle.dob_text.proofs.pictures.push_pieces.Goals as goal
 

@@ -1,6 +1,5 @@
 -- So many letters have been appended.
-use Rattle.std.proofs.Common.{◌≡◌, ◌++◌, replicate}
-use Rattle.std.specs.String.{string_bytes}
+use Rattle.dob_text.proofs.Common.{◌++◌, ◌≡◌, replicate, string_bytes}
 use Rattle.dob_text.proofs.pushes.push_times.Given as goal
 
 abbrev pub invariant-loop-i : goal.invariant-loop-i

@@ -1,9 +1,6 @@
 -- Each answer of `Position::of` says what it means, and a position is looked at once more by the profile.
-use Rattle.std.proofs.Common.{Err, ap, refl, sym, subst}
-use Rattle.std.proofs.lemmas.Bool.{both_ways}
+use Rattle.dob_text.proofs.Common.{Err, ap, refl, subst, sym, both_ways, IsAllowed, Setup}
 use Rattle.dob_pieces.specs.declared.fault.PositionFault.{PositionFault}
-use Rattle.dob_pieces.specs.declared.setup.Setup.{Setup}
-use Rattle.dob_pieces.specs.Profiles.{IsAllowed}
 use Rattle.dob_text.proofs.read_positions.position_of.Goals as goal
 
 pub returns-then-is_allowed : goal.returns-then-is_allowed

@@ -1,6 +1,5 @@
 -- The parts, the board and the hands, one after another.
-use Rattle.std.proofs.Common.{refl}
-use Rattle.dob_text.specs.PositionText.{AreParts}
+use Rattle.dob_text.proofs.Common.{refl, AreParts}
 use Rattle.dob_text.proofs.Whole.{shape_by, letters_by, no_mover, no_enemy, spelled_by, same_setup}
 use Rattle.dob_text.proofs.setups.read_setup.Goals as goal
 

@@ -1,10 +1,5 @@
 -- by the way
-use Rattle.std.proofs.Common.{◌<◌, sym, subst}
-use Rattle.dob_pieces.specs.declared.hand.Hands.{Hands}
-use Rattle.dob_pieces.specs.Setups.{held}
-use Rattle.dob_classes.specs.Bitboards.{AreBitboards}
-use Rattle.dob_unmove.specs.declared.undo.Undo.{Undo}
-use Rattle.dob_unmove.specs.Undoes.{CanUndo, earlier}
+use Rattle.dob_unmove.proofs.Common.{◌<◌, subst, sym, held, Hands, AreBitboards, CanUndo, earlier, Undo}
 use Rattle.dob_unmove.proofs.Hands.{few_held}
 use Rattle.dob_unmove.proofs.bits_before.bits_before.Goals as goal
 

@@ -1,10 +1,5 @@
 -- The square is cleared, what was caught comes back, and the piece stands where it came from.
-use Rattle.std.proofs.Common.{sym, subst, rules}
-use Rattle.dob_pieces.specs.declared.hand.Hands.{Hands}
-use Rattle.dob_pieces.specs.declared.kind.Side.TheVariants.{Mover}
-use Rattle.dob_classes.specs.Bitboards.{AreBitboards}
-use Rattle.dob_classes.proofs.SquareSets.BitChanges.{piece_added}
-use Rattle.dob_unmove.specs.Undoes.{CanGiveBack}
+use Rattle.dob_unmove.proofs.Common.{rules, subst, sym, Hands, Mover, piece_added, AreBitboards, CanGiveBack}
 use Rattle.dob_unmove.proofs.BitUndone.{step_undone}
 use Rattle.dob_unmove.proofs.bits_before.bits_before_step.Goals as goal
 

@@ -1,11 +1,5 @@
 -- by whether there is one
-use Rattle.std.proofs.Common.{Option, sym, subst, rules}
-use Rattle.dob_pieces.specs.declared.kind.Kind.{Kind}
-use Rattle.dob_pieces.specs.declared.kind.Side.TheVariants.{Enemy}
-use Rattle.dob_classes.specs.Bitboards.{AreBitboards}
-use Rattle.dob_classes.specs.Changes.{IsWith}
-use Rattle.dob_unmove.specs.Undoes.{enemy_cell}
-use Rattle.dob_classes.proofs.SquareSets.BitChanges.{nothing_added, piece_added}
+use Rattle.dob_unmove.proofs.Common.{Option, rules, subst, sym, Kind, Enemy, nothing_added, piece_added, AreBitboards, IsWith, enemy_cell}
 use Rattle.dob_unmove.proofs.bits_before.with_caught.Goals as goal
 
 pub returns-in-None : goal.returns-in-None

@@ -1,6 +1,5 @@
 -- set by set
-use Rattle.std.proofs.Common.{rules, refl}
-use Rattle.dob_classes.proofs.SquareSets.BitChanges.{without_piece}
+use Rattle.dob_unmove.proofs.Common.{refl, rules, without_piece}
 use Rattle.dob_unmove.proofs.bits_before.without.Goals as goal
 
 pub returns : goal.returns

@@ -1,7 +1,6 @@
 -- Sorting keeps how often each class stands there, and the list that counts the moves into the class is the list of its
 -- predecessors.
-use Rattle.std.proofs.Common.{ℕ}
-use Rattle.std.proofs.lemmas.List.Sorted.{IsNonDecreasingBy-from_sort}
+use Rattle.dob_unmove.proofs.Common.{ℕ, IsNonDecreasingBy-from_sort}
 use Rattle.dob_unmove.proofs.Edges.{sorted_predecessors, sorted_list}
 use Rattle.dob_unmove.proofs.plain.back_into.Goals as goal
 

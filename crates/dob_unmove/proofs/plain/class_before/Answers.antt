@@ -1,7 +1,5 @@
 -- The position before the move is the one that was asked for.
-use Rattle.std.proofs.Common.{sym, ◌∙◌}
-use Rattle.dob_unmove.specs.Undoes.{earlier}
-use Rattle.dob_unmove.specs.Classes.{RepresentsClass}
+use Rattle.dob_unmove.proofs.Common.{◌∙◌, sym, RepresentsClass, earlier}
 use Rattle.dob_unmove.proofs.Classes.{IsNumbering-classes}
 use Rattle.dob_unmove.proofs.Gathering.{finds_none, finds_from}
 use Rattle.dob_unmove.proofs.Kept.{barred, legal_turned, position_before}

@@ -1,8 +1,5 @@
 -- The walks over the position and over its mirror image count the edges.
-use Rattle.std.proofs.Common.{ℕ, refl, sym, ◌∙◌}
-use Rattle.dob_pieces.specs.declared.setup.Setup.{Setup}
-use Rattle.dob_classes.specs.declared.classes.Classes.{Classes}
-use Rattle.dob_unmove.specs.Classes.{RepresentsClass}
+use Rattle.dob_unmove.proofs.Common.{◌∙◌, refl, sym, ℕ, Setup, Classes, RepresentsClass}
 use Rattle.dob_unmove.proofs.Classes.{IsNumbering-classes}
 use Rattle.dob_unmove.proofs.Gathering.{own_image, other_image, walked_alone, walked_both}
 use Rattle.dob_unmove.proofs.Kept.{position_mirrored, turned_image}

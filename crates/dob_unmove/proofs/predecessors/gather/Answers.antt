@@ -1,14 +1,10 @@
 -- The walks over the position and over its mirror image count the edges.
-use Rattle.std.proofs.Common.{true≢false, sym, ap, ◌∙◌, subst}
-use Rattle.dob_pieces.specs.declared.setup.Setup.{Setup}
-use Rattle.dob_classes.specs.Bitboards.{AreBitboards}
-use Rattle.dob_pieces.specs.Setups.{mirrored}
-use Rattle.dob_unmove.specs.Classes.{RepresentsClass}
-use Rattle.dob_unmove.specs.Ways.{AreWays}
+use Rattle.dob_unmove.proofs.Common.{◌↔◌, ◌∙◌, ◌≡◌, IsTrue, ap, subst, sym, true≢false, mirrored, Setup, AreBitboards, RepresentsClass, AreWays}
 use Rattle.dob_unmove.proofs.Classes.{IsNumbering-classes}
 use Rattle.dob_unmove.proofs.Gathering.{alone_found, both_found}
 use Rattle.dob_unmove.proofs.Kept.{turned_legal, turned_position}
 use Rattle.dob_unmove.proofs.predecessors.gather.Goals as goal
+use Rattle.dob_unmove.proofs.predecessors.gather.Goals.{After-is_own_image}
 
 pub by-ways-requires-clause-legal : goal.by-ways-requires-clause-legal
 by-ways-requires-clause-legal c = (c.args.shown.now.position.setup, c.args.shown.now.position.legal, c.turned-after.ensures)
@@ -40,13 +36,18 @@ gather_all-requires-2 c = record {
   ways_are = subst (λ (s : Setup). AreWays s c.by-image_ways.result) (sym c.of-2.ensures) c.by-image_ways.ensures;
 }
 
+-- whether the representative is its own image
+is_image : (c : After-is_own_image) → IsTrue c.is_own_image.result ↔ (mirrored c.args.shown.now.position.setup ≡ c.args.shown.now.position.setup)
+is_image c = c.is_own_image.ensures c.args.shown.now.position.setup c.requires.representative
+    (subst (λ (s : Setup). AreWays s c.by-ways.result) c.turned-after.ensures c.by-ways.ensures)
+
 pub returns-then-is_own_image : goal.returns-then-is_own_image
 returns-then-is_own_image c =
     let Represents = RepresentsClass c.args.classes.now.family in
     let n = IsNumbering-classes c.args.classes.now.family in
     let q = c.args.shown.now.position.setup in
     alone_found Represents n q c.of.result.value _ c.gather_all.new.found.items c.args.shown.now.position.legal
-    (c.is_own_image.ensures.0 c.if-is_own_image.true) (c.of.ensures ∙ c.turned-after.ensures)
+    ((is_image (goal.at.returns-then-is_own_image c).After-is_own_image).0 c.if-is_own_image.true) (c.of.ensures ∙ c.turned-after.ensures)
     c.clear.ensures.items c.in_ok-gather_all.ensures
 
 pub returns : goal.returns
@@ -56,6 +57,6 @@ returns c =
     let q = c.args.shown.now.position.setup in
     both_found Represents n q c.of.result.value c.of-2.result.value _ c.gather_all.new.found.items c.gather_all-2.new.found.items
     c.args.shown.now.position.legal
-    (λ own. true≢false (sym (c.is_own_image.ensures.1 own) ∙ c.if-is_own_image.false))
+    (λ own. true≢false (sym ((is_image (goal.at.returns c).After-is_own_image).1 own) ∙ c.if-is_own_image.false))
     (c.of.ensures ∙ c.turned-after.ensures) (c.of-2.ensures ∙ c.mirrored-image.ensures ∙ ap mirrored c.turned-after.ensures)
     c.clear.ensures.items c.in_ok-gather_all.ensures c.in_ok-gather_all-2.ensures

@@ -1,6 +1,5 @@
 -- The ways that end on the squares below the index are taken.
-use Rattle.dob_pieces.specs.Lists.{each_below}
-use Rattle.dob_unmove.specs.Walks.{TakesAll, undoes_at}
+use Rattle.dob_unmove.proofs.Common.{each_below, TakesAll, undoes_at}
 use Rattle.dob_unmove.proofs.walk.take_all.Given as goal
 
 abbrev pub invariant-loop-index : goal.invariant-loop-index

@@ -1,6 +1,5 @@
 -- The steps from the squares below the index are taken.
-use Rattle.dob_pieces.specs.Lists.{each_below}
-use Rattle.dob_unmove.specs.Walks.{TakesAll, unsteps_from}
+use Rattle.dob_unmove.proofs.Common.{each_below, TakesAll, unsteps_from}
 use Rattle.dob_unmove.proofs.walk.take_unsteps.Given as goal
 
 abbrev pub invariant-loop-index : goal.invariant-loop-index

@@ -1,16 +1,11 @@
 -- all squares, the attacker's, none
-use Rattle.std.proofs.Common.{◌<◌, ◌*◌, ◌%◌, ◌^◌, refl, sym, subst, not, ℕ}
-use Rattle.dob_pieces.specs.Masks.{IsMask}
-use Rattle.dob_unmove.specs.declared.attackers.Attackers.{Attackers}
-use Rattle.dob_unmove.specs.declared.attackers.Attackers.TheVariants.{Nobody, One, Several}
-use Rattle.dob_unmove.specs.declared.ways.TheConstants.{ALL}
-use Rattle.dob_unmove.specs.Threats.{elsewhere}
-use Rattle.dob_unmove.proofs.WayMasks.{everywhere, nowhere, alone}
+use Rattle.dob_unmove.proofs.Common.{◌%◌, ◌*◌, ◌<◌, ◌^◌, not, refl, subst, sym, ℕ, everywhere, IsMask, ALL_SQUARES, elsewhere, Attackers, Nobody, One, Several}
+use Rattle.dob_unmove.proofs.WayMasks.{nowhere, alone}
 use Rattle.dob_unmove.proofs.ways.calm_ends.Goals as goal
 
 pub returns-in-Nobody : goal.returns-in-Nobody
 returns-in-Nobody c =
-    subst (λ (a : Attackers). IsMask (λ s. not (elsewhere a s)) ALL) (sym c.in-Nobody.is) (everywhere (λ (s : ℕ). not (elsewhere Nobody s)) (λ s. refl))
+    subst (λ (a : Attackers). IsMask (λ s. not (elsewhere a s)) ALL_SQUARES) (sym c.in-Nobody.is) (everywhere (λ (s : ℕ). not (elsewhere Nobody s)) (λ s. refl))
 
 pub returns-in-Several : goal.returns-in-Several
 returns-in-Several c =

@@ -1,10 +1,5 @@
 -- There is an item for each class of the owner.
-use Rattle.std.proofs.Common.{ℕ, ◌==◌, Bool, length, sym, ap, ◌∙◌, arith}
-use Rattle.std.specs.List.{filter}
-use Rattle.std.proofs.lemmas.List.{length-map, take_all}
-use Rattle.dob_share.specs.Owners.{owner_of}
-use Rattle.dob_share.specs.declared.news.Settlement.{Settlement}
-use Rattle.dob_update.specs.Items.{item_for}
+use Rattle.dob_update.proofs.Common.{◌==◌, ◌∙◌, Bool, ap, arith, length, sym, ℕ, length-map, take_all, filter, owner_of, Settlement, item_for}
 use Rattle.dob_update.proofs.items.count_items.Goals as goal
 
 pub returns : goal.returns

@@ -1,7 +1,5 @@
 -- As many of the classes so far are the owner's.
-use Rattle.std.proofs.Common.{◌≡◌, ◌≤◌, ◌==◌, length, take}
-use Rattle.std.specs.List.{filter}
-use Rattle.dob_share.specs.Owners.{owner_of}
+use Rattle.dob_update.proofs.Common.{◌==◌, ◌≡◌, ◌≤◌, length, take, filter, owner_of}
 use Rattle.dob_update.proofs.items.count_items.Given as goal
 
 abbrev pub invariant-loop-class : goal.invariant-loop-class

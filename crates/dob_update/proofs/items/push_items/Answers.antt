@@ -1,8 +1,5 @@
 -- Where there is no memory for an item, those for the predecessors before it are appended.
-use Rattle.std.proofs.Common.{◌∙◌, sym, arith}
-use Rattle.std.proofs.lemmas.Grind.{common_steps}
-use Rattle.std.proofs.lemmas.List.{append-nil}
-use Rattle.dob_pieces.proofs.Results.{on_err}
+use Rattle.dob_update.proofs.Common.{◌∙◌, arith, sym, common_steps, append-nil, on_err}
 use Rattle.dob_update.proofs.items.push_items.Goals as goal
 
 pub returns-in_err-push-clause-first : goal.returns-in_err-push-clause-first

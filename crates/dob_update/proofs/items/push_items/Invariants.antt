@@ -1,9 +1,5 @@
 -- The items for the classes so far are appended.
-use Rattle.std.proofs.Common.{◌≡◌, ◌++◌, ◌==◌, take}
-use Rattle.std.specs.Prelude.{map}
-use Rattle.std.specs.List.{filter}
-use Rattle.dob_share.specs.Owners.{owner_of}
-use Rattle.dob_update.specs.Items.{item_for}
+use Rattle.dob_update.proofs.Common.{◌++◌, ◌==◌, ◌≡◌, take, filter, map, owner_of, item_for}
 use Rattle.dob_update.proofs.items.push_items.Given as goal
 
 abbrev pub invariant-loop-class : goal.invariant-loop-class

@@ -1,8 +1,5 @@
 -- The classes so far are appended, and there is room for the others.
-use Rattle.std.proofs.Common.{◌≡◌, ◌+◌, ◌-◌, ◌≤◌, ◌++◌, length, take}
-use Rattle.std.specs.VecDeque.{deque_len, deque_capacity}
-use Rattle.std.specs.Prelude.{map}
-use Rattle.dob_update.specs.Parts.{target_of}
+use Rattle.dob_update.proofs.Common.{◌++◌, ◌+◌, ◌-◌, ◌≡◌, ◌≤◌, length, take, map, deque_capacity, deque_len, target_of}
 use Rattle.dob_update.proofs.outbox.push_classes.Given as goal
 
 abbrev pub invariant-loop-item : goal.invariant-loop-item

@@ -1,6 +1,5 @@
 -- One class more is kept, or left out.
-use Rattle.std.proofs.Common.{arith}
-use Rattle.std.proofs.lemmas.Grind.{common_steps}
+use Rattle.dob_update.proofs.Common.{arith, common_steps}
 use Rattle.dob_update.proofs.outbox.push_owned.Goals as goal
 
 pub loop-class-preserved : goal.loop-class-preserved

@@ -1,8 +1,5 @@
 -- The owner's among the classes so far are appended, and there is room for the others.
-use Rattle.std.proofs.Common.{◌≡◌, ◌+◌, ◌-◌, ◌≤◌, ◌++◌, ◌==◌, length, take}
-use Rattle.std.specs.List.{filter}
-use Rattle.std.specs.VecDeque.{deque_len, deque_capacity}
-use Rattle.dob_share.specs.Owners.{owner_of}
+use Rattle.dob_update.proofs.Common.{◌++◌, ◌+◌, ◌-◌, ◌==◌, ◌≡◌, ◌≤◌, length, take, filter, deque_capacity, deque_len, owner_of}
 use Rattle.dob_update.proofs.outbox.push_owned.Given as goal
 
 abbrev pub invariant-loop-class : goal.invariant-loop-class

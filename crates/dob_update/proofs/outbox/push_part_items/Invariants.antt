@@ -1,7 +1,5 @@
 -- The items for the classes so far are appended.
-use Rattle.std.proofs.Common.{◌≡◌, ◌++◌, take, drop}
-use Rattle.std.specs.Prelude.{map}
-use Rattle.dob_update.specs.Items.{item_for}
+use Rattle.dob_update.proofs.Common.{◌++◌, ◌≡◌, drop, take, map, item_for}
 use Rattle.dob_update.proofs.outbox.push_part_items.Given as goal
 
 abbrev pub invariant-loop-index : goal.invariant-loop-index

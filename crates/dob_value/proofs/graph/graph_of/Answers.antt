@@ -1,9 +1,5 @@
 -- Each class's status and successors go to the ends of the lists.
-use Rattle.std.proofs.Common.{◌≡◌, ◌<◌, subst, arith, ◌∙◌}
-use Rattle.dob_rank.specs.Families.{classes_of}
-use Rattle.dob_rank.proofs.OfFamilies.Present.{HasClasses-classes_of}
-use Rattle.dob_value.specs.ClassRows.{class_setup}
-use Rattle.dob_value.specs.Graphs.{AreNodes, ClassStandsFor, IsNode}
+use Rattle.dob_value.proofs.Common.{◌<◌, ◌∙◌, ◌≡◌, arith, subst, HasClasses-classes_of, classes_of, class_setup, AreNodes, ClassStandsFor, IsNode}
 use Rattle.dob_value.proofs.Nodes.{nodes_grown}
 use Rattle.dob_value.proofs.Rows.{class_setup_only}
 use Rattle.dob_value.proofs.graph.graph_of.Goals as goal

@@ -1,6 +1,5 @@
 -- The class number is that of the position or of its mirror image.
-use Rattle.dob_rank.specs.Families.{classes_of}
-use Rattle.dob_rank.proofs.OfFamilies.Present.{HasClasses-classes_of}
+use Rattle.dob_value.proofs.Common.{HasClasses-classes_of, classes_of}
 use Rattle.dob_value.proofs.Rows.{class_outlook}
 use Rattle.dob_value.proofs.graph.number_of.Goals as goal
 

@@ -1,8 +1,5 @@
 -- Each move's number goes to the end of the list.
-use Rattle.std.proofs.Common.{◌∷◌, ◌++◌, [], ℕ, List, refl, sym, subst, ap, ◌∙◌, append_assoc, append-nil}
-use Rattle.std.proofs.lemmas.Option.{slice_get_read}
-use Rattle.dob_moves.specs.Statuses.{AreMoves}
-use Rattle.dob_value.specs.Graphs.{ClassStandsFor}
+use Rattle.dob_value.proofs.Common.{◌++◌, ◌∙◌, ◌∷◌, List, [], ap, append-nil, append_assoc, refl, subst, sym, ℕ, slice_get_read, AreMoves, ClassStandsFor}
 use Rattle.dob_value.proofs.Successors.{move_goes, successors_none, successors_more, successors_all}
 use Rattle.dob_value.proofs.graph.push_successors.Goals as goal
 use Rattle.dob_value.proofs.graph.push_successors.Goals.{After-deref-the_move-items}

@@ -1,6 +1,5 @@
 -- The successors by the moves so far stand.
-use Rattle.std.proofs.Common.{◌≡◌, ℕ, ◌++◌, List}
-use Rattle.dob_value.specs.Graphs.{ClassStandsFor}
+use Rattle.dob_value.proofs.Common.{◌++◌, ◌≡◌, List, ℕ, ClassStandsFor}
 use Rattle.dob_value.proofs.Successors.{AreSuccessorsBelow}
 use Rattle.dob_value.proofs.graph.push_successors.Given as goal
 

@@ -1,9 +1,5 @@
 -- The faults of a table are the faults of the value.
-use Rattle.std.proofs.Common.{rules, ◌<◌, refl}
-use Rattle.dob_pieces.specs.declared.profile.Family.{Family}
-use Rattle.dob_rank.specs.Families.{IsPositionOf}
-use Rattle.dob_rank.specs.Families.{classes_of}
-use Rattle.dob_value.specs.declared.sweep.TheConstants.{MAX_DISTANCE}
+use Rattle.dob_value.proofs.Common.{◌<◌, refl, rules, Family, IsPositionOf, classes_of, MAX_DISTANCE}
 use Rattle.dob_value.proofs.position_value.sweep_value.Goals as goal
 
 pub returns-in_err-table-clause-deep : goal.returns-in_err-table-clause-deep

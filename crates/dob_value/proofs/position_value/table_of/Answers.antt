@@ -1,8 +1,6 @@
 -- The table was given what was swept.
-use Rattle.std.proofs.Common.{◌<◌, ℕ, subst, sym}
-use Rattle.std.proofs.lemmas.Option.{slice_get_within, get_or_from_slice_get}
+use Rattle.dob_value.proofs.Common.{◌<◌, subst, sym, ℕ, get_or_from_slice_get, slice_get_within, ClassTable, IsEntry, IsValueTable}
 use Rattle.std.proofs.lemmas.Result.{IfOk-weaker}
-use Rattle.dob_value.specs.Follows.{ClassTable, IsEntry, IsValueTable}
 use Rattle.dob_value.proofs.Rows.{given_is_table}
 use Rattle.dob_value.proofs.position_value.table_of.Goals as goal
 

@@ -1,7 +1,5 @@
 -- The entries are the values cut off at the depth reached.
-use Rattle.std.proofs.Common.{◌-◌, ◌≤◌}
-use Rattle.dob_value.specs.declared.sweep.TheConstants.{MAX_DISTANCE}
-use Rattle.dob_value.specs.Graphs.{AreCutOff}
+use Rattle.dob_value.proofs.Common.{◌-◌, ◌≤◌, AreCutOff, MAX_DISTANCE}
 use Rattle.dob_value.proofs.sweep.settle.Given as goal
 
 abbrev pub invariant-loop-depth : goal.invariant-loop-depth

@@ -1,11 +1,6 @@
 -- The graph's values are those of the classes.
-use Rattle.std.proofs.Common.{subst, All}
-use Rattle.dob_pieces.specs.declared.profile.Family.{Family}
-use Rattle.dob_rank.specs.Families.{IsPositionOf}
-use Rattle.dob_value.specs.Graphs.{AreValues}
-use Rattle.dob_value.specs.Rosters.{SomeTooDeep}
-use Rattle.dob_value.specs.Codes.{IsShort}
-use Rattle.dob_value.specs.Follows.{IsEntry}
+use Rattle.dob_value.proofs.Common.{subst, Family, IsPositionOf, IsShort, IsEntry, AreValues, SomeTooDeep}
+use Rattle.std.proofs.Common.{All}
 use Rattle.dob_value.proofs.Parity.{IfOk-both, all_entries}
 use Rattle.dob_value.proofs.Nodes.{deep_position}
 use Rattle.dob_value.proofs.sweep.sweep.Goals as goal

@@ -1,6 +1,5 @@
 -- One class more is swept.
-use Rattle.std.proofs.Common.{arith}
-use Rattle.std.proofs.lemmas.Grind.{common_steps}
+use Rattle.dob_value.proofs.Common.{arith, common_steps}
 use Rattle.dob_value.proofs.sweep.sweep_once.Goals as goal
 
 pub loop-number-preserved : goal.loop-number-preserved

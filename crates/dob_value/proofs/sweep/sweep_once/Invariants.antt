@@ -1,6 +1,5 @@
 -- The entries so far are of the next depth, the others of this one.
-use Rattle.std.proofs.Common.{◌≡◌, ◌+◌, true, false}
-use Rattle.dob_value.specs.Graphs.{AreSwept, SomeHasDistance}
+use Rattle.dob_value.proofs.Common.{◌+◌, ◌≡◌, false, true, AreSwept, SomeHasDistance}
 use Rattle.dob_value.proofs.sweep.sweep_once.Given as goal
 
 abbrev pub invariant-loop-number : goal.invariant-loop-number

@@ -1,8 +1,5 @@
 -- One pair more each time, and then all of them.
-use Rattle.std.proofs.Common.{sym, subst, List}
-use Rattle.std.proofs.lemmas.List.{take_all, take_more}
-use Rattle.dob_zugzwang.specs.declared.pairs.Zugzwang.{Zugzwang}
-use Rattle.dob_zugzwang.specs.Counts.{IsDeepest}
+use Rattle.dob_zugzwang.proofs.Common.{List, subst, sym, take_all, take_more, IsDeepest, Zugzwang}
 use Rattle.dob_zugzwang.proofs.counts.deepest.Goals as goal
 
 pub loop-pair-preserved : goal.loop-pair-preserved

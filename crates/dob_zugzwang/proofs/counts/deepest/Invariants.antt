@@ -1,6 +1,5 @@
 -- The deepest of the pairs so far.
-use Rattle.std.proofs.Common.{take}
-use Rattle.dob_zugzwang.specs.Counts.{IsDeepest}
+use Rattle.dob_zugzwang.proofs.Common.{take, IsDeepest}
 use Rattle.dob_zugzwang.proofs.counts.deepest.Given as goal
 
 abbrev pub invariant-loop-pair : goal.invariant-loop-pair

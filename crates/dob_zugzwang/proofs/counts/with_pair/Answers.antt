@@ -1,6 +1,5 @@
 -- A pair that isn't lost by both changes nothing; else the deeper one stays.
-use Rattle.std.proofs.Common.{◌≡◌, sym, ◌∙◌, true}
-use Rattle.dob_zugzwang.specs.Counts.{is_lost_by_both}
+use Rattle.dob_zugzwang.proofs.Common.{◌∙◌, ◌≡◌, sym, true, is_lost_by_both}
 use Rattle.dob_zugzwang.proofs.Deepest.{begun, replaced}
 use Rattle.dob_zugzwang.proofs.counts.with_pair.Goals as goal
 

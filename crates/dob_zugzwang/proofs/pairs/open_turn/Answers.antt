@@ -1,9 +1,6 @@
 -- The status says whether the position is open, and whether its turn is.
-use Rattle.std.proofs.Common.{subst, sym, ◌∙◌, true≢false}
-use Rattle.dob_moves.specs.declared.position_status.Status.TheVariants.{Open}
-use Rattle.dob_moves.specs.Statuses.{HasStatus}
+use Rattle.dob_zugzwang.proofs.Common.{◌∙◌, subst, sym, true≢false, Setup, HasStatus, Open}
 use Rattle.dob_moves.proofs.Cases.{one_status}
-use Rattle.dob_pieces.specs.declared.setup.Setup.{Setup}
 use Rattle.dob_zugzwang.proofs.pairs.open_turn.Goals as goal
 
 pub returns-then-not-is_open : goal.returns-then-not-is_open

@@ -1,8 +1,5 @@
 -- A class that is won, or whose representative or its turn isn't open, has no pair.
-use Rattle.std.proofs.Common.{subst}
-use Rattle.dob_rank.specs.Families.{RepresentsClass}
-use Rattle.dob_pieces.specs.declared.profile.Family.{Family}
-use Rattle.dob_zugzwang.specs.Zugzwangs.{AreBothOpen}
+use Rattle.dob_zugzwang.proofs.Common.{subst, Family, RepresentsClass, AreBothOpen}
 use Rattle.dob_zugzwang.proofs.Pairing.{both_open, no_win}
 use Rattle.dob_zugzwang.proofs.pairs.pair_at.Goals as goal
 

@@ -1,8 +1,5 @@
 -- The pair is that of the representative with its turn, where the turn's class isn't lower and both are worth less than nothing.
-use Rattle.std.proofs.Common.{◌≤◌, arith, refl, subst, sym, ◌∙◌, true≢false}
-use Rattle.dob_pieces.specs.declared.profile.Family.{Family}
-use Rattle.dob_rank.specs.Families.{IsPositionOf}
-use Rattle.dob_zugzwang.specs.Zugzwangs.{IsWorse}
+use Rattle.dob_zugzwang.proofs.Common.{◌∙◌, ◌≤◌, arith, refl, subst, sym, true≢false, Family, IsPositionOf, IsWorse}
 use Rattle.dob_zugzwang.proofs.Pairing.{in_turn, no_better, no_lower, pair_found}
 use Rattle.dob_zugzwang.proofs.Turned.{turn_is_position}
 use Rattle.dob_zugzwang.proofs.pairs.pair_with.Goals as goal

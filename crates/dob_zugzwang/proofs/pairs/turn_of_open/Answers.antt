@@ -1,6 +1,5 @@
 -- The turn of an open position is legal.
-use Rattle.std.proofs.Common.{subst, sym}
-use Rattle.dob_pieces.specs.Setups.{IsLegal}
+use Rattle.dob_zugzwang.proofs.Common.{subst, sym, IsLegal}
 use Rattle.dob_zugzwang.proofs.Turned.{turn_legal}
 use Rattle.dob_zugzwang.proofs.pairs.turn_of_open.Goals as goal
 

@@ -1,12 +1,9 @@
 -- What is found of each class, in order, is all pairs.
-use Rattle.std.proofs.Common.{◌≡◌, ℕ, ◌-◌, ◌<◌, length, ap, sym, subst, ◌∙◌, arith, List}
+use Rattle.dob_zugzwang.proofs.Common.{◌-◌, ◌<◌, ◌∙◌, ◌≡◌, List, ap, arith, length, subst, sym, ℕ, Family, classes_of, ArePairs, IsPairAt}
 use Rattle.std.specs.List.{AllZip, range_with_len}
 use Rattle.rayon.specs.Numbers.{nat_range}
 use Rattle.rayon.proofs.ListFacts.{AllZip-weaken}
 use Rattle.rayon.proofs.ToStd.{nat_range-All}
-use Rattle.dob_pieces.specs.declared.profile.Family.{Family}
-use Rattle.dob_rank.specs.Families.{classes_of}
-use Rattle.dob_zugzwang.specs.Pairs.{ArePairs, IsPairAt}
 use Rattle.dob_zugzwang.proofs.Listing.{all_found, pair_within}
 use Rattle.dob_zugzwang.proofs.pairs.zugzwangs.Goals as goal
 

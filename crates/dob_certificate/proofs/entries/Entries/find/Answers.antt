@@ -1,6 +1,5 @@
 -- The slice is the list.
-use Rattle.std.proofs.Common.{◌≡◌, ◌≢◌, subst, List, Contains, IfSome, IfNone}
-use Rattle.dob_certificate.specs.declared.entry.Entry.{Entry}
+use Rattle.dob_certificate.proofs.Common.{◌≡◌, ◌≢◌, Contains, IfNone, IfSome, List, subst, Entry}
 use Rattle.dob_certificate.proofs.entries.Entries.find.Goals as goal
 
 pub returns-clause-none : goal.returns-clause-none

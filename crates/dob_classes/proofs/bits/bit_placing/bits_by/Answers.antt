@@ -1,76 +1,59 @@
 -- As the board's pieces come one layer after the other, so do those of the sets.
-use Rattle.std.proofs.Common.{◌≡◌, ℕ, ◌-◌, ◌<◌, List, None, length, replicate, set, slice_index, slice_index_or, refl, sym, ap, ◌∙◌, subst, arith}
-use Rattle.std.proofs.lemmas.List.{length-set}
-use Rattle.dob_pieces.specs.Setups.{Cell, setup_of}
-use Rattle.dob_rank.specs.declared.layers.Layer.TheVariants.{OwnLion, EnemyLion, Chicks, Elephants, Giraffes}
-use Rattle.dob_classes.specs.Bitboards.{AreBitboards}
-use Rattle.dob_rank.specs.Numbers.{order, cell_of, numbers_by, free_squares, enemy_squares, empty_layers, settle}
+use Rattle.dob_classes.proofs.Common.{◌-◌, ◌<◌, ◌∙◌, ◌≡◌, List, None, ap, arith, length, refl, replicate, set, slice_index, slice_index_or, subst, sym, ℕ}
+use Rattle.dob_classes.proofs.Common.{length-set, Cell, setup_of, cell_of, empty_layers, enemy_squares, free_squares, numbers_by, order, settle, Chicks}
+use Rattle.dob_classes.proofs.Common.{Elephants, EnemyLion, Giraffes, OwnLion, AreBitboards, seen_by}
 use Rattle.dob_rank.specs.Placing.{past, first_place, second_place}
-use Rattle.dob_classes.specs.Views.{seen_by}
 use Rattle.dob_classes.proofs.SquareSets.BitPlaced.{empty_seen, hands_seen, length-put, put_moved, one_put, past_lt}
 use Rattle.dob_rank.proofs.Boards.Placed.{after_lions, after_chicks, after_elephants, with_lions, with_chicks, with_elephants, lions_by, chicks_by}
-use Rattle.dob_rank.proofs.Boards.Placed.{elephants_by, start, own_lion_stands, lions_stand, chicks_stand, elephants_stand, whole_board, first_below, second_below}
-use Rattle.dob_rank.proofs.Boards.Placed.{free_at, are_free}
+use Rattle.dob_rank.proofs.Boards.Placed.{elephants_by, start, own_lion_stands, lions_stand, chicks_stand, elephants_stand, whole_board, AreChosen}
+use Rattle.dob_rank.proofs.Boards.Placed.{chicks_below, elephants_below, giraffes_below, free_at, are_free}
 use Rattle.dob_classes.proofs.bits.bit_placing.bits_by.Goals as goal
+use Rattle.dob_classes.proofs.bits.bit_placing.bits_by.Goals.{After-among, After-among-2, After-among-3}
+
+chicks : (c : After-among) → AreChosen (after_lions c.args.digits.now) free_squares (slice_index c.args.on_board.now 0)
+    (slice_index c.args.digits.now 5) c.among.result.0 c.among.result.1
+chicks c = (
+  c.among.ensures.first ∙ ap (after_lions c.args.digits.now) (c.wide.ensures.first ∙ c.requires.places.first_chick),
+  c.among.ensures.second ∙ ap (after_lions c.args.digits.now) (c.wide.ensures.second ∙ c.requires.places.second_chick),
+)
+
+elephants : (c : After-among-2) → AreChosen (after_chicks c.args.on_board.now c.args.digits.now) (free_squares - slice_index c.args.on_board.now 0) (slice_index c.args.on_board.now 1)
+    (slice_index c.args.digits.now 6) c.among-2.result.0 c.among-2.result.1
+elephants c = (
+  c.among-2.ensures.first ∙ ap (after_lions c.args.digits.now) (c.wide-2.ensures.first ∙ c.requires.places.first_elephant),
+  c.among-2.ensures.second ∙ ap (after_lions c.args.digits.now) (c.wide-2.ensures.second ∙ c.requires.places.second_elephant),
+)
+
+giraffes : (c : After-among-3) → AreChosen (after_elephants c.args.on_board.now c.args.digits.now) (free_squares - slice_index c.args.on_board.now 0 - slice_index c.args.on_board.now 1) (slice_index c.args.on_board.now 2)
+    (slice_index c.args.digits.now 7) c.among-3.result.0 c.among-3.result.1
+giraffes c = (
+  c.among-3.ensures.first ∙ ap (after_lions c.args.digits.now) (c.wide-3.ensures.first ∙ c.requires.places.first_giraffe),
+  c.among-3.ensures.second ∙ ap (after_lions c.args.digits.now) (c.wide-3.ensures.second ∙ c.requires.places.second_giraffe),
+)
 
 pub put-with_chicks-requires-clause-first : goal.put-with_chicks-requires-clause-first
-put-with_chicks-requires-clause-first c =
-    let on_board = c.args.on_board.now in
-    let digits = c.args.digits.now in
-    λ some. subst (λ (n : ℕ). n < 12) (sym (c.among.ensures.first ∙ ap (after_lions digits) (c.wide.ensures.first ∙ c.requires.places.first_chick)))
-    (first_below (numbers_by digits) (order Chicks) (slice_index on_board 0) (slice_index digits 5)
-    free_squares (lions_by digits) (with_lions digits) (after_lions digits)
-    c.requires.choices.chicks c.requires.choices.chick_squares (lions_stand on_board digits c.requires.choices) some)
+put-with_chicks-requires-clause-first c = (chicks_below c.args.on_board.now c.args.digits.now _ _ c.requires.choices (chicks (goal.at.put-with_chicks-requires-clause-first c).After-among)).0
 
 pub put-with_chicks-requires-clause-second : goal.put-with_chicks-requires-clause-second
-put-with_chicks-requires-clause-second c =
-    let on_board = c.args.on_board.now in
-    let digits = c.args.digits.now in
-    λ some. subst (λ (n : ℕ). n < 12) (sym (c.among.ensures.second ∙ ap (after_lions digits) (c.wide.ensures.second ∙ c.requires.places.second_chick)))
-    (second_below (numbers_by digits) (order Chicks) (slice_index on_board 0) (slice_index digits 5)
-    free_squares (lions_by digits) (with_lions digits) (after_lions digits)
-    c.requires.choices.chicks c.requires.choices.chick_squares (lions_stand on_board digits c.requires.choices) some)
+put-with_chicks-requires-clause-second c = (chicks_below c.args.on_board.now c.args.digits.now _ _ c.requires.choices (chicks (goal.at.put-with_chicks-requires-clause-second c).After-among)).1
 
 pub put-with_elephants-requires-clause-first : goal.put-with_elephants-requires-clause-first
-put-with_elephants-requires-clause-first c =
-    let on_board = c.args.on_board.now in
-    let digits = c.args.digits.now in
-    λ some. subst (λ (n : ℕ). n < 12) (sym (c.among-2.ensures.first ∙ ap (after_lions digits) (c.wide-2.ensures.first ∙ c.requires.places.first_elephant)))
-    (first_below (numbers_by digits) (order Elephants) (slice_index on_board 1) (slice_index digits 6)
-    (free_squares - slice_index on_board 0) (chicks_by on_board digits) (with_chicks on_board digits) (after_chicks on_board digits)
-    c.requires.choices.elephants c.requires.choices.elephant_squares (chicks_stand on_board digits c.requires.choices) some)
+put-with_elephants-requires-clause-first c = (elephants_below c.args.on_board.now c.args.digits.now _ _ c.requires.choices (elephants (goal.at.put-with_elephants-requires-clause-first c).After-among-2)).0
 
 pub put-with_elephants-requires-clause-second : goal.put-with_elephants-requires-clause-second
-put-with_elephants-requires-clause-second c =
-    let on_board = c.args.on_board.now in
-    let digits = c.args.digits.now in
-    λ some. subst (λ (n : ℕ). n < 12) (sym (c.among-2.ensures.second ∙ ap (after_lions digits) (c.wide-2.ensures.second ∙ c.requires.places.second_elephant)))
-    (second_below (numbers_by digits) (order Elephants) (slice_index on_board 1) (slice_index digits 6)
-    (free_squares - slice_index on_board 0) (chicks_by on_board digits) (with_chicks on_board digits) (after_chicks on_board digits)
-    c.requires.choices.elephants c.requires.choices.elephant_squares (chicks_stand on_board digits c.requires.choices) some)
+put-with_elephants-requires-clause-second c = (elephants_below c.args.on_board.now c.args.digits.now _ _ c.requires.choices (elephants (goal.at.put-with_elephants-requires-clause-second c).After-among-2)).1
 
 pub put-requires-clause-first : goal.put-requires-clause-first
-put-requires-clause-first c =
-    let on_board = c.args.on_board.now in
-    let digits = c.args.digits.now in
-    λ some. subst (λ (n : ℕ). n < 12) (sym (c.among-3.ensures.first ∙ ap (after_lions digits) (c.wide-3.ensures.first ∙ c.requires.places.first_giraffe)))
-    (first_below (numbers_by digits) (order Giraffes) (slice_index on_board 2) (slice_index digits 7)
-    (free_squares - slice_index on_board 0 - slice_index on_board 1) (elephants_by on_board digits) (with_elephants on_board digits) (after_elephants on_board digits)
-    c.requires.choices.giraffes c.requires.choices.giraffe_squares (elephants_stand on_board digits c.requires.choices) some)
+put-requires-clause-first c = (giraffes_below c.args.on_board.now c.args.digits.now _ _ c.requires.choices (giraffes (goal.at.put-requires-clause-first c).After-among-3)).0
 
 pub put-requires-clause-second : goal.put-requires-clause-second
-put-requires-clause-second c =
-    let on_board = c.args.on_board.now in
-    let digits = c.args.digits.now in
-    λ some. subst (λ (n : ℕ). n < 12) (sym (c.among-3.ensures.second ∙ ap (after_lions digits) (c.wide-3.ensures.second ∙ c.requires.places.second_giraffe)))
-    (second_below (numbers_by digits) (order Giraffes) (slice_index on_board 2) (slice_index digits 7)
-    (free_squares - slice_index on_board 0 - slice_index on_board 1) (elephants_by on_board digits) (with_elephants on_board digits) (after_elephants on_board digits)
-    c.requires.choices.giraffes c.requires.choices.giraffe_squares (elephants_stand on_board digits c.requires.choices) some)
+put-requires-clause-second c = (giraffes_below c.args.on_board.now c.args.digits.now _ _ c.requires.choices (giraffes (goal.at.put-requires-clause-second c).After-among-3)).1
 
 pub returns : goal.returns
 returns c =
     let on_board = c.args.on_board.now in
     let digits = c.args.digits.now in
+    let at = goal.at.returns c in
     let choices = c.requires.choices in
     let hands = c.args.hands in
     let numbers = numbers_by digits in
@@ -106,8 +89,7 @@ returns c =
     (order Chicks) (slice_index on_board 0) c.among.result.0 c.among.result.1 (slice_index digits 8)
     ((after_lions digits) (first_place free_squares (slice_index on_board 0) (slice_index digits 5)))
     ((after_lions digits) (second_place free_squares (slice_index on_board 0) (slice_index digits 5)))
-    (c.among.ensures.first ∙ ap (after_lions digits) (c.wide.ensures.first ∙ c.requires.places.first_chick))
-    (c.among.ensures.second ∙ ap (after_lions digits) (c.wide.ensures.second ∙ c.requires.places.second_chick))
+    (chicks at.After-among).0 (chicks at.After-among).1
     c.put-with_chicks.ensures (setup_of (with_lions digits) hands) lions_long
     (are_free numbers (order Chicks) (slice_index on_board 0) (slice_index digits 5) free_squares (lions_by digits) (with_lions digits) (after_lions digits)
     two_low choices.chicks choices.chick_squares (lions_stand on_board digits choices)) both in
@@ -118,8 +100,7 @@ returns c =
     (order Elephants) (slice_index on_board 1) c.among-2.result.0 c.among-2.result.1 (slice_index digits 9)
     ((after_chicks on_board digits) (first_place (free_squares - slice_index on_board 0) (slice_index on_board 1) (slice_index digits 6)))
     ((after_chicks on_board digits) (second_place (free_squares - slice_index on_board 0) (slice_index on_board 1) (slice_index digits 6)))
-    (c.among-2.ensures.first ∙ ap (after_lions digits) (c.wide-2.ensures.first ∙ c.requires.places.first_elephant))
-    (c.among-2.ensures.second ∙ ap (after_lions digits) (c.wide-2.ensures.second ∙ c.requires.places.second_elephant))
+    (elephants at.After-among-2).0 (elephants at.After-among-2).1
     c.put-with_elephants.ensures (setup_of (with_chicks on_board digits) hands) chicks_long
     (are_free numbers (order Elephants) (slice_index on_board 1) (slice_index digits 6) (free_squares - slice_index on_board 0) (chicks_by on_board digits) (with_chicks on_board digits) (after_chicks on_board digits)
     three_low choices.elephants choices.elephant_squares (chicks_stand on_board digits choices)) chicks_there in
@@ -130,8 +111,7 @@ returns c =
     (order Giraffes) (slice_index on_board 2) c.among-3.result.0 c.among-3.result.1 (slice_index digits 10)
     ((after_elephants on_board digits) (first_place (free_squares - slice_index on_board 0 - slice_index on_board 1) (slice_index on_board 2) (slice_index digits 7)))
     ((after_elephants on_board digits) (second_place (free_squares - slice_index on_board 0 - slice_index on_board 1) (slice_index on_board 2) (slice_index digits 7)))
-    (c.among-3.ensures.first ∙ ap (after_lions digits) (c.wide-3.ensures.first ∙ c.requires.places.first_giraffe))
-    (c.among-3.ensures.second ∙ ap (after_lions digits) (c.wide-3.ensures.second ∙ c.requires.places.second_giraffe))
+    (giraffes at.After-among-3).0 (giraffes at.After-among-3).1
     c.put.ensures (setup_of (with_elephants on_board digits) hands) elephants_long
     (are_free numbers (order Giraffes) (slice_index on_board 2) (slice_index digits 7) (free_squares - slice_index on_board 0 - slice_index on_board 1) (elephants_by on_board digits) (with_elephants on_board digits) (after_elephants on_board digits)
     four_low choices.giraffes choices.giraffe_squares (elephants_stand on_board digits choices)) elephants_there in

@@ -1,10 +1,5 @@
 -- by the number of pieces
-use Rattle.std.proofs.Common.{ℕ, ◌/◌, ◌%◌, ◌<◌, set, subst, sym, arith}
-use Rattle.dob_pieces.specs.Setups.{setup_of}
-use Rattle.dob_classes.specs.Bitboards.{AreBitboards}
-use Rattle.dob_rank.specs.Numbers.{order, cell_of}
-use Rattle.dob_rank.specs.Placing.{put}
-use Rattle.dob_classes.specs.Views.{seen_by}
+use Rattle.dob_classes.proofs.Common.{◌%◌, ◌/◌, ◌<◌, arith, set, subst, sym, ℕ, setup_of, cell_of, order, put, AreBitboards, seen_by}
 use Rattle.dob_classes.proofs.SquareSets.BitPlaced.{one_put, two_put, at_least_two}
 use Rattle.dob_classes.proofs.bits.bit_placing.put.Goals as goal
 

@@ -1,7 +1,5 @@
 -- the lion of the one side or of the other
-use Rattle.std.proofs.Common.{◌-◌, ◌*◌, ◌%◌, ◌^◌, ℕ, bit_or, refl, ap, ◌∙◌, arith}
-use Rattle.dob_rank.specs.Numbers.{cell_of}
-use Rattle.dob_classes.specs.Views.{seen_square}
+use Rattle.dob_classes.proofs.Common.{◌%◌, ◌*◌, ◌-◌, ◌^◌, ◌∙◌, ap, arith, bit_or, refl, ℕ, cell_of, seen_square}
 use Rattle.dob_classes.proofs.SquareSets.BitPlaced.{piece_marked, unmarked, lion_flags}
 use Rattle.dob_classes.proofs.bits.bit_placing.with_lion.Goals as goal
 

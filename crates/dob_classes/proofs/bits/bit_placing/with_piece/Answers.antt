@@ -1,10 +1,7 @@
 -- by the layer
-use Rattle.std.proofs.Common.{◌*◌, ◌%◌, ◌^◌, ◌<◌, ℕ, bit_or, refl, ap, ◌∙◌, subst}
+use Rattle.dob_classes.proofs.Common.{◌%◌, ◌*◌, ◌<◌, ◌^◌, ◌∙◌, ap, bit_or, refl, subst, ℕ, base_of, cell_of, order, Chicks, Elephants, Giraffes, IsWith}
+use Rattle.dob_classes.proofs.Common.{seen_square}
 use Rattle.dob_rank.specs.declared.layers.Layer.{Layer}
-use Rattle.dob_rank.specs.declared.layers.Layer.TheVariants.{Chicks, Elephants, Giraffes}
-use Rattle.dob_classes.specs.Changes.{IsWith}
-use Rattle.dob_rank.specs.Numbers.{order, base_of, cell_of}
-use Rattle.dob_classes.specs.Views.{seen_square}
 use Rattle.dob_classes.proofs.SquareSets.BitPlaced.{piece_marked, unmarked, chick_flags, elephant_flags, giraffe_flags, nothing_came}
 use Rattle.dob_classes.proofs.bits.bit_placing.with_piece.Goals as goal
 

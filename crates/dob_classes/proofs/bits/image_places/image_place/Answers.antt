@@ -1,13 +1,7 @@
 -- The digits of the spot make the position's sets, and those of its mirror image have the place.
-use Rattle.std.proofs.Common.{◌≡◌, ◌<◌, ◌+◌, ◌*◌, List, ap, ◌∙◌, sym, subst, refl}
-use Rattle.dob_pieces.specs.declared.hand.Hands.{Hands}
-use Rattle.dob_pieces.specs.declared.setup.Setup.{Setup}
-use Rattle.dob_pieces.specs.Setups.{setup_of, mirrored}
-use Rattle.dob_classes.specs.Bitboards.{AreBitboards, IsShownOfSet}
-use Rattle.dob_rank.specs.Numbers.{product, digits_of, bases_by, board_of, numbers_by, layers_by, setup_by, HasDigits, block_bases, HasBlock}
-use Rattle.dob_rank.specs.Runs.{run_bases, local_bases, run_size}
-use Rattle.dob_rank.proofs.Positions.Blocks.{AreChoices-digits, HasDigits-numbers}
-use Rattle.dob_rank.proofs.Positions.Found.{HasDigits-spot, IsPositionOfSet-mirrored, made_by, made_in_block, run_in_bases, local_in_bases}
+use Rattle.dob_classes.proofs.Common.{◌*◌, ◌+◌, refl, subst, mirrored, setup_of, Hands, AreChoices-digits, HasDigits-numbers, HasDigits-spot}
+use Rattle.dob_classes.proofs.Common.{IsPositionOfSet-mirrored, local_in_bases, made_by, made_in_block, run_in_bases, HasBlock, HasDigits, bases_by, board_of}
+use Rattle.dob_classes.proofs.Common.{layers_by, numbers_by, setup_by, run_size, AreBitboards, IsShownOfSet}
 use Rattle.dob_classes.proofs.SquareSets.ImagePlaces.{square_choices}
 use Rattle.dob_classes.proofs.bits.image_places.image_place.Goals as goal
 use Rattle.dob_classes.proofs.bits.image_places.image_place.Goals.{After-digits_with-digits, After-mirrored_bits}

@@ -1,6 +1,5 @@
 -- set by set
-use Rattle.std.proofs.Common.{sym, ◌∙◌}
-use Rattle.dob_classes.specs.Bitboards.{is_own_lion, is_enemy_lion, is_chick, is_elephant, is_giraffe, is_hen, is_enemy}
+use Rattle.dob_classes.proofs.Common.{◌∙◌, sym, is_chick, is_elephant, is_enemy, is_enemy_lion, is_giraffe, is_hen, is_own_lion}
 use Rattle.dob_classes.proofs.SquareSets.ImageMasks.{AreSquares-mirrored, hands-mirrored}
 use Rattle.dob_classes.proofs.bits.images.mirrored_bits.Goals as goal
 

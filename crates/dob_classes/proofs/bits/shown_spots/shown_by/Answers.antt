@@ -1,16 +1,8 @@
 -- The digits of a spot make the position that stands there, and the sets of its squares.
-use Rattle.std.proofs.Common.{sym, ◌∙◌, subst, arith}
-use Rattle.dob_pieces.specs.declared.hand.Hands.{Hands}
-use Rattle.dob_pieces.specs.declared.setup.Setup.{Setup}
-use Rattle.dob_pieces.specs.Setups.{setup_of}
-use Rattle.dob_classes.specs.Bitboards.{AreBitboards}
-use Rattle.dob_rank.specs.Numbers.{board_of, numbers_by, layers_by}
-use Rattle.dob_rank.specs.Placing.{AreChoices}
-use Rattle.dob_classes.specs.Views.{seen_by}
-use Rattle.dob_rank.proofs.Positions.Blocks.{AreChoices-digits}
-use Rattle.dob_rank.proofs.InRuns.DigitParts.{AreFewOnBoard-digits}
+use Rattle.dob_classes.proofs.Common.{◌∙◌, arith, subst, sym, setup_of, Hands, Setup, AreFewOnBoard-digits, AreChoices-digits, HasDigits-spot, made_by}
+use Rattle.dob_classes.proofs.Common.{board_of, layers_by, numbers_by, AreChoices, AreBitboards, seen_by}
 use Rattle.dob_classes.proofs.Tables.PlaceTables.{squares_below, places_read}
-use Rattle.dob_rank.proofs.Positions.Found.{HasDigits-spot, made_by, made_same}
+use Rattle.dob_rank.proofs.Positions.Found.{made_same}
 use Rattle.dob_classes.proofs.bits.shown_spots.shown_by.Goals as goal
 use Rattle.dob_classes.proofs.bits.shown_spots.shown_by.Goals.{After-digits_with-digits}
 

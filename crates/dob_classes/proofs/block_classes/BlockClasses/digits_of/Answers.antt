@@ -1,7 +1,5 @@
 -- The run's entry has them.
-use Rattle.std.proofs.Common.{sym, ap, ◌∙◌}
-use Rattle.dob_rank.specs.Numbers.{digits_of}
-use Rattle.dob_rank.specs.Runs.{run_bases}
+use Rattle.dob_classes.proofs.Common.{◌∙◌, ap, sym, digits_of, run_bases}
 use Rattle.dob_classes.proofs.Tables.RunTables.{entry_in}
 use Rattle.dob_classes.proofs.block_classes.BlockClasses.digits_of.Goals as goal
 

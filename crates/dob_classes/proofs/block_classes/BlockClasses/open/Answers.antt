@@ -1,16 +1,8 @@
 -- Each run's entry and its words go to the ends of the tables.
-use Rattle.std.proofs.Common.{◌≡◌, ◌+◌, vec_len, arith, sym, ap, subst, ◌∙◌}
-use Rattle.dob_rank.specs.Marks.{marks_below}
-use Rattle.dob_rank.specs.Families.{is_marked}
-use Rattle.dob_rank.specs.Numbers.{digits_of}
-use Rattle.dob_rank.specs.Runs.{runs_in, run_bases, run_start}
-use Rattle.dob_classes.specs.RunTables.{AreRuns}
-use Rattle.dob_rank.proofs.InRuns.RunMarks.{run_start_first, run_start_end}
+use Rattle.dob_classes.proofs.Common.{◌+◌, ◌∙◌, ◌≡◌, ap, arith, subst, sym, vec_len, AreFewOnBoard-digits, run_start_end, run_start_first, HasDigits-numbers}
+use Rattle.dob_classes.proofs.Common.{run_in_bases, is_marked, marks_below, digits_of, run_bases, run_start, runs_in, AreRuns}
 use Rattle.dob_classes.proofs.Tables.RunTables.{AreRuns-none, AreRuns-push, marks_small}
 use Rattle.dob_classes.proofs.Tables.IndexedRuns.{first_run}
-use Rattle.dob_rank.proofs.Positions.Found.{run_in_bases}
-use Rattle.dob_rank.proofs.Positions.Blocks.{HasDigits-numbers}
-use Rattle.dob_rank.proofs.InRuns.DigitParts.{AreFewOnBoard-digits}
 use Rattle.dob_classes.proofs.block_classes.BlockClasses.open.Goals as goal
 
 pub choices_in-choices-requires : goal.choices_in-choices-requires

@@ -1,9 +1,5 @@
 -- The runs so far have their entries and tables, and the count is of the marks before the next one.
-use Rattle.std.proofs.Common.{◌≡◌}
-use Rattle.dob_rank.specs.Marks.{marks_below}
-use Rattle.dob_rank.specs.Families.{is_marked}
-use Rattle.dob_rank.specs.Runs.{run_start}
-use Rattle.dob_classes.specs.RunTables.{AreRuns}
+use Rattle.dob_classes.proofs.Common.{◌≡◌, is_marked, marks_below, run_start, AreRuns}
 use Rattle.dob_classes.proofs.block_classes.BlockClasses.open.Given as goal
 
 abbrev pub invariant-loop-run : goal.invariant-loop-run

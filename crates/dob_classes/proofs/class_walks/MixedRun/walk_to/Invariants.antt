@@ -1,6 +1,5 @@
 -- The walk stands at the place or before it, and what is counted is what it has passed.
-use Rattle.std.proofs.Common.{◌-◌, ◌≡◌, ◌≤◌, ◌+◌}
-use Rattle.dob_classes.specs.Walks.{IsWalk, marks_before}
+use Rattle.dob_classes.proofs.Common.{◌+◌, ◌-◌, ◌≡◌, ◌≤◌, IsWalk, marks_before}
 use Rattle.dob_classes.proofs.class_walks.MixedRun.walk_to.Given as goal
 
 abbrev pub invariant-loop-at : goal.invariant-loop-at

@@ -1,8 +1,5 @@
 -- All blocks from the one reached on begin behind the class.
-use Rattle.std.proofs.Common.{◌<◌}
-use Rattle.dob_rank.specs.Numbers.{start_of}
-use Rattle.dob_rank.specs.Marks.{marks_below}
-use Rattle.dob_rank.specs.Families.{is_marked}
+use Rattle.dob_classes.proofs.Common.{◌<◌, is_marked, marks_below, start_of}
 use Rattle.dob_classes.proofs.classes.Classes.block_at.Given as goal
 
 abbrev pub invariant-loop-block : goal.invariant-loop-block

@@ -1,6 +1,5 @@
 -- A marked position's class is the number of marks before it, another one's that of the marks before its mirror image.
-use Rattle.std.proofs.Common.{sym, ◌∙◌, subst}
-use Rattle.dob_rank.specs.Families.{IsPositionOf}
+use Rattle.dob_classes.proofs.Common.{◌∙◌, subst, sym, IsPositionOf}
 use Rattle.dob_classes.proofs.OfFamilies.FamilyNumbers.{IsPositionOf-mirrored, class_of_marked, class_of_unmarked}
 use Rattle.dob_classes.proofs.classes.Classes.class_by.Goals as goal
 

@@ -1,8 +1,5 @@
 -- The marks of all ranks are as many as the classes.
-use Rattle.std.proofs.Common.{ℕ, ◌<◌, ◌^◌, sym, subst}
-use Rattle.dob_rank.specs.Families.{HasClasses}
-use Rattle.dob_rank.proofs.OfFamilies.ClassBounds.{classes_of-below}
-use Rattle.dob_rank.proofs.OfFamilies.Present.{HasClasses-classes_of}
+use Rattle.dob_classes.proofs.Common.{◌<◌, ◌^◌, subst, sym, ℕ, classes_of-below, HasClasses-classes_of, HasClasses}
 use Rattle.dob_classes.proofs.classes.Classes.class_count.Goals as goal
 
 pub returns-clause-count : goal.returns-clause-count

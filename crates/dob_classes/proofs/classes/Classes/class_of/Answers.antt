@@ -1,6 +1,5 @@
 -- A position and its mirror image have one class number.
-use Rattle.std.proofs.Common.{◌<◌, ℕ, sym, ap, ◌∙◌, subst}
-use Rattle.dob_rank.specs.Families.{IsPositionOf, IsInClass, classes_of, class_number}
+use Rattle.dob_classes.proofs.Common.{◌<◌, ◌∙◌, ap, subst, sym, ℕ, IsInClass, IsPositionOf, class_number, classes_of}
 use Rattle.dob_classes.proofs.OfFamilies.FamilyNumbers.{IsPositionOf-mirrored, class_number-mirrored, class_number-below, IsInClass-class_number}
 use Rattle.dob_classes.proofs.classes.Classes.class_of.Goals as goal
 

@@ -1,8 +1,5 @@
 -- The mark of the position's rank says whether it is a representative, and the marks before it are its class.
-use Rattle.std.proofs.Common.{◌<◌, ℕ, sym, ◌∙◌, subst}
-use Rattle.dob_pieces.specs.declared.setup.Setup.{Setup}
-use Rattle.dob_classes.specs.Bitboards.{IsShown}
-use Rattle.dob_rank.specs.Families.{classes_of}
+use Rattle.dob_classes.proofs.Common.{◌<◌, ◌∙◌, subst, sym, ℕ, Setup, classes_of, IsShown}
 use Rattle.dob_classes.proofs.OfFamilies.FamilyNumbers.{IsAtClass, at_class, later_unmarked, class_number-below}
 use Rattle.dob_classes.proofs.classes.Classes.class_of_shown.Goals as goal
 

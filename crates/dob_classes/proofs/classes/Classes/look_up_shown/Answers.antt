@@ -1,8 +1,5 @@
 -- The position's block knows its run and its number there.
-use Rattle.std.proofs.Common.{arith, ◌∙◌}
-use Rattle.dob_pieces.specs.declared.setup.Setup.{Setup}
-use Rattle.dob_classes.specs.Bitboards.{IsShown}
-use Rattle.dob_rank.proofs.Positions.Numbering.{block_of-below}
+use Rattle.dob_classes.proofs.Common.{◌∙◌, arith, Setup, block_of-below, IsShown}
 use Rattle.dob_classes.proofs.Tables.FamilyBlocks.{IsSpotRead, spot_read}
 use Rattle.dob_classes.proofs.classes.Classes.look_up_shown.Goals as goal
 

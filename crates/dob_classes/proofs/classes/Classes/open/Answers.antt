@@ -1,6 +1,5 @@
 -- Each block goes to the end of the list, and begins with the classes that the one before it ends with.
-use Rattle.std.proofs.Common.{◌≡◌, arith, sym, ◌∙◌}
-use Rattle.dob_rank.specs.Numbers.{product, block_bases}
+use Rattle.dob_classes.proofs.Common.{◌∙◌, ◌≡◌, arith, sym, block_bases, product}
 use Rattle.dob_classes.proofs.Tables.FamilyBlocks.{AreBlocks-none, AreBlocks-push, new_block, no_classes_yet, classes_all}
 use Rattle.dob_classes.proofs.classes.Classes.open.Goals as goal
 

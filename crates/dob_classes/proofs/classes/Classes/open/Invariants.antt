@@ -1,8 +1,5 @@
 -- The first blocks stand, and the count is of the classes in them.
-use Rattle.std.proofs.Common.{◌≡◌, vec_len}
-use Rattle.dob_rank.specs.Numbers.{start_of}
-use Rattle.dob_rank.specs.Marks.{marks_below}
-use Rattle.dob_rank.specs.Families.{is_marked}
+use Rattle.dob_classes.proofs.Common.{◌≡◌, vec_len, is_marked, marks_below, start_of}
 use Rattle.dob_classes.specs.BlockTables.{AreBlocks}
 use Rattle.dob_classes.proofs.classes.Classes.open.Given as goal
 

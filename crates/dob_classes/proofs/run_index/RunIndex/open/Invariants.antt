@@ -1,6 +1,5 @@
 -- The entries of the classes so far, and a run for the next one.
-use Rattle.std.proofs.Common.{◌≡◌, ◌-◌, ◌+◌, ◌*◌, ◌^◌, ◌<◌, length}
-use Rattle.dob_classes.specs.RunIndex.{IsAtMost, AreEntries}
+use Rattle.dob_classes.proofs.Common.{◌*◌, ◌+◌, ◌-◌, ◌<◌, ◌^◌, ◌≡◌, length, AreEntries, IsAtMost}
 use Rattle.dob_classes.proofs.run_index.RunIndex.open.Given as goal
 
 abbrev pub invariant-loop-class : goal.invariant-loop-class

@@ -1,7 +1,5 @@
 -- The entry found is the one of the number.
-use Rattle.std.proofs.Common.{sym, ◌∙◌, arith}
-use Rattle.dob_classes.specs.FamilyRuns.{run_size_in, local_marks_in}
-use Rattle.dob_rank.proofs.Marked.Words.{marks_below-le}
+use Rattle.dob_classes.proofs.Common.{◌∙◌, arith, sym, marks_below-le, local_marks_in, run_size_in}
 use Rattle.dob_classes.proofs.MarksOfRuns.FamilyMarks.{run_size_in-small}
 use Rattle.dob_classes.proofs.MarksOfRuns.StretchLists.{read_found}
 use Rattle.dob_classes.proofs.stretch_tables.StretchTable.look_up.Goals as goal

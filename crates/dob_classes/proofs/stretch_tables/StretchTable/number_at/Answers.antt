@@ -1,7 +1,5 @@
 -- The entry found has the number.
-use Rattle.std.proofs.Common.{◌<◌, subst, arith}
-use Rattle.dob_classes.specs.FamilyRuns.{run_size_in, local_marks_in}
-use Rattle.dob_rank.specs.Marks.{marks_below}
+use Rattle.dob_classes.proofs.Common.{◌<◌, arith, subst, marks_below, local_marks_in, run_size_in}
 use Rattle.dob_classes.proofs.MarksOfRuns.FamilyMarks.{run_size_in-small}
 use Rattle.dob_classes.proofs.MarksOfRuns.StretchLists.{among_all, place_found, place_below}
 use Rattle.dob_classes.proofs.stretch_tables.StretchTable.number_at.Goals as goal

@@ -1,9 +1,5 @@
 -- Each stretch is appended or goes on with the last one.
-use Rattle.std.proofs.Common.{◌≡◌, ℕ, ◌+◌, ◌≤◌, sym, ap, ◌∙◌, subst, arith}
-use Rattle.dob_rank.specs.Marks.{marks_below}
-use Rattle.dob_classes.specs.Stretches.{AreStretches}
-use Rattle.dob_classes.specs.FamilyRuns.{run_size_in, local_marks_in}
-use Rattle.dob_rank.proofs.Marked.Words.{marks_below_none}
+use Rattle.dob_classes.proofs.Common.{◌+◌, ◌∙◌, ◌≡◌, ◌≤◌, ap, arith, subst, sym, ℕ, marks_below_none, marks_below, local_marks_in, run_size_in, AreStretches}
 use Rattle.dob_classes.proofs.Counting.WalkMarks.{walk_starts, walked_few}
 use Rattle.dob_classes.proofs.MarksOfRuns.StretchLists.{AreStretches-none}
 use Rattle.dob_classes.proofs.MarksOfRuns.FamilyMarks.{all_places}

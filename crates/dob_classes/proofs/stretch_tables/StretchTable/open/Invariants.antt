@@ -1,8 +1,5 @@
 -- The entries of the positions before the walk stand, and the count is of their marks.
-use Rattle.std.proofs.Common.{◌≡◌, ◌-◌, ◌<◌}
-use Rattle.dob_classes.specs.FamilyRuns.{local_marks_in}
-use Rattle.dob_classes.specs.Stretches.{AreStretches, EndsWith}
-use Rattle.dob_classes.specs.Walks.{IsWalk, marks_before}
+use Rattle.dob_classes.proofs.Common.{◌-◌, ◌<◌, ◌≡◌, local_marks_in, AreStretches, EndsWith, IsWalk, marks_before}
 use Rattle.dob_classes.proofs.stretch_tables.StretchTable.open.Given as goal
 
 abbrev pub invariant-loop-walk : goal.invariant-loop-walk

@@ -1,6 +1,5 @@
 -- The bytes that are given are the next ones.
-use Rattle.std.proofs.Common.{arith}
-use Rattle.std.proofs.lemmas.Grind.{common_steps}
+use Rattle.dob_dbfile.proofs.Common.{arith, common_steps}
 use Rattle.dob_dbfile.proofs.mem_source.MemSourceSource.read.Goals as goal
 
 pub returns-clause-given : goal.returns-clause-given

@@ -1,12 +1,9 @@
 -- Each square adds its bits, and the masks are made of the planes of the word.
-use Rattle.std.proofs.Common.{◌≡◌, ◌≤◌, ◌/◌, ◌%◌, ◌||◌, true, refl, ℕ, length, drop, ap, ◌∙◌, arith, rules, bit_or}
-use Rattle.dob_pieces.specs.declared.kind.Kind.TheVariants.{Lion, Giraffe, Elephant, Chick, Hen}
-use Rattle.dob_pieces.specs.declared.kind.Side.TheVariants.{Mover, Enemy}
-use Rattle.dob_pieces.specs.Masks.{is_piece, is_own, is_end, is_empty}
-use Rattle.dob_pieces.specs.Setups.{at}
+use Rattle.dob_pieces.proofs.Common.{◌%◌, ◌/◌, ◌||◌, ◌∙◌, ◌≡◌, ◌≤◌, ap, arith, bit_or, drop, length, refl, rules, true, ℕ, is_empty, is_end, is_own, is_piece}
+use Rattle.dob_pieces.proofs.Common.{at, Chick, Elephant, Giraffe, Hen, Lion, Enemy, Mover, ALL_SQUARES}
 use Rattle.dob_pieces.proofs.MaskBits.{IsMask-or}
-use Rattle.dob_pieces.proofs.Planes.{word_of, word_read, none_read, word_planes, are_squares, all_are, of_both, of_first}
-use Rattle.dob_pieces.proofs.Planes.{is_lion, is_straight, is_aslant, is_chick_or_empty}
+use Rattle.dob_pieces.proofs.Planes.{word_of, word_read, none_read, word_planes, are_squares, all_are, of_both, of_first, is_lion, is_straight, is_aslant}
+use Rattle.dob_pieces.proofs.Planes.{is_chick_or_empty}
 use Rattle.dob_pieces.proofs.masks.Masks.of.Goals as goal
 
 pub loop-square-init : goal.loop-square-init
@@ -54,7 +51,7 @@ returns c =
       chicks_are = of_both c.args.setup.now is_chick_or_empty is_own (is_piece Mover Chick) c.plane-chicks_or_empty.result c.plane-own.result refl low own;
       hens_are = of_both c.args.setup.now is_straight is_aslant (is_piece Mover Hen) c.plane-straight.result c.plane-aslant.result refl straight aslant;
       own_are = own;
-      ends_are = of_first c.args.setup.now (λ cell. true) (λ cell. is_own cell || is_lion cell) is_end 4095 (bit_or c.plane-own.result c.plane-lions.result) refl
+      ends_are = of_first c.args.setup.now (λ cell. true) (λ cell. is_own cell || is_lion cell) is_end ALL_SQUARES (bit_or c.plane-own.result c.plane-lions.result) refl
           (all_are c.args.setup.now) taken;
       empty_are = of_first c.args.setup.now is_chick_or_empty is_own is_empty c.plane-chicks_or_empty.result c.plane-own.result refl low own;
       enemy_lion_is = of_first c.args.setup.now is_lion is_own (is_piece Enemy Lion) c.plane-lions.result c.plane-own.result refl lions own;

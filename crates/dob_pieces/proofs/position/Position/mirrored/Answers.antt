@@ -1,6 +1,5 @@
 -- The mirror image of a position is legal.
-use Rattle.std.proofs.Common.{sym, subst}
-use Rattle.dob_pieces.specs.Setups.{IsLegal}
+use Rattle.dob_pieces.proofs.Common.{subst, sym, IsLegal}
 use Rattle.dob_pieces.proofs.Boards.{IsLegal-mirrored}
 use Rattle.dob_pieces.proofs.position.Position.mirrored.Goals as goal
 

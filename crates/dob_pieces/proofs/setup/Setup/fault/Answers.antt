@@ -1,6 +1,5 @@
 -- The tests in their order find the first fault, or the setup is legal.
-use Rattle.std.proofs.Common.{rules}
-use Rattle.std.proofs.lemmas.Bool.{both_ways}
+use Rattle.dob_pieces.proofs.Common.{rules, both_ways}
 use Rattle.dob_pieces.proofs.setup.Setup.fault.Goals as goal
 
 pub returns-then-not-has_few_pieces : goal.returns-then-not-has_few_pieces

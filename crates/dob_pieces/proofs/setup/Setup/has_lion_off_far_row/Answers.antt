@@ -1,9 +1,5 @@
 -- No cell of the far row has the mover's lion.
-use Rattle.std.proofs.Common.{◌≡◌, sym, ap, ◌∙◌, length, drop, rules}
-use Rattle.std.specs.List.{list_any}
-use Rattle.std.proofs.lemmas.Bool.{not-true, not_from_false}
-use Rattle.dob_pieces.specs.declared.kind.Side.TheVariants.{Mover}
-use Rattle.dob_pieces.specs.Setups.{holds_lion}
+use Rattle.dob_pieces.proofs.Common.{◌∙◌, ◌≡◌, ap, drop, length, rules, sym, not-true, not_from_false, list_any, holds_lion, Mover}
 use Rattle.dob_pieces.proofs.Legality.{HasLionOffFarRow-from_test, test-from_HasLionOffFarRow, far_row}
 use Rattle.dob_pieces.proofs.setup.Setup.has_lion_off_far_row.Goals as goal
 

@@ -1,7 +1,5 @@
 -- Each side has one lion where both counts are 1.
-use Rattle.std.proofs.Common.{sym, ◌∙◌}
-use Rattle.std.proofs.lemmas.Bool.{eqb-true, eq-eqb}
-use Rattle.dob_pieces.specs.declared.kind.Side.TheVariants.{Mover, Enemy}
+use Rattle.dob_pieces.proofs.Common.{◌∙◌, sym, eq-eqb, eqb-true, Enemy, Mover}
 use Rattle.dob_pieces.proofs.Legality.{HasLions-from_counts}
 use Rattle.dob_pieces.proofs.setup.Setup.has_lions.Goals as goal
 

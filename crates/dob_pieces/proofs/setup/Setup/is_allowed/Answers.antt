@@ -1,7 +1,5 @@
 -- The squares are gone over until something stands where it may not.
-use Rattle.std.proofs.Common.{◌≡◌, ℕ, false, refl, true≢false, sym, ap, ◌∙◌, arith, rules}
-use Rattle.dob_pieces.specs.Setups.{at}
-use Rattle.dob_pieces.specs.Profiles.{may_stand}
+use Rattle.dob_pieces.proofs.Common.{◌∙◌, ◌≡◌, ap, arith, false, refl, rules, sym, true≢false, ℕ, may_stand, at}
 use Rattle.dob_pieces.proofs.Allowed.{stands-from_allowed, allowed-from_stands}
 use Rattle.dob_pieces.proofs.setup.Setup.is_allowed.Goals as goal
 

@@ -1,7 +1,5 @@
 -- What stands on each square below the index may stand there.
-use Rattle.std.proofs.Common.{◌≡◌, ℕ, ◌<◌, true}
-use Rattle.dob_pieces.specs.Setups.{at}
-use Rattle.dob_pieces.specs.Profiles.{may_stand}
+use Rattle.dob_pieces.proofs.Common.{◌<◌, ◌≡◌, true, ℕ, may_stand, at}
 use Rattle.dob_pieces.proofs.setup.Setup.is_allowed.Given as goal
 
 abbrev pub invariant-loop-index : goal.invariant-loop-index

@@ -1,8 +1,5 @@
 -- The board filled square by square is the mirrored one.
-use Rattle.std.proofs.Common.{List, ap, ◌∙◌, arith}
-use Rattle.dob_pieces.specs.Squares.{mirrored_square}
-use Rattle.dob_pieces.specs.Setups.{Cell, at, mirrored}
-use Rattle.dob_pieces.specs.declared.setup.Setup.{Setup}
+use Rattle.dob_pieces.proofs.Common.{◌∙◌, List, ap, arith, Cell, at, mirrored, mirrored_square, Setup}
 use Rattle.dob_pieces.proofs.Boards.{cells_more, cells_all}
 use Rattle.dob_pieces.proofs.setup.Setup.mirrored.Goals as goal
 

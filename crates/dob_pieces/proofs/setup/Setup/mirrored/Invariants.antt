@@ -1,7 +1,5 @@
 -- Each square below the index has its cell.
-use Rattle.std.proofs.Common.{◌≡◌, ℕ, ◌<◌, length, None, slice_index_or}
-use Rattle.dob_pieces.specs.Squares.{mirrored_square}
-use Rattle.dob_pieces.specs.Setups.{at}
+use Rattle.dob_pieces.proofs.Common.{◌<◌, ◌≡◌, None, length, slice_index_or, ℕ, at, mirrored_square}
 use Rattle.dob_pieces.proofs.setup.Setup.mirrored.Given as goal
 
 abbrev pub invariant-loop-index : goal.invariant-loop-index

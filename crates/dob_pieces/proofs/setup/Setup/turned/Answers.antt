@@ -1,9 +1,5 @@
 -- The board filled square by square is the turned one.
-use Rattle.std.proofs.Common.{List, ap, ◌∙◌, arith}
-use Rattle.dob_pieces.specs.Squares.{turned_square}
-use Rattle.dob_pieces.specs.Setups.{Cell, at, turned_cell, turned}
-use Rattle.dob_pieces.specs.declared.hand.Hands.{Hands}
-use Rattle.dob_pieces.specs.declared.setup.Setup.{Setup}
+use Rattle.dob_pieces.proofs.Common.{◌∙◌, List, ap, arith, Cell, at, turned, turned_cell, turned_square, Hands, Setup}
 use Rattle.dob_pieces.proofs.Boards.{cells_more, cells_all}
 use Rattle.dob_pieces.proofs.setup.Setup.turned.Goals as goal
 

@@ -1,7 +1,5 @@
 -- Each square below the index has its cell.
-use Rattle.std.proofs.Common.{◌≡◌, ℕ, ◌<◌, length, None, slice_index_or}
-use Rattle.dob_pieces.specs.Squares.{turned_square}
-use Rattle.dob_pieces.specs.Setups.{at, turned_cell}
+use Rattle.dob_pieces.proofs.Common.{◌<◌, ◌≡◌, None, length, slice_index_or, ℕ, at, turned_cell, turned_square}
 use Rattle.dob_pieces.proofs.setup.Setup.turned.Given as goal
 
 abbrev pub invariant-loop-index : goal.invariant-loop-index

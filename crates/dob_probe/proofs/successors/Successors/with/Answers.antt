@@ -1,10 +1,5 @@
 -- One value more: the greatest win, the least loss and the draw that are kept are those of the longer list.
-use Rattle.std.proofs.Common.{◌≡◌, ◌++◌, ◌∷◌, [], true, Some, ℕ, sym, subst, List}
-use Rattle.dob_value.specs.declared.value.Value.{Value}
-use Rattle.dob_value.specs.declared.value.Value.TheVariants.{Win, Loss}
-use Rattle.dob_value.specs.Distances.{lesser_of, greater_of}
-use Rattle.dob_probe.specs.declared.successors.Successors.{Successors}
-use Rattle.dob_probe.specs.Sums.{AreSummed}
+use Rattle.dob_probe.proofs.Common.{◌++◌, ◌∷◌, ◌≡◌, List, Some, [], subst, sym, true, ℕ, greater_of, lesser_of, Value, Loss, Win, AreSummed, Successors}
 use Rattle.dob_probe.proofs.Kept.{summed_win, summed_loss, summed_draw}
 use Rattle.dob_probe.proofs.successors.Successors.with.Goals as goal
 

@@ -1,9 +1,5 @@
 -- One class more each time, and then all of them.
-use Rattle.std.proofs.Common.{◌∙◌, ap, arith}
-use Rattle.dob_pieces.specs.declared.profile.Family.{Family}
-use Rattle.dob_rank.specs.Families.{classes_of}
-use Rattle.dob_reach.specs.Distances.{IsReached}
-use Rattle.dob_reach.specs.Leads.{Leads}
+use Rattle.dob_reach.proofs.Common.{◌∙◌, ap, arith, Family, classes_of, IsReached, Leads}
 use Rattle.dob_reach.proofs.Valued.{counted_all, counted_none}
 use Rattle.dob_reach.proofs.search.Reached.by_value.Goals as goal
 

@@ -1,6 +1,5 @@
 -- The class is counted where it is marked.
-use Rattle.std.proofs.Common.{◌+◌, ◌∙◌, arith, subst, sym}
-use Rattle.std.proofs.lemmas.Bool.{false≢true}
+use Rattle.dob_reach.proofs.Common.{◌+◌, ◌∙◌, arith, subst, sym, false≢true}
 use Rattle.dob_reach.specs.Values.{AreCounted, IsDrawn, IsLost, IsWon}
 use Rattle.dob_reach.proofs.Valued.{MarkedBelow, counted_more, counted_same, few}
 use Rattle.dob_reach.proofs.search.Reached.with_class.Goals as goal

@@ -1,6 +1,5 @@
 -- the mask of the enemy lion has its square alone
-use Rattle.dob_pieces.specs.declared.kind.Side.TheVariants.{Enemy}
-use Rattle.dob_pieces.proofs.Attacks.{lion_mask, lion_at}
+use Rattle.dob_unmove.proofs.Common.{lion_at, lion_mask, Enemy}
 use Rattle.dob_unmove.proofs.Threats.{turned_squares, turned_lions}
 use Rattle.dob_unmove.proofs.attackers.Threat.by.Goals as goal
 

@@ -1,9 +1,6 @@
 -- nothing where no piece of the mover stands
-use Rattle.std.proofs.Common.{Option, ◌∙◌, subst}
-use Rattle.dob_pieces.specs.declared.kind.Kind.{Kind}
-use Rattle.dob_pieces.specs.Setups.{at}
-use Rattle.dob_unmove.specs.Classes.{RepresentsClass}
-use Rattle.dob_unmove.specs.Ways.{IsOwnKind}
+use Rattle.dob_unmove.proofs.Common.{◌∙◌, sym, at, RepresentsClass}
+use Rattle.dob_pieces.proofs.OwnKinds.{own_cell, none_own}
 use Rattle.dob_unmove.proofs.Gathered.{gathers_none}
 use Rattle.dob_unmove.proofs.OwnKinds.{stands_there}
 use Rattle.dob_unmove.proofs.Standing.{ways_of_none, gathers_same}
@@ -12,8 +9,8 @@ use Rattle.dob_unmove.proofs.predecessors.End.gather_all.Goals as goal
 pub gather_kind-requires-clause-stands : goal.gather_kind-requires-clause-stands
 gather_kind-requires-clause-stands c =
     let end = c.args.self.now in
-    subst (λ (found : Option Kind). IsOwnKind (at end.walk.now.after.value end.to) found) c.in-Some.is
-    (c.own_kind.ensures end.walk.now.after.value c.requires.walk.ways_are)
+    own_cell (at end.walk.now.after.value end.to) c.in-Some.kind
+    (sym (c.own_kind.ensures end.walk.now.after.value c.requires.walk.ways_are.masks_are) ∙ c.in-Some.is)
 
 pub returns-in-None : goal.returns-in-None
 returns-in-None c =
@@ -22,6 +19,6 @@ returns-in-None c =
     let after = end.walk.now.after.value in
     let cell = at after end.to in
     let old = c.args.found.now.items in
-    let none = subst (λ (found : Option Kind). IsOwnKind cell found) c.in-None.is (c.own_kind.ensures after c.requires.walk.ways_are) in
+    let none = none_own cell (sym (c.own_kind.ensures after c.requires.walk.ways_are.masks_are) ∙ c.in-None.is) in
     gathers_same Represents after _ _ old old (ways_of_none after end.to (λ kind. stands_there kind cell ∙ none kind))
     (gathers_none Represents after old)

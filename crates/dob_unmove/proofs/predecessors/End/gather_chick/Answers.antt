@@ -1,13 +1,6 @@
 -- the steps, of which there are none on the far row, and the drop
-use Rattle.std.proofs.Common.{sym, ◌∙◌}
-use Rattle.std.proofs.lemmas.Bool.{eq-eqb}
-use Rattle.std.proofs.lemmas.Result.{on_ok_weaker}
+use Rattle.dob_unmove.proofs.Common.{◌∙◌, sym, eq-eqb, on_ok_weaker, row, Chick, RepresentsClass, Gathers, unputs, unsteps}
 use Rattle.dob_pieces.specs.declared.kind.HandKind.TheVariants as hand
-use Rattle.dob_pieces.specs.declared.kind.Kind.TheVariants.{Chick}
-use Rattle.dob_pieces.specs.Squares.{row}
-use Rattle.dob_unmove.specs.Classes.{RepresentsClass}
-use Rattle.dob_unmove.specs.Gathers.{Gathers}
-use Rattle.dob_unmove.specs.Walks.{unsteps, unputs}
 use Rattle.dob_unmove.proofs.Gathered.{gathers_none}
 use Rattle.dob_unmove.proofs.Standing.{ways_of_chick, no_chick_steps, gathers_same, gathers_both}
 use Rattle.dob_unmove.proofs.predecessors.End.gather_chick.Goals as goal

@@ -1,12 +1,5 @@
 -- a chick's steps, of which there are some on the far row alone, and a hen's
-use Rattle.std.proofs.Common.{◌∙◌}
-use Rattle.std.proofs.lemmas.Bool.{ne_eqb}
-use Rattle.std.proofs.lemmas.Result.{on_ok_weaker}
-use Rattle.dob_pieces.specs.declared.kind.Kind.TheVariants.{Chick, Hen}
-use Rattle.dob_pieces.specs.Squares.{row}
-use Rattle.dob_unmove.specs.Classes.{RepresentsClass}
-use Rattle.dob_unmove.specs.Gathers.{Gathers}
-use Rattle.dob_unmove.specs.Walks.{unsteps}
+use Rattle.dob_unmove.proofs.Common.{◌∙◌, ne_eqb, on_ok_weaker, row, Chick, Hen, RepresentsClass, Gathers, unsteps}
 use Rattle.dob_unmove.proofs.Gathered.{gathers_none}
 use Rattle.dob_unmove.proofs.Standing.{ways_of_hen, no_growth, gathers_same, gathers_both}
 use Rattle.dob_unmove.proofs.predecessors.End.gather_hen.Goals as goal

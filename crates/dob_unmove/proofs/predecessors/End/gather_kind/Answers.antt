@@ -1,10 +1,5 @@
 -- the lists of the kind, since the others are empty
-use Rattle.std.proofs.Common.{Some, ap, ◌∙◌}
-use Rattle.std.proofs.lemmas.Result.{on_ok_weaker}
-use Rattle.dob_pieces.specs.declared.kind.Kind.{Kind}
-use Rattle.dob_pieces.specs.declared.kind.Side.TheVariants.{Mover}
-use Rattle.dob_pieces.specs.Setups.{piece_of}
-use Rattle.dob_unmove.specs.Classes.{RepresentsClass}
+use Rattle.dob_unmove.proofs.Common.{◌∙◌, Some, ap, on_ok_weaker, piece_of, Kind, Mover, RepresentsClass}
 use Rattle.dob_unmove.proofs.Standing.{ways_of_lion, ways_of_giraffe, ways_of_elephant, gathers_same, gathers_both}
 use Rattle.dob_unmove.proofs.predecessors.End.gather_kind.Goals as goal
 

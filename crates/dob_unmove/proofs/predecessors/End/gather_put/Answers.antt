@@ -1,6 +1,5 @@
 -- the drop alone
-use Rattle.std.proofs.lemmas.Result.{on_ok_weaker}
-use Rattle.dob_unmove.specs.Classes.{RepresentsClass}
+use Rattle.dob_unmove.proofs.Common.{on_ok_weaker, RepresentsClass}
 use Rattle.dob_unmove.proofs.Kept.{legal_turned}
 use Rattle.dob_unmove.proofs.LionsBefore.{drop_home}
 use Rattle.dob_unmove.proofs.Standing.{way_of_drop, gathers_same}

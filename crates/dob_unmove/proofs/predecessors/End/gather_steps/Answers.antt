@@ -1,8 +1,5 @@
 -- The squares of the mask are gone over from the lowest on, and the steps from the others are dead.
-use Rattle.std.proofs.Common.{arith}
-use Rattle.dob_unmove.specs.Classes.{RepresentsClass}
-use Rattle.dob_unmove.specs.Walks.{unsteps_from}
-use Rattle.dob_unmove.specs.Ways.{may_come}
+use Rattle.dob_unmove.proofs.Common.{arith, RepresentsClass, unsteps_from, may_come}
 use Rattle.dob_unmove.proofs.Gathered.{gathered_start, gathered_less, passes_lowest, gathered_next, gathered_end}
 use Rattle.dob_unmove.proofs.Dead.{comes_dead, all_steps}
 use Rattle.dob_unmove.proofs.predecessors.End.gather_steps.Goals as goal

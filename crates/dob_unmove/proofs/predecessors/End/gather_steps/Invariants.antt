@@ -1,7 +1,5 @@
 -- The steps from the squares gone over are taken.
-use Rattle.dob_unmove.specs.Classes.{RepresentsClass}
-use Rattle.dob_unmove.specs.Walks.{unsteps_from}
-use Rattle.dob_unmove.specs.Ways.{may_come}
+use Rattle.dob_unmove.proofs.Common.{RepresentsClass, unsteps_from, may_come}
 use Rattle.dob_unmove.proofs.Gathered.{IsGathered}
 use Rattle.dob_unmove.proofs.predecessors.End.gather_steps.Given as goal
 

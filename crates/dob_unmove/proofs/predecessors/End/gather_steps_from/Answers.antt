@@ -1,11 +1,10 @@
 -- The step without a catch, which may have been made, and then each catch.
-use Rattle.std.proofs.Common.{None, rules}
-use Rattle.std.proofs.lemmas.Result.{on_ok_weaker}
-use Rattle.dob_unmove.specs.Classes.{RepresentsClass}
+use Rattle.dob_unmove.proofs.Common.{None, rules, on_ok_weaker, RepresentsClass, CanUndo, Unstep}
 use Rattle.dob_unmove.proofs.Dead.{comes_between, comes_step, steps_from}
 use Rattle.dob_unmove.proofs.Kept.{legal_turned}
 use Rattle.dob_unmove.proofs.LionsBefore.{step_home}
 use Rattle.dob_unmove.proofs.predecessors.End.gather_steps_from.Goals as goal
+use Rattle.dob_unmove.proofs.predecessors.End.gather_steps_from.Goals.{After-gather_one}
 
 pub gather_one-requires-clause-home : goal.gather_one-requires-clause-home
 gather_one-requires-clause-home c =
@@ -32,22 +31,20 @@ gather_one-requires-clause-can c =
     let end = c.args.self.now in
     comes_step end.walk.now.after.value end.walk.now.ways.now.threat c.args.kind c.args.from end.to c.requires.stands c.requires.comes (search rules)
 
+-- the step without a catch may have been made
+free_step : (c : After-gather_one) → CanUndo c.args.self.now.walk.now.after.value (Unstep c.args.kind c.args.from c.args.self.now.to None)
+free_step c =
+    let walk = c.args.self.now.walk.now in
+    comes_step walk.after.value walk.ways.now.threat c.args.kind c.args.from c.args.self.now.to c.requires.stands c.requires.comes (search rules)
+
 pub gather_catch-requires-clause-step : goal.gather_catch-requires-clause-step
-gather_catch-requires-clause-step c =
-    let end = c.args.self.now in
-    comes_step end.walk.now.after.value end.walk.now.ways.now.threat c.args.kind c.args.from end.to c.requires.stands c.requires.comes (search rules)
+gather_catch-requires-clause-step c = free_step (goal.at.gather_catch-requires-clause-step c).After-gather_one
 
 pub gather_catch-requires-2-clause-step : goal.gather_catch-requires-2-clause-step
-gather_catch-requires-2-clause-step c =
-    let end = c.args.self.now in
-    comes_step end.walk.now.after.value end.walk.now.ways.now.threat c.args.kind c.args.from end.to c.requires.stands c.requires.comes (search rules)
+gather_catch-requires-2-clause-step c = free_step (goal.at.gather_catch-requires-2-clause-step c).After-gather_one
 
 pub gather_catch-requires-3-clause-step : goal.gather_catch-requires-3-clause-step
-gather_catch-requires-3-clause-step c =
-    let end = c.args.self.now in
-    comes_step end.walk.now.after.value end.walk.now.ways.now.threat c.args.kind c.args.from end.to c.requires.stands c.requires.comes (search rules)
+gather_catch-requires-3-clause-step c = free_step (goal.at.gather_catch-requires-3-clause-step c).After-gather_one
 
 pub gather_catch-requires-4-clause-step : goal.gather_catch-requires-4-clause-step
-gather_catch-requires-4-clause-step c =
-    let end = c.args.self.now in
-    comes_step end.walk.now.after.value end.walk.now.ways.now.threat c.args.kind c.args.from end.to c.requires.stands c.requires.comes (search rules)
+gather_catch-requires-4-clause-step c = free_step (goal.at.gather_catch-requires-4-clause-step c).After-gather_one

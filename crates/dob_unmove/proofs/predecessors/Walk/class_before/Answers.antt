@@ -1,7 +1,5 @@
 -- The sets show the position before the move, which was open, where the piece that was caught may stand again.
-use Rattle.std.proofs.Common.{refl, sym, ◌∙◌}
-use Rattle.dob_unmove.specs.Undoes.{earlier}
-use Rattle.dob_unmove.specs.Classes.{RepresentsClass}
+use Rattle.dob_unmove.proofs.Common.{◌∙◌, refl, sym, RepresentsClass, earlier}
 use Rattle.dob_unmove.proofs.Gathering.{finds_from}
 use Rattle.dob_unmove.proofs.Kept.{barred, few_turned, legal_turned, squares_turned, shown_before}
 use Rattle.dob_unmove.proofs.Threats.{was_open}

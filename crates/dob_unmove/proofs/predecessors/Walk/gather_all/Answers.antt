@@ -1,8 +1,5 @@
 -- The squares of the mask are gone over from the lowest on, and the ways of the others are dead.
-use Rattle.std.proofs.Common.{arith}
-use Rattle.dob_unmove.specs.Classes.{RepresentsClass}
-use Rattle.dob_unmove.specs.Walks.{undoes_at, undoes}
-use Rattle.dob_unmove.specs.Ways.{may_have_ended}
+use Rattle.dob_unmove.proofs.Common.{arith, RepresentsClass, undoes, undoes_at, may_have_ended}
 use Rattle.dob_unmove.proofs.Gathered.{gathered_start, gathered_less, passes_lowest, gathered_next, gathered_end}
 use Rattle.dob_unmove.proofs.Dead.{ends_dead, calm_end}
 use Rattle.dob_unmove.proofs.Kept.{legal_turned}

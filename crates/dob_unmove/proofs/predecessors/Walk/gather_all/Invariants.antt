@@ -1,8 +1,5 @@
 -- The ways that end on the squares gone over are taken.
-use Rattle.dob_unmove.specs.Classes.{RepresentsClass}
-use Rattle.dob_unmove.specs.Ends.{CanWalk}
-use Rattle.dob_unmove.specs.Walks.{undoes_at}
-use Rattle.dob_unmove.specs.Ways.{may_have_ended}
+use Rattle.dob_unmove.proofs.Common.{RepresentsClass, CanWalk, undoes_at, may_have_ended}
 use Rattle.dob_unmove.proofs.Gathered.{IsGathered}
 use Rattle.dob_unmove.proofs.predecessors.Walk.gather_all.Given as goal
 

@@ -1,13 +1,7 @@
 -- by whether the lion stands at home
-use Rattle.std.proofs.Common.{ℕ, ◌<◌, true, false, refl, sym, subst, arith, w16}
-use Rattle.std.specs.Int.{trailing_zeros}
-use Rattle.dob_pieces.specs.declared.kind.Side.TheVariants.{Mover}
-use Rattle.dob_pieces.specs.declared.kind.Kind.TheVariants.{Lion}
-use Rattle.dob_pieces.specs.Setups.{piece_of}
-use Rattle.dob_pieces.specs.Masks.{IsMask}
-use Rattle.dob_pieces.proofs.Attacks.{lion_at}
-use Rattle.dob_pieces.proofs.Boards.{within-from_piece}
-use Rattle.dob_unmove.specs.Ways.{may_have_ended}
+use Rattle.dob_unmove.proofs.Common.{◌<◌, arith, false, refl, subst, sym, true, ℕ, trailing_zeros, lion_at, within-from_piece, IsMask, piece_of, Lion, Mover}
+use Rattle.dob_unmove.proofs.Common.{may_have_ended}
+use Rattle.std.proofs.Common.{w16}
 use Rattle.dob_unmove.proofs.Threats.{turned_squares, turned_lions}
 use Rattle.dob_unmove.proofs.WayMasks.{away, at_home, calm_ends, lion_ends}
 use Rattle.dob_unmove.proofs.ways.Ways.by.Goals as goal

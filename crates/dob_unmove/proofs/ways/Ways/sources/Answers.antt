@@ -1,7 +1,5 @@
 -- the squares of all four
-use Rattle.std.proofs.Common.{ℕ}
-use Rattle.dob_pieces.specs.Pieces.{leads}
-use Rattle.dob_pieces.proofs.MaskBits.{IsMask-and, IsMask-without}
+use Rattle.dob_unmove.proofs.Common.{ℕ, IsMask-and, IsMask-without, leads}
 use Rattle.dob_unmove.proofs.ways.Ways.sources.Goals as goal
 
 pub returns : goal.returns

@@ -1,6 +1,5 @@
 -- The items are those of the parts.
-use Rattle.std.proofs.Common.{refl, subst}
-use Rattle.dob_update.specs.Batches.{BatchView, IsBatch}
+use Rattle.dob_update.proofs.Common.{refl, subst, BatchView, IsBatch}
 use Rattle.dob_update.proofs.Runs.{IsBatch-from_run}
 use Rattle.dob_update.proofs.batch.Batch.items.Goals as goal
 

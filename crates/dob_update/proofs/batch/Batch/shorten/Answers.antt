@@ -1,7 +1,5 @@
 -- The front of a run is a run.
-use Rattle.std.proofs.Common.{◌≤◌, length, refl, sym, subst}
-use Rattle.dob_update.specs.Batches.{BatchView, IsFront}
-use Rattle.dob_update.specs.Parts.{settlements_of}
+use Rattle.dob_update.proofs.Common.{◌≤◌, length, refl, subst, sym, BatchView, IsFront, settlements_of}
 use Rattle.dob_update.proofs.Runs.{run_shortened, IsFront-from_parts}
 use Rattle.dob_update.proofs.batch.Batch.shorten.Goals as goal
 

@@ -1,129 +1,62 @@
 -- What is cut is a run of the items, and so is what is left.
-use Rattle.std.specs.Prelude.{OnErr}
-use Rattle.std.proofs.Common.{Result, Ok, Err, ◌≡◌, ◌≤◌, ◌+◌, List, [], length, take, drop, min, refl, sym, ap, ◌∙◌, subst, arith, rules}
-use Rattle.dob_share.specs.declared.news.Item.{Item}
-use Rattle.dob_update.specs.declared.part.Part.{Part}
-use Rattle.dob_update.specs.Batches.{OutboxView, BatchView, IsCut}
-use Rattle.dob_update.specs.Parts.{settlements_of, behind, items_of_parts}
-use Rattle.dob_update.specs.Runs.{IsItemRun}
-use Rattle.dob_update.proofs.Runs.{run_cut, IsCut-from_parts, total-front}
-use Rattle.dob_update.proofs.PartItems.{items_of_parts-length, items_of_parts-front, items_of_parts-behind, no_items_of_parts, listed_behind}
+use Rattle.dob_update.proofs.Common.{◌+◌, ◌∙◌, ◌≡◌, ◌≢◌, List, [], ap, arith, refl, rules, subst, sym, on_err, BatchView, IsCut, OutboxView, items_of_parts}
+use Rattle.dob_update.proofs.Common.{settlements_of, Part}
+use Rattle.dob_update.proofs.Cuts.{IsCutting, parts_within, front_within, still_listed, none_there, some_there, run_taken, is_cut}
 use Rattle.dob_update.proofs.outbox.Outbox.cut.Goals as goal
+use Rattle.dob_update.proofs.outbox.Outbox.cut.Goals.{After-min-taken}
 
--- what holds whatever the result holds after an error
-on_err : {T E : Type 0} (r : Result T E) (P : Type 0) → P → OnErr r P
-on_err (Ok v) P p = tt
-on_err (Err e) P p = p
+cutting : (c : After-min-taken) →
+    IsCutting c.self.inside.family c.self.inside.nodes c.self.inside.to c.self.inside.parts.items c.self.inside.skip c.self.inside.classes.items c.args.size c.min-taken.result
+cutting c = record { listed = c.self.invariant; least = search rules }
+
+-- where some are cut, some are there
+some : (c : After-min-taken) → c.min-taken.result ≢ 0 → c.args.self.now.items ≢ []
+some c taken none = some_there (cutting c) taken (subst (λ (o : OutboxView). o.items ≡ []) (sym c.self.view_is) none)
 
 pub front_items-requires : goal.front_items-requires
-front_items-requires c =
-    let old = c.self.inside in
-    let counted = c.self.invariant.counted in
-    let within : c.min-taken.result ≤ length old.classes.items = search rules in
-    let many = total-front old.parts.items c.min-taken.result (omega (arith, counted, within)) in
-    rw (c.deref.ensures.value, c.in_ok-parts.ensures) (omega (arith, many, within))
+front_items-requires c = rw (c.deref.ensures.value, c.in_ok-parts.ensures) (front_within (cutting (goal.at.front_items-requires c).After-min-taken))
 
 pub new-batch-requires : goal.new-batch-requires
-new-batch-requires c =
-    let old = c.self.inside in
-    let k = c.min-taken.result in
-    let all = items_of_parts old.parts.items old.classes.items in
-    let counted = c.self.invariant.counted in
-    let within : k ≤ length old.classes.items = search rules in
-    let long = items_of_parts-length old.parts.items old.classes.items (omega (arith, counted)) in
-    let items_are : c.in_ok-items.items.items ≡ take k all
-    = c.in_ok-items.ensures ∙ ap (λ (ps : List Part). items_of_parts ps old.classes.items) (c.deref.ensures.value ∙ c.in_ok-parts.ensures)
-    ∙ items_of_parts-front k old.parts.items old.classes.items (omega (arith, counted)) (omega (arith, counted, within)) in
-    subst (λ (xs : List Item). IsItemRun old.family old.nodes old.to c.in_ok-parts.parts.items old.skip xs) (sym items_are)
-    (subst (λ (ps : List Part). IsItemRun old.family old.nodes old.to ps old.skip (take k all)) (sym c.in_ok-parts.ensures)
-    (run_cut old.family old.nodes old.to old.parts.items old.skip k all c.self.invariant.rest (omega (arith, c.if-taken-eq0.false)) (omega (arith, long, counted, within))))
+new-batch-requires c = run_taken (cutting (goal.at.new-batch-requires c).After-min-taken) c.in_ok-parts.parts.items c.in_ok-items.items.items c.in_ok-parts.ensures
+    (c.in_ok-items.ensures ∙ ap (λ (ps : List Part). items_of_parts ps c.self.inside.classes.items) c.deref.ensures.value) c.if-taken-eq0.false
 
 pub drop_parts-self-inside-requires-clause-whole : goal.drop_parts-self-inside-requires-clause-whole
 drop_parts-self-inside-requires-clause-whole c = (_, c.self.invariant.rest.parts_fit)
 
 pub drop_parts-self-inside-requires-clause-within : goal.drop_parts-self-inside-requires-clause-within
-drop_parts-self-inside-requires-clause-within c =
-    let old = c.self.inside in
-    let counted = c.self.invariant.counted in
-    let within : c.min-taken.result ≤ length old.classes.items = search rules in
-    omega (arith, counted, within)
+drop_parts-self-inside-requires-clause-within c = parts_within (cutting (goal.at.drop_parts-self-inside-requires-clause-within c).After-min-taken)
 
 pub invariant_of-self : goal.invariant_of-self
-invariant_of-self c =
-    let old = c.self.inside in
-    let within : c.min-taken.result ≤ length old.classes.items = search rules in
-    rw (c.drop_parts-self-inside.ensures.parts, c.drop_parts-self-inside.ensures.skip, c.drop_classes.ensures)
-    (listed_behind old.family old.nodes old.to old.parts.items old.skip c.min-taken.result old.classes.items c.self.invariant within)
+invariant_of-self c = rw (c.drop_parts-self-inside.ensures.parts, c.drop_parts-self-inside.ensures.skip, c.drop_classes.ensures)
+    (still_listed (cutting (goal.at.invariant_of-self c).After-min-taken))
 
 pub returns-clause-batch : goal.returns-clause-batch
 returns-clause-batch c =
     let old = c.self.inside in
-    let k = c.min-taken.result in
-    let all = items_of_parts old.parts.items old.classes.items in
-    let counted = c.self.invariant.counted in
-    let within : k ≤ length old.classes.items = search rules in
-    let long = items_of_parts-length old.parts.items old.classes.items (omega (arith, counted)) in
-    let items_are : c.in_ok-items.items.items ≡ take k all
-    = c.in_ok-items.ensures ∙ ap (λ (ps : List Part). items_of_parts ps old.classes.items) (c.deref.ensures.value ∙ c.in_ok-parts.ensures)
-    ∙ items_of_parts-front k old.parts.items old.classes.items (omega (arith, counted)) (omega (arith, counted, within)) in
     let parts = c.drop_parts-self-inside.new.parts.items in
     let classes = c.drop_classes.new.classes.items in
-    let rest_is : items_of_parts parts classes ≡ drop k all
-    = ap (λ (ps : List Part). items_of_parts ps classes) c.drop_parts-self-inside.ensures.parts
-    ∙ ap (λ xs. items_of_parts (behind k old.parts.items) xs) c.drop_classes.ensures
-    ∙ items_of_parts-behind k old.parts.items old.classes.items (omega (arith, counted)) (omega (arith, counted, within)) in
-    let view : OutboxView = record { family = old.family; n = old.nodes; from = old.from; to = old.to; settlements = settlements_of old.parts.items; skip = old.skip; items = all; next = old.next } in
+    let view : OutboxView = record { family = old.family; n = old.nodes; from = old.from; to = old.to; settlements = settlements_of old.parts.items; skip = old.skip; items = items_of_parts old.parts.items old.classes.items; next = old.next } in
     let new : OutboxView = record view { settlements = settlements_of parts; skip = c.drop_parts-self-inside.result; items = items_of_parts parts classes; next = old.next + 1 } in
-    let size_is : k ≡ min c.args.size (length old.classes.items) = search rules in
-    let least : k ≡ min c.args.size (length all) = omega (arith, size_is, long, counted) in
     subst (λ (o : OutboxView). IsCut o c.args.size c.new-batch.result new) c.self.view_is
     (subst (λ (b : BatchView). IsCut view c.args.size b new) (sym c.new-batch.ensures)
-    (IsCut-from_parts view old.parts.items c.in_ok-parts.parts.items parts c.drop_parts-self-inside.result c.args.size k c.in_ok-items.items.items (items_of_parts parts classes)
-    refl c.self.invariant.rest least c.in_ok-parts.ensures items_are c.drop_parts-self-inside.ensures.parts c.drop_parts-self-inside.ensures.skip rest_is))
+    (is_cut (cutting (goal.at.returns-clause-batch c).After-min-taken) c.in_ok-parts.parts.items c.in_ok-items.items.items c.in_ok-parts.ensures
+    (c.in_ok-items.ensures ∙ ap (λ (ps : List Part). items_of_parts ps old.classes.items) c.deref.ensures.value) old.from old.next
+    c.drop_parts-self-inside.result parts classes c.drop_parts-self-inside.ensures.parts c.drop_parts-self-inside.ensures.skip c.drop_classes.ensures))
 
 pub returns-then-taken-eq0-clause-none : goal.returns-then-taken-eq0-clause-none
-returns-then-taken-eq0-clause-none c =
-    let old = c.self.inside in
-    let size_is : c.min-taken.result ≡ min c.args.size (length old.classes.items) = search rules in
-    let some = c.get.ensures.size.0 in
-    let empty = c.if-taken-eq0.true in
-    let both = no_items_of_parts old.parts.items old.classes.items c.self.invariant.counted in
-    ((λ _. subst (λ (o : OutboxView). o.items ≡ []) c.self.view_is (both.1 (omega (arith, size_is, some, empty)))), (λ _. search rules))
+returns-then-taken-eq0-clause-none c = (
+  λ _. subst (λ (o : OutboxView). o.items ≡ []) c.self.view_is
+      (none_there (cutting (goal.at.returns-then-taken-eq0-clause-none c).After-min-taken) (let some = c.get.ensures.size.0 in omega (arith, some)) c.if-taken-eq0.true),
+  λ _. search rules,
+)
 
 pub returns-clause-none : goal.returns-clause-none
-returns-clause-none c =
-    let old = c.self.inside in
-    let size_is : c.min-taken.result ≡ min c.args.size (length old.classes.items) = search rules in
-    let some = c.if-taken-eq0.false in
-    let both = no_items_of_parts old.parts.items old.classes.items c.self.invariant.counted in (
-      (λ is. cc),
-      (λ none.
-          let empty = both.0 (subst (λ (o : OutboxView). o.items ≡ []) (sym c.self.view_is) none) in
-          absurd (omega (arith, size_is, some, empty))),
-    )
+returns-clause-none c = (λ is. cc, λ none. absurd (some (goal.at.returns-clause-none c).After-min-taken c.if-taken-eq0.false none))
 
 pub returns-in_err-parts-clause-err : goal.returns-in_err-parts-clause-err
 returns-in_err-parts-clause-err c =
-    let old = c.self.inside in
-    let within : c.min-taken.result ≤ length old.classes.items = search rules in
-    let some = c.if-taken-eq0.false in
-    let both = no_items_of_parts old.parts.items old.classes.items c.self.invariant.counted in
-    on_err c.from_residual.result _ (
-      refl,
-      λ none.
-          let empty = both.0 (subst (λ (o : OutboxView). o.items ≡ []) (sym c.self.view_is) none) in
-          absurd (omega (arith, some, within, empty)),
-    )
+    on_err c.from_residual.result (refl, some (goal.at.returns-in_err-parts-clause-err c).After-min-taken c.if-taken-eq0.false)
 
 pub returns-in_err-items-clause-err : goal.returns-in_err-items-clause-err
 returns-in_err-items-clause-err c =
-    let old = c.self.inside in
-    let within : c.min-taken.result ≤ length old.classes.items = search rules in
-    let some = c.if-taken-eq0.false in
-    let both = no_items_of_parts old.parts.items old.classes.items c.self.invariant.counted in
-    on_err c.from_residual-in_err-items.result _ (
-      refl,
-      λ none.
-          let empty = both.0 (subst (λ (o : OutboxView). o.items ≡ []) (sym c.self.view_is) none) in
-          absurd (omega (arith, some, within, empty)),
-    )
+    on_err c.from_residual-in_err-items.result (refl, some (goal.at.returns-in_err-items-clause-err c).After-min-taken c.if-taken-eq0.false)

@@ -1,8 +1,5 @@
 -- A table has a value for each class.
-use Rattle.std.proofs.Common.{ap, length, ◌∙◌}
-use Rattle.dob_rank.specs.Families.{IsRepresentative}
-use Rattle.dob_value.specs.Codes.{values_of_codes}
-use Rattle.dob_value.specs.Follows.{ClassTable}
+use Rattle.dob_value.proofs.Common.{◌∙◌, ap, length, IsRepresentative, values_of_codes, ClassTable}
 use Rattle.dob_value.proofs.ClassNumbers.{one_count}
 use Rattle.dob_value.proofs.table.Table.class_count.Goals as goal
 

@@ -1,10 +1,5 @@
 -- The classes are as many as the values.
-use Rattle.std.proofs.Common.{◌≡◌, length, subst}
-use Rattle.dob_rank.specs.Families.{IsRepresentative}
-use Rattle.dob_rank.specs.Families.{classes_of}
-use Rattle.dob_rank.proofs.OfFamilies.Present.{HasClasses-classes_of}
-use Rattle.dob_value.specs.Codes.{values_of_codes}
-use Rattle.dob_value.specs.Follows.{ClassTable}
+use Rattle.dob_value.proofs.Common.{◌≡◌, length, subst, HasClasses-classes_of, IsRepresentative, classes_of, values_of_codes, ClassTable}
 use Rattle.dob_value.proofs.ClassNumbers.{one_count}
 use Rattle.dob_value.proofs.table.Table.classes.Goals as goal
 

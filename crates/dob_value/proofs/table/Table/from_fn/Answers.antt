@@ -1,10 +1,5 @@
 -- Each class has the value that is given for it.
-use Rattle.std.proofs.Common.{◌≡◌, ℕ, ◌<◌, ◌∙◌, sym, subst, arith}
-use Rattle.std.proofs.lemmas.List.Elements.{All-push}
-use Rattle.std.specs.List.{All}
-use Rattle.dob_rank.specs.Families.{HasClasses}
-use Rattle.dob_rank.specs.Families.{classes_of}
-use Rattle.dob_rank.proofs.OfFamilies.Present.{HasClasses-classes_of}
+use Rattle.dob_value.proofs.Common.{◌<◌, ◌∙◌, ◌≡◌, arith, subst, sym, ℕ, All-push, All, HasClasses-classes_of, HasClasses, classes_of}
 use Rattle.dob_value.proofs.Parity.{entries_of_codes}
 use Rattle.dob_value.proofs.Listed.{given_more}
 use Rattle.dob_value.proofs.table.Table.from_fn.Goals as goal

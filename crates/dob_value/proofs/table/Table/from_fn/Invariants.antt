@@ -1,8 +1,5 @@
 -- The values of the classes so far have their codes.
-use Rattle.std.proofs.Common.{◌<◌}
-use Rattle.std.specs.List.{All}
-use Rattle.dob_value.specs.Codes.{values_of_codes}
-use Rattle.dob_value.specs.Follows.{AreGiven}
+use Rattle.dob_value.proofs.Common.{◌<◌, All, values_of_codes, AreGiven}
 use Rattle.dob_value.proofs.table.Table.from_fn.Given as goal
 
 abbrev pub invariant-loop-class : goal.invariant-loop-class

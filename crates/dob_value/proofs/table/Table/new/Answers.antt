@@ -1,9 +1,5 @@
 -- A table has a value for each class.
-use Rattle.std.proofs.Common.{subst, sym, ◌∙◌}
-use Rattle.std.proofs.lemmas.List.{length-map}
-use Rattle.dob_rank.specs.Families.{HasClasses}
-use Rattle.dob_rank.proofs.OfFamilies.Present.{HasClasses-classes_of}
-use Rattle.dob_value.specs.Codes.{value_of_code}
+use Rattle.dob_value.proofs.Common.{◌∙◌, subst, sym, length-map, HasClasses-classes_of, HasClasses, value_of_code}
 use Rattle.dob_value.proofs.Parity.{entries_of_codes}
 use Rattle.dob_value.proofs.table.Table.new.Goals as goal
 

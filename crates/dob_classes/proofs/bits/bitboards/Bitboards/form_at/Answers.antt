@@ -1,6 +1,5 @@
 -- The sets say the form of a piece whose layer is known.
-use Rattle.std.proofs.Common.{◌∙◌, ap}
-use Rattle.dob_rank.specs.Numbers.{order}
+use Rattle.dob_classes.proofs.Common.{◌∙◌, ap, order}
 use Rattle.dob_classes.proofs.SquareSets.BitSquares.{chick_found}
 use Rattle.dob_classes.proofs.bits.bitboards.Bitboards.form_at.Goals as goal
 

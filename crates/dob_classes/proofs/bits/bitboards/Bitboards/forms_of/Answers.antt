@@ -1,6 +1,5 @@
 -- The lowest bit of a mask is the square of the layer's first piece.
-use Rattle.std.proofs.Common.{sym, ◌∙◌, arith}
-use Rattle.dob_rank.specs.Numbers.{order}
+use Rattle.dob_classes.proofs.Common.{◌∙◌, arith, sym, order}
 use Rattle.dob_classes.proofs.SquareSets.BitSquares.{first_of_layer, second_of_layer}
 use Rattle.dob_rank.proofs.Boards.Planes.{no_form, form_found, forms_found, first_on_board, second_on_board}
 use Rattle.dob_classes.proofs.bits.bitboards.Bitboards.forms_of.Goals as goal

@@ -1,6 +1,5 @@
 -- layer by layer
-use Rattle.std.proofs.Common.{◌∙◌}
-use Rattle.dob_rank.specs.declared.layers.Layer.TheVariants.{OwnLion, EnemyLion, Chicks, Elephants, Giraffes}
+use Rattle.dob_classes.proofs.Common.{◌∙◌, Chicks, Elephants, EnemyLion, Giraffes, OwnLion}
 use Rattle.dob_classes.proofs.SquareSets.BitSquares.{layer_of_squares}
 use Rattle.dob_classes.proofs.bits.bitboards.Bitboards.layers.Goals as goal
 

@@ -1,10 +1,7 @@
 -- Each square adds its bits, and the sets are made of the planes of the word.
-use Rattle.std.proofs.Common.{◌-◌, ◌≡◌, ◌≤◌, ◌/◌, ◌%◌, refl, ℕ, length, drop, ap, ◌∙◌, arith}
-use Rattle.dob_pieces.specs.Setups.{setup_of, turned}
-use Rattle.dob_pieces.proofs.Boards.{length-turned}
+use Rattle.dob_classes.proofs.Common.{◌%◌, ◌-◌, ◌/◌, ◌∙◌, ◌≡◌, ◌≤◌, ap, arith, drop, length, refl, ℕ, length-turned, setup_of, turned, Chicks, Elephants}
+use Rattle.dob_classes.proofs.Common.{EnemyLion, Giraffes, OwnLion, is_enemy, is_hen, is_of}
 use Rattle.dob_pieces.proofs.Planes.{are_squares, of_both, of_first, is_lion}
-use Rattle.dob_rank.specs.declared.layers.Layer.TheVariants.{OwnLion, EnemyLion, Chicks, Elephants, Giraffes}
-use Rattle.dob_classes.specs.Bitboards.{is_of, is_hen, is_enemy}
 use Rattle.dob_classes.proofs.SquareSets.BitPlanes.{word_of, word_read, none_read, word_planes, hands-turned, is_foe, is_giraffe_or_hen}
 use Rattle.dob_classes.proofs.bits.bitboards.Bitboards.turned_by.Goals as goal
 

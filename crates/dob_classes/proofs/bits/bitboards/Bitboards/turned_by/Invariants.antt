@@ -1,6 +1,5 @@
 -- The word has the planes of the turned board's last squares.
-use Rattle.std.proofs.Common.{◌≡◌, ◌-◌, drop}
-use Rattle.dob_pieces.specs.Setups.{setup_of, turned}
+use Rattle.dob_classes.proofs.Common.{◌-◌, ◌≡◌, drop, setup_of, turned}
 use Rattle.dob_classes.proofs.SquareSets.BitPlanes.{word_of}
 use Rattle.dob_classes.proofs.bits.bitboards.Bitboards.turned_by.Given as goal
 

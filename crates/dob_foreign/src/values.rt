@@ -1,0 +1,27 @@
+// A value as two numbers.
+ghost use Rattle.std.specs.Prelude.{◌≡◌};
+ghost use Rattle.dob_value.specs.Bounds.{plies_of};
+ghost use Rattle.dob_foreign.specs.Values.{outcome_number};
+
+use dob_value::Value;
+
+/// 0 for a draw, 1 for a win and 2 for a loss of the side to move.
+pub fn outcome_number(value: Value) -> u32
+    ensures { result ≡ outcome_number value }
+{
+    match value {
+        Value::Draw => 0,
+        Value::Win(_) => 1,
+        Value::Loss(_) => 2,
+    }
+}
+
+/// The least number of plies in which that can be forced, 0 for a draw.
+pub fn plies_of(value: Value) -> u32
+    ensures { result ≡ plies_of value }
+{
+    match value {
+        Value::Draw => 0,
+        Value::Win(plies) | Value::Loss(plies) => u32::from(plies),
+    }
+}

@@ -1,0 +1,22 @@
+-- The names that the proofs here use most, from other crates and the definitions of this one.
+pub use Rattle.std.proofs.Common.{◌++◌, ◌+◌, ◌-◌, ◌<◌, ◌==◌, ◌^◌, ◌↔◌, ◌∙◌, ◌∷◌, ◌≡◌, ◌≢◌, ◌≤◌, Bool, IsTrue, List, [], ap, arith, cond, drop, false, get_or}
+pub use Rattle.std.proofs.Common.{inl, inr, length, length-append, length-drop, length-take-le, min, refl, rules, subst, sym, take, true, ℕ}
+pub use Rattle.std.proofs.lemmas.Bool.{cases_eq, cases_lt, eq-eqb, eqb-true, le-ltb, lt-ltb, ne_eqb}
+pub use Rattle.std.proofs.lemmas.Grind.{common_steps, flat_map-append}
+pub use Rattle.std.proofs.lemmas.List.{append-nil, append_assoc, drop-append-le, drop-drop, drop_all, drop_at, drop_min, drop_more, length-map, map-append}
+pub use Rattle.std.proofs.lemmas.List.{take-append-le, take-take, take_all, take_min}
+pub use Rattle.std.specs.List.{filter}
+pub use Rattle.std.specs.Prelude.{map}
+pub use Rattle.std.specs.VecDeque.{deque_capacity, deque_len}
+pub use Rattle.dob_pieces.proofs.Results.{on_err}
+pub use Rattle.dob_pieces.specs.declared.profile.Family.{Family}
+pub use Rattle.dob_unmove.specs.Edges.{predecessors}
+pub use Rattle.dob_share.specs.Owners.{owner_of}
+pub use Rattle.dob_share.specs.declared.news.Item.{Item}
+pub use Rattle.dob_share.specs.declared.news.Settlement.{Settlement}
+pub use Rattle.dob_update.specs.Batches.{BatchView, HasOneMore, IsBatch, IsCut, IsFront, IsOutbox, OutboxView, added, items_for, with_items}
+pub use Rattle.dob_update.specs.Items.{item_for, items_of}
+pub use Rattle.dob_update.specs.Parts.{AreParts, AreWhole, behind, front, items_in_all, items_of_parts, settlement_of, settlements_of, skip_behind, target_of}
+pub use Rattle.dob_update.specs.Parts.{with_number}
+pub use Rattle.dob_update.specs.Runs.{AreListed, IsItemRun, IsRest, count_for}
+pub use Rattle.dob_update.specs.declared.part.Part.{Part}

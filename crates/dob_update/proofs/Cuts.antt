@@ -1,0 +1,78 @@
+-- What is cut from an outbox: the parts in front with their items, and what is left.
+use Rattle.dob_update.proofs.Common.{◌++◌, ◌+◌, ◌<◌, ◌∙◌, ◌≡◌, ◌≢◌, ◌≤◌, List, [], ap, arith, drop, length, length-take-le, min, refl, subst, sym, take, ℕ}
+use Rattle.dob_update.proofs.Common.{drop_min, take_min, Family, Item, BatchView, IsCut, OutboxView, behind, front, items_in_all, items_of_parts}
+use Rattle.dob_update.proofs.Common.{settlements_of, skip_behind, AreListed, IsItemRun, Part}
+use Rattle.dob_update.proofs.Runs.{total-front, front_settlements, run_cut, gone_behind}
+use Rattle.dob_update.proofs.PartItems.{items_of_parts-front, items_of_parts-behind, many_listed, none_listed, listed_behind}
+
+-- The first k items of those that the outbox lists are cut, `size` of them or all.
+pub record IsCutting (family : Family) (n to : ℕ) (parts : List Part) (skip : ℕ) (classes : List ℕ) (size k : ℕ) : Type 0 where
+  pub listed : AreListed family n to parts skip classes
+  pub least : k ≡ min size (length classes)
+
+module _ {family : Family} {n to : ℕ} {parts : List Part} {skip : ℕ} {classes : List ℕ} {size k : ℕ}
+    (cutting : IsCutting family n to parts skip classes size k) where
+  abbrev all : List Item
+  all = items_of_parts parts classes
+
+  enough : items_in_all parts ≤ length classes
+  enough = let counted = cutting.listed.counted in omega (arith, counted)
+
+  pub parts_within : k ≤ items_in_all parts
+  parts_within = let counted = cutting.listed.counted in let least = cutting.least in omega (arith, counted, least)
+
+  classes_within : k ≤ length classes
+  classes_within = let least = cutting.least in omega (arith, least)
+
+  items_within : k ≤ length all
+  items_within = let many = many_listed cutting.listed in let least = cutting.least in omega (arith, many, least)
+
+  pub front_within : items_in_all (front k parts) ≤ length classes
+  front_within = let many = total-front parts k parts_within in let within = classes_within in omega (arith, many, within)
+
+  pub still_listed : AreListed family n to (behind k parts) (skip_behind skip k parts) (drop k classes)
+  still_listed = listed_behind family n to parts skip k classes cutting.listed classes_within
+
+  -- where none is cut, none is there
+  pub none_there : 0 < size → k ≡ 0 → all ≡ []
+  none_there some none = let least = cutting.least in (none_listed cutting.listed).1 (omega (arith, some, none, least))
+
+  pub some_there : k ≢ 0 → all ≢ []
+  some_there some none = some (let no_class = (none_listed cutting.listed).0 none in let least = cutting.least in omega (arith, no_class, least))
+
+  module _ (taken : List Part) (items : List Item) (taken_is : taken ≡ front k parts) (made : items ≡ items_of_parts taken classes) where
+    items_are : items ≡ take k all
+    items_are = made ∙ ap (λ (ps : List Part). items_of_parts ps classes) taken_is ∙ items_of_parts-front k parts classes enough parts_within
+
+    pub run_taken : k ≢ 0 → IsItemRun family n to taken skip items
+    run_taken some = subst (λ (xs : List Item). IsItemRun family n to taken skip xs) (sym items_are)
+        (subst (λ (ps : List Part). IsItemRun family n to ps skip (take k all)) (sym taken_is)
+        (run_cut family n to parts skip k all cutting.listed.rest (omega (arith, some)) items_within))
+
+    pub is_cut : (from next new_skip : ℕ) (left : List Part) (others : List ℕ) → left ≡ behind k parts → new_skip ≡ skip_behind skip k parts → others ≡ drop k classes →
+        (let old : OutboxView = record { family = family; n = n; from = from; to = to; settlements = settlements_of parts; skip = skip; items = all; next = next } in
+        IsCut old size
+        (record { family = family; n = n; from = from; to = to; number = next; settlements = settlements_of taken; skip = skip; items = items })
+        (record old { settlements = settlements_of left; skip = new_skip; items = items_of_parts left others; next = next + 1 }))
+    is_cut from next new_skip left others left_is skip_is others_are =
+        let listed = front_settlements parts k in
+        let g = gone_behind family n to parts skip k cutting.listed.rest.parts_fit parts_within in
+        let many = g.many in
+        let least : k ≡ min size (length all) = (let all_listed = many_listed cutting.listed in let few = cutting.least in omega (arith, all_listed, few)) in
+        let long : length items ≡ k = ap length items_are ∙ length-take-le k all items_within in
+        record {
+          items = items_are ∙ ap (λ m. take m all) least ∙ take_min size all;
+          left = ap (λ (ps : List Part). items_of_parts ps others) left_is ∙ ap (λ xs. items_of_parts (behind k parts) xs) others_are
+              ∙ items_of_parts-behind k parts classes enough parts_within ∙ ap (λ m. drop m all) least ∙ drop_min size all;
+          skip = refl;
+          number = refl;
+          next = refl;
+          listed = (listed.0, listed.1 ∙ ap (λ ps. settlements_of ps ++ listed.0) (sym taken_is));
+          kept = (
+            g.gone,
+            g.apart ∙ ap (λ ps. g.gone ++ settlements_of ps) (sym left_is),
+            omega (arith, many, skip_is, long),
+          );
+          of_link = (refl, refl, refl, refl);
+          same_link = (refl, refl, refl, refl);
+        }
